@@ -1,0 +1,6 @@
+use Rattle.clip_grammar.proofs.Lexing.{one_lexing}
+use Rattle.clip_grammar.proofs.Uniqueness.{one_tree}
+use Rattle.clip_grammar.proofs.laws.one_reading.Goals as goal
+
+pub returns : goal.returns
+returns c = record { lexemes = one_lexing; tree = one_tree }

@@ -1,0 +1,116 @@
+-- What a lexeme says, however it is spelled. A text is here its bytes.
+use Rattle.std.specs.Prelude.{ℕ, Bool, true, false, not, ◌&&◌, ◌||◌, ◌==◌, List, [], ◌∷◌, map, flat_map, length, take, ◌-◌, encode_utf8_all, if◌then◌else◌}
+use Rattle.std.specs.List.{list_any, list_all}
+use Rattle.clip_grammar.specs.Lexemes as lexeme
+use Rattle.clip_grammar.specs.Lexemes.{Piece, Ending, BareEnd, QuotedEnd, Lexeme, Blank, Word, Quoted, Range, Sign, Foreign, code_value}
+use Rattle.clip_grammar.specs.declared.mark.Mark.{Mark}
+use Rattle.clip_grammar.specs.declared.mark.Mark.TheVariants.{Bare, Escaped}
+
+-- an end of a range
+pub data End : Type 0 where
+  Free : End
+  With : (text : List ℕ) → End
+  Without : (text : List ℕ) → End
+
+pub data Token : Type 0 where
+  Plus : Token
+  Minus : Token
+  Bang : Token
+  Not : Token
+  Open : Token
+  Close : Token
+  Colon : Token
+  Star : Token
+  -- a plain Word, a prefix Word, a Quoted, a Range
+  Plain : (text : List ℕ) → Token
+  Front : (text : List ℕ) → Token
+  Phrase : (text : List ℕ) → Token
+  Between : (low high : End) → Token
+  -- what is left out: an operator, a wild card inside a word, a form of another syntax
+  Other : Token
+
+-- a character of a text, and whether it stands behind a backslash
+abbrev pub mark_of : Piece → Mark
+mark_of (lexeme.Bare c) = Bare c
+mark_of (lexeme.Escape c) = Escaped c
+mark_of (lexeme.Code a b c d) = Escaped (code_value a b c d)
+
+abbrev pub char_of : Mark → ℕ
+char_of (Bare c) = c
+char_of (Escaped c) = c
+
+-- the text that the marks stand for
+abbrev pub text_of : List Mark → List ℕ
+text_of ms = encode_utf8_all (map char_of ms)
+
+-- the mark is this character as it stands
+abbrev pub is_bare : ℕ → Mark → Bool
+is_bare c (Bare d) = c == d
+is_bare c (Escaped d) = false
+
+-- the marks are these characters as they stand
+abbrev pub is_spelled : List ℕ → List Mark → Bool
+is_spelled [] [] = true
+is_spelled (c ∷ cs) (m ∷ ms) = is_bare c m && is_spelled cs ms
+is_spelled _ _ = false
+
+abbrev pub is_wild : Mark → Bool
+is_wild m = is_bare 42 m || is_bare 63 m
+
+-- all but the last
+abbrev pub front_of : List Mark → List Mark
+front_of ms = take (length ms - 1) ms
+
+-- a star is last, and no star or question mark is before it
+abbrev pub ends_in_star : List Mark → Bool
+ends_in_star [] = false
+ends_in_star (m ∷ []) = is_bare 42 m
+ends_in_star (m ∷ n ∷ ms) = not (is_wild m) && ends_in_star (n ∷ ms)
+
+-- two ampersands or two bars in a row, as they stand
+abbrev pub has_operator : List Mark → Bool
+has_operator [] = false
+has_operator (m ∷ []) = false
+has_operator (m ∷ n ∷ ms) = (is_bare 38 m && is_bare 38 n) || (is_bare 124 m && is_bare 124 n) || has_operator (n ∷ ms)
+
+abbrev pub is_operator : List Mark → Bool
+is_operator ms = is_spelled (65 ∷ 78 ∷ 68 ∷ []) ms || is_spelled (79 ∷ 82 ∷ []) ms || has_operator ms
+
+-- what a Word says
+unfoldable pub word_token : List Mark → Token
+word_token ms =
+    if is_spelled (42 ∷ []) ms then Star
+    else (if is_operator ms then Other
+    else (if is_spelled (78 ∷ 79 ∷ 84 ∷ []) ms then Not
+    else (if not (list_any is_wild ms) then Plain (text_of ms)
+    else (if ends_in_star ms then Front (text_of (front_of ms))
+    else Other))))
+
+unfoldable pub sign_token : ℕ → Token
+sign_token c =
+    if c == 43 then Plus
+    else (if c == 45 then Minus
+    else (if c == 33 then Bang
+    else (if c == 40 then Open
+    else (if c == 41 then Close
+    else Colon))))
+
+abbrev pub closing : Bool → List ℕ → End
+closing closed text = if closed then With text else Without text
+
+-- an end of a range, by the bracket on its side
+abbrev pub end_token : Bool → Ending → End
+end_token closed (BareEnd ps) = let ms = map mark_of ps in if is_spelled (42 ∷ []) ms then Free else closing closed (text_of ms)
+end_token closed (QuotedEnd ps) = closing closed (text_of (map mark_of ps))
+
+-- a blank says nothing
+abbrev pub tokens_of_lexeme : Lexeme → List Token
+tokens_of_lexeme (Blank _) = []
+tokens_of_lexeme (Word ps) = word_token (map mark_of ps) ∷ []
+tokens_of_lexeme (Quoted ps) = Phrase (text_of (map mark_of ps)) ∷ []
+tokens_of_lexeme (Range left _ low _ _ high _ right) = Between (end_token (left == 91) low) (end_token (right == 93) high) ∷ []
+tokens_of_lexeme (Sign c) = sign_token c ∷ []
+tokens_of_lexeme (Foreign _) = Other ∷ []
+
+abbrev pub tokens_of : List Lexeme → List Token
+tokens_of = flat_map tokens_of_lexeme

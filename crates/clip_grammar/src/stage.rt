@@ -1,0 +1,9 @@
+//! How far a clause has been read.
+
+/// What of a clause has been read.
+#[derive(Clone, Copy, Debug, PartialEq, Eq)]
+pub enum Stage {
+    Fresh,
+    AfterSign,
+    AfterField,
+}

@@ -1,0 +1,4 @@
+pub mod Marking
+pub mod Saying
+pub mod Refusing
+pub mod Ranging

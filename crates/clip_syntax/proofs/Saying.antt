@@ -1,0 +1,47 @@
+-- What the lexer says, step by step.
+use Rattle.std.proofs.Common.{◌≡◌, ℕ, ◌<◌, Bool, true, false, cond, eqb, List, [], ◌∷◌, ◌++◌, map, length, flat_map, Option, Some, None, refl, sym, ap, subst, ◌∙◌, arith, append_assoc, append-nil, length-append}
+use Rattle.std.specs.Option.{option_map}
+use Rattle.std.proofs.lemmas.List.{flat_map_more}
+use Rattle.clip_grammar.specs.Lexemes.{Piece, Lexeme, Blank, Word, Quoted, Range, Sign, Foreign, spell, spell_piece, spell_pieces, is_lexeme}
+use Rattle.clip_grammar.specs.Lexer.{piece_at, pieces_at, quoted_at, word_at, close_quote, word_with, lexeme_at, Finds, quotable_char, first_char, word_char}
+use Rattle.clip_syntax.specs.Marks.{marked, marked_after}
+use Rattle.clip_syntax.specs.Said.{said, IsLexing}
+use Rattle.clip_grammar.specs.Tokens.{Token, Phrase, mark_of, text_of, word_token, tokens_of, tokens_of_lexeme}
+use Rattle.clip_grammar.specs.declared.mark.Mark.{Mark}
+use Rattle.clip_grammar.proofs.Pieces.{if_some_at, spelled}
+use Rattle.clip_syntax.proofs.Marking.{mapped_some, mapped_none}
+use Rattle.clip_grammar.proofs.Fronts.{LexemeFound, lexeme_found}
+use Rattle.clip_grammar.proofs.Lexing.{finds_more}
+
+-- one more lexeme
+pub lexing_more : (text : List ℕ) (ts : List Token) (mid : List ℕ) (us : List Token) (rest : List ℕ) → IsLexing text ts mid → option_map said (lexeme_at mid) ≡ Some (us, rest) → IsLexing text (ts ++ us) rest
+lexing_more text ts mid us rest before e =
+    let found = mapped_some said (lexeme_at mid) (us, rest) e in
+    let says : tokens_of_lexeme found.0.0 ≡ us = ap (λ (v : List Token × List ℕ). v.0) found.2 in
+    let left : found.0.1 ≡ rest = ap (λ (v : List Token × List ℕ). v.1) found.2 in
+    record {
+      lexemes = before.lexemes ++ found.0.0 ∷ [];
+      finds = finds_more before.lexemes text mid found.0.0 rest before.finds (found.1 ∙ ap (λ x. Some (found.0.0, x)) left);
+      says = ap (λ x. x ++ us) before.says ∙ ap (λ x. tokens_of before.lexemes ++ x) (sym says) ∙ flat_map_more_nil tokens_of_lexeme before.lexemes found.0.0;
+    }
+  where
+    flat_map_more_nil : (f : Lexeme → List Token) (ls : List Lexeme) (l : Lexeme) → flat_map f ls ++ f l ≡ flat_map f (ls ++ l ∷ [])
+    flat_map_more_nil f ls l = flat_map_more f [] ls l
+
+-- each lexeme takes some of the text
+spelled_some : (l : Lexeme) → is_lexeme l ≡ true → 0 < length (spell l)
+spelled_some (Blank c) ok = omega arith
+spelled_some (Word []) ok = cc
+spelled_some (Word (p ∷ ps)) ok = omega (arith, spelled p, length-append (spell_piece p) (spell_pieces ps))
+spelled_some (Quoted ps) ok = omega arith
+spelled_some (Range left a low b c high d right) ok = omega arith
+spelled_some (Sign c) ok = omega arith
+spelled_some (Foreign c) ok = omega arith
+
+pub said_shorter : (cs : List ℕ) (us : List Token) (rest : List ℕ) → option_map said (lexeme_at cs) ≡ Some (us, rest) → length rest < length cs
+said_shorter cs us rest e =
+    let found = mapped_some said (lexeme_at cs) (us, rest) e in
+    let left : found.0.1 ≡ rest = ap (λ (v : List Token × List ℕ). v.1) found.2 in
+    let is = if_some_at (LexemeFound cs) found.1 (lexeme_found cs) in
+    let some = spelled_some found.0.0 is.is in
+    omega (arith, ap length left, ap length is.parts, length-append (spell found.0.0) found.0.1)

@@ -1,0 +1,21 @@
+-- A token without where it lies in memory.
+use Rattle.std.specs.Prelude.{string_bytes}
+use Rattle.clip_grammar.specs.Tokens as spec
+use Rattle.clip_grammar.specs.Tree.{end_of}
+use Rattle.clip_syntax.specs.declared.lexer.Token.{Token}
+use Rattle.clip_syntax.specs.declared.lexer.Token.TheVariants as code
+
+abbrev pub token_of : Token → spec.Token
+token_of code.Plus = spec.Plus
+token_of code.Minus = spec.Minus
+token_of code.Bang = spec.Bang
+token_of code.Not = spec.Not
+token_of code.Open = spec.Open
+token_of code.Close = spec.Close
+token_of code.Colon = spec.Colon
+token_of code.Star = spec.Star
+token_of (code.Plain text) = spec.Plain (string_bytes text)
+token_of (code.Front text) = spec.Front (string_bytes text)
+token_of (code.Phrase text) = spec.Phrase (string_bytes text)
+token_of (code.Between low high) = spec.Between (end_of low) (end_of high)
+token_of code.Other = spec.Other

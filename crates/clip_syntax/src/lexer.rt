@@ -1,0 +1,424 @@
+//! Query texts cut into lexemes.
+ghost use Rattle.std.specs.Prelude.{◌≡◌, ◌<◌, length, map, IfOk, IfSome, IsTrue, if◌then◌else◌, string_bytes};
+ghost use Rattle.std.specs.Option.{option_map};
+ghost use Rattle.clip_grammar.specs.Lexemes.{is_white, is_start, is_one_of, is_hex, hex_value, is_code, code_value};
+ghost use Rattle.clip_grammar.specs.Lexer.{piece_at, code_at, escape_at, pieces_at, quoted_at, word_at, range_at, lexeme_at, span_white, gap_at, to_at, bracket_at};
+ghost use Rattle.clip_syntax.specs.Said.{said, shown, shown_all, IsLexed};
+ghost use Rattle.std.specs.List.{list_any};
+ghost use Rattle.clip_syntax.specs.Marks.{class_test, marked, marked_after};
+ghost use Rattle.clip_grammar.specs.Tokens.{text_of, is_spelled, is_bare, is_wild, has_operator, ends_in_star, word_token, sign_token};
+ghost use Rattle.clip_syntax.specs.TokenOf.{token_of};
+
+use clip_grammar::mark::Mark;
+use clip_grammar::query::Bound;
+use clip_words::NoMemory;
+use std::alloc::Global;
+
+/// What a lexeme says, however it is spelled.
+#[derive(Debug, PartialEq, Eq, Drop)]
+pub enum Token {
+    Plus,
+    Minus,
+    Bang,
+    Not,
+    Open,
+    Close,
+    Colon,
+    Star,
+    Plain(String),
+    Front(String),
+    Phrase(String),
+    Between(Bound, Bound),
+    Other,
+}
+
+/// Where a piece stands.
+#[derive(Clone, Copy, Debug, PartialEq, Eq)]
+pub enum Place {
+    WordStart,
+    Word,
+    Quoted,
+    End,
+}
+
+fn is_white(c: char) -> bool
+    ensures { result ≡ is_white c }
+{
+    matches!(c, ' ' | '\t' | '\n' | '\r' | '\u{3000}')
+}
+
+fn is_start(c: char) -> bool
+    ensures { result ≡ is_start c }
+{
+    !is_white(c)
+        && !matches!(
+            c,
+            '+' | '-' | '!' | '(' | ')' | ':' | '^' | '[' | ']' | '"' | '{' | '}' | '~' | '*' | '?' | '\\' | '/'
+        )
+}
+
+/// Whether the character may stand there with no backslash.
+fn allows(place: Place, c: char) -> bool
+    ensures { result ≡ class_test place c }
+{
+    match place {
+        Place::WordStart => is_start(c) || matches!(c, '*' | '?'),
+        Place::Word => is_start(c) || matches!(c, '*' | '?' | '+' | '-'),
+        Place::Quoted => !matches!(c, '"' | '\\'),
+        Place::End => !is_white(c) && !matches!(c, ']' | '}' | '\\'),
+    }
+}
+
+fn is_hex(c: char) -> bool
+    ensures { result ≡ is_hex c }
+{
+    matches!(c, '0'..='9' | 'a'..='f' | 'A'..='F')
+}
+
+fn hex_value(c: char) -> u32
+    requires { IsTrue (is_hex c) }
+    ensures value { result ≡ hex_value c }
+    ensures small { result < 16 }
+{
+    match c {
+        '0'..='9' => c as u32 - 48,
+        'a'..='f' => c as u32 - 87,
+        _ => c as u32 - 55,
+    }
+}
+
+/// The character that four hexadecimal digits name.
+fn code_char(a: char, b: char, c: char, d: char) -> Option<char>
+    ensures { result ≡ (if is_code a b c d then Some (code_value a b c d) else None) }
+{
+    if !is_hex(a) || !is_hex(b) || !is_hex(c) || !is_hex(d) {
+        return None;
+    }
+    let value = ((hex_value(a) * 16 + hex_value(b)) * 16 + hex_value(c)) * 16 + hex_value(d);
+    if 0xD800 <= value && value < 0xE000 {
+        return None;
+    }
+    char::from_u32(value)
+}
+
+/// What stands behind `\u`.
+fn code(text: &[char]) -> Option<(Mark, &[char])>
+    ensures found { option_map (λ found. (found.0, found.1.now)) result ≡ option_map marked (code_at text.now) }
+    ensures shorter { IfSome result (λ found. length found.1.now < length text.now) }
+{
+    let (a, rest) = text.split_first()?;
+    let (b, rest) = rest.split_first()?;
+    let (c, rest) = rest.split_first()?;
+    let (d, rest) = rest.split_first()?;
+    match code_char(*a, *b, *c, *d) {
+        Some(value) => Some((Mark::Escaped(value), rest)),
+        None => None,
+    }
+}
+
+/// What stands behind a backslash.
+#[tactic(auto, unfolding(clip_grammar::specs::Lexer::escape_at))]
+fn escape(text: &[char]) -> Option<(Mark, &[char])>
+    ensures found { option_map (λ found. (found.0, found.1.now)) result ≡ option_map marked (escape_at text.now) }
+    ensures shorter { IfSome result (λ found. length found.1.now < length text.now) }
+{
+    let (first, rest) = text.split_first()?;
+    if *first == 'u' {
+        return code(rest);
+    }
+    Some((Mark::Escaped(*first), rest))
+}
+
+/// One piece at the front of the text, and what is left.
+#[tactic(auto, unfolding(clip_grammar::specs::Lexer::piece_at))]
+fn piece(text: &[char], place: Place) -> Option<(Mark, &[char])>
+    ensures found { option_map (λ found. (found.0, found.1.now)) result ≡ option_map marked (piece_at (class_test place) text.now) }
+    ensures shorter { IfSome result (λ found. length found.1.now < length text.now) }
+{
+    let (first, rest) = text.split_first()?;
+    if *first == '\\' {
+        return escape(rest);
+    }
+    if allows(place, *first) {
+        Some((Mark::Bare(*first), rest))
+    } else {
+        None
+    }
+}
+
+#[tactic(auto, using(crate::proofs::Marking::marked_step, crate::proofs::Marking::marked_end))]
+/// The marks, and then those of the pieces at the front of the text, and what is left.
+fn pieces(
+    mut marks: Vec<Mark>,
+    text: &[char],
+    place: Place,
+) -> Result<(Vec<Mark>, &[char]), NoMemory>
+    ensures { IfOk result (λ found. (found.0.items, found.1.now) ≡ marked_after marks.items (pieces_at (class_test place) text.now)) }
+{
+    let mut rest = text;
+    while let Some((mark, after)) = piece(rest, place) {
+        marks.push(mark)?;
+        rest = after;
+    }
+    Ok((marks, rest))
+}
+
+/// The text that the marks stand for.
+fn text_of(alloc: Global, marks: &[Mark]) -> Result<String, NoMemory>
+    ensures { IfOk result (λ text. string_bytes text ≡ text_of marks.now) }
+{
+    let mut text = String::new(alloc);
+    for mark in marks {
+        let c = match mark {
+            Mark::Bare(c) => *c,
+            Mark::Escaped(c) => *c,
+        };
+        text.push(c)?;
+    }
+    Ok(text)
+}
+
+/// Whether the marks are these characters as they stand.
+fn is_spelled(chars: &[char], marks: &[Mark]) -> bool
+    ensures { result ≡ is_spelled chars.now marks.now }
+{
+    let Some((c, chars)) = chars.split_first() else {
+        return marks.is_empty();
+    };
+    let Some((mark, marks)) = marks.split_first() else {
+        return false;
+    };
+    is_bare(*c, *mark) && is_spelled(chars, marks)
+}
+
+fn is_bare(c: char, mark: Mark) -> bool
+    ensures { result ≡ is_bare c mark }
+{
+    match mark {
+        Mark::Bare(d) => c == d,
+        Mark::Escaped(_) => false,
+    }
+}
+
+fn is_wild(mark: Mark) -> bool
+    ensures { result ≡ is_wild mark }
+{
+    is_bare('*', mark) || is_bare('?', mark)
+}
+
+fn has_wild(marks: &[Mark]) -> bool
+    ensures { result ≡ list_any is_wild marks.now }
+{
+    marks.iter().any(|mark| is_wild(*mark))
+}
+
+/// Whether two ampersands or two bars follow each other as they stand.
+fn has_operator(marks: &[Mark]) -> bool
+    ensures { result ≡ has_operator marks.now }
+{
+    let mut rest = marks;
+    while let Some((first, after)) = rest.split_first() {
+        let Some(second) = after.first() else {
+            return false;
+        };
+        if is_bare('&', *first) && is_bare('&', *second) || is_bare('|', *first) && is_bare('|', *second) {
+            return true;
+        }
+        rest = after;
+    }
+    false
+}
+
+/// Whether a star is last, and no star or question mark is before it.
+fn ends_in_star(marks: &[Mark]) -> bool
+    ensures { result ≡ ends_in_star marks.now }
+{
+    let mut rest = marks;
+    while let Some((first, after)) = rest.split_first() {
+        if after.is_empty() {
+            return is_bare('*', *first);
+        }
+        if is_wild(*first) {
+            return false;
+        }
+        rest = after;
+    }
+    false
+}
+
+#[tactic(auto, unfolding(clip_grammar::specs::Tokens::word_token))]
+/// What a word says.
+fn word_token(alloc: Global, marks: &[Mark]) -> Result<Token, NoMemory>
+    ensures { IfOk result (λ token. token_of token ≡ word_token marks.now) }
+{
+    if is_spelled(&['*'], marks) {
+        return Ok(Token::Star);
+    }
+    if is_spelled(&['A', 'N', 'D'], marks) || is_spelled(&['O', 'R'], marks) || has_operator(marks) {
+        return Ok(Token::Other);
+    }
+    if is_spelled(&['N', 'O', 'T'], marks) {
+        return Ok(Token::Not);
+    }
+    if !has_wild(marks) {
+        return Ok(Token::Plain(text_of(alloc, marks)?));
+    }
+    if !ends_in_star(marks) {
+        return Ok(Token::Other);
+    }
+    if marks.is_empty() {
+        return Ok(Token::Front(String::new(alloc)));
+    }
+    Ok(Token::Front(text_of(alloc, &marks[..marks.len() - 1])?))
+}
+
+#[tactic(auto, unfolding(clip_grammar::specs::Tokens::sign_token))]
+fn sign_token(c: char) -> Token
+    ensures { token_of result ≡ sign_token c }
+{
+    match c {
+        '+' => Token::Plus,
+        '-' => Token::Minus,
+        '!' => Token::Bang,
+        '(' => Token::Open,
+        ')' => Token::Close,
+        _ => Token::Colon,
+    }
+}
+
+#[tactic(auto, unfolding(clip_grammar::specs::Lexer::quoted_at))]
+/// What stands behind an opening quote.
+fn quoted(alloc: Global, text: &[char]) -> Result<Option<(Token, &[char])>, NoMemory>
+    ensures { IfOk result (λ found. option_map shown found ≡ option_map said (quoted_at text.now)) }
+{
+    let (marks, rest) = pieces(Vec::new(alloc), text, Place::Quoted)?;
+    let Some((close, rest)) = rest.split_first() else {
+        return Ok(None);
+    };
+    if *close != '"' {
+        return Ok(None);
+    }
+    Ok(Some((Token::Phrase(text_of(alloc, &marks)?), rest)))
+}
+
+#[tactic(auto, unfolding(clip_grammar::specs::Lexer::word_at))]
+/// A word.
+fn word(alloc: Global, text: &[char]) -> Result<Option<(Token, &[char])>, NoMemory>
+    ensures { IfOk result (λ found. option_map shown found ≡ option_map said (word_at text.now)) }
+{
+    let Some((first, rest)) = piece(text, Place::WordStart) else {
+        return Ok(None);
+    };
+    let mut marks = Vec::new(alloc);
+    marks.push(first)?;
+    let (marks, rest) = pieces(marks, rest, Place::Word)?;
+    Ok(Some((word_token(alloc, &marks)?, rest)))
+}
+
+#[tactic(auto, unfolding(clip_grammar::specs::Lexer::span_white))]
+/// What is left behind white space.
+fn skip_white(text: &[char]) -> &[char]
+    ensures { result.now ≡ (span_white text.now).1 }
+{
+    let mut rest = text;
+    while let Some((first, after)) = rest.split_first() {
+        if !is_white(*first) {
+            return rest;
+        }
+        rest = after;
+    }
+    rest
+}
+
+#[tactic(auto, using(crate::proofs::Ranging::gap_some, crate::proofs::Ranging::gap_none, crate::proofs::Ranging::gap_nil))]
+/// What is left behind white space, of which there is some.
+fn gap(text: &[char]) -> Option<&[char]>
+    ensures { option_map (λ rest. rest.now) result ≡ option_map (λ found. found.1) (gap_at text.now) }
+{
+    let Some((first, rest)) = text.split_first() else {
+        return None;
+    };
+    if is_white(*first) {
+        Some(skip_white(rest))
+    } else {
+        None
+    }
+}
+
+#[tactic(auto, unfolding(clip_grammar::specs::Lexer::to_at))]
+/// What is left behind `TO`.
+fn to(text: &[char]) -> Option<&[char]>
+    ensures { option_map (λ rest. rest.now) result ≡ to_at text.now }
+{
+    let (first, rest) = text.split_first()?;
+    let (second, rest) = rest.split_first()?;
+    if *first == 'T' && *second == 'O' {
+        Some(rest)
+    } else {
+        None
+    }
+}
+
+#[tactic(auto, unfolding(clip_grammar::specs::Lexer::bracket_at))]
+/// A closing bracket, and what is left.
+fn bracket(text: &[char]) -> Option<(char, &[char])>
+    ensures { option_map (λ found. (found.0, found.1.now)) result ≡ bracket_at text.now }
+{
+    let (first, rest) = text.split_first()?;
+    if matches!(*first, ']' | '}') {
+        Some((*first, rest))
+    } else {
+        None
+    }
+}
+
+/// Not there yet.
+fn range(left: char, text: &[char]) -> Result<Option<(Token, &[char])>, NoMemory>
+    ensures { IfOk result (λ found. option_map shown found ≡ option_map said (range_at left text.now)) }
+{
+    Err(NoMemory)
+}
+
+#[tactic(auto, unfolding(clip_grammar::specs::Lexer::lexeme_at))]
+/// What the first lexeme says, and what is left.
+fn lexeme(alloc: Global, text: &[char]) -> Result<Option<(Option<Token>, &[char])>, NoMemory>
+    ensures { IfOk result (λ found. option_map shown_all found ≡ option_map said (lexeme_at text.now)) }
+{
+    let Some((first, rest)) = text.split_first() else {
+        return Ok(None);
+    };
+    if is_white(*first) {
+        return Ok(Some((None, rest)));
+    }
+    if matches!(*first, '+' | '-' | '!' | '(' | ')' | ':') {
+        return Ok(Some((Some(sign_token(*first)), rest)));
+    }
+    if matches!(*first, '~' | '^' | '/') {
+        return Ok(Some((Some(Token::Other), rest)));
+    }
+    let found = match *first {
+        '"' => quoted(alloc, rest)?,
+        '[' | '{' => range(*first, rest)?,
+        _ => word(alloc, text)?,
+    };
+    match found {
+        Some((token, rest)) => Ok(Some((Some(token), rest))),
+        None => Ok(None),
+    }
+}
+
+#[tactic(auto, using(crate::proofs::Saying::lexing_more, crate::proofs::Saying::said_shorter, crate::proofs::Marking::mapped_none))]
+/// What the lexemes say, as far as there are any, and what is left.
+pub fn lex(alloc: Global, text: &[char]) -> Result<(Vec<Token>, &[char]), NoMemory>
+    ensures { IfOk result (λ found. IsLexed text.now (map token_of found.0.items) found.1.now) }
+{
+    let mut tokens = Vec::new(alloc);
+    let mut rest = text;
+    while let Some((token, after)) = lexeme(alloc, rest)? {
+        if let Some(token) = token {
+            tokens.push(token)?;
+        }
+        rest = after;
+    }
+    Ok((tokens, rest))
+}

@@ -1,0 +1,12 @@
+//! Reads query texts.
+#![tactic(auto)]
+
+ghost use Rattle.std.specs.Prelude.{◌≡◌};
+
+pub mod lexer;
+pub mod parser;
+pub mod reader;
+
+pub use clip_grammar::fault::QueryFault;
+pub use clip_grammar::query::{Bound, Occur, Query};
+pub use reader::read_query;
