@@ -1,3 +1,4 @@
 pub mod Marks
 pub mod Said
 pub mod TokenOf
+pub mod Ends
