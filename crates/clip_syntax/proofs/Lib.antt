@@ -1,4 +1,4 @@
 pub mod Marking
 pub mod Saying
-pub mod Refusing
 pub mod Ranging
+pub mod Refusing

@@ -1,8 +1,6 @@
 //! Reads query texts.
 #![tactic(auto)]
 
-ghost use Rattle.std.specs.Prelude.{◌≡◌};
-
 pub mod lexer;
 pub mod parser;
 pub mod reader;
