@@ -1,3 +1,6 @@
+pub mod Building
+pub mod Items
 pub mod Marks
 pub mod Said
+pub mod Sizes
 pub mod TokenOf
