@@ -7,3 +7,4 @@ pub mod Reading
 pub mod Shape
 pub mod Tokens
 pub mod Tree
+pub mod TreeCode

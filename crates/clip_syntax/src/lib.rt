@@ -4,6 +4,8 @@
 pub mod lexer;
 pub mod parser;
 pub mod reader;
+pub mod size;
+pub mod words;
 
 pub use clip_grammar::fault::QueryFault;
 pub use clip_grammar::query::{Bound, Occur, Query};

@@ -1,0 +1,2 @@
+pub mod Article
+pub mod Meaning

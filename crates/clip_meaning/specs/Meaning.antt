@@ -1,0 +1,83 @@
+-- When a query holds of an article: Lucene's boolean query with its default settings, exact phrase, prefix and term range.
+use Rattle.std.specs.Prelude.{ℕ, Bool, true, false, not, ◌&&◌, ◌||◌, ◌==◌, List, [], ◌∷◌}
+use Rattle.std.specs.List.{list_any, list_all, starts_with}
+use Rattle.std.specs.Str.{bytes_eq}
+use Rattle.std.specs.declared.cmp.Ordering.{Ordering}
+use Rattle.std.specs.declared.cmp.Ordering.TheVariants.{Less, Equal, Greater}
+use Rattle.clip_words.specs.Order.{bytes_cmp}
+use Rattle.clip_grammar.specs.Tokens.{End}
+use Rattle.clip_grammar.specs.Tree.{Tree, Clauses, none, clause}
+use Rattle.clip_grammar.specs.declared.query.Occur.{Occur}
+use Rattle.clip_grammar.specs.declared.query.Occur.TheVariants.{Must, Should, MustNot}
+use Rattle.clip_meaning.specs.Article.{Fields, words_in}
+
+-- ---- words
+
+-- the words stand somewhere next to each other, in order
+abbrev pub has_run : List (List ℕ) → List (List ℕ) → Bool
+has_run [] phrase = false
+has_run (w ∷ ws) phrase = starts_with bytes_eq (w ∷ ws) phrase || has_run ws phrase
+
+abbrev pub is_nonempty : List (List ℕ) → Bool
+is_nonempty [] = false
+is_nonempty (w ∷ ws) = true
+
+abbrev pub begins_with : List ℕ → List ℕ → Bool
+begins_with front word = starts_with (λ b c. b == c) word front
+
+abbrev pub is_less : Ordering → Bool
+is_less Less = true
+is_less _ = false
+
+abbrev pub is_greater : Ordering → Bool
+is_greater Greater = true
+is_greater _ = false
+
+-- the word is not below the low end of a range
+abbrev pub above : End → List ℕ → Bool
+above End.Free word = true
+above (End.With low) word = not (is_greater (bytes_cmp low word))
+above (End.Without low) word = is_less (bytes_cmp low word)
+
+-- the word is not above the high end of a range
+abbrev pub below : End → List ℕ → Bool
+below End.Free word = true
+below (End.With high) word = not (is_greater (bytes_cmp word high))
+below (End.Without high) word = is_less (bytes_cmp word high)
+
+-- ---- groups
+
+-- of a clause and whether its child holds: what it asks for
+abbrev pub meets_must : Occur × Bool → Bool
+meets_must (Must, held) = held
+meets_must _ = true
+
+abbrev pub meets_must_not : Occur × Bool → Bool
+meets_must_not (MustNot, held) = not held
+meets_must_not _ = true
+
+abbrev pub is_must : Occur × Bool → Bool
+is_must (Must, _) = true
+is_must _ = false
+
+abbrev pub meets_should : Occur × Bool → Bool
+meets_should (Should, held) = held
+meets_should _ = false
+
+-- Every Must child holds, no MustNot child holds and, where there is no Must child, at least one Should child holds.
+unfoldable pub group_holds : List (Occur × Bool) → Bool
+group_holds vs = list_all meets_must vs && list_all meets_must_not vs && (list_any is_must vs || list_any meets_should vs)
+
+abbrev mutual
+  pub holds : Tree → Fields → Bool
+  holds (Tree.Term field word) fields = list_any (λ w. bytes_eq w word) (words_in fields field)
+  holds (Tree.Phrase field words) fields = is_nonempty words && has_run (words_in fields field) words
+  holds (Tree.Prefix field front) fields = list_any (begins_with front) (words_in fields field)
+  holds (Tree.Span field low high) fields = list_any (λ w. above low w && below high w) (words_in fields field)
+  holds Tree.All fields = true
+  holds (Tree.Group clauses) fields = group_holds (verdicts clauses fields)
+
+  -- how each clause counts, and whether its child holds
+  pub verdicts : Clauses → Fields → List (Occur × Bool)
+  verdicts none fields = []
+  verdicts (clause occur child others) fields = (occur, holds child fields) ∷ verdicts others fields

@@ -1,0 +1,4 @@
+pub mod Alerts
+pub mod History
+pub mod Laws
+pub mod Standing
