@@ -1,6 +1,7 @@
 //! Reads query texts.
 #![tactic(auto)]
 
+pub mod build;
 pub mod lexer;
 pub mod parser;
 pub mod reader;
