@@ -164,11 +164,11 @@ impl Builder {
     }
 }
 
-#[tactic(auto, unfolding(crate::specs::Building::read_all))]
 /// The query that the tokens write. Items that name no field are in `text`.
 ///
 /// `words` has the words of each plain or quoted item in order, as `item_words` gives them.
 /// The cost is linear in the tokens and the bytes of their texts: no word is copied, and a field is shared.
+#[tactic(auto, unfolding(crate::specs::Building::read_all))]
 pub fn build(alloc: Global, tokens: &[Token], words: Vec<Vec<ArcStr>>) -> Result<Query, NoMemory>
     requires { map (λ words. map arc_str_bytes words.items) words.items ≡ items_words (map token_of tokens.now) }
     ensures { IfOk result (λ query. (written : Written) → shape.tokens written ≡ map token_of tokens.now → tree_of query ≡ written_tree written) }

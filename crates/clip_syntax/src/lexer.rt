@@ -1,4 +1,6 @@
-//! Query texts cut into lexemes.
+//! Query texts cut into lexemes, each said as a token. Blanks say nothing.
+//!
+//! A text is here the slice of its characters, and what is left of it a later part of that slice.
 ghost use Rattle.std.specs.Prelude.{◌≡◌, [], ◌<◌, length, map, IfOk, IfSome, IsTrue, if◌then◌else◌, string_bytes};
 ghost use Rattle.std.specs.Option.{option_map};
 ghost use Rattle.clip_grammar.specs.Lexemes.{is_white, is_start, is_one_of, is_hex, hex_value, is_code, code_value};
@@ -16,7 +18,7 @@ use clip_grammar::query::Bound;
 use clip_words::NoMemory;
 use std::alloc::Global;
 
-/// What a lexeme says, however it is spelled.
+/// What a lexeme says, however it is spelled. Its texts have no quotes, and each escape stands as its character.
 #[derive(Debug, PartialEq, Eq, Drop)]
 pub enum Token {
     Plus,
@@ -26,29 +28,41 @@ pub enum Token {
     Open,
     Close,
     Colon,
+    /// A star alone.
     Star,
+    /// A word without `*` and `?`.
     Plain(String),
+    /// A word whose last character is its one star, without the star.
     Front(String),
+    /// A quoted text.
     Phrase(String),
+    /// A range.
     Between(Bound, Bound),
+    /// A form that is left out: an operator word, a word with wild cards elsewhere, `~`, `^` or `/`.
     Other,
 }
 
-/// Where a piece stands.
+/// Where a character stands, which decides whether it needs a backslash.
 #[derive(Clone, Copy, Debug, PartialEq, Eq)]
 pub enum Place {
+    /// First in a word.
     WordStart,
+    /// Later in a word.
     Word,
+    /// Between quotes.
     Quoted,
+    /// In the bare end of a range.
     End,
 }
 
+/// Whether the character separates lexemes. A no-break space does not: it is a character of words.
 fn is_white(c: char) -> bool
     ensures { result ≡ is_white c }
 {
     matches!(c, ' ' | '\t' | '\n' | '\r' | '\u{3000}')
 }
 
+/// Whether a word may begin with the character and no backslash.
 fn is_start(c: char) -> bool
     ensures { result ≡ is_start c }
 {
@@ -59,7 +73,7 @@ fn is_start(c: char) -> bool
         )
 }
 
-/// Whether the character may stand there with no backslash.
+/// Whether the character may stand there with no backslash. A star and a question mark may stand in a word.
 fn allows(place: Place, c: char) -> bool
     ensures { result ≡ class_test place c }
 {
@@ -89,7 +103,7 @@ fn hex_value(c: char) -> u32
     }
 }
 
-/// The character that four hexadecimal digits name.
+/// The character that four hexadecimal digits name. A surrogate is none.
 fn code_char(a: char, b: char, c: char, d: char) -> Option<char>
     ensures { result ≡ (if is_code a b c d then Some (code_value a b c d) else None) }
 {
@@ -131,7 +145,7 @@ fn escape(text: &[char]) -> Option<(Mark, &[char])>
     Some((Mark::Escaped(*first), rest))
 }
 
-/// One piece at the front of the text, and what is left.
+/// One character or escape at the front of the text, and what is left.
 #[tactic(auto, unfolding(clip_grammar::specs::Lexer::piece_at))]
 fn piece(text: &[char], place: Place) -> Option<(Mark, &[char])>
     ensures found { option_map (λ found. (found.0, found.1.now)) result ≡ option_map marked (piece_at (class_test place) text.now) }
@@ -148,8 +162,8 @@ fn piece(text: &[char], place: Place) -> Option<(Mark, &[char])>
     }
 }
 
+/// The marks, and then those of the characters and escapes at the front of the text, and what is left.
 #[tactic(auto, using(crate::proofs::Marking::marked_step, crate::proofs::Marking::marked_end))]
-/// The marks, and then those of the pieces at the front of the text, and what is left.
 fn pieces(
     mut marks: Vec<Mark>,
     text: &[char],
@@ -248,8 +262,8 @@ fn ends_in_star(marks: &[Mark]) -> bool
     false
 }
 
-#[tactic(auto, unfolding(clip_grammar::specs::Tokens::word_token))]
 /// What a word says.
+#[tactic(auto, unfolding(clip_grammar::specs::Tokens::word_token))]
 fn word_token(alloc: Global, marks: &[Mark]) -> Result<Token, NoMemory>
     ensures { IfOk result (λ token. token_of token ≡ word_token marks.now) }
 {
@@ -288,8 +302,8 @@ fn sign_token(c: char) -> Token
     }
 }
 
-#[tactic(auto, unfolding(clip_grammar::specs::Lexer::quoted_at))]
 /// What stands behind an opening quote.
+#[tactic(auto, unfolding(clip_grammar::specs::Lexer::quoted_at))]
 fn quoted(alloc: Global, text: &[char]) -> Result<Option<(Token, &[char])>, NoMemory>
     ensures { IfOk result (λ found. option_map shown found ≡ option_map said (quoted_at text.now)) }
 {
@@ -303,8 +317,8 @@ fn quoted(alloc: Global, text: &[char]) -> Result<Option<(Token, &[char])>, NoMe
     Ok(Some((Token::Phrase(text_of(alloc, &marks)?), rest)))
 }
 
+/// A word at the front of the text, as long as it goes on.
 #[tactic(auto, unfolding(clip_grammar::specs::Lexer::word_at))]
-/// A word.
 fn word(alloc: Global, text: &[char]) -> Result<Option<(Token, &[char])>, NoMemory>
     ensures { IfOk result (λ found. option_map shown found ≡ option_map said (word_at text.now)) }
 {
@@ -317,8 +331,8 @@ fn word(alloc: Global, text: &[char]) -> Result<Option<(Token, &[char])>, NoMemo
     Ok(Some((word_token(alloc, &marks)?, rest)))
 }
 
-#[tactic(auto, unfolding(clip_grammar::specs::Lexer::span_white))]
 /// What is left behind white space.
+#[tactic(auto, unfolding(clip_grammar::specs::Lexer::span_white))]
 fn skip_white(text: &[char]) -> &[char]
     ensures { result.now ≡ (span_white text.now).1 }
 {
@@ -332,8 +346,8 @@ fn skip_white(text: &[char]) -> &[char]
     rest
 }
 
-#[tactic(auto, using(crate::proofs::Ranging::gap_some, crate::proofs::Ranging::gap_none, crate::proofs::Ranging::gap_nil))]
 /// What is left behind white space, of which there is some.
+#[tactic(auto, using(crate::proofs::Ranging::gap_some, crate::proofs::Ranging::gap_none, crate::proofs::Ranging::gap_nil))]
 fn gap(text: &[char]) -> Option<&[char]>
     ensures { option_map (λ rest. rest.now) result ≡ option_map (λ found. found.1) (gap_at text.now) }
 {
@@ -347,8 +361,8 @@ fn gap(text: &[char]) -> Option<&[char]>
     }
 }
 
-#[tactic(auto, unfolding(clip_grammar::specs::Lexer::to_at))]
 /// What is left behind `TO`.
+#[tactic(auto, unfolding(clip_grammar::specs::Lexer::to_at))]
 fn to(text: &[char]) -> Option<&[char]>
     ensures { option_map (λ rest. rest.now) result ≡ to_at text.now }
 {
@@ -361,8 +375,8 @@ fn to(text: &[char]) -> Option<&[char]>
     }
 }
 
-#[tactic(auto, unfolding(clip_grammar::specs::Lexer::bracket_at))]
 /// A closing bracket, and what is left.
+#[tactic(auto, unfolding(clip_grammar::specs::Lexer::bracket_at))]
 fn bracket(text: &[char]) -> Option<(char, &[char])>
     ensures { option_map (λ found. (found.0, found.1.now)) result ≡ bracket_at text.now }
 {
@@ -402,7 +416,7 @@ fn bare_end(alloc: Global, text: &[char]) -> Result<Option<(Option<String>, &[ch
     Ok(Some((Some(text_of(alloc, &marks)?), rest)))
 }
 
-/// An end of a range: its text, or none for a star.
+/// An end of a range: its text, or none for a star alone.
 #[tactic(auto, using(crate::proofs::Ranging::ending_quoted, crate::proofs::Ranging::ending_bare, crate::proofs::Ranging::ending_nil))]
 fn ending(alloc: Global, text: &[char]) -> Result<Option<(Option<String>, &[char])>, NoMemory>
     ensures { IfOk result (λ found. option_map (λ found. (option_map string_bytes found.0, found.1.now)) found ≡ option_map end_said (ending_at text.now)) }
@@ -454,8 +468,8 @@ fn range(alloc: Global, left: char, text: &[char]) -> Result<Option<(Token, &[ch
     Ok(Some((Token::Between(low, high), rest)))
 }
 
-#[tactic(auto, unfolding(clip_grammar::specs::Lexer::lexeme_at))]
 /// What the first lexeme says, and what is left.
+#[tactic(auto, unfolding(clip_grammar::specs::Lexer::lexeme_at))]
 fn lexeme(alloc: Global, text: &[char]) -> Result<Option<(Option<Token>, &[char])>, NoMemory>
     ensures { IfOk result (λ found. option_map shown_all found ≡ option_map said (lexeme_at text.now)) }
 {
@@ -482,8 +496,10 @@ fn lexeme(alloc: Global, text: &[char]) -> Result<Option<(Option<Token>, &[char]
     }
 }
 
+/// What the lexemes say, as far as there are any, and what is left: nothing, or a text at which no lexeme begins.
+///
+/// The cost is linear in the characters.
 #[tactic(auto, using(crate::proofs::Saying::lexing_more, crate::proofs::Saying::said_shorter, crate::proofs::Marking::mapped_none))]
-/// What the lexemes say, as far as there are any, and what is left.
 pub fn lex(alloc: Global, text: &[char]) -> Result<(Vec<Token>, &[char]), NoMemory>
     ensures { IfOk result (λ found. IsLexed text.now (map token_of found.0.items) found.1.now) }
 {

@@ -1,4 +1,4 @@
-//! Tokens read as clauses.
+//! Whether tokens are clauses, judged along the list and without recursion.
 ghost use Rattle.std.specs.Prelude.{◌≡◌, ◌+◌, ◌∷◌, map, length, zero, false, IfSome, MatchOption};
 ghost use Rattle.clip_grammar.specs.Tokens as spec;
 ghost use Rattle.clip_grammar.specs.LeftOut.{begins_left_out, leaves_out};
@@ -64,8 +64,10 @@ pub fn has_left_out(tokens: &[Token]) -> bool
     false
 }
 
+/// Whether the tokens are one clause or more, whatever words their texts have.
+///
+/// The cost is linear in the tokens.
 #[tactic(auto, unfolding(clip_grammar::specs::Parser::accepts), using(clip_grammar::proofs::Accepting::accepts_plain, clip_grammar::proofs::Accepting::accepts_field, clip_grammar::proofs::Accepting::accepts_all, clip_grammar::proofs::Accepting::lone_star))]
-/// Whether the tokens are one clause or more.
 pub fn are_clauses(tokens: &[Token]) -> bool
     ensures { result ≡ accepts (map token_of tokens.now) zero false Stage.Fresh }
 {

@@ -14,7 +14,7 @@ use clip_grammar::query::Query;
 use std::alloc::Global;
 
 /// The most bytes of a query's text.
-pub const MOST_BYTES: usize = 65536;
+const MOST_BYTES: usize = 65536;
 
 /// How many bytes the characters take.
 fn byte_len(chars: &[char]) -> usize
@@ -42,7 +42,20 @@ fn tokens_of(alloc: Global, text: &str) -> Result<Vec<Token>, QueryFault>
     Ok(tokens)
 }
 
-/// Reads a query.
+/// Reads the text of a query.
+///
+/// # Errors
+///
+/// The first of these that holds:
+/// `TooLong`: the text has over 65,536 bytes.
+/// `Lexical(at)`: from byte `at` on it is not cut into lexemes; no longer part of its front is.
+/// `LeftOut`: it uses a form that is not supported.
+/// `Structure`: its lexemes are not clauses.
+/// `NoWords`: a word or a quoted text that is asked for has no words.
+/// `TooBig`: the tree has over 4,096 nodes, or over 64 parentheses are open at once.
+/// `NoMemory`: a growth was refused; it may come in place of any answer but `TooLong`.
+///
+/// The cost is linear in the bytes of the text.
 pub fn read_query(alloc: Global, text: &str) -> Result<Query, QueryFault>
     ensures read { IfOk result (λ query. Reads text.now (tree_of query)) }
     ensures kept { IfOk result (λ _. HasNoFault text.now) }
@@ -65,34 +78,4 @@ pub fn read_query(alloc: Global, text: &str) -> Result<Query, QueryFault>
         return Err(QueryFault::TooBig);
     }
     Ok(build(alloc, &tokens, words)?)
-}
-
-#[cfg(test)]
-mod tests {
-    use super::*;
-    use crate::parser::are_clauses;
-    use std::test::Fail;
-
-    #[test]
-    fn stops_where_no_lexeme_begins(rt: HostRuntime) -> Result<(), Fail> {
-        let alloc = rt.alloc();
-        assert_eq!(rt; read_query(alloc, "ab\\u12"), Err(QueryFault::Lexical(2)));
-        assert_eq!(rt; read_query(alloc, "\\uD800"), Err(QueryFault::Lexical(0)));
-        assert_eq!(rt; read_query(alloc, "\"a"), Err(QueryFault::Lexical(0)));
-        assert_eq!(rt; read_query(alloc, "a\\"), Err(QueryFault::Lexical(1)));
-        assert_eq!(rt; read_query(alloc, "é]"), Err(QueryFault::Lexical(2)));
-        Ok(())
-    }
-
-    #[test]
-    fn many_parentheses(rt: HostRuntime) -> Result<(), Fail> {
-        let mut chars = Vec::new(rt.alloc());
-        for _ in 0..MOST_BYTES {
-            chars.push('(')?;
-        }
-        let (tokens, rest) = lex(rt.alloc(), &chars)?;
-        assert!(rt; rest.is_empty());
-        assert!(rt; !are_clauses(&tokens));
-        Ok(())
-    }
 }
