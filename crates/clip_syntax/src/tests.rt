@@ -173,9 +173,15 @@ static ROWS: [(&str, &str); 163] = [
     ("title:*:*", "Structure"),
     // groups
     ("(tea coffee) milk", "((text=tea text=coffee) text=milk)"),
-    ("title:(+tea -\"green tea\") text:milk", "((+title=tea -title=\"green tea\") text=milk)"),
+    (
+        "title:(+tea -\"green tea\") text:milk",
+        "((+title=tea -title=\"green tea\") text=milk)",
+    ),
     ("title:(a body:b c) d", "((title=a body=b title=c) text=d)"),
-    ("title:(a (b) body:(c d) e) f", "((title=a (title=b) (body=c body=d) title=e) text=f)"),
+    (
+        "title:(a (b) body:(c d) e) f",
+        "((title=a (title=b) (body=c body=d) title=e) text=f)",
+    ),
     ("title :(tea)", "((title=tea))"),
     ("-(a b)", "(-(text=a text=b))"),
     ("(a)(b)", "((text=a) (text=b))"),
@@ -224,7 +230,10 @@ static ROWS: [(&str, &str); 163] = [
     ("[te* TO (x:y\"]", "(text=['te*' TO '(x:y\"'])"),
     ("[\\\"a TO \\u0042]", "(text=['\"a' TO 'b'])"),
     ("[\"TO\" TO T\\O]", "(text=['to' TO 'to'])"),
-    ("+extraordinarily* +[a TO b]", "(+text=extraordinarily* +text=['a' TO 'b'])"),
+    (
+        "+extraordinarily* +[a TO b]",
+        "(+text=extraordinarily* +text=['a' TO 'b'])",
+    ),
     ("[a b]", "Lexical(0)"),
     ("[a TO b", "Lexical(0)"),
     ("[aTO b]", "Lexical(0)"),
@@ -287,8 +296,14 @@ fn longest_text(rt: HostRuntime) -> Result<(), Fail> {
     wanted.push_str(&word)?;
     wanted.push(')')?;
     assert!(rt; shown(alloc, &word)? == wanted);
-    assert_eq!(rt; read_query(alloc, &repeated(alloc, "a", 65_537)?), Err(QueryFault::TooLong));
-    assert_eq!(rt; read_query(alloc, &repeated(alloc, "é", 32_769)?), Err(QueryFault::TooLong));
+    assert_eq!(rt;
+        read_query(alloc, &repeated(alloc, "a", 65_537)?),
+        Err(QueryFault::TooLong)
+    );
+    assert_eq!(rt;
+        read_query(alloc, &repeated(alloc, "é", 32_769)?),
+        Err(QueryFault::TooLong)
+    );
     Ok(())
 }
 
@@ -300,8 +315,14 @@ fn largest_tree(rt: HostRuntime) -> Result<(), Fail> {
         return Err(Fail::from("no group"));
     };
     assert_eq!(rt; clauses.len(), 4_095);
-    assert_eq!(rt; read_query(alloc, &repeated(alloc, "a ", 4_096)?), Err(QueryFault::TooBig));
-    assert_eq!(rt; read_query(alloc, &repeated(alloc, "*:* ", 4_096)?), Err(QueryFault::TooBig));
+    assert_eq!(rt;
+        read_query(alloc, &repeated(alloc, "a ", 4_096)?),
+        Err(QueryFault::TooBig)
+    );
+    assert_eq!(rt;
+        read_query(alloc, &repeated(alloc, "*:* ", 4_096)?),
+        Err(QueryFault::TooBig)
+    );
     Ok(())
 }
 
@@ -311,10 +332,25 @@ fn deepest_tree(rt: HostRuntime) -> Result<(), Fail> {
     let mut wanted = repeated(alloc, "(", 65)?;
     wanted.push_str("text=a")?;
     wanted.push_str(&repeated(alloc, ")", 65)?)?;
-    assert_eq!(rt; shown(alloc, &nested(alloc, 64, 64)?)?.as_str(), wanted.as_str());
-    assert_eq!(rt; read_query(alloc, &nested(alloc, 65, 65)?), Err(QueryFault::TooBig));
-    assert_eq!(rt; read_query(alloc, &nested(alloc, 30_000, 30_000)?), Err(QueryFault::TooBig));
-    assert_eq!(rt; read_query(alloc, &nested(alloc, 30_000, 30_001)?), Err(QueryFault::Structure));
-    assert_eq!(rt; read_query(alloc, &repeated(alloc, "(", 65_536)?), Err(QueryFault::Structure));
+    assert_eq!(rt;
+        shown(alloc, &nested(alloc, 64, 64)?)?.as_str(),
+        wanted.as_str()
+    );
+    assert_eq!(rt;
+        read_query(alloc, &nested(alloc, 65, 65)?),
+        Err(QueryFault::TooBig)
+    );
+    assert_eq!(rt;
+        read_query(alloc, &nested(alloc, 30_000, 30_000)?),
+        Err(QueryFault::TooBig)
+    );
+    assert_eq!(rt;
+        read_query(alloc, &nested(alloc, 30_000, 30_001)?),
+        Err(QueryFault::Structure)
+    );
+    assert_eq!(rt;
+        read_query(alloc, &repeated(alloc, "(", 65_536)?),
+        Err(QueryFault::Structure)
+    );
     Ok(())
 }
