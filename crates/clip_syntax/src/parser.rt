@@ -87,6 +87,13 @@ impl Progress {
         }
     }
 
+    /// The same, with this much of the next clause read.
+    fn with_stage(self, stage: Stage) -> Progress
+        ensures { result ≡ record self { stage = stage } }
+    {
+        Progress { stage, ..self }
+    }
+
     /// Behind the first token, and what is left then. `None` where no clauses go on so.
     #[tactic(auto, unfolding(clip_grammar::specs::Parser::accepts), using(clip_grammar::proofs::Accepting::accepts_plain, clip_grammar::proofs::Accepting::accepts_field, clip_grammar::proofs::Accepting::accepts_all, clip_grammar::proofs::Accepting::lone_star))]
     fn read<'a>(self, token: &Token, rest: &'a [Token]) -> Option<(Progress, &'a [Token])>
@@ -98,22 +105,12 @@ impl Progress {
         let is_fresh = self.stage == Stage::Fresh;
         let has_field = self.stage == Stage::AfterField;
         match token {
-            Token::Plus | Token::Minus | Token::Bang | Token::Not if is_fresh => Some((
-                Progress {
-                    stage: Stage::AfterSign,
-                    ..self
-                },
-                rest,
-            )),
+            Token::Plus | Token::Minus | Token::Bang | Token::Not if is_fresh => {
+                Some((self.with_stage(Stage::AfterSign), rest))
+            }
             Token::Plain(_) => match after_colon(rest) {
                 Some(_) if has_field => None,
-                Some(rest) => Some((
-                    Progress {
-                        stage: Stage::AfterField,
-                        ..self
-                    },
-                    rest,
-                )),
+                Some(rest) => Some((self.with_stage(Stage::AfterField), rest)),
                 None => Some((self.after_item(), rest)),
             },
             Token::Front(_) | Token::Phrase(_) | Token::Between(_, _) => {
