@@ -200,8 +200,10 @@ mod tests {
     fn built(alloc: Global, text: &str) -> Result<Query, NoMemory> {
         let chars: Vec<char> = text.chars().collect(alloc)?;
         let (tokens, _) = lex(alloc, &chars)?;
-        let words = item_words(alloc, &tokens)?.unwrap();
-        build(alloc, &tokens, words)
+        match item_words(alloc, &tokens)? {
+            Some(words) => build(alloc, &tokens, words),
+            None => Ok(Query::All),
+        }
     }
 
     fn shared(alloc: Global, text: &str) -> Result<ArcStr, NoMemory> {

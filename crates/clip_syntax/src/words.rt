@@ -83,7 +83,10 @@ mod tests {
 
     #[test]
     fn leaves_fields_and_prefixes_out(rt: HostRuntime) -> Result<(), Fail> {
-        let found = words_of_text(rt.alloc(), "title:Wi-Fi te* *:* (\"Green tea\")")?.unwrap();
+        let found = words_of_text(rt.alloc(), "title:Wi-Fi te* *:* (\"Green tea\")")?.expect(
+            &rt,
+            "each item has words",
+        );
         assert_eq!(rt; found.len(), 2);
         assert_eq!(rt; found[0].len(), 2);
         assert_eq!(rt; found[0][0].as_str(), "wi");
