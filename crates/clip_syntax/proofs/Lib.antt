@@ -1,7 +1,7 @@
-pub mod Marking
-pub mod Saying
-pub mod Refusing
-pub mod Ranging
-pub mod Wording
-pub mod Sizing
 pub mod Growing
+pub mod Marking
+pub mod Ranging
+pub mod Refusing
+pub mod Saying
+pub mod Sizing
+pub mod Wording

@@ -1,4 +1,5 @@
 pub mod Building
+pub mod Ends
 pub mod Items
 pub mod Marks
 pub mod Said

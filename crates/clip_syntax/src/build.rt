@@ -88,7 +88,7 @@ fn fold_bound(alloc: Global, bound: &Bound) -> Result<Bound, NoMemory>
 /// A query of which some tokens have been read.
 #[derive(Drop)]
 struct Builder {
-    /// The groups around, the innermost last.
+    /// The groups around the one that is read, the innermost last.
     around: Vec<OpenGroup>,
     group: OpenGroup,
     /// The words of the items to come.
@@ -122,23 +122,22 @@ impl Builder {
         ensures { IfOk result (λ _. state_of self.new ≡ close (state_of self.old) (state_of self.old).around) }
     {
         if let Some(outer) = self.around.pop() {
-            let inner = mem::replace(&mut self.group, outer);
-            let OpenGroup { clauses, .. } = inner;
+            let OpenGroup { clauses, .. } = mem::replace(&mut self.group, outer);
             self.group.add(Query::Group(clauses))?;
         }
         Ok(())
     }
 
-    /// Reads a token.
+    /// Reads a token. The second star of `*:*` has said nothing that the first has not.
     fn read(&mut self, alloc: Global, token: &Token, before_colon: bool) -> Result<(), NoMemory>
         ensures { IfOk result (λ _. state_of self.new ≡ read (token_of token.now) before_colon (state_of self.old)) }
     {
         match token {
             Token::Plus => self.group.occur = Occur::Must,
             Token::Minus | Token::Bang | Token::Not => self.group.occur = Occur::MustNot,
-            Token::Plain(text) if before_colon => self.group.nearer = Some(ArcStr::from_str(
-                alloc, text,
-            )?),
+            Token::Plain(field) if before_colon => {
+                self.group.nearer = Some(ArcStr::from_str(alloc, field)?);
+            }
             Token::Plain(_) | Token::Phrase(_) => self.add_words()?,
             Token::Front(text) => {
                 let field = self.group.item_field()?;
@@ -151,25 +150,21 @@ impl Builder {
                 let high = fold_bound(alloc, high)?;
                 self.group.add(Query::Span { field, low, high })?;
             }
-            Token::Star => {
-                if before_colon {
-                    self.group.add(Query::All)?;
-                }
-            }
+            Token::Star if before_colon => self.group.add(Query::All)?,
             Token::Open => self.open(alloc)?,
             Token::Close => self.close()?,
-            Token::Colon | Token::Other => {}
+            Token::Star | Token::Colon | Token::Other => {}
         }
         Ok(())
     }
 }
 
-#[tactic(auto, unfolding(crate::specs::Building::read_all))]
 /// The query that the tokens write. Items that name no field are in `text`.
 ///
 /// `words` has the words of each plain or quoted item in order, as `item_words` gives them. They are moved, and a
 /// field is shared by the items in it. `NoMemory` where a growth is refused. The cost is linear in the tokens and the
 /// bytes of their texts. The query nests as deep as the parentheses do, so see first that they are not too many.
+#[tactic(auto, unfolding(crate::specs::Building::read_all))]
 pub fn build(alloc: Global, tokens: &[Token], words: Vec<Vec<ArcStr>>) -> Result<Query, NoMemory>
     requires { map (λ words. map arc_str_bytes words.items) words.items ≡ items_words (map token_of tokens.now) }
     ensures { IfOk result (λ query. (written : Written) → shape.tokens written ≡ map token_of tokens.now → tree_of query ≡ written_tree written) }
