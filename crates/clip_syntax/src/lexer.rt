@@ -1,13 +1,15 @@
 //! Query texts cut into lexemes.
-ghost use Rattle.std.specs.Prelude.{◌≡◌, ◌<◌, length, map, IfOk, IfSome, IsTrue, if◌then◌else◌, string_bytes};
+ghost use Rattle.std.specs.Prelude.{◌≡◌, [], ◌<◌, length, map, IfOk, IfSome, IsTrue, if◌then◌else◌, string_bytes};
 ghost use Rattle.std.specs.Option.{option_map};
 ghost use Rattle.clip_grammar.specs.Lexemes.{is_white, is_start, is_one_of, is_hex, hex_value, is_code, code_value};
-ghost use Rattle.clip_grammar.specs.Lexer.{piece_at, code_at, escape_at, pieces_at, quoted_at, word_at, range_at, lexeme_at, span_white, gap_at, to_at, bracket_at};
+ghost use Rattle.clip_grammar.specs.Lexer.{quotable_char, end_char, ending_at, piece_at, code_at, escape_at, pieces_at, quoted_at, word_at, range_at, lexeme_at, span_white, gap_at, to_at, bracket_at};
 ghost use Rattle.clip_syntax.specs.Said.{said, shown, shown_all, IsLexed};
 ghost use Rattle.std.specs.List.{list_any};
 ghost use Rattle.clip_syntax.specs.Marks.{class_test, marked, marked_after};
 ghost use Rattle.clip_grammar.specs.Tokens.{text_of, is_spelled, is_bare, is_wild, has_operator, ends_in_star, word_token, sign_token};
 ghost use Rattle.clip_syntax.specs.TokenOf.{token_of};
+ghost use Rattle.clip_syntax.specs.Ends.{end_said, end_with, quoted_end_of, bare_end_of};
+ghost use Rattle.clip_grammar.specs.Tree.{end_of};
 
 use clip_grammar::mark::Mark;
 use clip_grammar::query::Bound;
@@ -372,11 +374,84 @@ fn bracket(text: &[char]) -> Option<(char, &[char])>
     }
 }
 
-/// Not there yet.
-fn range(left: char, text: &[char]) -> Result<Option<(Token, &[char])>, NoMemory>
+/// A quoted end of a range, behind its opening quote.
+fn quoted_end(alloc: Global, text: &[char]) -> Result<Option<(Option<String>, &[char])>, NoMemory>
+    ensures { IfOk result (λ found. option_map (λ found. (option_map string_bytes found.0, found.1.now)) found ≡ quoted_end_of (marked_after [] (pieces_at quotable_char text.now))) }
+{
+    let (marks, rest) = pieces(Vec::new(alloc), text, Place::Quoted)?;
+    let Some((close, rest)) = rest.split_first() else {
+        return Ok(None);
+    };
+    if marks.is_empty() || *close != '"' {
+        return Ok(None);
+    }
+    Ok(Some((Some(text_of(alloc, &marks)?), rest)))
+}
+
+/// A bare end of a range.
+fn bare_end(alloc: Global, text: &[char]) -> Result<Option<(Option<String>, &[char])>, NoMemory>
+    ensures { IfOk result (λ found. option_map (λ found. (option_map string_bytes found.0, found.1.now)) found ≡ bare_end_of (marked_after [] (pieces_at end_char text.now))) }
+{
+    let (marks, rest) = pieces(Vec::new(alloc), text, Place::End)?;
+    if marks.is_empty() || is_spelled(&['T', 'O'], &marks) {
+        return Ok(None);
+    }
+    if is_spelled(&['*'], &marks) {
+        return Ok(Some((None, rest)));
+    }
+    Ok(Some((Some(text_of(alloc, &marks)?), rest)))
+}
+
+/// An end of a range: its text, or none for a star.
+#[tactic(auto, using(crate::proofs::Ranging::ending_quoted, crate::proofs::Ranging::ending_bare, crate::proofs::Ranging::ending_nil))]
+fn ending(alloc: Global, text: &[char]) -> Result<Option<(Option<String>, &[char])>, NoMemory>
+    ensures { IfOk result (λ found. option_map (λ found. (option_map string_bytes found.0, found.1.now)) found ≡ option_map end_said (ending_at text.now)) }
+{
+    let Some((first, rest)) = text.split_first() else {
+        return Ok(None);
+    };
+    if *first == '"' {
+        return quoted_end(alloc, rest);
+    }
+    bare_end(alloc, text)
+}
+
+/// The end of a range, by whether its bracket lets it in.
+fn end_with(closed: bool, text: Option<String>) -> Bound
+    ensures { end_of result ≡ end_with closed (option_map string_bytes text) }
+{
+    match text {
+        None => Bound::Free,
+        Some(text) if closed => Bound::With(text),
+        Some(text) => Bound::Without(text),
+    }
+}
+
+/// What stands behind the opening bracket of a range.
+fn range(alloc: Global, left: char, text: &[char]) -> Result<Option<(Token, &[char])>, NoMemory>
     ensures { IfOk result (λ found. option_map shown found ≡ option_map said (range_at left text.now)) }
 {
-    Err(NoMemory)
+    let Some((low, rest)) = ending(alloc, skip_white(text))? else {
+        return Ok(None);
+    };
+    let Some(rest) = gap(rest) else {
+        return Ok(None);
+    };
+    let Some(rest) = to(rest) else {
+        return Ok(None);
+    };
+    let Some(rest) = gap(rest) else {
+        return Ok(None);
+    };
+    let Some((high, rest)) = ending(alloc, rest)? else {
+        return Ok(None);
+    };
+    let Some((right, rest)) = bracket(skip_white(rest)) else {
+        return Ok(None);
+    };
+    let low = end_with(left == '[', low);
+    let high = end_with(right == ']', high);
+    Ok(Some((Token::Between(low, high), rest)))
 }
 
 #[tactic(auto, unfolding(clip_grammar::specs::Lexer::lexeme_at))]
@@ -398,7 +473,7 @@ fn lexeme(alloc: Global, text: &[char]) -> Result<Option<(Option<Token>, &[char]
     }
     let found = match *first {
         '"' => quoted(alloc, rest)?,
-        '[' | '{' => range(*first, rest)?,
+        '[' | '{' => range(alloc, *first, rest)?,
         _ => word(alloc, text)?,
     };
     match found {

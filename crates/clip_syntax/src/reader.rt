@@ -1,9 +1,14 @@
 //! Texts read as queries.
-ghost use Rattle.std.specs.Prelude.{◌≡◌, ◌<◌, ◌^◌, length, encode_utf8_all, IfOk, IfErr};
-ghost use Rattle.clip_grammar.specs.Reading.{Reads, HasNoFault, IsFault};
+ghost use Rattle.std.specs.Prelude.{◌≡◌, ◌<◌, ◌≤◌, ◌^◌, length, map, encode_utf8_all, IfOk, IfErr};
+ghost use Rattle.clip_grammar.specs.Reading.{Reads, HasNoFault, IsFault, Says, most_bytes};
 ghost use Rattle.clip_grammar.specs.Tree.{tree_of};
+ghost use Rattle.clip_syntax.specs.TokenOf.{token_of};
 
-use crate::lexer::lex;
+use crate::build::build;
+use crate::lexer::{Token, lex};
+use crate::parser::{are_clauses, has_left_out};
+use crate::size::is_too_big;
+use crate::words::item_words;
 use clip_grammar::fault::QueryFault;
 use clip_grammar::query::Query;
 use std::alloc::Global;
@@ -23,6 +28,20 @@ fn byte_len(chars: &[char]) -> usize
     len
 }
 
+/// The tokens of the text's lexemes, or the place from which no lexemes go on.
+fn tokens_of(alloc: Global, text: &str) -> Result<Vec<Token>, QueryFault>
+    requires { length text.now ≤ most_bytes }
+    ensures says { IfOk result (λ tokens. Says text.now (map token_of tokens.items)) }
+    ensures refused { IfErr result (λ fault. IsFault text.now fault) }
+{
+    let chars: Vec<char> = text.chars().collect(alloc)?;
+    let (tokens, rest) = lex(alloc, &chars)?;
+    if !rest.is_empty() {
+        return Err(QueryFault::Lexical(text.len() - byte_len(rest)));
+    }
+    Ok(tokens)
+}
+
 /// Reads a query.
 pub fn read_query(alloc: Global, text: &str) -> Result<Query, QueryFault>
     ensures read { IfOk result (λ query. Reads text.now (tree_of query)) }
@@ -32,12 +51,20 @@ pub fn read_query(alloc: Global, text: &str) -> Result<Query, QueryFault>
     if text.len() > MOST_BYTES {
         return Err(QueryFault::TooLong);
     }
-    let chars: Vec<char> = text.chars().collect(alloc)?;
-    let (_tokens, rest) = lex(alloc, &chars)?;
-    if !rest.is_empty() {
-        return Err(QueryFault::Lexical(text.len() - byte_len(rest)));
+    let tokens = tokens_of(alloc, text)?;
+    if has_left_out(&tokens) {
+        return Err(QueryFault::LeftOut);
     }
-    Err(QueryFault::NoMemory)
+    if !are_clauses(&tokens) {
+        return Err(QueryFault::Structure);
+    }
+    let Some(words) = item_words(alloc, &tokens)? else {
+        return Err(QueryFault::NoWords);
+    };
+    if is_too_big(&tokens) {
+        return Err(QueryFault::TooBig);
+    }
+    Ok(build(alloc, &tokens, words)?)
 }
 
 #[cfg(test)]
