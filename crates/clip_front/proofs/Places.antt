@@ -154,7 +154,7 @@ len-last n (t ∷ ss) s registry = len-last (suc n) ss s (finite.insert registry
 
 pub grown_step : (n : ℕ) (list : List Standing) (registry : Registry) (i : ℕ) (s : Standing) → i < length list → s ≡ get_or list i s
     → finite.len (register_all n (take (i + 1) list) registry)
-        ≡ cond (finite.contains_key registry s.id || list_any (λ t. bytes_eq s.id t.id) (take i list)) (finite.len (register_all n (take i list) registry)) (finite.len (register_all n (take i list) registry) + 1)
+    ≡ cond (finite.contains_key registry s.id || list_any (λ t. bytes_eq s.id t.id) (take i list)) (finite.len (register_all n (take i list) registry)) (finite.len (register_all n (take i list) registry) + 1)
 grown_step n list registry i s within is =
     let front : take (i + 1) list ≡ take i list ++ s ∷ [] = take_more list i s within ∙ ap (λ t. take i list ++ t ∷ []) (sym is) in
     ap (λ ss. finite.len (register_all n ss registry)) front ∙ len-last n (take i list) s registry

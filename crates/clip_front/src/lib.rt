@@ -11,6 +11,8 @@ mod reply;
 mod request;
 mod session;
 mod standing;
+#[cfg(test)]
+mod tests;
 
 pub use device::{Failed, Sink, Source, StdSink, StdSource};
 pub use fault::RunFault;

@@ -10,7 +10,6 @@ use clip_meaning::article::Article;
 use serde_json::{Value, json};
 use std::alloc::{AllocError, Global};
 
-
 /// The value as compact JSON, and a line feed.
 #[tactic(auto, unfolding(crate::specs::Reply::printed))]
 pub fn printed(alloc: Global, value: &Value) -> Result<Vec<u8>, AllocError>

@@ -7,11 +7,11 @@ ghost use Rattle.clip_model.specs.History.{is_id};
 ghost use Rattle.std.specs.List.{list_all};
 ghost use Rattle.clip_front.specs.Views.{fields_view, listed_view, draft_view};
 
+use clip_meaning::article::Article;
+use clip_meaning::fault::ArticleFault;
 use serde_json::{Map, Value};
 use std::alloc::{AllocError, Global};
 use std::sync::ArcStr;
-use clip_meaning::article::Article;
-use clip_meaning::fault::ArticleFault;
 
 /// A query that a register lists.
 #[derive(Debug, Drop)]
@@ -276,7 +276,7 @@ fn articles_of(alloc: Global, drafts: &[Draft]) -> Result<Option<Vec<Article>>, 
     ensures { IfOk result (λ found. MatchOption found
         (list_all (λ d. may_be d.0 d.1) (map draft_view drafts.now) ≡ false)
         (λ v. (list_all (λ d. may_be d.0 d.1) (map draft_view drafts.now) ≡ true)
-            × (v.items ≡ map article_of (map draft_view drafts.now)))) }
+        × (v.items ≡ map article_of (map draft_view drafts.now)))) }
 {
     let mut all = Vec::new(alloc);
     for draft in drafts {

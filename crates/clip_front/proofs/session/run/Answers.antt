@@ -24,7 +24,7 @@ lines-preserved g c =
     let gathered = rw c.deref-in-lines.ensures.value at c.in_ok-gather.ensures in
     let less = c.in_ok-next_line.ensures.fuel c.if-not-branch.false in
     let handed = progress_handed (g.R.Source.left c.args.reader.now) (prepend_known c.lines.lines.pending (g.R.Source.left c.lines.reader)) (g.W.Sink.taken c.args.writer.now) (g.W.Sink.taken c.lines.writer) (g.W.Sink.taken c.hand_over.new.writer)
-        c.lines.outbox c.hand_over.new.self c.lines.count c.lines.registry c.lines.invariant.progress c.in_ok-hand_over.ensures.moved in
+    c.lines.outbox c.hand_over.new.self c.lines.count c.lines.registry c.lines.invariant.progress c.in_ok-hand_over.ensures.moved in
     record {
       budget = c.in_ok-next_line.ensures.budget;
       ended = c.in_ok-next_line.ensures.ended;
@@ -39,7 +39,7 @@ pub returns-then-not-branch-clause-replies : goal.returns-then-not-branch-clause
 returns-then-not-branch-clause-replies g c =
     let found = rw c.if-not-branch.true at c.in_ok-next_line.ensures.line in
     let handed = progress_handed (g.R.Source.left c.args.reader.now) (prepend_known c.lines.lines.pending (g.R.Source.left c.lines.reader)) (g.W.Sink.taken c.args.writer.now) (g.W.Sink.taken c.lines.writer) (g.W.Sink.taken c.hand_over.new.writer)
-        c.lines.outbox c.hand_over.new.self c.lines.count c.lines.registry c.lines.invariant.progress c.in_ok-hand_over.ensures.moved in
+    c.lines.outbox c.hand_over.new.self c.lines.count c.lines.registry c.lines.invariant.progress c.in_ok-hand_over.ensures.moved in
     progress_end (g.R.Source.left c.args.reader.now) (g.R.Source.left c.lines.reader) _ c.lines.lines.pending c.next_line.new.line.items (g.W.Sink.taken c.args.writer.now) (g.W.Sink.taken c.hand_over.new.writer) c.hand_over.new.self c.lines.count c.lines.registry
     handed found (λ none. c.in_ok-hand_over.ensures.none_held (c.has_line.ensures ∙ none))
 
