@@ -1,5 +1,5 @@
 //! What a run reads from and writes to.
-ghost use Rattle.std.specs.Prelude.{◌≡◌, ◌+◌, ◌<◌, ◌^◌, ◌||◌, ℕ, List, Option, Bool, false, is_err, OnOk, OnErr};
+ghost use Rattle.std.specs.Prelude.{◌≡◌, ◌+◌, ◌<◌, ◌^◌, ◌||◌, ℕ, List, Option, Bool, true, false, is_err, OnOk, OnErr};
 ghost use Rattle.std.specs.Io.{ReadsAtMost, WritesAtMost};
 ghost use Rattle.std.specs.Io.KnownBytes.{Appends, Keeps, ReadConsumes, WriteAppends};
 ghost use Rattle.clip_front.specs.Device.{write_failed, AppendsFront};
@@ -39,6 +39,9 @@ pub trait Sink {
     /// Whether a call has failed: an error, or a write that took nothing of some bytes.
     ghost has_failed: { Self → Bool };
 
+    /// Whether a flush has gone well since the last write.
+    ghost is_flushed: { Self → Bool };
+
     fn write(&mut self, bytes: &[u8]) -> Result<usize, Failed>
         ensures bound { WritesAtMost result bytes.now }
         ensures bytes { WriteAppends (taken self.old) (taken self.new) result bytes.now }
@@ -47,7 +50,8 @@ pub trait Sink {
 
     fn flush(&mut self) -> Result<(), Failed>
         ensures bytes { Keeps (taken self.old) (taken self.new) }
-        ensures failed { has_failed self.new ≡ (has_failed self.old || is_err result) };
+        ensures failed { has_failed self.new ≡ (has_failed self.old || is_err result) }
+        ensures flushed { OnOk result (is_flushed self.new ≡ true) };
 }
 
 // One read, tried again where a signal interrupts it.
@@ -145,6 +149,7 @@ impl<R: Read> Source for StdSource<R> {
 pub struct StdSink<W: Write> {
     inner: W,
     failed: bool,
+    flushed: bool,
 }
 
 impl<W: Write> StdSink<W> {
@@ -155,6 +160,7 @@ impl<W: Write> StdSink<W> {
         StdSink {
             inner,
             failed: false,
+            flushed: false,
         }
     }
 }
@@ -164,7 +170,10 @@ impl<W: Write> Sink for StdSink<W> {
 
     ghost has_failed = { λ s. s.failed };
 
+    ghost is_flushed = { λ s. s.flushed };
+
     fn write(&mut self, bytes: &[u8]) -> Result<usize, Failed> {
+        self.flushed = false;
         match write_again(&mut self.inner, bytes) {
             Ok(n) => {
                 if n == 0 && !bytes.is_empty() {
@@ -182,6 +191,7 @@ impl<W: Write> Sink for StdSink<W> {
     fn flush(&mut self) -> Result<(), Failed> {
         let result = flush_again(&mut self.inner);
         self.failed = self.failed || result.is_err();
+        self.flushed = result.is_ok();
         result
     }
 }

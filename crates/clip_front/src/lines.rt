@@ -169,6 +169,7 @@ impl LineReader {
         ensures line { IfOk result (λ found. FindsKnownLine found
             (prepend_known self.old.pending (R.left reader.old))
             line.new.items (prepend_known self.new.pending (R.left reader.new))) }
+        ensures none { IfOk result (λ found. found ≡ false → has_feed self.old.pending ≡ false) }
         ensures fuel { IfOk result (λ found. found ≡ true → fuel self.new < fuel self.old) }
         ensures failed { OnOk result (R.has_failed reader.new ≡ R.has_failed reader.old) }
         ensures fault { IfErr result (λ e. e ≢ RunFault.Write) }

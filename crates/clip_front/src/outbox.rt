@@ -51,6 +51,7 @@ impl Outbox {
     pub fn hand_over<W: Sink>(&mut self, writer: &mut W, has_line: bool) -> Result<(), RunFault>
         ensures moved { OnOk result (HandsOver (W.taken writer.old) self.old (W.taken writer.new) self.new) }
         ensures none_held { OnOk result (has_line ≡ false → self.new ≡ []) }
+        ensures flushed { OnOk result (has_line ≡ false → W.is_flushed writer.new ≡ true) }
         ensures well { OnOk result (W.has_failed writer.new ≡ W.has_failed writer.old) }
         ensures err { OnErr result ((result ≡ Err RunFault.Write) × (W.has_failed writer.new ≡ true)) }
         ensures front { OnErr result (AppendsFront (W.taken writer.old) (W.taken writer.new) self.old) }
@@ -81,6 +82,7 @@ fn send<W: Sink>(writer: &mut W, bytes: &[u8]) -> Result<(), RunFault>
 
 fn finish<W: Sink>(writer: &mut W) -> Result<(), RunFault>
     ensures kept { Keeps (W.taken writer.old) (W.taken writer.new) }
+    ensures flushed { OnOk result (W.is_flushed writer.new ≡ true) }
     ensures well { OnOk result (W.has_failed writer.new ≡ W.has_failed writer.old) }
     ensures err { OnErr result ((result ≡ Err RunFault.Write) × (W.has_failed writer.new ≡ true)) }
 {

@@ -28,9 +28,10 @@ pub fn run<R: Source, W: Sink>(
     requires reader_well { R.has_failed reader.old ≡ false }
     requires writer_well { W.has_failed writer.old ≡ false }
 
-    // Where the bytes are known, what was written is their reply text.
+    // Where the bytes are known, what was written and flushed is their reply text.
     ensures replies { OnOk result (IfSome (R.left reader.old) (λ input.
         (text : List ℕ) × IsText input text × Appends (W.taken writer.old) (W.taken writer.new) text)) }
+    ensures flushed { OnOk result (W.is_flushed writer.new ≡ true) }
     ensures lines { IfOk result (λ ended. IfSome (R.left reader.old) (λ input.
         ended.lines ≡ length (lines_of input))) }
 
