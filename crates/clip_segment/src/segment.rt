@@ -6,7 +6,7 @@ ghost use Rattle.std.specs.Option.{option_copied};
 ghost use Rattle.clip_extract.specs.declared.key.Key.{Key};
 ghost use Rattle.clip_extract.specs.Keys.{is_same, key_of};
 ghost use Rattle.clip_segment.specs.Positions.{positions_under};
-ghost use Rattle.clip_segment.specs.Segment.{IsRising, most_positions, positions_with};
+ghost use Rattle.clip_segment.specs.Segment.{IsRising, holds_key, most_positions, positions_with};
 
 use crate::entry::Entry;
 use clip_extract::Key;
@@ -39,16 +39,38 @@ impl Model for Segment {
     ghost invariant = { IsSegment };
 }
 
+/// A copy of a key, which shares its texts.
+fn shared(key: &Key) -> Result<Key, NoMemory>
+    ensures { IfOk result (λ copy. key_of copy ≡ key_of key.now) }
+{
+    Ok(key.clone()?)
+}
+
 /// Adds a position at the end of those under a key.
 fn add_position(
     positions: &mut HashMap<Key, Vec<u32>>,
-    key: &Key,
+    key: Key,
     position: u32,
 ) -> Result<(), NoMemory>
     ensures { OnOk result ((other : Key) → positions_under positions.new other
-        ≡ positions_under positions.old other ++ (if is_same (key_of key.now) (key_of other) then position ∷ [] else [])) }
+        ≡ positions_under positions.old other ++ (if is_same (key_of key) (key_of other) then position ∷ [] else [])) }
 {
-    positions.entry(key.clone()?)?.or_default().push(position)?;
+    positions.entry(key)?.or_default().push(position)?;
+    Ok(())
+}
+
+/// Adds a position at the end of those under each key of an entry.
+fn add_entry(
+    positions: &mut HashMap<Key, Vec<u32>>,
+    entry: &Entry,
+    position: u32,
+) -> Result<(), NoMemory>
+    ensures { OnOk result ((other : Key) → positions_under positions.new other
+        ≡ positions_under positions.old other ++ (if holds_key (key_of other) entry.now then position ∷ [] else [])) }
+{
+    for key in entry.keys() {
+        add_position(positions, shared(key)?, position)?;
+    }
     Ok(())
 }
 
@@ -62,9 +84,7 @@ impl Segment {
         let mut positions = HashMap::new(alloc);
         let mut position = 0;
         for entry in &entries {
-            for key in entry.keys() {
-                add_position(&mut positions, key, position)?;
-            }
+            add_entry(&mut positions, entry, position)?;
             position += 1;
         }
         Ok(Segment { entries, positions })
