@@ -1,7 +1,7 @@
 //! Segments: entries in the order of their seqs, with an index from keys to positions.
-ghost use Rattle.std.specs.Prelude.{◌≡◌, ◌==◌, ◌≤◌, ◌++◌, ◌∷◌, [], if◌then◌else◌, IfOk, OnOk, length, map, option_map};
+ghost use Rattle.std.specs.Prelude.{◌≡◌, ◌==◌, ◌<◌, ◌≤◌, ◌++◌, ◌∷◌, [], if◌then◌else◌, IfOk, OnOk, length, map, option_map};
 ghost use Rattle.std.specs.Arc.{arc_value};
-ghost use Rattle.std.specs.List.{slice_get};
+ghost use Rattle.std.specs.List.{All, AllPairs, slice_get};
 ghost use Rattle.std.specs.Option.{option_copied};
 ghost use Rattle.clip_extract.specs.declared.key.Key.{Key};
 ghost use Rattle.clip_extract.specs.Keys.{is_same, key_of};
@@ -90,9 +90,12 @@ impl Segment {
         Ok(Segment { entries, positions })
     }
 
+    #[tactic(auto, using(crate::proofs::Holding::positions_within, crate::proofs::Holding::positions_rise))]
     /// The positions of just the entries that hold the key, rising. It costs one look-up.
     pub fn with_key(&self, key: &Key) -> &[u32]
-        ensures { result.now ≡ positions_with (key_of key.now) self.now }
+        ensures holders { result.now ≡ positions_with (key_of key.now) self.now }
+        ensures within { All (λ position. position < length self.now) result.now }
+        ensures rising { AllPairs ◌<◌ result.now }
     {
         match self.positions.get(key) {
             Some(positions) => positions,
