@@ -1,0 +1,106 @@
+//! The words of a query's items.
+ghost use Rattle.std.specs.Prelude.{◌≡◌, map, not, is_some, IfOk, IfSome};
+ghost use Rattle.std.specs.Option.{option_map};
+ghost use Rattle.std.specs.Arc.{arc_str_bytes};
+ghost use Rattle.clip_words.specs.Words.{words_of};
+ghost use Rattle.clip_grammar.specs.Parser.{begins_colon};
+ghost use Rattle.clip_grammar.specs.Shape as shape;
+ghost use Rattle.clip_grammar.specs.Shape.{Written, lacks_words};
+ghost use Rattle.clip_syntax.specs.Items.{item_text, items_words};
+ghost use Rattle.clip_syntax.specs.TokenOf.{token_of};
+
+use crate::lexer::Token;
+use clip_words::{NoMemory, words};
+use std::alloc::Global;
+use std::sync::ArcStr;
+
+/// Whether a colon comes first.
+pub(crate) fn begins_colon(tokens: &[Token]) -> bool
+    ensures { result ≡ begins_colon (map token_of tokens.now) }
+{
+    match tokens.split_first() {
+        Some((Token::Colon, _)) => true,
+        _ => false,
+    }
+}
+
+/// The text of a plain or quoted item. A word before a colon is a field.
+fn item_text(token: &Token, before_colon: bool) -> Option<&str>
+    ensures { option_map (λ text. text.now) result ≡ item_text (token_of token.now) before_colon }
+{
+    match token {
+        Token::Plain(text) if !before_colon => Some(text),
+        Token::Phrase(text) => Some(text),
+        _ => None,
+    }
+}
+
+/// The words of a text, each to be shared.
+fn shared_words(alloc: Global, text: &str) -> Result<Vec<ArcStr>, NoMemory>
+    ensures { IfOk result (λ found. map arc_str_bytes found.items ≡ words_of text.now) }
+{
+    let mut shared = Vec::new(alloc);
+    for word in words(alloc, text)? {
+        shared.push(ArcStr::from_string(word)?)?;
+    }
+    Ok(shared)
+}
+
+/// The words of each plain or quoted item in order, or `None` where an item has no words.
+///
+/// A plain word before a colon is a field, and no item. Each word is cut and folded once, and is then shared.
+/// `NoMemory` where a growth is refused. The cost is linear in the bytes of the tokens.
+pub fn item_words(alloc: Global, tokens: &[Token]) -> Result<Option<Vec<Vec<ArcStr>>>, NoMemory>
+    ensures words { IfOk result (λ found. IfSome found (λ items. map (λ words. map arc_str_bytes words.items) items.items ≡ items_words (map token_of tokens.now))) }
+    ensures lacking { IfOk result (λ found. (written : Written) → shape.tokens written ≡ map token_of tokens.now → is_some found ≡ not (lacks_words written)) }
+{
+    let mut items = Vec::new(alloc);
+    let mut rest = tokens;
+    while let Some((token, after)) = rest.split_first() {
+        rest = after;
+        if let Some(text) = item_text(token, begins_colon(rest)) {
+            let words = shared_words(alloc, text)?;
+            if words.is_empty() {
+                return Ok(None);
+            }
+            items.push(words)?;
+        }
+    }
+    Ok(Some(items))
+}
+
+#[cfg(test)]
+mod tests {
+    use super::*;
+    use crate::lexer::lex;
+    use std::test::Fail;
+
+    fn words_of_text(alloc: Global, text: &str) -> Result<Option<Vec<Vec<ArcStr>>>, NoMemory> {
+        let chars: Vec<char> = text.chars().collect(alloc)?;
+        let (tokens, _) = lex(alloc, &chars)?;
+        item_words(alloc, &tokens)
+    }
+
+    #[test]
+    fn leaves_fields_and_prefixes_out(rt: HostRuntime) -> Result<(), Fail> {
+        let found = words_of_text(rt.alloc(), "title:Wi-Fi te* *:* (\"Green tea\")")?.expect(
+            &rt,
+            "each item has words",
+        );
+        assert_eq!(rt; found.len(), 2);
+        assert_eq!(rt; found[0].len(), 2);
+        assert_eq!(rt; found[0][0].as_str(), "wi");
+        assert_eq!(rt; found[0][1].as_str(), "fi");
+        assert_eq!(rt; found[1].len(), 2);
+        assert_eq!(rt; found[1][0].as_str(), "green");
+        assert_eq!(rt; found[1][1].as_str(), "tea");
+        Ok(())
+    }
+
+    #[test]
+    fn finds_an_item_of_no_words(rt: HostRuntime) -> Result<(), Fail> {
+        assert!(rt; words_of_text(rt.alloc(), "tea (\"\")")?.is_none());
+        assert!(rt; words_of_text(rt.alloc(), "&:tea")?.is_some());
+        Ok(())
+    }
+}
