@@ -13,9 +13,8 @@ use Rattle.std.specs.Cmp.{IsTotalOrder}
 use Rattle.std.specs.Cmp.Lexicographic.{pointwise, lists_ties, texts_ties}
 use Rattle.std.specs.List.{list_any}
 use Rattle.std.specs.FinMap as finite
-use Rattle.std.specs.FinSet as set
 use Rattle.clip_words.specs.Order.{bytes_cmp}
-use Rattle.clip_extract.proofs.Order.{key_cmp_total, same_key}
+use Rattle.clip_extract.proofs.Order.{key_cmp_total, marked, same_key}
 use Rattle.clip_extract.specs.Keys.{KeyValue, key_of, key_cmp, is_same, in_order}
 use Rattle.clip_extract.specs.declared.key.Key.{Key}
 use Rattle.clip_extract.specs.declared.key.Key.TheVariants as variant
@@ -73,8 +72,8 @@ once_in (e ∷ es) (suc j) d sorted inside =
 
 pub once : (ks : List KeyValue) (j : ℕ) (d : KeyValue) → j < length (in_order ks) → list_any (is_same (get_or (in_order ks) j d)) (take j (in_order ks)) ≡ false
 once ks j d inside =
-    let s = set.from_list {R = key_cmp} ks in
-    once_in (finite.entries s) j d (finite.entries_sorted s) (omega (arith, length-map (finite.entries s) (λ e. e.0)))
+    let keys = finite.from_entries {R = key_cmp} (marked ks) in
+    once_in (finite.entries keys) j d (finite.entries_sorted keys) (omega (arith, length-map (finite.entries keys) (λ e. e.0)))
 
 pub flipped : (k q : KeyValue) → is_same k q ≡ is_same q k
 flipped k q = ap is_eq (key_cmp_total.antisymm k q) ∙ turned (key_cmp q k) where

@@ -11,7 +11,7 @@ use std::marker::Model;
 use std::sync::Arc;
 
 /// A standing query, the number under which it was registered, and the keys of its query.
-#[derive(Drop)]
+#[derive(Debug, Drop)]
 pub struct Entry {
     seq: u64,
     standing: Arc<Standing>,

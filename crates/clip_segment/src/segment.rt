@@ -17,7 +17,7 @@ use std::marker::Model;
 use std::sync::Arc;
 
 /// Entries in the order of their seqs, with an index from keys to positions.
-#[derive(Drop)]
+#[derive(Debug, Drop)]
 pub struct Segment {
     entries: Vec<Arc<Entry>>,
     positions: HashMap<Key, Vec<u32>>,

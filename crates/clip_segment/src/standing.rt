@@ -62,7 +62,7 @@ impl From<QueryFault> for StandingFault {
 }
 
 /// A standing query: a query under an id, with the name of a listener or none. Its texts are shared, and its query is the reading of its text.
-#[derive(Drop)]
+#[derive(Debug, Drop)]
 pub struct Standing {
     id: ArcStr,
     text: ArcStr,
