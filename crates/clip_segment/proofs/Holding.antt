@@ -77,15 +77,15 @@ module _ (key : KeyValue) where
   picks all front (e ∷ es) parts =
       let on : length front + 1 ≡ length (front ++ e ∷ []) = omega (arith, length-append front (e ∷ [])) in
       let later : map (slice_get all) (from (length front + 1) es) ≡ map Some (filter (holds_key key) es) =
-          ap (λ n. map (slice_get all) (from n es)) on ∙ picks all (front ++ e ∷ []) es (parts ∙ sym (append_assoc front (e ∷ []) es)) in
+      ap (λ n. map (slice_get all) (from n es)) on ∙ picks all (front ++ e ∷ []) es (parts ∙ sym (append_assoc front (e ∷ []) es)) in
       let here : slice_get all (length front) ≡ Some e = ap (λ xs. slice_get xs (length front)) parts ∙ got front e es in
       elim (holds_key key e) as (λ b. map (slice_get all) (map (λ (p : ℕ × Registered). p.0) (cond b ((length front, e) ∷ filter (λ (p : ℕ × Registered). holds_key key p.1) (enumerate_from (length front + 1) es)) (filter (λ (p : ℕ × Registered). holds_key key p.1) (enumerate_from (length front + 1) es)))) ≡ map Some (cond b (e ∷ filter (holds_key key) es) (filter (holds_key key) es))) [
         | true ↦ λ i. here i ∷ later i
         | false ↦ later
       ] where
-    got : (front : List Registered) (e : Registered) (es : List Registered) → slice_get (front ++ e ∷ es) (length front) ≡ Some e
-    got [] e es = refl
-    got (x ∷ front) e es = got front e es
+        got : (front : List Registered) (e : Registered) (es : List Registered) → slice_get (front ++ e ∷ es) (length front) ≡ Some e
+        got [] e es = refl
+        got (x ∷ front) e es = got front e es
 
   -- the entries at the positions are just those that hold the key, in order
   pub holders_at_positions : (es : List Registered) → map (slice_get es) (positions_with key es) ≡ map Some (filter (holds_key key) es)

@@ -20,9 +20,9 @@ use Rattle.clip_segment.proofs.Keys.{same_keys_is, same_keys_alike, once, flippe
 
 -- where a map has been given one position more at a key
 pub position_added : {Z S : Type 0} (m n : HashMap Key (Vec ℕ Z) S) (key : Key) (new : Vec ℕ Z) (position : ℕ)
-  → table.Updates same_keys m n key (Some new)
-  → new.items ≡ positions_under m key ++ position ∷ []
-  → (other : Key) → positions_under n other ≡ positions_under m other ++ cond (is_same (key_of key) (key_of other)) (position ∷ []) []
+    → table.Updates same_keys m n key (Some new)
+    → new.items ≡ positions_under m key ++ position ∷ []
+    → (other : Key) → positions_under n other ≡ positions_under m other ++ cond (is_same (key_of key) (key_of other)) (position ∷ []) []
 position_added m n key new position update items other =
     elim (same_keys key other) as (λ b. same_keys key other ≡ b → table.get same_keys n other ≡ cond b (Some new) (table.get same_keys m other) → positions_under n other ≡ positions_under m other ++ cond (is_same (key_of key) (key_of other)) (position ∷ []) []) [
       | true ↦ λ test at.
@@ -62,9 +62,9 @@ any_more p ks j d inside =
     ∙ ap (list_any p) (map-append key_of (take j ks) (get_or ks j d ∷ []))
     ∙ list_any-append p (map key_of (take j ks)) (key_of (get_or ks j d) ∷ [])
     ∙ ap (λ b. list_any p (map key_of (take j ks)) || b) (or_false _) where
-  or_false : (b : Bool) → (b || false) ≡ b
-  or_false true = refl
-  or_false false = refl
+      or_false : (b : Bool) → (b || false) ≡ b
+      or_false true = refl
+      or_false false = refl
 
 -- where the keys are in order, each once, a key that comes is not among those before it
 not_before : (ks : List Key) (all : List KeyValue) (j : ℕ) (d : Key) (o : KeyValue) → map key_of ks ≡ in_order all → j < length ks → is_same (key_of (get_or ks j d)) o ≡ true → list_any (is_same o) (map key_of (take j ks)) ≡ false
@@ -77,8 +77,8 @@ not_before ks all j d o are inside same =
 
 -- what stands under a key after one more key of an entry
 pub key_added : (under : List ℕ) (position : ℕ) (ks : List Key) (all : List KeyValue) (j : ℕ) (d : Key) (o : KeyValue) → map key_of ks ≡ in_order all → j < length ks
-  → (under ++ cond (list_any (is_same o) (map key_of (take j ks))) (position ∷ []) []) ++ cond (is_same (key_of (get_or ks j d)) o) (position ∷ []) []
-  ≡ under ++ cond (list_any (is_same o) (map key_of (take (j + 1) ks))) (position ∷ []) []
+    → (under ++ cond (list_any (is_same o) (map key_of (take j ks))) (position ∷ []) []) ++ cond (is_same (key_of (get_or ks j d)) o) (position ∷ []) []
+    ≡ under ++ cond (list_any (is_same o) (map key_of (take (j + 1) ks))) (position ∷ []) []
 key_added under position ks all j d o are inside =
     one_of under position _ _ (not_before ks all j d o are inside)
     ∙ ap (λ b. under ++ cond (list_any (is_same o) (map key_of (take j ks)) || b) (position ∷ []) []) (flipped (key_of (get_or ks j d)) o)
@@ -99,13 +99,13 @@ positions_push key es e =
     ∙ ap (map (λ (p : ℕ × Registered). p.0)) (filter-append (λ p. holds_key key p.1) (enumerate_from 0 es) ((0 + length es, e) ∷ []))
     ∙ map-append (λ (p : ℕ × Registered). p.0) (filter (λ p. holds_key key p.1) (enumerate_from 0 es)) _
     ∙ ap (λ xs. positions_with key es ++ xs) (last (holds_key key e)) where
-  last : (b : Bool) → map (λ (p : ℕ × Registered). p.0) (cond b ((0 + length es, e) ∷ []) []) ≡ cond b (length es ∷ []) []
-  last true = ap (λ n. n ∷ []) (omega arith)
-  last false = refl
+      last : (b : Bool) → map (λ (p : ℕ × Registered). p.0) (cond b ((0 + length es, e) ∷ []) []) ≡ cond b (length es ∷ []) []
+      last true = ap (λ n. n ∷ []) (omega arith)
+      last false = refl
 
 -- the positions up to one entry more of a list, each seen as a registered query
 pub entry_added : {A : Type 0} (seen : A → Registered) (key : KeyValue) (items : List A) (j : ℕ) (d : A) → j < length items
-  → positions_with key (map seen (take (j + 1) items)) ≡ positions_with key (map seen (take j items)) ++ cond (holds_key key (seen (get_or items j d))) (j ∷ []) []
+    → positions_with key (map seen (take (j + 1) items)) ≡ positions_with key (map seen (take j items)) ++ cond (holds_key key (seen (get_or items j d))) (j ∷ []) []
 entry_added seen key items j d inside =
     let long : length (map seen (take j items)) ≡ j = length-map (take j items) seen ∙ length-take-le j items (omega arith) in
     ap (λ xs. positions_with key (map seen xs)) (take_more items j d inside)

@@ -16,5 +16,5 @@ loop-entry-preserved c = record {
       ∙ ap (λ xs. xs ++ cond (holds_key (key_of key) c.deref.result.now) (c.loop-entry.position ∷ []) []) (c.loop-entry.invariant.found key)
       ∙ ap (λ e. before ++ cond (holds_key (key_of key) e) (c.loop-entry.position ∷ []) []) (c.deref.ensures ∙ ap arc_value c.entry-item.is)
       ∙ ap (λ n. before ++ cond (holds_key (key_of key) (arc_value at)) (n ∷ []) []) c.loop-entry.invariant.place
-      ∙ sym (entry_added arc_value (key_of key) items c.loop-entry.entry-index c.entry-item.result c.loop-entry-test.true)
+      ∙ sym (entry_added arc_value (key_of key) items c.loop-entry.entry-index c.entry-item.result c.loop-entry-test.true);
 }

@@ -9,5 +9,5 @@ use Rattle.clip_segment.proofs.segment.Segment.build.Given as goal
 abbrev pub invariant-loop-entry : goal.invariant-loop-entry
 invariant-loop-entry l = record {
   place : l.position ≡ l.entry-index;
-  found : (key : Key) → positions_under l.positions key ≡ positions_with (key_of key) (map arc_value (take l.entry-index l.entry-items))
+  found : (key : Key) → positions_under l.positions key ≡ positions_with (key_of key) (map arc_value (take l.entry-index l.entry-items));
 }
