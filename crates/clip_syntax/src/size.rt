@@ -73,11 +73,41 @@ fn most_open(tokens: &[Token]) -> usize
     most
 }
 
-/// Whether the tree has more than 4,096 nodes, or more than 64 parentheses are open at once.
+/// Whether the tree has more than `MOST_NODES` nodes, or more than `MOST_OPEN` parentheses are open at once.
 ///
-/// Linear in the tokens, and flat.
+/// The cost is linear in the tokens, and nothing nests.
 pub fn is_too_big(tokens: &[Token]) -> bool
     ensures { (written : Written) → shape.tokens written ≡ map token_of tokens.now → (IsTrue result ↔ IsTooBig (written_tree written)) }
 {
     node_count(tokens) > MOST_NODES || most_open(tokens) > MOST_OPEN
+}
+
+#[cfg(test)]
+mod tests {
+    use super::*;
+    use std::test::Fail;
+
+    #[test]
+    fn counts_the_outermost_group(rt: HostRuntime) -> Result<(), Fail> {
+        let mut tokens = Vec::new(rt.alloc());
+        for _ in 1..MOST_NODES {
+            tokens.push(Token::Front(String::new(rt.alloc())))?;
+        }
+        assert!(rt; !is_too_big(&tokens));
+        tokens.push(Token::Front(String::new(rt.alloc())))?;
+        assert!(rt; is_too_big(&tokens));
+        Ok(())
+    }
+
+    #[test]
+    fn counts_open_parentheses(rt: HostRuntime) -> Result<(), Fail> {
+        let mut tokens = Vec::new(rt.alloc());
+        for _ in 0..MOST_OPEN {
+            tokens.push(Token::Open)?;
+        }
+        assert!(rt; !is_too_big(&tokens));
+        tokens.push(Token::Open)?;
+        assert!(rt; is_too_big(&tokens));
+        Ok(())
+    }
 }

@@ -15,7 +15,7 @@ use std::alloc::Global;
 use std::sync::ArcStr;
 
 /// Whether a colon comes first.
-pub fn begins_colon(tokens: &[Token]) -> bool
+pub(crate) fn begins_colon(tokens: &[Token]) -> bool
     ensures { result ≡ begins_colon (map token_of tokens.now) }
 {
     match tokens.split_first() {
@@ -46,9 +46,10 @@ fn shared_words(alloc: Global, text: &str) -> Result<Vec<ArcStr>, NoMemory>
     Ok(shared)
 }
 
-/// The words of each plain or quoted item in order, or `None` where an item has none.
+/// The words of each plain or quoted item in order, or `None` where an item has no words.
 ///
-/// Each word is cut and folded once. The cost is linear in the bytes of the tokens.
+/// A plain word before a colon is a field, and no item. Each word is cut and folded once, and is then shared.
+/// `NoMemory` where a growth is refused. The cost is linear in the bytes of the tokens.
 pub fn item_words(alloc: Global, tokens: &[Token]) -> Result<Option<Vec<Vec<ArcStr>>>, NoMemory>
     ensures words { IfOk result (λ found. IfSome found (λ items. map (λ words. map arc_str_bytes words.items) items.items ≡ items_words (map token_of tokens.now))) }
     ensures lacking { IfOk result (λ found. (written : Written) → shape.tokens written ≡ map token_of tokens.now → is_some found ≡ not (lacks_words written)) }
@@ -66,4 +67,40 @@ pub fn item_words(alloc: Global, tokens: &[Token]) -> Result<Option<Vec<Vec<ArcS
         }
     }
     Ok(Some(items))
+}
+
+#[cfg(test)]
+mod tests {
+    use super::*;
+    use crate::lexer::lex;
+    use std::test::Fail;
+
+    fn words_of_text(alloc: Global, text: &str) -> Result<Option<Vec<Vec<ArcStr>>>, NoMemory> {
+        let chars: Vec<char> = text.chars().collect(alloc)?;
+        let (tokens, _) = lex(alloc, &chars)?;
+        item_words(alloc, &tokens)
+    }
+
+    #[test]
+    fn leaves_fields_and_prefixes_out(rt: HostRuntime) -> Result<(), Fail> {
+        let found = words_of_text(rt.alloc(), "title:Wi-Fi te* *:* (\"Green tea\")")?.expect(
+            &rt,
+            "each item has words",
+        );
+        assert_eq!(rt; found.len(), 2);
+        assert_eq!(rt; found[0].len(), 2);
+        assert_eq!(rt; found[0][0].as_str(), "wi");
+        assert_eq!(rt; found[0][1].as_str(), "fi");
+        assert_eq!(rt; found[1].len(), 2);
+        assert_eq!(rt; found[1][0].as_str(), "green");
+        assert_eq!(rt; found[1][1].as_str(), "tea");
+        Ok(())
+    }
+
+    #[test]
+    fn finds_an_item_of_no_words(rt: HostRuntime) -> Result<(), Fail> {
+        assert!(rt; words_of_text(rt.alloc(), "tea (\"\")")?.is_none());
+        assert!(rt; words_of_text(rt.alloc(), "&:tea")?.is_some());
+        Ok(())
+    }
 }

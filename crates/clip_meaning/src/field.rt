@@ -1,0 +1,166 @@
+//! The words of one field of an article.
+ghost use Rattle.std.specs.Prelude.{◌≡◌, ◌&&◌, map, drop, IfOk, IsPermutation};
+ghost use Rattle.std.specs.Arc.{arc_str_bytes};
+ghost use Rattle.std.specs.List.{list_any, starts_with};
+ghost use Rattle.std.specs.List.Sorted.{IsSortedByKey};
+ghost use Rattle.std.specs.Str.{bytes_eq};
+ghost use Rattle.clip_words.specs.Order.{bytes_cmp};
+ghost use Rattle.clip_words.specs.Words.{words_of};
+ghost use Rattle.clip_grammar.specs.Tree.{end_of};
+ghost use Rattle.clip_meaning.specs.Index.{numbered, stands_at};
+ghost use Rattle.clip_meaning.specs.Meaning.{above, below, begins_with, has_run, is_nonempty};
+
+use crate::index::{Posting, WordIndex};
+use clip_syntax::Bound;
+use clip_words::{NoMemory, words};
+use std::alloc::Global;
+use std::marker::Model;
+use std::sync::ArcStr;
+
+/// A field of an article: its name, and its words in order.
+#[derive(Debug, Drop)]
+pub struct Field {
+    name: ArcStr,
+    words: Vec<ArcStr>,
+    index: WordIndex,
+}
+
+impl Model for Field {
+    ghost use Rattle.std.specs.Prelude.{ℕ, List, map, IsPermutation};
+    ghost use Rattle.std.specs.Arc.{arc_str_bytes};
+    ghost use Rattle.clip_meaning.specs.Index.{numbered, stands_at};
+
+    ghost Value = { List ℕ × List (List ℕ) };
+
+    ghost view = { λ f. (arc_str_bytes f.name, map arc_str_bytes f.words.items) };
+
+    ghost invariant = { λ f. IsPermutation (numbered 0 (map arc_str_bytes f.words.items)) f.index };
+}
+
+/// The words of a text, folded, each made once.
+fn shared_words(alloc: Global, text: &str) -> Result<Vec<ArcStr>, NoMemory>
+    ensures { IfOk result (λ found. map arc_str_bytes found.items ≡ words_of text.now) }
+{
+    let mut shared = Vec::new(alloc);
+    for word in words(alloc, text)? {
+        shared.push(ArcStr::from_string(word)?)?;
+    }
+    Ok(shared)
+}
+
+impl Field {
+    /// Cuts and folds a field's text.
+    pub(crate) fn read(alloc: Global, name: &str, text: &str) -> Result<Field, NoMemory>
+        ensures { IfOk result (λ field. field ≡ (name.now, words_of text.now)) }
+    {
+        let words = shared_words(alloc, text)?;
+        let index = WordIndex::read(alloc, &words)?;
+        Ok(Field {
+            name: ArcStr::from_str(alloc, name)?,
+            words,
+            index,
+        })
+    }
+
+    /// The field's name.
+    pub fn name(&self) -> &ArcStr
+        ensures { arc_str_bytes result.now ≡ self.now.0 }
+    {
+        &self.name
+    }
+
+    /// The field's words, folded, in the order of the text.
+    pub fn words(&self) -> &[ArcStr]
+        ensures { map arc_str_bytes result.now ≡ self.now.1 }
+    {
+        &self.words
+    }
+
+    /// The field's words, each with its position, sorted by the bytes of the word and then by position.
+    pub fn postings(&self) -> &[Posting]
+        ensures words { IsPermutation (numbered 0 self.now.1) result.now }
+        ensures sorted { IsSortedByKey (λ p. p.0) bytes_cmp result.now }
+    {
+        self.index.postings()
+    }
+
+    /// Whether a word is among the words.
+    pub(crate) fn has_word(&self, word: &str) -> bool
+        ensures { result ≡ list_any (λ w. bytes_eq w word.now) self.now.1 }
+    {
+        self.index.has_word(word)
+    }
+
+    /// Whether the words of a phrase stand next to each other in order; an empty phrase never does.
+    pub(crate) fn has_phrase(&self, phrase: &[ArcStr]) -> bool
+        ensures { result ≡ (is_nonempty (map arc_str_bytes phrase.now) && has_run self.now.1 (map arc_str_bytes phrase.now)) }
+    {
+        let Some(first) = phrase.first() else {
+            return false;
+        };
+        stands_at_any(&self.words, self.index.occurrences(first), phrase)
+    }
+
+    /// Whether a word begins with the front.
+    pub(crate) fn has_front(&self, front: &str) -> bool
+        ensures { result ≡ list_any (begins_with front.now) self.now.1 }
+    {
+        self.index.has_front(front)
+    }
+
+    /// Whether a word lies between the bounds.
+    pub(crate) fn has_between(&self, low: &Bound, high: &Bound) -> bool
+        ensures { result ≡ list_any (λ w. above (end_of low.now) w && below (end_of high.now) w) self.now.1 }
+    {
+        self.index.has_between(low, high)
+    }
+}
+
+/// The words from a position on, none where it is past the end.
+fn words_from(words: &[ArcStr], position: usize) -> &[ArcStr]
+    ensures { result.now ≡ drop position words.now }
+{
+    if position < words.len() {
+        &words[position..]
+    } else {
+        &[]
+    }
+}
+
+/// Whether a phrase stands at a posting.
+fn stands_at(words: &[ArcStr], phrase: &[ArcStr], posting: &Posting) -> bool
+    ensures { result ≡ stands_at (map arc_str_bytes words.now) (map arc_str_bytes phrase.now) posting.now }
+{
+    starts_with(words_from(words, posting.position()), phrase)
+}
+
+/// Whether a phrase stands at one of the postings.
+fn stands_at_any(words: &[ArcStr], postings: &[Posting], phrase: &[ArcStr]) -> bool
+    ensures { result ≡ list_any (stands_at (map arc_str_bytes words.now) (map arc_str_bytes phrase.now)) postings.now }
+{
+    for posting in postings {
+        if stands_at(words, phrase, posting) {
+            return true;
+        }
+    }
+    false
+}
+
+/// Whether the words begin with those of a phrase.
+fn starts_with(words: &[ArcStr], phrase: &[ArcStr]) -> bool
+    ensures { result ≡ starts_with bytes_eq (map arc_str_bytes words.now) (map arc_str_bytes phrase.now) }
+{
+    let mut words = words;
+    let mut phrase = phrase;
+    while let Some((next, others)) = phrase.split_first() {
+        let Some((word, after)) = words.split_first() else {
+            return false;
+        };
+        if next.as_str() != word.as_str() {
+            return false;
+        }
+        words = after;
+        phrase = others;
+    }
+    true
+}

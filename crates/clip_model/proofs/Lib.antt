@@ -1,0 +1,6 @@
+pub mod Replay
+pub mod Splits
+pub mod Legal
+pub mod Entries
+pub mod Seqs
+pub mod Rows
