@@ -12,7 +12,6 @@ pub mod field;
 mod field_map;
 pub mod index;
 pub mod meaning;
-
 #[cfg(test)]
 mod tests;
 

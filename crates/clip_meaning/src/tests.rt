@@ -160,7 +160,12 @@ fn title_without_a_phrase_or_a_text(rt: HostRuntime) -> Result<(), Fail> {
     let milk = (Occur::Should, term(alloc, "text", "milk")?);
     let query = two(alloc, (Occur::Should, title), milk)?;
     assert!(rt; holds(&query, &read(alloc, &[("title", "Black tea")])?));
-    assert!(rt; holds(&query, &read(alloc, &[("title", "green tea"), ("text", "milk")])?));
+    assert!(rt;
+        holds(
+            &query,
+            &read(alloc, &[("title", "green tea"), ("text", "milk")])?
+        )
+    );
     assert!(rt; !holds(&query, &read(alloc, &[("title", "green tea")])?));
     Ok(())
 }
@@ -182,7 +187,10 @@ fn both_a_prefix_and_a_range(rt: HostRuntime) -> Result<(), Fail> {
 #[test]
 fn reads_an_article(rt: HostRuntime) -> Result<(), Fail> {
     let alloc = rt.alloc();
-    let article = read(alloc, &[("title", "Green Tea"), ("body", "tea, TEA and milk")])?;
+    let article = read(
+        alloc,
+        &[("title", "Green Tea"), ("body", "tea, TEA and milk")],
+    )?;
     assert_eq!(rt; article.id(), "a1");
     assert_eq!(rt; article.field("text").len(), 0);
     let body = article.field("body");
@@ -228,7 +236,10 @@ fn id_of_1_to_256_bytes(rt: HostRuntime) -> Result<(), Fail> {
     let alloc = rt.alloc();
     assert_eq!(rt; fault_of(alloc, "", &[])?, Some(ArticleFault::Id));
     assert_eq!(rt; fault_of(alloc, repeated(alloc, 256)?.as_str(), &[])?, None);
-    assert_eq!(rt; fault_of(alloc, repeated(alloc, 257)?.as_str(), &[("9a", "")])?, Some(ArticleFault::Id));
+    assert_eq!(rt;
+        fault_of(alloc, repeated(alloc, 257)?.as_str(), &[("9a", "")])?,
+        Some(ArticleFault::Id)
+    );
     Ok(())
 }
 
@@ -236,7 +247,10 @@ fn id_of_1_to_256_bytes(rt: HostRuntime) -> Result<(), Fail> {
 fn names_of_fields(rt: HostRuntime) -> Result<(), Fail> {
     let alloc = rt.alloc();
     for name in ["9a", "", "a-b", "a b", "é"] {
-        assert_eq!(rt; fault_of(alloc, "a1", &[(name, "tea")])?, Some(ArticleFault::Field));
+        assert_eq!(rt;
+            fault_of(alloc, "a1", &[(name, "tea")])?,
+            Some(ArticleFault::Field)
+        );
     }
     for name in ["a9", "_", "A_z"] {
         assert_eq!(rt; fault_of(alloc, "a1", &[(name, "tea")])?, None);
@@ -244,7 +258,10 @@ fn names_of_fields(rt: HostRuntime) -> Result<(), Fail> {
     let long = repeated(alloc, 64)?;
     assert_eq!(rt; fault_of(alloc, "a1", &[(long.as_str(), "tea")])?, None);
     let longer = repeated(alloc, 65)?;
-    assert_eq!(rt; fault_of(alloc, "a1", &[(longer.as_str(), "tea")])?, Some(ArticleFault::Field));
+    assert_eq!(rt;
+        fault_of(alloc, "a1", &[(longer.as_str(), "tea")])?,
+        Some(ArticleFault::Field)
+    );
     Ok(())
 }
 
@@ -262,7 +279,10 @@ fn sixteen_fields_of_distinct_names(rt: HostRuntime) -> Result<(), Fail> {
     let names = [
         "a", "b", "c", "d", "e", "f", "g", "h", "i", "j", "k", "l", "m", "n", "o", "p", "9",
     ];
-    assert_eq!(rt; fault_of(alloc, "a1", &teas(alloc, &names)?)?, Some(ArticleFault::TooMany));
+    assert_eq!(rt;
+        fault_of(alloc, "a1", &teas(alloc, &names)?)?,
+        Some(ArticleFault::TooMany)
+    );
     assert_eq!(rt; fault_of(alloc, "a1", &teas(alloc, &names[..16])?)?, None);
     let twice = [("a", "tea"), ("b", "tea"), ("a", "milk")];
     assert_eq!(rt; fault_of(alloc, "a1", &twice)?, Some(ArticleFault::Twice));
