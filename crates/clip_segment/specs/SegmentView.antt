@@ -1,5 +1,5 @@
 -- A segment as contracts see it, and what holds of each.
-use Rattle.std.specs.Prelude.{◌≡◌, ℕ, ◌≤◌, List, map, length}
+use Rattle.std.specs.Prelude.{◌≡◌, ◌≤◌, List, map, length}
 use Rattle.std.specs.Arc.{arc_value}
 use Rattle.clip_extract.specs.Keys.{key_of}
 use Rattle.clip_extract.specs.declared.key.Key.{Key}
