@@ -1,5 +1,5 @@
 -- Lists that are cut at two places, and mapped.
-use Rattle.std.proofs.Common.{◌≡◌, ℕ, ◌≤◌, ◌+◌, List, ◌++◌, map, length, take, drop, sym, ap, ◌∙◌, arith}
+use Rattle.std.proofs.Common.{◌≡◌, ℕ, ◌≤◌, List, ◌++◌, map, length, take, drop, sym, ap, ◌∙◌, arith}
 use Rattle.std.proofs.lemmas.List.{map-append, take-append-drop, take_at, drop_at, take-take, take-map, drop-map, length-take-le, length-map, drop-append-le}
 
 module _ {A B : Type 0} (f : A → B) where

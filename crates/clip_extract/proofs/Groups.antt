@@ -14,8 +14,8 @@ use Rattle.clip_grammar.specs.declared.query.Query.TheVariants.{Term, Phrase, ro
 use Rattle.clip_grammar.specs.declared.query.Query.TheFolds.{fold-roll-Query}
 use Rattle.clip_grammar.specs.Tree.{Tree, clauses_of, tree_of, tree_step}
 use Rattle.clip_extract.specs.Keys.{KeyValue}
-use Rattle.clip_extract.specs.Extraction.{Extracted, unnarrowed, word_extract, heavier, together, heaviest, union, musts, shoulds, group_extract, extract, extracts}
-use Rattle.clip_extract.specs.Groups.{go_on, group_with, group_from, next_found, counts, outweighs, kept}
+use Rattle.clip_extract.specs.Extraction.{Extracted, unnarrowed, word_extract, heavier, together, heaviest, musts, shoulds, group_extract, extract, extracts}
+use Rattle.clip_extract.specs.Groups.{group_with, group_from, next_found, counts, kept}
 use Rattle.clip_extract.specs.declared.extraction.Found.{Found}
 use Rattle.clip_extract.specs.declared.extraction.Found.TheVariants.{Nothing, Optional, Required}
 
@@ -81,6 +81,7 @@ heavier_alike a b x e = heavier_weight a x ∙ ap (λ w. cond (ltb w x.weight) x
     picked : (t : Bool) (a x : Extracted) → (cond t x a).weight ≡ cond t x.weight a.weight
     picked true a x = refl
     picked false a x = refl
+
     heavier_weight : (a x : Extracted) → (heavier a x).weight ≡ cond (ltb a.weight x.weight) x.weight a.weight
     heavier_weight a x = picked (ltb a.weight x.weight) a x
 

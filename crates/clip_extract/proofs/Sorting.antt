@@ -1,18 +1,18 @@
 -- A list of keys that is sorted and has none twice.
-use Rattle.std.proofs.Common.{◌≡◌, ℕ, Bool, true, false, ◌&&◌, ◌||◌, List, [], ◌∷◌, map, length, Option, Some, None, is_some, refl, sym, ap, ◌∙◌, subst, IsPermutation}
+use Rattle.std.proofs.Common.{◌≡◌, Bool, true, ◌||◌, List, [], ◌∷◌, map, Option, Some, None, is_some, refl, sym, ap, ◌∙◌, subst, IsPermutation}
 use Rattle.std.specs.FinMap as finite
 use Rattle.std.specs.FinMap.Entries.{is_sorted, below_all, is_some-find}
-use Rattle.std.specs.Ordering.{is_lt, is_eq, on, eq_by_cmp, nat_cmp, ordering_then}
+use Rattle.std.specs.Ordering.{is_lt, is_eq, on, nat_cmp, ordering_then}
 use Rattle.std.specs.declared.cmp.Ordering.TheVariants.{Less, Equal, Greater}
 use Rattle.std.specs.declared.cmp.Ordering.{Ordering}
-use Rattle.std.specs.Cmp.{IsTotalOrder, on_total, eq_by_cmp_equiv, both_tied}
+use Rattle.std.specs.Cmp.{on_total, eq_by_cmp_equiv, both_tied}
 use Rattle.std.specs.Cmp.Lexicographic.{slice_cmp, texts_ties}
 use Rattle.std.specs.Arc.{arc_str_bytes}
 use Rattle.std.specs.List.{list_any, dedup, Contains, AllByRecursion}
 use Rattle.std.specs.List.Sorted.{IsSorted, IsStrictlySortedBy}
 use Rattle.std.specs.List.Retain.{IsFiltered, DiffersFromLast}
 use Rattle.std.proofs.lemmas.List.Filters.{dedup_is}
-use Rattle.std.proofs.lemmas.List.Folds.{Any-from_list_any, list_any_at, list_any-from_Any}
+use Rattle.std.proofs.lemmas.List.Folds.{Any-from_list_any, list_any_at}
 use Rattle.std.proofs.lemmas.List.Kept.{Any-dedup, Contains-from_dedup, IsStrictlySortedBy-dedup}
 use Rattle.std.proofs.lemmas.List.Sorted.{Contains-permutation, IsPermutation-sym}
 use Rattle.std.proofs.lemmas.Float.{T_from_true}
@@ -71,10 +71,10 @@ strict_in_order ks ls sorted same =
     let proved = T_from_true (is_sorted key_cmp (marked ks)) (sorted_marked ks sorted) in
     let found = λ (es : List (KeyValue × Unit {0})). λ (q : KeyValue). is_some-find key_cmp q es in
     let maps : finite.from_sorted {R = key_cmp} (marked ks) ≡ finite.from_entries {R = key_cmp} (marked ls) =
-      finite.same_map key_cmp_total key_cmp_same _ _
-      (λ q. finite.get-from_sorted key_cmp (marked ks) q proved
-        ∙ same_option _ _ (found (marked ks) q ∙ ap (list_any (is_same q)) (unmarked ks) ∙ same q ∙ ap (list_any (is_same q)) (sym (unmarked ls)) ∙ sym (found (marked ls) q))
-        ∙ sym (finite.get-from_entries key_cmp_total (marked ls) q)) in
+    finite.same_map key_cmp_total key_cmp_same _ _
+    (λ q. finite.get-from_sorted key_cmp (marked ks) q proved
+    ∙ same_option _ _ (found (marked ks) q ∙ ap (list_any (is_same q)) (unmarked ks) ∙ same q ∙ ap (list_any (is_same q)) (sym (unmarked ls)) ∙ sym (found (marked ls) q))
+    ∙ sym (finite.get-from_entries key_cmp_total (marked ls) q)) in
     sym (unmarked ks) ∙ ap (map (λ e. e.0)) (sym (finite.entries-from_sorted key_cmp (marked ks) proved)) ∙ ap finite.keys maps
 
 -- ---- after a sort and a `dedup`
@@ -103,8 +103,8 @@ any_deduped p xs =
     same_answer _ _
     (any_kept (λ x. p (key_of x)) (dedup same_keys xs) xs (Contains-from_dedup same_keys xs))
     (λ h. let a = Any-from_list_any (λ x. p (key_of x)) xs h in
-      let b = Any-dedup (eq_by_cmp_equiv (on_total key_of key_cmp_total)) xs a.1 (a.0, a.2, a.3) in
-      list_any_at (λ x. p (key_of x)) (dedup same_keys xs) b.0 b.1 b.2 (ap (λ x. p (key_of x)) b.3 ∙ ap p (sym (same_key (key_of a.1) (key_of b.1) b.4)) ∙ a.4))
+    let b = Any-dedup (eq_by_cmp_equiv (on_total key_of key_cmp_total)) xs a.1 (a.0, a.2, a.3) in
+    list_any_at (λ x. p (key_of x)) (dedup same_keys xs) b.0 b.1 b.2 (ap (λ x. p (key_of x)) b.3 ∙ ap p (sym (same_key (key_of a.1) (key_of b.1) b.4)) ∙ a.4))
 
 all_mapped : (k : KeyValue) (xs : List Key) → AllByRecursion (λ y. key_cmp k (key_of y) ≡ Less) xs → AllByRecursion (λ l. key_cmp k l ≡ Less) (map key_of xs)
 all_mapped k [] all = tt

@@ -4,17 +4,17 @@ ghost use Rattle.std.specs.Str.{chars};
 ghost use Rattle.std.specs.Arc.{arc_str_bytes};
 ghost use Rattle.clip_grammar.specs.Tree.{tree_of};
 ghost use Rattle.clip_grammar.specs.declared.query.Occur.{Occur};
-ghost use Rattle.clip_extract.specs.Keys.{KeyValue, key_of, in_order};
+ghost use Rattle.clip_extract.specs.Keys.{KeyValue, key_of};
 ghost use Rattle.clip_extract.specs.Extraction.{Extracted, heaviest, word_extract, unnarrowed, extract, query_keys, query_weight};
 ghost use Rattle.clip_extract.specs.Groups.{group_from, next_found, counts, outweighs, kept, word_found};
 
-use crate::key::Key;
+use crate::key::{Key, sorted};
 use clip_syntax::{Occur, Query};
 use clip_words::NoMemory;
 use std::alloc::Global;
 use std::sync::ArcStr;
 
-/// What stands among a group's clauses so far, with its weight: nothing, Should children, or a Must child.
+/// What stands among a group's clauses so far: nothing, Should children with their least weight, or a Must child with its weight.
 #[derive(Clone, Copy)]
 enum Found {
     Nothing,
@@ -28,7 +28,6 @@ fn characters(word: &str) -> u64
 {
     word.chars().count() as u64
 }
-
 
 /// The heaviest word, the first on a tie, and its weight.
 fn heaviest_word(words: &[ArcStr]) -> Option<(&ArcStr, u64)>
@@ -82,9 +81,9 @@ fn weight_found(found: Found) -> u64
     }
 }
 
-/// The weight of a query: how many characters the word has by which it is found, by the rules of `keys`.
+/// The weight of a query's keys: how many characters the word has that decides, by the rules of `keys`; 0 for Any.
 ///
-/// 0 where any article may be meant. Takes no memory. Cost: one walk over the query.
+/// Takes no memory. Cost: one walk over the query.
 pub fn weight(query: &Query) -> u64
     ensures { result ≡ query_weight (tree_of query.now) }
 {
@@ -148,6 +147,7 @@ fn keep(found: Found, occur: Occur, weight: u64, keys: &mut Vec<Key>, start: usi
     }
 }
 
+/// Adds the key that every article has.
 fn push_any(keys: &mut Vec<Key>) -> Result<u64, NoMemory>
     ensures added { IfOk result (λ weight. map key_of keys.new.items ≡ map key_of keys.old.items ++ unnarrowed.keys) }
     ensures weight { IfOk result (λ weight. weight ≡ 0) }
@@ -200,16 +200,14 @@ fn add_keys(query: &Query, keys: &mut Vec<Key>) -> Result<u64, NoMemory>
     }
 }
 
-/// Sorts keys, and leaves each once.
-fn sorted(mut keys: Vec<Key>) -> Result<Vec<Key>, NoMemory>
-    ensures { IfOk result (λ sorted. map key_of sorted.items ≡ in_order (map key_of keys.items)) }
-{
-    keys.sort()?;
-    keys.dedup();
-    Ok(keys)
-}
-
-/// The keys of a query, in order, each once.
+/// The keys of a query, in order, each once: an article of which it holds has one of them.
+///
+/// As Lucene's term-filtered presearcher extracts terms: of a word its key, of a phrase that of its heaviest word, of a
+/// group those of its heaviest Must child or, without one, of all its Should children; Any for what nothing narrows. A
+/// word weighs as many as it has characters, and the first stands on a tie. Texts are shared with the query.
+///
+/// `NoMemory` where a growth was refused. Cost: one walk over the query, which moves the keys that are kept at most once
+/// for each group around them, and a sort of the keys.
 pub fn keys(alloc: Global, query: &Query) -> Result<Vec<Key>, NoMemory>
     ensures { IfOk result (λ found. map key_of found.items ≡ query_keys (tree_of query.now)) }
 {

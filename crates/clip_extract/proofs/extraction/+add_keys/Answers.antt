@@ -1,4 +1,4 @@
-use Rattle.std.proofs.Common.{◌≡◌, ℕ, ◌+◌, ◌≤◌, List, [], ◌∷◌, ◌++◌, map, length, take, drop, IfOk, unwrap_or, sym, ap, subst, ◌∙◌, arith}
+use Rattle.std.proofs.Common.{◌≡◌, ◌+◌, ◌≤◌, List, [], ◌∷◌, ◌++◌, map, length, take, drop, IfOk, unwrap_or, sym, ap, subst, ◌∙◌, arith}
 use Rattle.std.proofs.lemmas.List.{length-map, take_all, take-append-le, map-append, take-append-drop}
 use Rattle.std.specs.Arc.{arc_str_bytes}
 use Rattle.clip_grammar.specs.Tree.{tree_of}
@@ -17,10 +17,10 @@ loop-occur-init t c =
       long = omega arith;
       empty = λ _. omega arith;
       group =
-        ap (λ cs. group_from Nothing [] (extracts_of cs)) c.deref-occur-items.ensures.value
-        ∙ group_start [] (extracts_of c.in-Group.clauses.items)
-        ∙ sym (extract_group c.in-Group.clauses)
-        ∙ ap (λ q. extract (tree_of q)) (sym c.in-Group.is);
+          ap (λ cs. group_from Nothing [] (extracts_of cs)) c.deref-occur-items.ensures.value
+          ∙ group_start [] (extracts_of c.in-Group.clauses.items)
+          ∙ sym (extract_group c.in-Group.clauses)
+          ∙ ap (λ q. extract (tree_of q)) (sym c.in-Group.is);
     }
 
 pub loop-occur-preserved-then-not-counts : goal.loop-occur-preserved-then-not-counts
@@ -34,9 +34,9 @@ loop-occur-preserved-then-not-counts t c =
       long = c.loop-occur.invariant.long;
       empty = c.loop-occur.invariant.empty;
       group =
-        sym (skipped c.loop-occur.found i.0 ks (extract (tree_of i.1)) rest (sym c.if-not-counts.ensures))
-        ∙ ap (group_from c.loop-occur.found ks) (sym (next_extract cs c.loop-occur.occur-index i c.loop-occur-test.true c.loop-occur-item.is))
-        ∙ c.loop-occur.invariant.group;
+          sym (skipped c.loop-occur.found i.0 ks (extract (tree_of i.1)) rest (sym c.if-not-counts.ensures))
+          ∙ ap (group_from c.loop-occur.found ks) (sym (next_extract cs c.loop-occur.occur-index i c.loop-occur-test.true c.loop-occur-item.is))
+          ∙ c.loop-occur.invariant.group;
     }
 
 pub loop-occur-preserved : goal.loop-occur-preserved
@@ -55,16 +55,16 @@ loop-occur-preserved t c =
     let added : ys ≡ xs ++ (extract (tree_of i.1)).keys = c.in_ok-weight-in-Group.ensures.added in
     record {
       front =
-        c.keep.ensures.front ∙ ap (take start) added ∙ take-append-le start xs (extract (tree_of i.1)).keys low
-        ∙ c.loop-occur.invariant.front;
+          c.keep.ensures.front ∙ ap (take start) added ∙ take-append-le start xs (extract (tree_of i.1)).keys low
+          ∙ c.loop-occur.invariant.front;
       long = c.keep.ensures.long;
       empty = λ e. absurd (something found i.0 c.in_ok-weight-in-Group.weight (sym c.if-not-counts.ensures) (sym c.next_found-found.ensures ∙ e));
       group =
-        ap (λ f. group_from f (drop start zs) rest) c.next_found-found.ensures
-        ∙ turn found i.0 c.in_ok-weight-in-Group.weight xs ys zs start middle (extract (tree_of i.1)) rest
-        (sym c.if-not-counts.ensures) (λ e. same ∙ omega (arith, c.loop-occur.invariant.empty e)) same added c.in_ok-weight-in-Group.ensures.weight c.keep.ensures.kept
-        ∙ ap (group_from found (drop start xs)) (sym (next_extract cs c.loop-occur.occur-index i c.loop-occur-test.true c.loop-occur-item.is))
-        ∙ c.loop-occur.invariant.group;
+          ap (λ f. group_from f (drop start zs) rest) c.next_found-found.ensures
+          ∙ turn found i.0 c.in_ok-weight-in-Group.weight xs ys zs start middle (extract (tree_of i.1)) rest
+          (sym c.if-not-counts.ensures) (λ e. same ∙ omega (arith, c.loop-occur.invariant.empty e)) same added c.in_ok-weight-in-Group.ensures.weight c.keep.ensures.kept
+          ∙ ap (group_from found (drop start xs)) (sym (next_extract cs c.loop-occur.occur-index i c.loop-occur-test.true c.loop-occur-item.is))
+          ∙ c.loop-occur.invariant.group;
     }
 
 pub returns-in_ok-push-in-Term-clause-added : goal.returns-in_ok-push-in-Term-clause-added
@@ -83,8 +83,8 @@ returns-in_ok-push-in-Some-clause-added t c =
     ∙ ap (λ f. map key_of old ++ Word f (arc_str_bytes c.in_ok-clone-in-Some-2.field-0) ∷ []) c.in_ok-clone-in-Some.ensures.cases
     ∙ ap (λ w. map key_of old ++ Word field w ∷ []) c.in_ok-clone-in-Some-2.ensures.cases
     ∙ ap (λ (e : Extracted). map key_of old ++ e.keys)
-      (ap (λ o. unwrap_or o unnarrowed) (sym (c.in-Some.ensures field) ∙ ap (λ ws. heaviest (map (word_extract field) (map arc_str_bytes ws))) c.deref-in-Phrase.ensures.value)
-      ∙ sym (extract_phrase c.in-Phrase.field c.in-Phrase.words) ∙ ap (λ q. extract (tree_of q)) (sym c.in-Phrase.is))
+    (ap (λ o. unwrap_or o unnarrowed) (sym (c.in-Some.ensures field) ∙ ap (λ ws. heaviest (map (word_extract field) (map arc_str_bytes ws))) c.deref-in-Phrase.ensures.value)
+    ∙ sym (extract_phrase c.in-Phrase.field c.in-Phrase.words) ∙ ap (λ q. extract (tree_of q)) (sym c.in-Phrase.is))
 
 pub returns-in-Nothing-clause-added : goal.returns-in-Nothing-clause-added
 returns-in-Nothing-clause-added t c =
@@ -94,8 +94,8 @@ returns-in-Nothing-clause-added t c =
     let all : length xs ≤ c.len-start.result = omega (arith, length-map c.loop-occur.keys.items key_of, c.loop-occur.keys.ok, c.loop-occur.invariant.empty c.in-Nothing.is) in
     let same : xs ≡ old = sym (take_all c.len-start.result xs all) ∙ c.loop-occur.invariant.front in
     let end : extract (tree_of c.args.query.now) ≡ unnarrowed =
-      group_end c.loop-occur.found (drop c.len-start.result xs) c.deref-occur-items.result.now c.loop-occur.occur-index _ c.loop-occur-test.false c.loop-occur.invariant.group
-      ∙ ap (λ f. group_from f (drop c.len-start.result xs) []) c.in-Nothing.is ∙ nothing_found (drop c.len-start.result xs) in
+    group_end c.loop-occur.found (drop c.len-start.result xs) c.deref-occur-items.result.now c.loop-occur.occur-index _ c.loop-occur-test.false c.loop-occur.invariant.group
+    ∙ ap (λ f. group_from f (drop c.len-start.result xs) []) c.in-Nothing.is ∙ nothing_found (drop c.len-start.result xs) in
     subst (λ (ks : List KeyValue). IfOk c.push_any-in-Nothing.result (λ _. new ≡ ks ++ (extract (tree_of c.args.query.now)).keys)) same
     (subst (λ (e : Extracted). IfOk c.push_any-in-Nothing.result (λ _. new ≡ xs ++ e.keys)) (sym end) c.push_any-in-Nothing.ensures.added)
 
@@ -103,8 +103,8 @@ pub returns-in-Nothing-clause-weight : goal.returns-in-Nothing-clause-weight
 returns-in-Nothing-clause-weight t c =
     let xs = map key_of c.loop-occur.keys.items in
     let end : extract (tree_of c.args.query.now) ≡ unnarrowed =
-      group_end c.loop-occur.found (drop c.len-start.result xs) c.deref-occur-items.result.now c.loop-occur.occur-index _ c.loop-occur-test.false c.loop-occur.invariant.group
-      ∙ ap (λ f. group_from f (drop c.len-start.result xs) []) c.in-Nothing.is ∙ nothing_found (drop c.len-start.result xs) in
+    group_end c.loop-occur.found (drop c.len-start.result xs) c.deref-occur-items.result.now c.loop-occur.occur-index _ c.loop-occur-test.false c.loop-occur.invariant.group
+    ∙ ap (λ f. group_from f (drop c.len-start.result xs) []) c.in-Nothing.is ∙ nothing_found (drop c.len-start.result xs) in
     subst (λ (e : Extracted). IfOk c.push_any-in-Nothing.result (λ w. w ≡ e.weight)) (sym end) c.push_any-in-Nothing.ensures.weight
 
 pub returns-in_default-clause-added : goal.returns-in_default-clause-added

@@ -3,7 +3,6 @@ use Rattle.clip_grammar.specs.Tree.{tree_of}
 use Rattle.clip_extract.specs.Keys.{key_of}
 use Rattle.clip_extract.specs.Extraction.{extract}
 use Rattle.clip_extract.specs.Groups.{group_from}
-use Rattle.clip_extract.specs.declared.extraction.Found.{Found}
 use Rattle.clip_extract.specs.declared.extraction.Found.TheVariants.{Nothing}
 use Rattle.clip_extract.proofs.Groups.{extracts_of}
 use Rattle.clip_extract.proofs.extraction.+add_keys.Given as goal

@@ -1,4 +1,4 @@
-use Rattle.std.proofs.Common.{◌≡◌, ◌+◌, [], drop, sym, ap, ◌∙◌}
+use Rattle.std.proofs.Common.{◌+◌, [], drop, sym, ap, ◌∙◌}
 use Rattle.clip_grammar.specs.Tree.{tree_of}
 use Rattle.clip_extract.specs.Extraction.{Extracted, extract}
 use Rattle.clip_extract.specs.Groups.{group_from, next_found}

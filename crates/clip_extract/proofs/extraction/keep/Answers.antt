@@ -1,7 +1,7 @@
-use Rattle.std.proofs.Common.{◌≡◌, ◌≤◌, ◌++◌, map, length, take, drop, cond, sym, ap, ◌∙◌, arith, refl, ⊎_elim}
+use Rattle.std.proofs.Common.{map, take, drop, cond, sym, ap, ◌∙◌, arith, refl, ⊎_elim}
 use Rattle.std.proofs.lemmas.List.{length-map}
 use Rattle.clip_extract.specs.Keys.{key_of}
-use Rattle.clip_extract.specs.Groups.{kept, outweighs}
+use Rattle.clip_extract.specs.Groups.{kept}
 use Rattle.clip_extract.proofs.Cuts.{front_removed, rest_removed, front_cut, rest_cut, parts}
 use Rattle.clip_extract.proofs.extraction.keep.Goals as goal
 
@@ -41,8 +41,8 @@ returns-in-Should c =
       front = refl;
       long = omega arith;
       kept = parts xs c.args.start c.args.middle c.requires.low (omega (arith, length-map c.args.keys.now.items key_of, c.args.keys.now.ok))
-        ∙ ⊎_elim
-        (λ e. ap (λ o. kept c.args.found o c.args.weight (drop c.args.start (take c.args.middle xs)) (drop c.args.middle xs)) (sym e))
-        (λ e. ap (λ o. kept c.args.found o c.args.weight (drop c.args.start (take c.args.middle xs)) (drop c.args.middle xs)) (sym e))
-        c.in-Should.is;
+          ∙ ⊎_elim
+          (λ e. ap (λ o. kept c.args.found o c.args.weight (drop c.args.start (take c.args.middle xs)) (drop c.args.middle xs)) (sym e))
+          (λ e. ap (λ o. kept c.args.found o c.args.weight (drop c.args.start (take c.args.middle xs)) (drop c.args.middle xs)) (sym e))
+          c.in-Should.is;
     }
