@@ -5,3 +5,6 @@ pub mod Lexing
 pub mod Parsing
 pub mod Accepting
 pub mod Uniqueness
+pub mod Leaving
+pub mod Faults
+pub mod Refusals

@@ -91,7 +91,7 @@ run_everything shape.Bang ts below cs = refl
 run_everything shape.Not ts below cs = refl
 
 -- no clause begins with a colon
-no_colon : (c : WrittenClause) (ts : List Token) → starts_colon (clause_tokens c ++ ts) ≡ false
+pub no_colon : (c : WrittenClause) (ts : List Token) → starts_colon (clause_tokens c ++ ts) ≡ false
 no_colon (item shape.Unsigned None (shape.Plain text)) ts = refl
 no_colon (item shape.Unsigned None (shape.Front text)) ts = refl
 no_colon (item shape.Unsigned None (shape.Phrase text)) ts = refl
@@ -108,7 +108,7 @@ no_colon (everything shape.Minus) ts = refl
 no_colon (everything shape.Bang) ts = refl
 no_colon (everything shape.Not) ts = refl
 
-no_colons : (cs : Written) (ts : List Token) → starts_colon ts ≡ false → starts_colon (tokens cs ++ ts) ≡ false
+pub no_colons : (cs : Written) (ts : List Token) → starts_colon ts ≡ false → starts_colon (tokens cs ++ ts) ≡ false
 no_colons (one c) ts h = no_colon c ts
 no_colons (more c cs) ts h = ap starts_colon (append_assoc (clause_tokens c) (tokens cs) ts) ∙ no_colon c (tokens cs ++ ts)
 

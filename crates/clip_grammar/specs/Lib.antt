@@ -1,4 +1,5 @@
 pub mod Laws
+pub mod LeftOut
 pub mod Lexemes
 pub mod Lexer
 pub mod Parser

@@ -1,9 +1,12 @@
 //! Laws of the grammar, for the crates above.
-ghost use Rattle.clip_grammar.specs.Laws.{OneLexing, OneTree};
+ghost use Rattle.clip_grammar.specs.Laws.{OneLexing, OneTree, OneFault, ReadsOrFaults};
 
-/// A text has at most one list of lexemes, and is read as at most one tree.
+/// Each text is read in one way: it has at most one list of lexemes, at most one tree and, want of memory aside, at most one
+/// fault; and it has a tree and no fault, or it has a fault. Costs nothing.
 pub fn one_reading()
     ensures lexemes { OneLexing }
     ensures tree { OneTree }
+    ensures fault { OneFault }
+    ensures decided { ReadsOrFaults }
 {
 }

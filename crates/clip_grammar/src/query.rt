@@ -5,26 +5,39 @@ use std::sync::ArcStr;
 /// How a clause counts in its group.
 #[derive(Clone, Copy, Debug, PartialEq, Eq)]
 pub enum Occur {
+    /// It has to hold.
     Must,
+    /// One of these has to hold, where no clause of the group must.
     Should,
+    /// It may not hold.
     MustNot,
 }
 
-/// An end of a range.
+/// An end of a range of words, which are ordered by their bytes.
 #[derive(Clone, Debug, PartialEq, Eq, Drop)]
 pub enum Bound {
+    /// No limit on this side.
     Free,
+    /// Up to this folded text, itself included.
     With(String),
+    /// Up to this folded text, itself left out.
     Without(String),
 }
 
-/// What is asked of an article.
+/// What is asked of an article. Fields stand as they are written, words and fronts are folded; all are shared, so a clone of one
+/// copies no text.
 #[derive(Debug, PartialEq, Eq, Drop)]
 pub enum Query {
+    /// The word is among the field's words.
     Term { field: ArcStr, word: ArcStr },
+    /// The words stand in the field one after the other.
     Phrase { field: ArcStr, words: Vec<ArcStr> },
+    /// Some word of the field begins with the front.
     Prefix { field: ArcStr, front: ArcStr },
+    /// Some word of the field lies in the range.
     Span { field: ArcStr, low: Bound, high: Bound },
+    /// Every article.
     All,
+    /// Clauses, each with how it counts, in the order in which they are written.
     Group(Vec<(Occur, Query)>),
 }

@@ -3,7 +3,10 @@
 /// What of a clause has been read.
 #[derive(Clone, Copy, Debug, PartialEq, Eq)]
 pub enum Stage {
+    /// Nothing.
     Fresh,
+    /// A sign.
     AfterSign,
+    /// A field, and perhaps a sign before it.
     AfterField,
 }

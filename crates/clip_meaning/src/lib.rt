@@ -2,3 +2,13 @@
 #![tactic(auto)]
 
 ghost use Rattle.std.specs.Prelude.{◌≡◌};
+
+pub mod article;
+pub mod fault;
+pub mod field;
+pub mod field_map;
+pub mod meaning;
+
+pub use article::Article;
+pub use fault::ArticleFault;
+pub use field::Field;

@@ -1,4 +1,7 @@
+pub mod Growing
 pub mod Marking
-pub mod Saying
-pub mod Refusing
 pub mod Ranging
+pub mod Refusing
+pub mod Saying
+pub mod Sizing
+pub mod Wording

@@ -8,10 +8,9 @@ use Rattle.clip_syntax.specs.Marks.{marked, marked_after}
 use Rattle.clip_syntax.specs.Said.{said, IsLexing}
 use Rattle.clip_grammar.specs.Tokens.{Token, Phrase, mark_of, text_of, word_token, tokens_of, tokens_of_lexeme}
 use Rattle.clip_grammar.specs.declared.mark.Mark.{Mark}
-use Rattle.clip_grammar.proofs.Pieces.{if_some_at, spelled}
 use Rattle.clip_syntax.proofs.Marking.{mapped_some, mapped_none}
-use Rattle.clip_grammar.proofs.Fronts.{LexemeFound, lexeme_found}
 use Rattle.clip_grammar.proofs.Lexing.{finds_more}
+use Rattle.clip_grammar.proofs.Refusals.{lexeme_shorter}
 
 -- one more lexeme
 pub lexing_more : (text : List ℕ) (ts : List Token) (mid : List ℕ) (us : List Token) (rest : List ℕ) → IsLexing text ts mid → option_map said (lexeme_at mid) ≡ Some (us, rest) → IsLexing text (ts ++ us) rest
@@ -28,20 +27,9 @@ lexing_more text ts mid us rest before e =
     flat_map_more_nil : (f : Lexeme → List Token) (ls : List Lexeme) (l : Lexeme) → flat_map f ls ++ f l ≡ flat_map f (ls ++ l ∷ [])
     flat_map_more_nil f ls l = flat_map_more f [] ls l
 
--- each lexeme takes some of the text
-spelled_some : (l : Lexeme) → is_lexeme l ≡ true → 0 < length (spell l)
-spelled_some (Blank c) ok = omega arith
-spelled_some (Word []) ok = cc
-spelled_some (Word (p ∷ ps)) ok = omega (arith, spelled p, length-append (spell_piece p) (spell_pieces ps))
-spelled_some (Quoted ps) ok = omega arith
-spelled_some (Range left a low b c high d right) ok = omega arith
-spelled_some (Sign c) ok = omega arith
-spelled_some (Foreign c) ok = omega arith
-
+-- what is left is shorter
 pub said_shorter : (cs : List ℕ) (us : List Token) (rest : List ℕ) → option_map said (lexeme_at cs) ≡ Some (us, rest) → length rest < length cs
 said_shorter cs us rest e =
     let found = mapped_some said (lexeme_at cs) (us, rest) e in
     let left : found.0.1 ≡ rest = ap (λ (v : List Token × List ℕ). v.1) found.2 in
-    let is = if_some_at (LexemeFound cs) found.1 (lexeme_found cs) in
-    let some = spelled_some found.0.0 is.is in
-    omega (arith, ap length left, ap length is.parts, length-append (spell found.0.0) found.0.1)
+    subst (λ x. length x < length cs) left (lexeme_shorter cs found.0.0 found.0.1 (found.1 ∙ refl))

@@ -1,20 +1,24 @@
-//! Query texts cut into lexemes.
-ghost use Rattle.std.specs.Prelude.{◌≡◌, ◌<◌, length, map, IfOk, IfSome, IsTrue, if◌then◌else◌, string_bytes};
+//! Query texts cut into lexemes, each said as a token. Blanks say nothing.
+//!
+//! A text is here the slice of its characters, and what is left of it a later part of that slice.
+ghost use Rattle.std.specs.Prelude.{◌≡◌, [], ◌<◌, length, map, IfOk, IfSome, IsTrue, if◌then◌else◌, string_bytes};
 ghost use Rattle.std.specs.Option.{option_map};
 ghost use Rattle.clip_grammar.specs.Lexemes.{is_white, is_start, is_one_of, is_hex, hex_value, is_code, code_value};
-ghost use Rattle.clip_grammar.specs.Lexer.{piece_at, code_at, escape_at, pieces_at, quoted_at, word_at, range_at, lexeme_at, span_white, gap_at, to_at, bracket_at};
+ghost use Rattle.clip_grammar.specs.Lexer.{quotable_char, end_char, ending_at, piece_at, code_at, escape_at, pieces_at, quoted_at, word_at, range_at, lexeme_at, span_white, gap_at, to_at, bracket_at};
 ghost use Rattle.clip_syntax.specs.Said.{said, shown, shown_all, IsLexed};
 ghost use Rattle.std.specs.List.{list_any};
 ghost use Rattle.clip_syntax.specs.Marks.{class_test, marked, marked_after};
 ghost use Rattle.clip_grammar.specs.Tokens.{text_of, is_spelled, is_bare, is_wild, has_operator, ends_in_star, word_token, sign_token};
 ghost use Rattle.clip_syntax.specs.TokenOf.{token_of};
+ghost use Rattle.clip_syntax.specs.Ends.{end_said, end_with, quoted_end_of, bare_end_of};
+ghost use Rattle.clip_grammar.specs.Tree.{end_of};
 
 use clip_grammar::mark::Mark;
 use clip_grammar::query::Bound;
 use clip_words::NoMemory;
 use std::alloc::Global;
 
-/// What a lexeme says, however it is spelled.
+/// What a lexeme says, however it is spelled. Its texts have no quotes, and each escape stands as its character.
 #[derive(Debug, PartialEq, Eq, Drop)]
 pub enum Token {
     Plus,
@@ -24,29 +28,41 @@ pub enum Token {
     Open,
     Close,
     Colon,
+    /// A star alone.
     Star,
+    /// A word without `*` and `?`.
     Plain(String),
+    /// A word whose last character is its one star, without the star.
     Front(String),
+    /// A quoted text.
     Phrase(String),
+    /// A range.
     Between(Bound, Bound),
+    /// A form that is left out: an operator word, a word with wild cards elsewhere, `~`, `^` or `/`.
     Other,
 }
 
-/// Where a piece stands.
+/// Where a character stands, which decides whether it needs a backslash.
 #[derive(Clone, Copy, Debug, PartialEq, Eq)]
 pub enum Place {
+    /// First in a word.
     WordStart,
+    /// Later in a word.
     Word,
+    /// Between quotes.
     Quoted,
+    /// In the bare end of a range.
     End,
 }
 
+/// Whether the character separates lexemes. A no-break space does not: it is a character of words.
 fn is_white(c: char) -> bool
     ensures { result ≡ is_white c }
 {
     matches!(c, ' ' | '\t' | '\n' | '\r' | '\u{3000}')
 }
 
+/// Whether a word may begin with the character and no backslash.
 fn is_start(c: char) -> bool
     ensures { result ≡ is_start c }
 {
@@ -57,7 +73,7 @@ fn is_start(c: char) -> bool
         )
 }
 
-/// Whether the character may stand there with no backslash.
+/// Whether the character may stand there with no backslash. A star and a question mark may stand in a word.
 fn allows(place: Place, c: char) -> bool
     ensures { result ≡ class_test place c }
 {
@@ -87,7 +103,7 @@ fn hex_value(c: char) -> u32
     }
 }
 
-/// The character that four hexadecimal digits name.
+/// The character that four hexadecimal digits name. A surrogate is none.
 fn code_char(a: char, b: char, c: char, d: char) -> Option<char>
     ensures { result ≡ (if is_code a b c d then Some (code_value a b c d) else None) }
 {
@@ -129,7 +145,7 @@ fn escape(text: &[char]) -> Option<(Mark, &[char])>
     Some((Mark::Escaped(*first), rest))
 }
 
-/// One piece at the front of the text, and what is left.
+/// One character or escape at the front of the text, and what is left.
 #[tactic(auto, unfolding(clip_grammar::specs::Lexer::piece_at))]
 fn piece(text: &[char], place: Place) -> Option<(Mark, &[char])>
     ensures found { option_map (λ found. (found.0, found.1.now)) result ≡ option_map marked (piece_at (class_test place) text.now) }
@@ -146,8 +162,8 @@ fn piece(text: &[char], place: Place) -> Option<(Mark, &[char])>
     }
 }
 
+/// The marks, and then those of the characters and escapes at the front of the text, and what is left.
 #[tactic(auto, using(crate::proofs::Marking::marked_step, crate::proofs::Marking::marked_end))]
-/// The marks, and then those of the pieces at the front of the text, and what is left.
 fn pieces(
     mut marks: Vec<Mark>,
     text: &[char],
@@ -246,8 +262,8 @@ fn ends_in_star(marks: &[Mark]) -> bool
     false
 }
 
-#[tactic(auto, unfolding(clip_grammar::specs::Tokens::word_token))]
 /// What a word says.
+#[tactic(auto, unfolding(clip_grammar::specs::Tokens::word_token))]
 fn word_token(alloc: Global, marks: &[Mark]) -> Result<Token, NoMemory>
     ensures { IfOk result (λ token. token_of token ≡ word_token marks.now) }
 {
@@ -286,8 +302,8 @@ fn sign_token(c: char) -> Token
     }
 }
 
-#[tactic(auto, unfolding(clip_grammar::specs::Lexer::quoted_at))]
 /// What stands behind an opening quote.
+#[tactic(auto, unfolding(clip_grammar::specs::Lexer::quoted_at))]
 fn quoted(alloc: Global, text: &[char]) -> Result<Option<(Token, &[char])>, NoMemory>
     ensures { IfOk result (λ found. option_map shown found ≡ option_map said (quoted_at text.now)) }
 {
@@ -301,8 +317,8 @@ fn quoted(alloc: Global, text: &[char]) -> Result<Option<(Token, &[char])>, NoMe
     Ok(Some((Token::Phrase(text_of(alloc, &marks)?), rest)))
 }
 
+/// A word at the front of the text, as long as it goes on.
 #[tactic(auto, unfolding(clip_grammar::specs::Lexer::word_at))]
-/// A word.
 fn word(alloc: Global, text: &[char]) -> Result<Option<(Token, &[char])>, NoMemory>
     ensures { IfOk result (λ found. option_map shown found ≡ option_map said (word_at text.now)) }
 {
@@ -315,8 +331,8 @@ fn word(alloc: Global, text: &[char]) -> Result<Option<(Token, &[char])>, NoMemo
     Ok(Some((word_token(alloc, &marks)?, rest)))
 }
 
-#[tactic(auto, unfolding(clip_grammar::specs::Lexer::span_white))]
 /// What is left behind white space.
+#[tactic(auto, unfolding(clip_grammar::specs::Lexer::span_white))]
 fn skip_white(text: &[char]) -> &[char]
     ensures { result.now ≡ (span_white text.now).1 }
 {
@@ -330,8 +346,8 @@ fn skip_white(text: &[char]) -> &[char]
     rest
 }
 
-#[tactic(auto, using(crate::proofs::Ranging::gap_some, crate::proofs::Ranging::gap_none, crate::proofs::Ranging::gap_nil))]
 /// What is left behind white space, of which there is some.
+#[tactic(auto, using(crate::proofs::Ranging::gap_some, crate::proofs::Ranging::gap_none, crate::proofs::Ranging::gap_nil))]
 fn gap(text: &[char]) -> Option<&[char]>
     ensures { option_map (λ rest. rest.now) result ≡ option_map (λ found. found.1) (gap_at text.now) }
 {
@@ -345,8 +361,8 @@ fn gap(text: &[char]) -> Option<&[char]>
     }
 }
 
-#[tactic(auto, unfolding(clip_grammar::specs::Lexer::to_at))]
 /// What is left behind `TO`.
+#[tactic(auto, unfolding(clip_grammar::specs::Lexer::to_at))]
 fn to(text: &[char]) -> Option<&[char]>
     ensures { option_map (λ rest. rest.now) result ≡ to_at text.now }
 {
@@ -359,8 +375,8 @@ fn to(text: &[char]) -> Option<&[char]>
     }
 }
 
-#[tactic(auto, unfolding(clip_grammar::specs::Lexer::bracket_at))]
 /// A closing bracket, and what is left.
+#[tactic(auto, unfolding(clip_grammar::specs::Lexer::bracket_at))]
 fn bracket(text: &[char]) -> Option<(char, &[char])>
     ensures { option_map (λ found. (found.0, found.1.now)) result ≡ bracket_at text.now }
 {
@@ -372,15 +388,88 @@ fn bracket(text: &[char]) -> Option<(char, &[char])>
     }
 }
 
-/// Not there yet.
-fn range(left: char, text: &[char]) -> Result<Option<(Token, &[char])>, NoMemory>
-    ensures { IfOk result (λ found. option_map shown found ≡ option_map said (range_at left text.now)) }
+/// A quoted end of a range, behind its opening quote.
+fn quoted_end(alloc: Global, text: &[char]) -> Result<Option<(Option<String>, &[char])>, NoMemory>
+    ensures { IfOk result (λ found. option_map (λ found. (option_map string_bytes found.0, found.1.now)) found ≡ quoted_end_of (marked_after [] (pieces_at quotable_char text.now))) }
 {
-    Err(NoMemory)
+    let (marks, rest) = pieces(Vec::new(alloc), text, Place::Quoted)?;
+    let Some((close, rest)) = rest.split_first() else {
+        return Ok(None);
+    };
+    if marks.is_empty() || *close != '"' {
+        return Ok(None);
+    }
+    Ok(Some((Some(text_of(alloc, &marks)?), rest)))
 }
 
-#[tactic(auto, unfolding(clip_grammar::specs::Lexer::lexeme_at))]
+/// A bare end of a range.
+fn bare_end(alloc: Global, text: &[char]) -> Result<Option<(Option<String>, &[char])>, NoMemory>
+    ensures { IfOk result (λ found. option_map (λ found. (option_map string_bytes found.0, found.1.now)) found ≡ bare_end_of (marked_after [] (pieces_at end_char text.now))) }
+{
+    let (marks, rest) = pieces(Vec::new(alloc), text, Place::End)?;
+    if marks.is_empty() || is_spelled(&['T', 'O'], &marks) {
+        return Ok(None);
+    }
+    if is_spelled(&['*'], &marks) {
+        return Ok(Some((None, rest)));
+    }
+    Ok(Some((Some(text_of(alloc, &marks)?), rest)))
+}
+
+/// An end of a range: its text, or none for a star alone.
+#[tactic(auto, using(crate::proofs::Ranging::ending_quoted, crate::proofs::Ranging::ending_bare, crate::proofs::Ranging::ending_nil))]
+fn ending(alloc: Global, text: &[char]) -> Result<Option<(Option<String>, &[char])>, NoMemory>
+    ensures { IfOk result (λ found. option_map (λ found. (option_map string_bytes found.0, found.1.now)) found ≡ option_map end_said (ending_at text.now)) }
+{
+    let Some((first, rest)) = text.split_first() else {
+        return Ok(None);
+    };
+    if *first == '"' {
+        return quoted_end(alloc, rest);
+    }
+    bare_end(alloc, text)
+}
+
+/// The end of a range, by whether its bracket lets it in.
+fn end_with(closed: bool, text: Option<String>) -> Bound
+    ensures { end_of result ≡ end_with closed (option_map string_bytes text) }
+{
+    match text {
+        None => Bound::Free,
+        Some(text) if closed => Bound::With(text),
+        Some(text) => Bound::Without(text),
+    }
+}
+
+/// What stands behind the opening bracket of a range.
+fn range(alloc: Global, left: char, text: &[char]) -> Result<Option<(Token, &[char])>, NoMemory>
+    ensures { IfOk result (λ found. option_map shown found ≡ option_map said (range_at left text.now)) }
+{
+    let Some((low, rest)) = ending(alloc, skip_white(text))? else {
+        return Ok(None);
+    };
+    let Some(rest) = gap(rest) else {
+        return Ok(None);
+    };
+    let Some(rest) = to(rest) else {
+        return Ok(None);
+    };
+    let Some(rest) = gap(rest) else {
+        return Ok(None);
+    };
+    let Some((high, rest)) = ending(alloc, rest)? else {
+        return Ok(None);
+    };
+    let Some((right, rest)) = bracket(skip_white(rest)) else {
+        return Ok(None);
+    };
+    let low = end_with(left == '[', low);
+    let high = end_with(right == ']', high);
+    Ok(Some((Token::Between(low, high), rest)))
+}
+
 /// What the first lexeme says, and what is left.
+#[tactic(auto, unfolding(clip_grammar::specs::Lexer::lexeme_at))]
 fn lexeme(alloc: Global, text: &[char]) -> Result<Option<(Option<Token>, &[char])>, NoMemory>
     ensures { IfOk result (λ found. option_map shown_all found ≡ option_map said (lexeme_at text.now)) }
 {
@@ -398,7 +487,7 @@ fn lexeme(alloc: Global, text: &[char]) -> Result<Option<(Option<Token>, &[char]
     }
     let found = match *first {
         '"' => quoted(alloc, rest)?,
-        '[' | '{' => range(*first, rest)?,
+        '[' | '{' => range(alloc, *first, rest)?,
         _ => word(alloc, text)?,
     };
     match found {
@@ -407,8 +496,10 @@ fn lexeme(alloc: Global, text: &[char]) -> Result<Option<(Option<Token>, &[char]
     }
 }
 
+/// What the lexemes say, as far as there are any, and what is left: nothing, or a text at which no lexeme begins.
+///
+/// The cost is linear in the characters.
 #[tactic(auto, using(crate::proofs::Saying::lexing_more, crate::proofs::Saying::said_shorter, crate::proofs::Marking::mapped_none))]
-/// What the lexemes say, as far as there are any, and what is left.
 pub fn lex(alloc: Global, text: &[char]) -> Result<(Vec<Token>, &[char]), NoMemory>
     ensures { IfOk result (λ found. IsLexed text.now (map token_of found.0.items) found.1.now) }
 {

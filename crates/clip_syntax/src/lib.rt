@@ -1,11 +1,22 @@
-//! Reads query texts.
+//! Reads the text of a query as its tree, or says why it is none.
+//!
+//! The syntax is Lucene's classic query syntax (`QueryParser`) in part: words, quoted phrases, prefixes (`tea*`), ranges
+//! (`[a TO b}`), fields (`title:tea`), groups, the signs `+`, `-`, `!` and `NOT`, and `*:*`. The operators `AND`, `OR`, `&&` and
+//! `||`, wild cards inside a word, fuzzy words, boosts and regular expressions are refused by name.
+//!
+//! A text is read in passes along one list of tokens, none of which recurses: length, lexemes, left-out forms, clauses, words,
+//! size. Only then is the tree built, and it is then at most 65 groups deep.
 #![tactic(auto)]
 
-ghost use Rattle.std.specs.Prelude.{◌≡◌};
+mod build;
+mod lexer;
+mod parser;
+mod reader;
+mod size;
+mod words;
 
-pub mod lexer;
-pub mod parser;
-pub mod reader;
+#[cfg(test)]
+mod tests;
 
 pub use clip_grammar::fault::QueryFault;
 pub use clip_grammar::query::{Bound, Occur, Query};

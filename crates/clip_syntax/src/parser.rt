@@ -1,6 +1,7 @@
-//! Tokens read as clauses.
+//! Whether tokens are clauses, judged along the list and without recursion.
 ghost use Rattle.std.specs.Prelude.{◌≡◌, ◌+◌, ◌∷◌, map, length, zero, false, IfSome, MatchOption};
 ghost use Rattle.clip_grammar.specs.Tokens as spec;
+ghost use Rattle.clip_grammar.specs.LeftOut.{begins_left_out, leaves_out};
 ghost use Rattle.clip_grammar.specs.Parser.{accepts, begins_colon};
 ghost use Rattle.clip_grammar.specs.Reading.{begins_colon_star};
 ghost use Rattle.clip_syntax.specs.TokenOf.{token_of};
@@ -31,8 +32,42 @@ fn after_colon_star(tokens: &[Token]) -> Option<&[Token]>
     }
 }
 
+/// Whether the first token is left out. `behind` says whether a star and a colon stand before it.
+fn begins_left_out(token: &Token, after: &[Token], behind: bool) -> bool
+    ensures { result ≡ begins_left_out behind (token_of token.now) (map token_of after.now) }
+{
+    match token {
+        Token::Other => true,
+        Token::Star => !behind && after_colon_star(after).is_none(),
+        _ => false,
+    }
+}
+
+/// Whether some token is left out: one that the syntax does not have, or a star that is no half of `*:*`.
+///
+/// The cost is linear in the tokens.
+#[tactic(auto, unfolding(clip_grammar::specs::LeftOut::leaves_out))]
+pub fn has_left_out(tokens: &[Token]) -> bool
+    ensures { result ≡ leaves_out false false (map token_of tokens.now) }
+{
+    let mut rest = tokens;
+    let mut after_star = false;
+    let mut after_star_colon = false;
+    while let Some((token, after)) = rest.split_first() {
+        if begins_left_out(token, after, after_star_colon) {
+            return true;
+        }
+        after_star_colon = matches!(token, Token::Colon) && after_star;
+        after_star = matches!(token, Token::Star);
+        rest = after;
+    }
+    false
+}
+
+/// Whether the tokens are one clause or more, whatever words their texts have.
+///
+/// The cost is linear in the tokens.
 #[tactic(auto, unfolding(clip_grammar::specs::Parser::accepts), using(clip_grammar::proofs::Accepting::accepts_plain, clip_grammar::proofs::Accepting::accepts_field, clip_grammar::proofs::Accepting::accepts_all, clip_grammar::proofs::Accepting::lone_star))]
-/// Whether the tokens are one clause or more.
 pub fn are_clauses(tokens: &[Token]) -> bool
     ensures { result ≡ accepts (map token_of tokens.now) zero false Stage.Fresh }
 {

@@ -1,15 +1,20 @@
 //! Texts read as queries.
-ghost use Rattle.std.specs.Prelude.{◌≡◌, ◌<◌, ◌^◌, length, encode_utf8_all, IfOk, IfErr};
-ghost use Rattle.clip_grammar.specs.Reading.{Reads, HasNoFault, IsFault};
+ghost use Rattle.std.specs.Prelude.{◌≡◌, ◌<◌, ◌≤◌, ◌^◌, length, map, encode_utf8_all, IfOk, IfErr};
+ghost use Rattle.clip_grammar.specs.Reading.{Reads, HasNoFault, IsFault, Says, most_bytes};
 ghost use Rattle.clip_grammar.specs.Tree.{tree_of};
+ghost use Rattle.clip_syntax.specs.TokenOf.{token_of};
 
-use crate::lexer::lex;
+use crate::build::build;
+use crate::lexer::{Token, lex};
+use crate::parser::{are_clauses, has_left_out};
+use crate::size::is_too_big;
+use crate::words::item_words;
 use clip_grammar::fault::QueryFault;
 use clip_grammar::query::Query;
 use std::alloc::Global;
 
 /// The most bytes of a query's text.
-pub const MOST_BYTES: usize = 65536;
+const MOST_BYTES: usize = 65536;
 
 /// How many bytes the characters take.
 fn byte_len(chars: &[char]) -> usize
@@ -23,7 +28,34 @@ fn byte_len(chars: &[char]) -> usize
     len
 }
 
-/// Reads a query.
+/// The tokens of the text's lexemes, or the place from which no lexemes go on.
+fn tokens_of(alloc: Global, text: &str) -> Result<Vec<Token>, QueryFault>
+    requires { length text.now ≤ most_bytes }
+    ensures says { IfOk result (λ tokens. Says text.now (map token_of tokens.items)) }
+    ensures refused { IfErr result (λ fault. IsFault text.now fault) }
+{
+    let chars: Vec<char> = text.chars().collect(alloc)?;
+    let (tokens, rest) = lex(alloc, &chars)?;
+    if !rest.is_empty() {
+        return Err(QueryFault::Lexical(text.len() - byte_len(rest)));
+    }
+    Ok(tokens)
+}
+
+/// Reads the text of a query.
+///
+/// # Errors
+///
+/// The first of these that holds:
+/// `TooLong`: the text has over 65,536 bytes.
+/// `Lexical(at)`: from byte `at` on it is not cut into lexemes; no longer part of its front is.
+/// `LeftOut`: it uses a form that is not supported.
+/// `Structure`: its lexemes are not clauses.
+/// `NoWords`: a word or a quoted text that is asked for has no words.
+/// `TooBig`: the tree has over 4,096 nodes, or over 64 parentheses are open at once.
+/// `NoMemory`: a growth was refused; it may come in place of any answer but `TooLong`.
+///
+/// The cost is linear in the bytes of the text.
 pub fn read_query(alloc: Global, text: &str) -> Result<Query, QueryFault>
     ensures read { IfOk result (λ query. Reads text.now (tree_of query)) }
     ensures kept { IfOk result (λ _. HasNoFault text.now) }
@@ -32,40 +64,18 @@ pub fn read_query(alloc: Global, text: &str) -> Result<Query, QueryFault>
     if text.len() > MOST_BYTES {
         return Err(QueryFault::TooLong);
     }
-    let chars: Vec<char> = text.chars().collect(alloc)?;
-    let (_tokens, rest) = lex(alloc, &chars)?;
-    if !rest.is_empty() {
-        return Err(QueryFault::Lexical(text.len() - byte_len(rest)));
+    let tokens = tokens_of(alloc, text)?;
+    if has_left_out(&tokens) {
+        return Err(QueryFault::LeftOut);
     }
-    Err(QueryFault::NoMemory)
-}
-
-#[cfg(test)]
-mod tests {
-    use super::*;
-    use crate::parser::are_clauses;
-    use std::test::Fail;
-
-    #[test]
-    fn stops_where_no_lexeme_begins(rt: HostRuntime) -> Result<(), Fail> {
-        let alloc = rt.alloc();
-        assert_eq!(rt; read_query(alloc, "ab\\u12"), Err(QueryFault::Lexical(2)));
-        assert_eq!(rt; read_query(alloc, "\\uD800"), Err(QueryFault::Lexical(0)));
-        assert_eq!(rt; read_query(alloc, "\"a"), Err(QueryFault::Lexical(0)));
-        assert_eq!(rt; read_query(alloc, "a\\"), Err(QueryFault::Lexical(1)));
-        assert_eq!(rt; read_query(alloc, "é]"), Err(QueryFault::Lexical(2)));
-        Ok(())
+    if !are_clauses(&tokens) {
+        return Err(QueryFault::Structure);
     }
-
-    #[test]
-    fn many_parentheses(rt: HostRuntime) -> Result<(), Fail> {
-        let mut chars = Vec::new(rt.alloc());
-        for _ in 0..MOST_BYTES {
-            chars.push('(')?;
-        }
-        let (tokens, rest) = lex(rt.alloc(), &chars)?;
-        assert!(rt; rest.is_empty());
-        assert!(rt; !are_clauses(&tokens));
-        Ok(())
+    let Some(words) = item_words(alloc, &tokens)? else {
+        return Err(QueryFault::NoWords);
+    };
+    if is_too_big(&tokens) {
+        return Err(QueryFault::TooBig);
     }
+    Ok(build(alloc, &tokens, words)?)
 }

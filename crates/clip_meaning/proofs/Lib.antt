@@ -1,0 +1,4 @@
+mod Fields
+mod Groups
+mod Pairs
+pub mod Refusals

@@ -1,0 +1,7 @@
+use Rattle.std.proofs.Common.{◌≡◌, map, take}
+use Rattle.std.specs.FinMap as finite
+use Rattle.clip_meaning.specs.Article.{read_fields, pairs_of}
+use Rattle.clip_meaning.proofs.article.Article.read.Given as goal
+
+abbrev pub invariant-loop-name : goal.invariant-loop-name
+invariant-loop-name l = l.kept ≡ read_fields (pairs_of (take l.name-index l.fields))

@@ -1,0 +1,84 @@
+//! Articles.
+ghost use Rattle.std.specs.Prelude.{◌≡◌, map, None, IfOk, IfErr, option_map, unwrap_or};
+ghost use Rattle.std.specs.Arc.{arc_str_bytes};
+ghost use Rattle.std.specs.FinMap as finite;
+ghost use Rattle.clip_meaning.specs.Article.{words_in, fault_of, article_value, pairs_of};
+
+use crate::fault::{ArticleFault, fault_of};
+use crate::field::Field;
+use crate::field_map::FieldMap;
+use std::alloc::Global;
+use std::marker::Model;
+use std::sync::ArcStr;
+
+/// An article: an id and fields, the words of each cut and folded.
+#[derive(Debug, Drop)]
+pub struct Article {
+    id: ArcStr,
+    fields: FieldMap,
+}
+
+impl Model for Article {
+    ghost use Rattle.std.specs.Arc.{arc_str_bytes};
+    ghost use Rattle.clip_meaning.specs.Article.{ArticleValue, article_code};
+
+    ghost Value = { ArticleValue };
+
+    ghost coded = { article_code };
+
+    ghost view = { λ a. record { id = arc_str_bytes a.id; fields = a.fields } };
+}
+
+impl Article {
+    /// Reads an article of an id and pairs of a field's name and its text.
+    pub fn read(
+        alloc: Global,
+        id: &str,
+        fields: &[(String, String)],
+    ) -> Result<Article, ArticleFault>
+        ensures read { IfOk result (λ article. article ≡ article_value id.now (pairs_of fields.now)) }
+        ensures kept { IfOk result (λ _. fault_of id.now (pairs_of fields.now) ≡ None) }
+        ensures refused { IfErr result (λ fault. fault ≡ unwrap_or (fault_of id.now (pairs_of fields.now)) ArticleFault.NoMemory) }
+    {
+        if let Some(fault) = fault_of(id, fields) {
+            return Err(fault);
+        }
+        let id = ArcStr::from_str(alloc, id)?;
+        let mut kept = FieldMap::new(alloc);
+        for (name, text) in fields {
+            kept.insert(Field::read(alloc, name.as_str(), text.as_str())?)?;
+        }
+        Ok(Article { id, fields: kept })
+    }
+
+    /// The article's id.
+    pub fn id(&self) -> &str
+        ensures { result.now ≡ self.now.id }
+    {
+        self.id.as_str()
+    }
+
+    /// The words of a field in order, none where the field is not there.
+    pub fn field(&self, name: &str) -> &[ArcStr]
+        ensures { map arc_str_bytes result.now ≡ words_in self.now.fields name.now }
+    {
+        match self.named(name) {
+            Some(field) => field.words(),
+            None => &[],
+        }
+    }
+
+    /// The field of a name.
+    pub(crate) fn named(&self, name: &str) -> Option<&Field>
+        ensures { option_map (λ field. field.now.1) result ≡ finite.get self.now.fields name.now }
+    {
+        self.fields.get(name)
+    }
+
+    /// The fields, in the byte order of their names.
+    pub fn fields(&self) -> &[Field]
+        ensures { result.now ≡ finite.entries self.now.fields }
+    {
+        self.fields.as_slice()
+    }
+}

@@ -1,0 +1,150 @@
+//! Why an article is refused.
+ghost use Rattle.std.specs.Prelude.{◌≡◌, length};
+ghost use Rattle.std.specs.List.{list_all, list_any};
+ghost use Rattle.std.specs.Str.{bytes_eq};
+ghost use Rattle.clip_meaning.specs.Article.{is_id, is_name_byte, begins_with_digit, is_field_name, has_twice, names, pairs_of, fault_of};
+
+use clip_words::NoMemory;
+use std::alloc::{AllocError, AllocFailed};
+use thiserror::Error;
+
+/// The most bytes of an article's id.
+pub const MOST_ID_BYTES: usize = 256;
+
+/// The most fields of an article.
+pub const MOST_FIELDS: usize = 16;
+
+/// The most bytes of a field's name.
+pub const MOST_NAME_BYTES: usize = 64;
+
+/// Why an article is refused.
+#[derive(Clone, Copy, Debug, PartialEq, Eq, Error)]
+pub enum ArticleFault {
+    #[error("an article's id has 1 to 256 bytes")]
+    Id,
+    #[error("an article has at most 16 fields")]
+    TooMany,
+    #[error("a field's name is 1 to 64 ASCII letters, digits and `_`, and begins with no digit")]
+    Field,
+    #[error("a field stands twice")]
+    Twice,
+    #[error("no memory")]
+    NoMemory,
+}
+
+impl From<NoMemory> for ArticleFault {
+    ghost use Rattle.clip_meaning.specs.declared.fault.ArticleFault.TheVariants as faults;
+
+    ghost from_gives = { λ _ fault. fault ≡ faults.NoMemory };
+
+    fn from(_error: NoMemory) -> ArticleFault {
+        ArticleFault::NoMemory
+    }
+}
+
+impl From<AllocError> for ArticleFault {
+    ghost use Rattle.clip_meaning.specs.declared.fault.ArticleFault.TheVariants as faults;
+
+    ghost from_gives = { λ _ fault. fault ≡ faults.NoMemory };
+
+    fn from(_error: AllocError) -> ArticleFault {
+        ArticleFault::NoMemory
+    }
+}
+
+#[tactic(auto, unfolding(crate::specs::Article::is_id))]
+fn is_id(id: &str) -> bool
+    ensures { result ≡ is_id id.now }
+{
+    !id.is_empty() && id.len() <= MOST_ID_BYTES
+}
+
+fn is_name_byte(byte: u8) -> bool
+    ensures { result ≡ is_name_byte byte }
+{
+    byte.is_ascii_alphanumeric() || byte == b'_'
+}
+
+fn are_name_bytes(bytes: &[u8]) -> bool
+    ensures { result ≡ list_all is_name_byte bytes.now }
+{
+    for byte in bytes {
+        if !is_name_byte(*byte) {
+            return false;
+        }
+    }
+    true
+}
+
+fn begins_with_digit(bytes: &[u8]) -> bool
+    ensures { result ≡ begins_with_digit bytes.now }
+{
+    match bytes {
+        [first, ..] => first.is_ascii_digit(),
+        [] => false,
+    }
+}
+
+#[tactic(auto, unfolding(crate::specs::Article::is_field_name))]
+fn is_field_name(name: &str) -> bool
+    ensures { result ≡ is_field_name name.now }
+{
+    let bytes = name.as_bytes();
+    !bytes.is_empty()
+        && bytes.len() <= MOST_NAME_BYTES
+        && are_name_bytes(bytes)
+        && !begins_with_digit(bytes)
+}
+
+fn are_field_names(fields: &[(String, String)]) -> bool
+    ensures { result ≡ list_all is_field_name (names (pairs_of fields.now)) }
+{
+    for (name, _) in fields {
+        if !is_field_name(name.as_str()) {
+            return false;
+        }
+    }
+    true
+}
+
+fn has_name(fields: &[(String, String)], name: &str) -> bool
+    ensures { result ≡ list_any (bytes_eq name.now) (names (pairs_of fields.now)) }
+{
+    for (other, _) in fields {
+        if name == other.as_str() {
+            return true;
+        }
+    }
+    false
+}
+
+fn has_twice(fields: &[(String, String)]) -> bool
+    ensures { result ≡ has_twice (names (pairs_of fields.now)) }
+{
+    let mut rest = fields;
+    while let Some((first, others)) = rest.split_first() {
+        if has_name(others, first.0.as_str()) {
+            return true;
+        }
+        rest = others;
+    }
+    false
+}
+
+#[tactic(auto, unfolding(crate::specs::Article::fault_of))]
+/// The first refusal that holds of an id and of pairs of a field's name and its text.
+pub(crate) fn fault_of(id: &str, fields: &[(String, String)]) -> Option<ArticleFault>
+    ensures { result ≡ fault_of id.now (pairs_of fields.now) }
+{
+    if !is_id(id) {
+        Some(ArticleFault::Id)
+    } else if fields.len() > MOST_FIELDS {
+        Some(ArticleFault::TooMany)
+    } else if !are_field_names(fields) {
+        Some(ArticleFault::Field)
+    } else if has_twice(fields) {
+        Some(ArticleFault::Twice)
+    } else {
+        None
+    }
+}

@@ -1,0 +1,106 @@
+//! When a query holds of an article.
+ghost use Rattle.std.specs.Prelude.{◌≡◌, ◌&&◌, false, List, ◌∷◌, MatchOption, Bool, map};
+ghost use Rattle.std.specs.Arc.{arc_str_bytes};
+ghost use Rattle.std.specs.List.{list_any};
+ghost use Rattle.std.specs.Str.{bytes_eq};
+ghost use Rattle.clip_grammar.specs.Tree.{tree_of, end_of};
+ghost use Rattle.clip_grammar.specs.declared.query.Occur.{Occur};
+ghost use Rattle.clip_meaning.specs.Article.{words_in};
+ghost use Rattle.clip_meaning.specs.Meaning.{holds, above, below, begins_with, has_run, is_nonempty};
+ghost use Rattle.clip_meaning.specs.Tally.{group_with};
+
+use crate::article::Article;
+use clip_syntax::{Bound, Occur, Query};
+use std::sync::ArcStr;
+
+fn has_word(article: &Article, field: &str, word: &str) -> bool
+    ensures { result ≡ list_any (λ w. bytes_eq w word.now) (words_in article.now.fields field.now) }
+{
+    match article.named(field) {
+        Some(field) => field.has_word(word),
+        None => false,
+    }
+}
+
+fn has_phrase(article: &Article, field: &str, phrase: &[ArcStr]) -> bool
+    ensures { result ≡ (is_nonempty (map arc_str_bytes phrase.now) && has_run (words_in article.now.fields field.now) (map arc_str_bytes phrase.now)) }
+{
+    match article.named(field) {
+        Some(field) => field.has_phrase(phrase),
+        None => false,
+    }
+}
+
+fn has_front(article: &Article, field: &str, front: &str) -> bool
+    ensures { result ≡ list_any (begins_with front.now) (words_in article.now.fields field.now) }
+{
+    match article.named(field) {
+        Some(field) => field.has_front(front),
+        None => false,
+    }
+}
+
+fn has_between(article: &Article, field: &str, low: &Bound, high: &Bound) -> bool
+    ensures { result ≡ list_any (λ w. above (end_of low.now) w && below (end_of high.now) w) (words_in article.now.fields field.now) }
+{
+    match article.named(field) {
+        Some(field) => field.has_between(low, high),
+        None => false,
+    }
+}
+
+/// What stands among a group's clauses so far, when the group may still hold.
+#[derive(Clone, Copy)]
+struct Tally {
+    has_must: bool,
+    has_should: bool,
+}
+
+#[tactic(auto, using(crate::proofs::Groups::must_true, crate::proofs::Groups::must_false, crate::proofs::Groups::must_not_true, crate::proofs::Groups::must_not_false, crate::proofs::Groups::should))]
+/// The tally with one more clause, whose child holds or does not; `None` where the group does not hold.
+fn counted(tally: Tally, occur: Occur, held: bool) -> Option<Tally>
+    ensures { (others : List (Occur × Bool)) → MatchOption result
+        (group_with tally.has_must tally.has_should ((occur, held) ∷ others) ≡ false)
+        (λ next. group_with tally.has_must tally.has_should ((occur, held) ∷ others) ≡ group_with next.has_must next.has_should others) }
+{
+    match occur {
+        Occur::Must if !held => None,
+        Occur::MustNot if held => None,
+        Occur::Must => Some(Tally {
+            has_must: true,
+            has_should: tally.has_should,
+        }),
+        Occur::MustNot => Some(tally),
+        Occur::Should => Some(Tally {
+            has_must: tally.has_must,
+            has_should: tally.has_should || held,
+        }),
+    }
+}
+
+#[tactic(auto, using(crate::proofs::Groups::group_end))]
+/// Whether the query holds of the article.
+pub fn holds(query: &Query, article: &Article) -> bool
+    ensures { result ≡ holds (tree_of query.now) article.now.fields }
+{
+    match query {
+        Query::Term { field, word } => has_word(article, field, word),
+        Query::Phrase { field, words } => has_phrase(article, field, words),
+        Query::Prefix { field, front } => has_front(article, field, front),
+        Query::Span { field, low, high } => has_between(article, field, low, high),
+        Query::All => true,
+        Query::Group(clauses) => {
+            let mut tally = Tally {
+                has_must: false,
+                has_should: false,
+            };
+            for (occur, child) in clauses {
+                match counted(tally, *occur, holds(child, article)) {
+                    Some(next) => tally = next,
+                    None => return false,
+                }
+            }
+            tally.has_must || tally.has_should
+        }
+    }
+}

@@ -1,0 +1,5 @@
+pub mod Replay
+pub mod Splits
+pub mod Legal
+pub mod Entries
+pub mod Seqs

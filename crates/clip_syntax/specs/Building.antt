@@ -1,0 +1,98 @@
+-- How a query's tree is built, token by token.
+use Rattle.std.specs.Prelude.{ℕ, Bool, true, false, List, [], ◌∷◌, ◌++◌, map, reverse, Option, Some, None, unwrap_or, codes}
+use Rattle.std.specs.Option.{option_map}
+use Rattle.std.specs.Arc.{arc_str_bytes}
+use Rattle.std.specs.Vec.Iter.{into_iter_items}
+use Rattle.clip_words.specs.Words.{fold_of}
+use Rattle.clip_grammar.specs.Tokens as token
+use Rattle.clip_grammar.specs.Tokens.{Token, End}
+use Rattle.clip_grammar.specs.Parser.{begins_colon}
+use Rattle.clip_grammar.specs.Shape.{words_tree, fold_end}
+use Rattle.clip_grammar.specs.Tree.{Tree, clauses_of, tree_of}
+use Rattle.clip_grammar.specs.declared.query.Occur.{Occur}
+use Rattle.clip_grammar.specs.declared.query.Occur.TheVariants.{Must, Should, MustNot}
+use Rattle.clip_grammar.specs.declared.query.Query.{Query}
+use Rattle.clip_syntax.specs.declared.build.OpenGroup.{OpenGroup}
+use Rattle.clip_syntax.specs.declared.build.Builder.{Builder}
+
+-- a group whose clauses are still read: those before, the field where no nearer one is written, and what stands before the next item
+pub record Group : Type 0 where
+  pub clauses : List (Occur × Tree)
+  pub field : List ℕ
+  pub occur : Occur
+  pub nearer : Option (List ℕ)
+
+-- the groups around, the innermost first, the group that is read, and the words of the items to come
+pub record State : Type 0 where
+  pub around : List Group
+  pub group : Group
+  pub words : List (List (List ℕ))
+
+-- nothing stands before the next item
+abbrev pub fresh : List (Occur × Tree) → List ℕ → Group
+fresh clauses field = record { clauses = clauses; field = field; occur = Should; nearer = None }
+
+abbrev pub item_field : Group → List ℕ
+item_field g = unwrap_or g.nearer g.field
+
+-- one clause more
+abbrev pub add : Group → Tree → Group
+add g tree = fresh (g.clauses ++ (g.occur, tree) ∷ []) g.field
+
+abbrev pub with_occur : Occur → State → State
+with_occur occur s = record s { group = record s.group { occur = occur } }
+
+abbrev pub add_item : State → Tree → State
+add_item s tree = record s { group = add s.group tree }
+
+-- an item that has the next words
+abbrev pub add_words : State → List (List (List ℕ)) → State
+add_words s [] = s
+add_words s (words ∷ more) = record s { group = add s.group (words_tree (item_field s.group) words); words = more }
+
+abbrev pub open_group : State → State
+open_group s = record s { around = s.group ∷ s.around; group = fresh [] (item_field s.group) }
+
+abbrev pub close : State → List Group → State
+close s [] = s
+close s (outer ∷ around) = record s { around = around; group = add outer (Tree.Group (clauses_of s.group.clauses)) }
+
+-- what a token does
+abbrev pub read : Token → (before_colon : Bool) → State → State
+read token.Plus _ s = with_occur Must s
+read token.Minus _ s = with_occur MustNot s
+read token.Bang _ s = with_occur MustNot s
+read token.Not _ s = with_occur MustNot s
+read (token.Plain field) true s = record s { group = record s.group { nearer = Some field } }
+read (token.Plain _) false s = add_words s s.words
+read (token.Phrase _) _ s = add_words s s.words
+read (token.Front text) _ s = add_item s (Tree.Prefix (item_field s.group) (fold_of text))
+read (token.Between low high) _ s = add_item s (Tree.Span (item_field s.group) (fold_end low) (fold_end high))
+read token.Star true s = add_item s Tree.All
+read token.Star false s = s
+read token.Open _ s = open_group s
+read token.Close _ s = close s s.around
+read token.Colon _ s = s
+read token.Other _ s = s
+
+unfoldable pub read_all : List Token → State → State
+read_all [] s = s
+read_all (t ∷ ts) s = read_all ts (read t (begins_colon ts) s)
+
+-- before the first token
+abbrev pub start : List (List (List ℕ)) → State
+start words = record { around = []; group = fresh [] (codes "text"); words = words }
+
+-- ---- what the code shows
+
+abbrev pub listed : List (Occur × Query) → List (Occur × Tree)
+listed = map (λ c. (c.0, tree_of c.1))
+
+abbrev pub group_of : OpenGroup → Group
+group_of g = record { clauses = listed g.clauses.items; field = arc_str_bytes g.field; occur = g.occur; nearer = option_map arc_str_bytes g.nearer }
+
+abbrev pub groups_of : List OpenGroup → List Group
+groups_of gs = reverse (map group_of gs)
+
+abbrev pub state_of : Builder → State
+state_of b = record { around = groups_of b.around.items; group = group_of b.group; words = map (λ words. map arc_str_bytes words.items) (into_iter_items b.words) }

@@ -1,0 +1,20 @@
+-- The texts of a query's items, in the order of its tokens.
+use Rattle.std.specs.Prelude.{ℕ, Bool, false, List, [], ◌∷◌, ◌++◌, map, Option, Some, None, option_to_list}
+use Rattle.clip_words.specs.Words.{words_of}
+use Rattle.clip_grammar.specs.Tokens as token
+use Rattle.clip_grammar.specs.Tokens.{Token}
+use Rattle.clip_grammar.specs.Parser.{begins_colon}
+
+-- the text of a plain or quoted item; a word before a colon is a field
+abbrev pub item_text : Token → (before_colon : Bool) → Option (List ℕ)
+item_text (token.Plain text) false = Some text
+item_text (token.Phrase text) _ = Some text
+item_text _ _ = None
+
+abbrev pub item_texts : List Token → List (List ℕ)
+item_texts [] = []
+item_texts (t ∷ ts) = option_to_list (item_text t (begins_colon ts)) ++ item_texts ts
+
+-- the words of each plain or quoted item
+abbrev pub items_words : List Token → List (List (List ℕ))
+items_words ts = map words_of (item_texts ts)

@@ -1,0 +1,190 @@
+//! Queries built of their tokens.
+ghost use Rattle.std.specs.Prelude.{◌≡◌, [], map, IfOk};
+ghost use Rattle.std.specs.Arc.{arc_str_bytes};
+ghost use Rattle.clip_grammar.specs.Shape as shape;
+ghost use Rattle.clip_grammar.specs.Shape.{Written, written_tree, words_tree, fold_end};
+ghost use Rattle.clip_grammar.specs.Tree.{tree_of, end_of};
+ghost use Rattle.clip_syntax.specs.Building.{fresh, item_field, add, add_item, add_words, open_group, close, read, group_of, state_of};
+ghost use Rattle.clip_syntax.specs.Items.{items_words};
+ghost use Rattle.clip_syntax.specs.TokenOf.{token_of};
+
+use crate::lexer::Token;
+use crate::words::begins_colon;
+use clip_grammar::query::{Bound, Occur, Query};
+use clip_words::{NoMemory, fold};
+use std::alloc::Global;
+use std::mem;
+use std::sync::ArcStr;
+use std::vec::IntoIter;
+
+/// A group whose clauses are still read.
+#[derive(Drop)]
+pub struct OpenGroup {
+    clauses: Vec<(Occur, Query)>,
+    /// The field of the items that name none.
+    field: ArcStr,
+    /// How the next clause counts.
+    occur: Occur,
+    /// The field that the next item names.
+    nearer: Option<ArcStr>,
+}
+
+impl OpenGroup {
+    fn new(alloc: Global, field: ArcStr) -> OpenGroup
+        ensures { group_of result ≡ fresh [] (arc_str_bytes field) }
+    {
+        OpenGroup {
+            clauses: Vec::new(alloc),
+            field,
+            occur: Occur::Should,
+            nearer: None,
+        }
+    }
+
+    /// The field of the next item.
+    fn item_field(&self) -> Result<ArcStr, NoMemory>
+        ensures { IfOk result (λ field. arc_str_bytes field ≡ item_field (group_of self.now)) }
+    {
+        match &self.nearer {
+            Some(field) => Ok(field.clone()?),
+            None => Ok(self.field.clone()?),
+        }
+    }
+
+    /// Adds a clause.
+    fn add(&mut self, query: Query) -> Result<(), NoMemory>
+        ensures { IfOk result (λ _. group_of self.new ≡ add (group_of self.old) (tree_of query)) }
+    {
+        self.clauses.push((self.occur, query))?;
+        self.occur = Occur::Should;
+        self.nearer = None;
+        Ok(())
+    }
+}
+
+/// One word is a term, several are a phrase.
+fn words_query(field: ArcStr, mut words: Vec<ArcStr>) -> Query
+    ensures { tree_of result ≡ words_tree (arc_str_bytes field) (map arc_str_bytes words.items) }
+{
+    if words.len() == 1 {
+        let word = words.remove(0);
+        Query::Term { field, word }
+    } else {
+        Query::Phrase { field, words }
+    }
+}
+
+/// An end of a range, folded.
+fn fold_bound(alloc: Global, bound: &Bound) -> Result<Bound, NoMemory>
+    ensures { IfOk result (λ folded. end_of folded ≡ fold_end (end_of bound.now)) }
+{
+    match bound {
+        Bound::Free => Ok(Bound::Free),
+        Bound::With(text) => Ok(Bound::With(fold(alloc, text)?)),
+        Bound::Without(text) => Ok(Bound::Without(fold(alloc, text)?)),
+    }
+}
+
+/// A query of which some tokens have been read.
+#[derive(Drop)]
+pub struct Builder {
+    /// The groups around, the innermost last.
+    around: Vec<OpenGroup>,
+    group: OpenGroup,
+    /// The words of the items to come.
+    words: IntoIter<Vec<ArcStr>>,
+}
+
+impl Builder {
+    /// Adds an item that has the next words.
+    fn add_words(&mut self) -> Result<(), NoMemory>
+        ensures { IfOk result (λ _. state_of self.new ≡ add_words (state_of self.old) (state_of self.old).words) }
+    {
+        if let Some(words) = self.words.next() {
+            let field = self.group.item_field()?;
+            self.group.add(words_query(field, words))?;
+        }
+        Ok(())
+    }
+
+    /// Opens a group.
+    fn open(&mut self, alloc: Global) -> Result<(), NoMemory>
+        ensures { IfOk result (λ _. state_of self.new ≡ open_group (state_of self.old)) }
+    {
+        let field = self.group.item_field()?;
+        let outer = mem::replace(&mut self.group, OpenGroup::new(alloc, field));
+        self.around.push(outer)?;
+        Ok(())
+    }
+
+    /// Closes the group: it becomes a clause of the group around it.
+    fn close(&mut self) -> Result<(), NoMemory>
+        ensures { IfOk result (λ _. state_of self.new ≡ close (state_of self.old) (state_of self.old).around) }
+    {
+        if let Some(outer) = self.around.pop() {
+            let inner = mem::replace(&mut self.group, outer);
+            let OpenGroup { clauses, .. } = inner;
+            self.group.add(Query::Group(clauses))?;
+        }
+        Ok(())
+    }
+
+    /// Reads a token.
+    fn read(&mut self, alloc: Global, token: &Token, before_colon: bool) -> Result<(), NoMemory>
+        ensures { IfOk result (λ _. state_of self.new ≡ read (token_of token.now) before_colon (state_of self.old)) }
+    {
+        match token {
+            Token::Plus => self.group.occur = Occur::Must,
+            Token::Minus | Token::Bang | Token::Not => self.group.occur = Occur::MustNot,
+            Token::Plain(text) if before_colon => self.group.nearer = Some(ArcStr::from_str(
+                alloc, text,
+            )?),
+            Token::Plain(_) | Token::Phrase(_) => self.add_words()?,
+            Token::Front(text) => {
+                let field = self.group.item_field()?;
+                let front = ArcStr::from_string(fold(alloc, text)?)?;
+                self.group.add(Query::Prefix { field, front })?;
+            }
+            Token::Between(low, high) => {
+                let field = self.group.item_field()?;
+                let low = fold_bound(alloc, low)?;
+                let high = fold_bound(alloc, high)?;
+                self.group.add(Query::Span { field, low, high })?;
+            }
+            Token::Star => {
+                if before_colon {
+                    self.group.add(Query::All)?;
+                }
+            }
+            Token::Open => self.open(alloc)?,
+            Token::Close => self.close()?,
+            Token::Colon | Token::Other => {}
+        }
+        Ok(())
+    }
+}
+
+/// The query that the tokens write. Items that name no field are in `text`.
+///
+/// `words` has the words of each plain or quoted item in order, as `item_words` gives them.
+/// The cost is linear in the tokens and the bytes of their texts: no word is copied, and a field is shared.
+#[tactic(auto, unfolding(crate::specs::Building::read_all))]
+pub fn build(alloc: Global, tokens: &[Token], words: Vec<Vec<ArcStr>>) -> Result<Query, NoMemory>
+    requires { map (λ words. map arc_str_bytes words.items) words.items ≡ items_words (map token_of tokens.now) }
+    ensures { IfOk result (λ query. (written : Written) → shape.tokens written ≡ map token_of tokens.now → tree_of query ≡ written_tree written) }
+{
+    let field = ArcStr::from_str(alloc, "text")?;
+    let mut builder = Builder {
+        around: Vec::new(alloc),
+        group: OpenGroup::new(alloc, field),
+        words: words.into_iter(),
+    };
+    let mut rest = tokens;
+    while let Some((token, after)) = rest.split_first() {
+        rest = after;
+        builder.read(alloc, token, begins_colon(rest))?;
+    }
+    let Builder { group, .. } = builder;
+    let OpenGroup { clauses, .. } = group;
+    Ok(Query::Group(clauses))
+}

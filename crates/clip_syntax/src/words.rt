@@ -1,0 +1,69 @@
+//! The words of a query's items.
+ghost use Rattle.std.specs.Prelude.{◌≡◌, map, not, is_some, IfOk, IfSome};
+ghost use Rattle.std.specs.Option.{option_map};
+ghost use Rattle.std.specs.Arc.{arc_str_bytes};
+ghost use Rattle.clip_words.specs.Words.{words_of};
+ghost use Rattle.clip_grammar.specs.Parser.{begins_colon};
+ghost use Rattle.clip_grammar.specs.Shape as shape;
+ghost use Rattle.clip_grammar.specs.Shape.{Written, lacks_words};
+ghost use Rattle.clip_syntax.specs.Items.{item_text, items_words};
+ghost use Rattle.clip_syntax.specs.TokenOf.{token_of};
+
+use crate::lexer::Token;
+use clip_words::{NoMemory, words};
+use std::alloc::Global;
+use std::sync::ArcStr;
+
+/// Whether a colon comes first.
+pub fn begins_colon(tokens: &[Token]) -> bool
+    ensures { result ≡ begins_colon (map token_of tokens.now) }
+{
+    match tokens.split_first() {
+        Some((Token::Colon, _)) => true,
+        _ => false,
+    }
+}
+
+/// The text of a plain or quoted item. A word before a colon is a field.
+fn item_text(token: &Token, before_colon: bool) -> Option<&str>
+    ensures { option_map (λ text. text.now) result ≡ item_text (token_of token.now) before_colon }
+{
+    match token {
+        Token::Plain(text) if !before_colon => Some(text),
+        Token::Phrase(text) => Some(text),
+        _ => None,
+    }
+}
+
+/// The words of a text, each to be shared.
+fn shared_words(alloc: Global, text: &str) -> Result<Vec<ArcStr>, NoMemory>
+    ensures { IfOk result (λ found. map arc_str_bytes found.items ≡ words_of text.now) }
+{
+    let mut shared = Vec::new(alloc);
+    for word in words(alloc, text)? {
+        shared.push(ArcStr::from_string(word)?)?;
+    }
+    Ok(shared)
+}
+
+/// The words of each plain or quoted item in order, or `None` where an item has none.
+///
+/// Each word is cut and folded once. The cost is linear in the bytes of the tokens.
+pub fn item_words(alloc: Global, tokens: &[Token]) -> Result<Option<Vec<Vec<ArcStr>>>, NoMemory>
+    ensures words { IfOk result (λ found. IfSome found (λ items. map (λ words. map arc_str_bytes words.items) items.items ≡ items_words (map token_of tokens.now))) }
+    ensures lacking { IfOk result (λ found. (written : Written) → shape.tokens written ≡ map token_of tokens.now → is_some found ≡ not (lacks_words written)) }
+{
+    let mut items = Vec::new(alloc);
+    let mut rest = tokens;
+    while let Some((token, after)) = rest.split_first() {
+        rest = after;
+        if let Some(text) = item_text(token, begins_colon(rest)) {
+            let words = shared_words(alloc, text)?;
+            if words.is_empty() {
+                return Ok(None);
+            }
+            items.push(words)?;
+        }
+    }
+    Ok(Some(items))
+}
