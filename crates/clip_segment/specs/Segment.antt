@@ -1,0 +1,21 @@
+-- The positions at which the entries of a segment hold a key.
+use Rattle.std.specs.Prelude.{ℕ, ◌<◌, Bool, List, map, filter}
+use Rattle.std.specs.List.{enumerate_from, list_any, AllPairs}
+use Rattle.clip_extract.specs.Extraction.{query_keys}
+use Rattle.clip_extract.specs.Keys.{KeyValue, is_same}
+use Rattle.clip_model.specs.History.{Registered}
+
+-- the entry's query has the key
+abbrev pub holds_key : KeyValue → Registered → Bool
+holds_key key entry = list_any (is_same key) (query_keys entry.standing.tree)
+
+-- the places, from 0 and rising, of the entries that hold the key
+abbrev pub positions_with : KeyValue → List Registered → List ℕ
+positions_with key entries = map (λ e. e.0) (filter (λ e. holds_key key e.1) (enumerate_from 0 entries))
+
+abbrev pub most_positions : ℕ
+most_positions = 4294967295
+
+-- each seq is above those before it
+pub record IsRising (entries : List Registered) : Type 0 where
+  pub rises : AllPairs (λ e f. e.seq < f.seq) entries

@@ -1,0 +1,163 @@
+//! Standing queries: a query under an id, with the name of a listener or none.
+ghost use Rattle.std.specs.Prelude.{◌≡◌, IfOk, IfErr, option_map, string_bytes};
+ghost use Rattle.std.specs.Arc.{arc_str_bytes};
+ghost use Rattle.std.specs.Option.{option_copied};
+ghost use Rattle.clip_segment.specs.Standing.{IsStanding, IsStandingFault};
+ghost use Rattle.clip_grammar.specs.Tree.{tree_of};
+
+use clip_grammar::fault::QueryFault;
+use clip_grammar::query::Query;
+use clip_syntax::read_query;
+use clip_words::NoMemory;
+use std::alloc::{AllocError, Global};
+use std::marker::Model;
+use std::sync::ArcStr;
+use thiserror::Error;
+
+/// The most bytes of an id.
+pub const MOST_ID_BYTES: usize = 256;
+
+/// Why a standing query isn't one, the first that holds in this order; `NoMemory` comes wherever it stands.
+#[derive(Clone, Copy, Debug, PartialEq, Eq, Error)]
+pub enum StandingFault {
+    #[error("the id is not 1 to 256 bytes long")]
+    Id,
+    #[error("{0}")]
+    Query(QueryFault),
+    #[error("no memory")]
+    NoMemory,
+}
+
+impl From<NoMemory> for StandingFault {
+    ghost use Rattle.clip_segment.specs.declared.standing.StandingFault.TheVariants as faults;
+
+    ghost from_gives = { λ _ fault. fault ≡ faults.NoMemory };
+
+    fn from(_error: NoMemory) -> StandingFault {
+        StandingFault::NoMemory
+    }
+}
+
+impl From<AllocError> for StandingFault {
+    ghost use Rattle.clip_segment.specs.declared.standing.StandingFault.TheVariants as faults;
+
+    ghost from_gives = { λ _ fault. fault ≡ faults.NoMemory };
+
+    fn from(_error: AllocError) -> StandingFault {
+        StandingFault::NoMemory
+    }
+}
+
+impl From<QueryFault> for StandingFault {
+    ghost use Rattle.clip_segment.specs.Standing.{standing_fault};
+
+    ghost from_gives = { λ error fault. fault ≡ standing_fault error };
+
+    fn from(error: QueryFault) -> StandingFault {
+        match error {
+            QueryFault::NoMemory => StandingFault::NoMemory,
+            fault => StandingFault::Query(fault),
+        }
+    }
+}
+
+/// A standing query: a query under an id, with the name of a listener or none. Its texts are shared, and its query is the reading of its text.
+#[derive(Drop)]
+pub struct Standing {
+    id: ArcStr,
+    text: ArcStr,
+    query: Query,
+    listener: Option<ArcStr>,
+}
+
+impl Model for Standing {
+    ghost use Rattle.clip_model.specs.Standing as value;
+
+    ghost Value = { value.Standing };
+
+    ghost coded = { value.standing_code };
+
+    ghost use Rattle.clip_segment.specs.Standing.{IsStanding};
+    ghost use Rattle.clip_segment.specs.StandingView.{standing_of};
+
+    ghost view = { standing_of };
+
+    ghost invariant = { λ s. IsStanding (standing_of s) };
+}
+
+impl Standing {
+    /// Reads a standing query. The refusals, the first that holds: `Id` where the id is not 1 to 256 bytes long, `Query` where the text is no query; `NoMemory` where a growth was refused. The id, the text and the listener's name are each made once; it costs the reading of the text.
+    pub fn read(
+        alloc: Global,
+        id: &str,
+        text: &str,
+        listener: Option<String>,
+    ) -> Result<Standing, StandingFault>
+        ensures id { IfOk result (λ standing. standing.id ≡ id.now) }
+        ensures text { IfOk result (λ standing. standing.text ≡ text.now) }
+        ensures listener { IfOk result (λ standing. standing.listener ≡ option_map string_bytes listener) }
+        ensures standing { IfOk result IsStanding }
+        ensures refused { IfErr result (λ fault. IsStandingFault id.now text.now fault) }
+    {
+        if id.is_empty() || id.len() > MOST_ID_BYTES {
+            return Err(StandingFault::Id);
+        }
+        let query = read_query(alloc, text)?;
+        let listener = match listener {
+            Some(name) => Some(ArcStr::from_string(name)?),
+            None => None,
+        };
+        Ok(Standing {
+            id: ArcStr::from_str(alloc, id)?,
+            text: ArcStr::from_str(alloc, text)?,
+            query,
+            listener,
+        })
+    }
+
+    /// The id.
+    pub fn id(&self) -> &str
+        ensures { result.now ≡ self.now.id }
+    {
+        self.id.as_str()
+    }
+
+    /// The id, to be shared by a clone.
+    pub fn shared_id(&self) -> &ArcStr
+        ensures { arc_str_bytes result.now ≡ self.now.id }
+    {
+        &self.id
+    }
+
+    /// The text.
+    pub fn text(&self) -> &str
+        ensures { result.now ≡ self.now.text }
+    {
+        self.text.as_str()
+    }
+
+    /// The query that the text is read as.
+    pub fn query(&self) -> &Query
+        ensures tree { tree_of result.now ≡ self.now.tree }
+        ensures standing { IsStanding self.now }
+    {
+        &self.query
+    }
+
+    /// The name of the listener, if there is one.
+    pub fn listener(&self) -> Option<&str>
+        ensures { option_copied result ≡ self.now.listener }
+    {
+        match &self.listener {
+            Some(name) => Some(name.as_str()),
+            None => None,
+        }
+    }
+
+    /// The name of the listener, if there is one, to be shared by a clone.
+    pub fn shared_listener(&self) -> Option<&ArcStr>
+        ensures { option_map arc_str_bytes (option_copied result) ≡ self.now.listener }
+    {
+        self.listener.as_ref()
+    }
+}
