@@ -7,7 +7,7 @@ use Rattle.std.specs.declared.alloc.Global.{Global}
 use Rattle.std.specs.Coded.{Coded, code_by, coded×, coded_list}
 use Rattle.clip_model.specs.Standing.{Standing}
 use Rattle.clip_model.specs.History.{History, Command, Register, Delete, Clear, Registered, Registry, replay, listed, is_live, is_live_in, after_command, with_command, history_code, registered_code}
-use Rattle.clip_segment.specs.Rising.{IsRising}
+use Rattle.clip_segment.specs.Segment.{IsRising}
 
 -- segments, each as its list of entries, and the history of accepted commands
 pub record RegistryState : Type 0 where
@@ -22,15 +22,15 @@ abbrev pub beginning : RegistryState
 beginning = record { segments = []; history = [] }
 
 -- the entries of all segments, in order
-abbrev pub entries_of : List (List Registered) → List Registered
-entries_of [] = []
-entries_of (segment ∷ segments) = segment ++ entries_of segments
+abbrev pub all_entries : List (List Registered) → List Registered
+all_entries [] = []
+all_entries (segment ∷ segments) = segment ++ all_entries segments
 
 -- Seqs rise through all segments, none is above those listed, and the live entries are, by id, exactly the registered queries.
 pub record IsWhole (state : RegistryState) : Type 0 where
-  pub rising : IsRising (entries_of state.segments)
-  pub within : All (λ r. r.seq ≤ listed state.history) (entries_of state.segments)
-  pub live_entries : (r : Registered) → (finite.get (replay state.history) r.standing.id ≡ Some r) ↔ (Contains (entries_of state.segments) r × IsTrue (is_live state.history r.seq))
+  pub rising : IsRising (all_entries state.segments)
+  pub within : All (λ r. r.seq ≤ listed state.history) (all_entries state.segments)
+  pub live_entries : (r : Registered) → (finite.get (replay state.history) r.standing.id ≡ Some r) ↔ (Contains (all_entries state.segments) r × IsTrue (is_live state.history r.seq))
 
 -- the queries with their seqs, where n were listed before
 abbrev pub numbered : ℕ → List Standing → List Registered

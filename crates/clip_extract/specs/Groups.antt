@@ -1,0 +1,39 @@
+-- What is extracted of a group while its clauses are read.
+use Rattle.std.specs.Prelude.{ℕ, min, max, List, [], ◌∷◌, fold, Option, Some, None, unwrap_or}
+use Rattle.clip_grammar.specs.declared.query.Occur.{Occur}
+use Rattle.clip_grammar.specs.declared.query.Occur.TheVariants.{Must, Should, MustNot}
+use Rattle.clip_extract.specs.Keys.{KeyValue, Word}
+use Rattle.clip_extract.specs.Extraction.{Extracted, unnarrowed, heavier, together, heaviest, union, musts, shoulds}
+use Rattle.clip_extract.specs.declared.extraction.Found.{Found}
+use Rattle.clip_extract.specs.declared.extraction.Found.TheVariants.{Nothing, Optional, Required}
+
+-- with what was found before, if anything was
+abbrev pub go_on : (List Extracted → Option Extracted) → (Extracted → Extracted → Extracted) → Option Extracted → List Extracted → Option Extracted
+go_on start step None es = start es
+go_on start step (Some e) es = Some (fold step e es)
+
+-- a group's clauses to come, after a Must child or Should children, or neither
+unfoldable pub group_with : Option Extracted → Option Extracted → List (Occur × Extracted) → Extracted
+group_with must should cs = unwrap_or (go_on heaviest heavier must (musts cs)) (unwrap_or (go_on union together should (shoulds cs)) unnarrowed)
+
+-- the same, after these keys
+abbrev pub group_from : Found → List KeyValue → List (Occur × Extracted) → Extracted
+group_from Nothing keys cs = group_with None None cs
+group_from (Optional weight) keys cs = group_with None (Some (record { keys = keys; weight = weight })) cs
+group_from (Required weight) keys cs = group_with (Some (record { keys = keys; weight = weight })) None cs
+
+-- what is found with one clause more, whose child has this weight
+abbrev pub next_found : Found → Occur → ℕ → Found
+next_found (Required best) Must weight = Required (max best weight)
+next_found (Required best) Should weight = Required best
+next_found (Required best) MustNot weight = Required best
+next_found (Optional least) Must weight = Required weight
+next_found (Optional least) Should weight = Optional (min least weight)
+next_found (Optional least) MustNot weight = Optional least
+next_found Nothing Must weight = Required weight
+next_found Nothing Should weight = Optional weight
+next_found Nothing MustNot weight = Nothing
+
+-- what a word that was found with its weight gives
+abbrev pub word_found : (field word : List ℕ) → ℕ → Extracted
+word_found field word weight = record { keys = Word field word ∷ []; weight = weight }

@@ -1,0 +1,47 @@
+-- Keys, by which standing queries are found.
+use Rattle.std.specs.Prelude.{◌≡◌, ℕ, Bool, List, [], ◌∷◌, Option, Some, None, refl}
+use Rattle.std.specs.List.{list_any}
+use Rattle.std.specs.Ordering.{nat_cmp, eq_by_cmp, then_cmp, on}
+use Rattle.std.specs.Cmp.Lexicographic.{slice_cmp}
+use Rattle.std.specs.Coded.{Coded, code_by, coded×, coded_option}
+use Rattle.std.specs.FinSet as set
+use Rattle.std.specs.Arc.{arc_str_bytes}
+use Rattle.std.specs.declared.cmp.Ordering.{Ordering}
+use Rattle.clip_words.specs.Order.{bytes_cmp}
+use Rattle.clip_grammar.specs.TreeCode.{bytes_code}
+use Rattle.clip_extract.specs.declared.key.Key.{Key}
+use Rattle.clip_extract.specs.declared.key.Key.TheVariants as variant
+
+-- what every article has, and a word that a field has
+pub data KeyValue : Type 0 where
+  Any : KeyValue
+  Word : (field word : List ℕ) → KeyValue
+
+abbrev pub key_of : Key → KeyValue
+key_of variant.Any = Any
+key_of (variant.Word field word) = Word (arc_str_bytes field) (arc_str_bytes word)
+
+-- ---- order
+
+abbrev pub rank : KeyValue → ℕ
+rank Any = 0
+rank (Word field word) = 1
+
+abbrev pub texts : KeyValue → List (List ℕ)
+texts Any = []
+texts (Word field word) = field ∷ word ∷ []
+
+-- Any first, then by field and by word, by their bytes
+abbrev pub key_cmp : KeyValue → KeyValue → Ordering
+key_cmp = then_cmp (on rank nat_cmp) (on texts (slice_cmp bytes_cmp))
+
+abbrev pub is_same : KeyValue → KeyValue → Bool
+is_same = eq_by_cmp key_cmp
+
+-- the keys of a list in order, each once
+abbrev pub in_order : List KeyValue → List KeyValue
+in_order keys = set.items (set.from_list {R = key_cmp} keys)
+
+-- the lists have a key in common
+abbrev pub share : List KeyValue → List KeyValue → Bool
+share keys others = list_any (λ key. list_any (is_same key) others) keys
