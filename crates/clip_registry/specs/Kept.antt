@@ -13,5 +13,7 @@ state_of s = record { segments = map arc_value s.segments.items; history = map s
 pub record IsKept (s : Inside) : Type 0 where
   pub whole : IsWhole (state_of s)
   pub legal : IsLegal (state_of s).history
-  pub roster : s.roster ≡ record { registry = replay (state_of s).history; listed = listed (state_of s).history }
-  pub counts : (caller : ℕ) → 0 < caller → caller ≤ 64 → slice_index s.counts (caller - 1) ≡ length (own (state_of s).history caller)
+  pub registry : s.roster.registry ≡ replay (state_of s).history
+  pub listed : s.roster.listed ≡ listed (state_of s).history
+  pub callers : length s.counts.items ≡ 64
+  pub counts : (caller : ℕ) → 0 < caller → caller ≤ 64 → slice_index s.counts.items (caller - 1) ≡ length (own (state_of s).history caller)

@@ -1,11 +1,12 @@
 //! Commands, the entries of the history, and the answers to commands.
 ghost use Rattle.std.specs.Prelude.{◌≡◌, IfOk, map, string_bytes};
+ghost use Rattle.std.specs.List.{list_all};
 ghost use Rattle.clip_model.specs.History.{fits, is_id};
 ghost use Rattle.clip_registry.specs.Command.{command_of};
 
 use clip_segment::Standing;
 use clip_words::NoMemory;
-use std::alloc::Global;
+use std::alloc::AllocFailed;
 use std::sync::Arc;
 use thiserror::Error;
 
@@ -67,11 +68,28 @@ impl From<NoMemory> for Refused {
     }
 }
 
+impl<T: Drop> From<AllocFailed<T>> for Refused {
+    ghost use Rattle.clip_registry.specs.declared.command.Refused.TheVariants as refused;
+
+    ghost from_gives = { λ _ r. r ≡ refused.NoMemory };
+
+    fn from(_error: AllocFailed<T>) -> Refused {
+        Refused::NoMemory
+    }
+}
+
 /// Whether the id is 1 to 256 bytes long.
 fn is_id(id: &str) -> bool
     ensures { result ≡ is_id id.now }
 {
     !id.is_empty() && id.len() <= MOST_ID_BYTES
+}
+
+/// Whether each id is 1 to 256 bytes long.
+fn are_ids(ids: &[String]) -> bool
+    ensures { result ≡ list_all (λ id. is_id (string_bytes id)) ids.now }
+{
+    ids.iter().all(|id| is_id(id))
 }
 
 impl Command {
@@ -81,8 +99,19 @@ impl Command {
     {
         match self {
             Command::Register(standings) => standings.len() <= MOST_LISTED,
-            Command::Delete(ids) => ids.len() <= MOST_LISTED && ids.iter().all(|id| is_id(id)),
+            Command::Delete(ids) => ids.len() <= MOST_LISTED && are_ids(ids),
             Command::Clear => true,
+        }
+    }
+
+    /// A command with the same content, whose queries are shared and whose ids are copied.
+    pub(crate) fn copy(&self) -> Result<Command, NoMemory>
+        ensures { IfOk result (λ copy. command_of copy ≡ command_of self.now) }
+    {
+        match self {
+            Command::Register(standings) => Ok(Command::Register(standings.clone()?)),
+            Command::Delete(ids) => Ok(Command::Delete(ids.clone()?)),
+            Command::Clear => Ok(Command::Clear),
         }
     }
 }

@@ -3,6 +3,8 @@
 
 ghost use Rattle.std.specs.Prelude.{◌≡◌};
 
+mod by_id;
+mod change;
 pub mod command;
 pub mod registrar;
 mod roster;

@@ -34,6 +34,43 @@ impl Model for Registrar {
     ghost invariant = { λ r. IsWhole (kept_state r.state) × IsLegal (kept_state r.state).history };
 }
 
+/// The state before the first command.
+fn first_state(alloc: Global) -> Result<Arc<State>, NoMemory>
+    ensures { IfOk result (λ state. state.value ≡ beginning) }
+{
+    Ok(Arc::new(alloc, State::new(alloc)?)?)
+}
+
+/// Applies a command to a state, or to a copy of it in its place where a view holds it.
+fn apply_to(
+    alloc: Global,
+    shared: &mut Arc<State>,
+    caller: u32,
+    command: Command,
+) -> Result<Applied, (Command, Refused)>
+    requires fits { IsTrue (fits (command_of command)) }
+    requires caller_from { 0 < caller }
+    requires caller_to { caller ≤ 64 }
+    requires whole { IsWhole shared.old.value }
+    requires legal { IsLegal shared.old.value.history }
+    ensures accepted { OnOk result (shared.new.value ≡ state_after shared.old.value caller (command_of command)) }
+    ensures answer { IfOk result (λ answer. answer ≡ answer_of (command_of command) (applied shared.old.value.history (command_of command))) }
+    ensures room { OnOk result (IsTrue (has_room shared.old.value.history (command_of command))) }
+    ensures full { IfErr result (λ back. back.1 ≡ refused.Full → IsFalse (has_room shared.old.value.history (command_of command))) }
+    ensures handed_back { IfErr result (λ back. back.0 ≡ command) }
+    ensures unchanged { OnErr result (shared.new.value ≡ shared.old.value) }
+    ensures whole { IsWhole shared.new.value }
+    ensures legal { IsLegal shared.new.value.history }
+{
+    let Ok(state) = Arc::make_mut(shared) else {
+        return Err((command, Refused::NoMemory));
+    };
+    match state.accept(alloc, caller, &command) {
+        Ok(applied) => Ok(applied),
+        Err(refused) => Err((command, refused)),
+    }
+}
+
 impl Registrar {
     /// A registrar with no segment and an empty history. It takes no memory.
     pub fn new(alloc: Global) -> Registrar
@@ -57,7 +94,16 @@ impl Registrar {
         ensures handed_back { IfErr result (λ back. back.0 ≡ command) }
         ensures unchanged { OnErr result (self.new ≡ self.old) }
     {
-        Err((command, Refused::NoMemory))
+        if self.state.is_none() {
+            match first_state(self.alloc) {
+                Ok(state) => self.state = Some(state),
+                Err(NoMemory) => return Err((command, Refused::NoMemory)),
+            }
+        }
+        match &mut self.state {
+            Some(state) => apply_to(self.alloc, state, caller, command),
+            None => Err((command, Refused::NoMemory)),
+        }
     }
 
     /// The registry as it stands. Constant time.
