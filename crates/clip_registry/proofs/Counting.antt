@@ -66,7 +66,7 @@ filter_length : (p : HistoryEntry → Bool) (h : History) → length (filter p h
 filter_length p [] = omega arith
 filter_length p (e ∷ h) = let rest = filter_length p h in elim (p e) as (λ b. length (cond b (e ∷ filter p h) (filter p h)) ≤ suc (length h)) [ true ↦ omega arith | false ↦ omega arith ]
 
-length_map : {A B : Type 0} (f : A → B) (xs : List A) → length (map f xs) ≡ length xs
+pub length_map : {A B : Type 0} (f : A → B) (xs : List A) → length (map f xs) ≡ length xs
 length_map f [] = refl
 length_map f (x ∷ xs) = ap suc (length_map f xs)
 

@@ -10,3 +10,5 @@ pub mod Clones
 pub mod Undoing
 pub mod Entering
 pub mod Counting
+pub mod Alone
+pub mod Keeping

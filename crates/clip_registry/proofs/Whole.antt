@@ -7,7 +7,7 @@ use Rattle.std.specs.FinMap.{get-empty}
 use Rattle.clip_words.specs.Order.{bytes_cmp}
 use Rattle.clip_segment.specs.Segment.{IsRising}
 use Rattle.clip_model.specs.Standing.{Standing}
-use Rattle.clip_model.specs.History.{History, HistoryEntry, Command, Register, Delete, Clear, Registered, Registry, register_all, remove_all, after_command, replay, listed, lists, is_live, is_live_in, with_command, next_entry}
+use Rattle.clip_model.specs.History.{History, HistoryEntry, Command, Register, Delete, Clear, Registered, Registry, register_all, remove_all, after_command, replay, replay_onto, listed, lists, is_live, is_live_in, with_command, next_entry}
 use Rattle.clip_model.proofs.Replay.{replays_on, listed_on}
 use Rattle.clip_registry.specs.Roster.{IsNumbered, insert_all}
 use Rattle.clip_registry.specs.Whole.{RegistryState, IsWhole, all_entries, numbered, standing_after, segments_after, state_after, beginning}
@@ -49,7 +49,7 @@ shelved state is whole = record {
       ((whole.live_entries r).0 here).0;
 }
 
-length-numbered : (n : ℕ) (ss : List Standing) → length (numbered n ss) ≡ length ss
+pub length-numbered : (n : ℕ) (ss : List Standing) → length (numbered n ss) ≡ length ss
 length-numbered n [] = refl
 length-numbered n (s ∷ ss) = ap suc (length-numbered (suc n) ss)
 
@@ -109,6 +109,15 @@ numbered_after n m (Register ss) is = numbered_register n ss m is
 numbered_after n m (Delete ids) is = numbered_more n (n + 0) _ (omega arith) (numbered_removed n ids m is)
 numbered_after n m Clear is = numbered_empty (n + 0)
 
+numbered_onto : (n : ℕ) (h : History) (m : Registry) → IsNumbered n m → IsNumbered (n + listed h) (replay_onto n h m)
+numbered_onto n [] m is = numbered_more n (n + 0) m (omega arith) is
+numbered_onto n (e ∷ h) m is =
+    numbered_more ((n + lists e.command) + listed h) (n + (lists e.command + listed h)) _ (omega arith) (numbered_onto (n + lists e.command) h _ (numbered_after n m e.command is))
+
+-- what a history replays to is numbered
+pub replay_numbered : (h : History) → IsNumbered (listed h) (replay h)
+replay_numbered h = numbered_more (0 + listed h) (listed h) (replay h) (omega arith) (numbered_onto 0 h finite.empty (numbered_empty 0))
+
 whole_from : (state : RegistryState) → IsShelved (listed state.history) (all_entries state.segments) (replay state.history) → IsWhole state
 whole_from state is = record {
   rising = is.rising;
@@ -117,10 +126,10 @@ whole_from state is = record {
 }
 
 -- a whole registry stays whole after a command
-pub whole_after : (state : RegistryState) (caller : ℕ) (command : Command) → IsNumbered (listed state.history) (replay state.history) → IsWhole state → IsWhole (state_after state caller command)
-whole_after state caller command is whole =
+pub whole_after : (state : RegistryState) (caller : ℕ) (command : Command) → IsWhole state → IsWhole (state_after state caller command)
+whole_after state caller command whole =
     let e = next_entry state.history caller command in
-    let left = shelved_after (listed state.history) state.segments (replay state.history) command (shelved state is whole) in
+    let left = shelved_after (listed state.history) state.segments (replay state.history) command (shelved state (replay_numbered state.history) whole) in
     whole_from (state_after state caller command)
     (subst (λ n. IsShelved n (all_entries (state_after state caller command).segments) (replay (with_command state.history caller command))) (sym (listed_on state.history e))
     (subst (λ m. IsShelved (listed state.history + lists command) (all_entries (state_after state caller command).segments) m) (sym (replays_on state.history e)) left))
