@@ -1,23 +1,22 @@
 -- A query's keys cover the articles of which it holds.
-use Rattle.std.proofs.Common.{◌≡◌, ℕ, Bool, true, false, not, ◌&&◌, ◌||◌, cond, ltb, min, List, [], ◌∷◌, ◌++◌, map, drop, length, fold, Option, Some, None, unwrap_or, flat_map, refl, sym, ap, ◌∙◌, subst}
+use Rattle.std.proofs.Common.{◌≡◌, ℕ, Bool, true, false, ◌&&◌, ◌||◌, cond, ltb, List, [], ◌∷◌, ◌++◌, map, drop, length, fold, Some, unwrap_or, flat_map, refl, sym, ap, ◌∙◌, subst}
 use Rattle.std.specs.FinMap as finite
 use Rattle.std.specs.List.{list_any, list_all, starts_with}
 use Rattle.std.specs.Str.{bytes_eq}
 use Rattle.std.specs.Ordering.{eq_by_cmp}
 use Rattle.std.specs.Cmp.{Equal-is}
 use Rattle.std.proofs.lemmas.Bool.{or_left, or_right, and_parts, and_from, false≢true}
-use Rattle.std.proofs.lemmas.List.Folds.{list_any-append, list_all-append}
+use Rattle.std.proofs.lemmas.List.Folds.{list_any-append}
 use Rattle.std.proofs.lemmas.Slice.Eq.{bytes_eq-Decides, starts_is}
 use Rattle.clip_words.specs.Order.{bytes_cmp}
 use Rattle.clip_grammar.specs.Tree.{Tree, Clauses, none, clause}
-use Rattle.clip_grammar.specs.declared.query.Occur.{Occur}
 use Rattle.clip_grammar.specs.declared.query.Occur.TheVariants.{Must, Should, MustNot}
 use Rattle.clip_meaning.specs.Article.{Fields, words_in}
 use Rattle.clip_meaning.specs.Meaning.{holds, verdicts, group_holds, has_run, is_nonempty, meets_must, meets_must_not, meets_should, is_must}
-use Rattle.clip_extract.specs.Keys.{KeyValue, Any, Word, is_same, in_order, share}
+use Rattle.clip_extract.specs.Keys.{KeyValue, Any, Word, is_same, share}
 use Rattle.clip_extract.specs.Extraction.{Extracted, unnarrowed, word_extract, heavier, together, heaviest, union, musts, shoulds, group_extract, extract, extracts}
-use Rattle.clip_extract.specs.Covering.{field_keys, article_keys, Covers}
-use Rattle.clip_extract.proofs.Order.{either, bytes_same, same_itself, any_of_same, share_in_order}
+use Rattle.clip_extract.specs.Covering.{field_keys, Covers}
+use Rattle.clip_extract.proofs.Order.{either, bytes_same, same_itself, share_in_order}
 
 -- the word is one of these
 abbrev is_word_of : List (List ℕ) → List ℕ → Bool
@@ -84,7 +83,7 @@ run_covers [] ps run = absurd (false≢true run)
 run_covers (w ∷ ws) ps run =
     either (starts_with bytes_eq (w ∷ ws) ps) (has_run ws ps) run
     (λ e. let is = (starts_is bytes_eq-Decides (w ∷ ws) ps true (sym e)).0 refl in
-      subst (λ (xs : List (List ℕ)). list_all (is_word_of xs) ps ≡ true) (sym is) (in_front ps (drop (length ps) (w ∷ ws))))
+    subst (λ (xs : List (List ℕ)). list_all (is_word_of xs) ps ≡ true) (sym is) (in_front ps (drop (length ps) (w ∷ ws))))
     (λ e. in_longer w ws ps (run_covers ws ps e))
 
 words_cover : (fields : Fields) (field : List ℕ) (ps : List (List ℕ)) → list_all (is_word_of (words_in fields field)) ps ≡ true → list_all (covers fields) (map (word_extract field) ps) ≡ true
@@ -122,8 +121,8 @@ group_covers cs fields must should h =
     let all = and_parts (list_all meets_must (verdicts cs fields)) (list_all meets_must_not (verdicts cs fields)) parts.0 in
     rule_covers fields (musts (extracts cs)) (shoulds (extracts cs)) (must all.0)
     (λ e. either (list_any is_must (verdicts cs fields)) (list_any meets_should (verdicts cs fields)) parts.1
-      (λ p. absurd (false≢true (sym (no_musts cs fields e) ∙ p)))
-      should)
+    (λ p. absurd (false≢true (sym (no_musts cs fields e) ∙ p)))
+    should)
 
 mutual
   tree_covers : (tree : Tree) (fields : Fields) → holds tree fields ≡ true → covers fields (extract tree) ≡ true

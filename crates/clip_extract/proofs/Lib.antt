@@ -1,2 +1,5 @@
 pub mod Order
 pub mod Covers
+pub mod Groups
+pub mod Cuts
+pub mod Sorting

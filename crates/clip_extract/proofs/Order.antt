@@ -1,11 +1,11 @@
 -- The order of keys, and lists of keys in it.
-use Rattle.std.proofs.Common.{◌≡◌, ℕ, Bool, true, false, ◌||◌, List, [], ◌∷◌, refl, sym, ap, ◌∙◌}
-use Rattle.std.specs.Ordering.{eq_by_cmp, is_eq, nat_cmp}
-use Rattle.std.specs.declared.cmp.Ordering.TheVariants.{Equal}
+use Rattle.std.proofs.Common.{◌≡◌, ℕ, Bool, true, false, ◌||◌, List, [], ◌∷◌, map, is_some, refl, sym, ap, ◌∙◌}
+use Rattle.std.specs.Ordering.{is_eq}
 use Rattle.std.specs.Cmp.{IsTotalOrder, Equal-is, tied_itself, on_total, then_total, nat_cmp_total}
-use Rattle.std.specs.Cmp.Lexicographic.{slice_cmp, lists_total, nat_list_cmp_total}
+use Rattle.std.specs.Cmp.Lexicographic.{lists_total, nat_list_cmp_total}
 use Rattle.std.specs.FinMap.{IsAntisymmetric, nat_cmp-IsAntisymmetric, slice_cmp-IsAntisymmetric}
-use Rattle.std.specs.FinSet as set
+use Rattle.std.specs.FinMap as finite
+use Rattle.std.specs.FinMap.Entries.{is_some-find}
 use Rattle.std.specs.List.{list_any}
 use Rattle.std.proofs.lemmas.Bool.{or_left, or_right, false≢true}
 use Rattle.clip_words.specs.Order.{bytes_cmp}
@@ -56,7 +56,7 @@ any_of_members p (k ∷ ks) ls members any =
     (λ e. any_of_members p ks ls (λ q h. members q (or_right (is_same q k) _ h)) e)
 
 -- two tests that imply each other
-same_answer : (s t : Bool) → (s ≡ true → t ≡ true) → (t ≡ true → s ≡ true) → s ≡ t
+pub same_answer : (s t : Bool) → (s ≡ true → t ≡ true) → (t ≡ true → s ≡ true) → s ≡ t
 same_answer true t f g = sym (f refl)
 same_answer false true f g = g refl
 same_answer false false f g = refl
@@ -65,8 +65,20 @@ pub same_members : (p : KeyValue → Bool) (ks ls : List KeyValue) → ((k : Key
 same_members p ks ls same =
     same_answer (list_any p ks) (list_any p ls) (any_of_members p ks ls (λ k h. sym (same k) ∙ h)) (any_of_members p ls ks (λ k h. same k ∙ h))
 
+-- keys as the entries of a finite map
+abbrev pub marked : List KeyValue → List (KeyValue × Unit {0})
+marked ks = map (λ key. (key, tt {0})) ks
+
+pub unmarked : (ks : List KeyValue) → map (λ (e : KeyValue × Unit {0}). e.0) (marked ks) ≡ ks
+unmarked [] = refl
+unmarked (k ∷ ks) = ap (λ xs. k ∷ xs) (unmarked ks)
+
 pub among_in_order : (ks : List KeyValue) (k : KeyValue) → list_any (is_same k) (in_order ks) ≡ list_any (is_same k) ks
-among_in_order ks k = sym (set.contains-items (set.from_list {R = key_cmp} ks) k) ∙ set.contains-from_list key_cmp_total ks k
+among_in_order ks k =
+    sym (finite.contains_key-keys (finite.from_entries {R = key_cmp} (marked ks)) k)
+    ∙ ap is_some (finite.get-from_entries key_cmp_total (marked ks) k)
+    ∙ is_some-find key_cmp k (marked ks)
+    ∙ ap (list_any (is_same k)) (unmarked ks)
 
 pub any_in_order : (p : KeyValue → Bool) (ks : List KeyValue) → list_any p (in_order ks) ≡ list_any p ks
 any_in_order p ks = same_members p (in_order ks) ks (among_in_order ks)

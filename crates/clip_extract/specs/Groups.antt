@@ -1,5 +1,5 @@
 -- What is extracted of a group while its clauses are read.
-use Rattle.std.specs.Prelude.{ℕ, min, max, List, [], ◌∷◌, fold, Option, Some, None, unwrap_or}
+use Rattle.std.specs.Prelude.{ℕ, Bool, true, false, min, max, nat_lt, List, [], ◌∷◌, ◌++◌, fold, Option, Some, None, unwrap_or, if◌then◌else◌}
 use Rattle.clip_grammar.specs.declared.query.Occur.{Occur}
 use Rattle.clip_grammar.specs.declared.query.Occur.TheVariants.{Must, Should, MustNot}
 use Rattle.clip_extract.specs.Keys.{KeyValue, Word}
@@ -33,6 +33,26 @@ next_found (Optional least) MustNot weight = Optional least
 next_found Nothing Must weight = Required weight
 next_found Nothing Should weight = Optional weight
 next_found Nothing MustNot weight = Nothing
+
+-- a clause more can change what is found
+abbrev pub counts : Found → Occur → Bool
+counts found Must = true
+counts found MustNot = false
+counts (Required best) Should = false
+counts (Optional least) Should = true
+counts Nothing Should = true
+
+-- a Must child of this weight takes the place of what is found
+abbrev pub outweighs : Found → ℕ → Bool
+outweighs (Required best) weight = nat_lt best weight
+outweighs (Optional least) weight = true
+outweighs Nothing weight = true
+
+-- of the keys before and those of one clause more, the keys that are kept
+abbrev pub kept : Found → Occur → ℕ → (before more : List KeyValue) → List KeyValue
+kept found Must weight before more = if outweighs found weight then more else before
+kept found Should weight before more = before ++ more
+kept found MustNot weight before more = before ++ more
 
 -- what a word that was found with its weight gives
 abbrev pub word_found : (field word : List ℕ) → ℕ → Extracted

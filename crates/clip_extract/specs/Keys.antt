@@ -1,14 +1,12 @@
 -- Keys, by which standing queries are found.
-use Rattle.std.specs.Prelude.{◌≡◌, ℕ, Bool, List, [], ◌∷◌, Option, Some, None, refl}
+use Rattle.std.specs.Prelude.{ℕ, Bool, List, [], ◌∷◌, map}
 use Rattle.std.specs.List.{list_any}
 use Rattle.std.specs.Ordering.{nat_cmp, eq_by_cmp, then_cmp, on}
 use Rattle.std.specs.Cmp.Lexicographic.{slice_cmp}
-use Rattle.std.specs.Coded.{Coded, code_by, coded×, coded_option}
-use Rattle.std.specs.FinSet as set
+use Rattle.std.specs.FinMap as finite
 use Rattle.std.specs.Arc.{arc_str_bytes}
 use Rattle.std.specs.declared.cmp.Ordering.{Ordering}
 use Rattle.clip_words.specs.Order.{bytes_cmp}
-use Rattle.clip_grammar.specs.TreeCode.{bytes_code}
 use Rattle.clip_extract.specs.declared.key.Key.{Key}
 use Rattle.clip_extract.specs.declared.key.Key.TheVariants as variant
 
@@ -38,9 +36,9 @@ key_cmp = then_cmp (on rank nat_cmp) (on texts (slice_cmp bytes_cmp))
 abbrev pub is_same : KeyValue → KeyValue → Bool
 is_same = eq_by_cmp key_cmp
 
--- the keys of a list in order, each once
+-- the keys of a list in order, each once: those of the finite map that has them
 abbrev pub in_order : List KeyValue → List KeyValue
-in_order keys = set.items (set.from_list {R = key_cmp} keys)
+in_order keys = finite.keys (finite.from_entries {R = key_cmp} (map (λ key. (key, tt {0})) keys))
 
 -- the lists have a key in common
 abbrev pub share : List KeyValue → List KeyValue → Bool

@@ -1,20 +1,20 @@
 //! Keys and weight of a query.
-ghost use Rattle.std.specs.Prelude.{◌≡◌, ℕ, ◌++◌, ◌∷◌, [], ◌≤◌, List, map, length, take, drop, IfOk, vec_len, option_map};
+ghost use Rattle.std.specs.Prelude.{◌≡◌, ℕ, ◌++◌, ◌∷◌, [], ◌≤◌, List, map, true, length, take, drop, IfOk, vec_len, option_map};
 ghost use Rattle.std.specs.Str.{chars};
 ghost use Rattle.std.specs.Arc.{arc_str_bytes};
 ghost use Rattle.clip_grammar.specs.Tree.{tree_of};
 ghost use Rattle.clip_grammar.specs.declared.query.Occur.{Occur};
-ghost use Rattle.clip_extract.specs.Keys.{KeyValue, key_of, in_order};
+ghost use Rattle.clip_extract.specs.Keys.{KeyValue, key_of};
 ghost use Rattle.clip_extract.specs.Extraction.{Extracted, heaviest, word_extract, unnarrowed, extract, query_keys, query_weight};
-ghost use Rattle.clip_extract.specs.Groups.{group_from, next_found, word_found};
+ghost use Rattle.clip_extract.specs.Groups.{group_from, next_found, counts, outweighs, kept, word_found};
 
-use crate::key::Key;
+use crate::key::{Key, sorted};
 use clip_syntax::{Occur, Query};
 use clip_words::NoMemory;
 use std::alloc::Global;
 use std::sync::ArcStr;
 
-/// What stands among a group's clauses so far, with its weight: nothing, Should children, or a Must child.
+/// What stands among a group's clauses so far: nothing, Should children with their least weight, or a Must child with its weight.
 #[derive(Clone, Copy)]
 enum Found {
     Nothing,
@@ -28,7 +28,6 @@ fn characters(word: &str) -> u64
 {
     word.chars().count() as u64
 }
-
 
 /// The heaviest word, the first on a tie, and its weight.
 fn heaviest_word(words: &[ArcStr]) -> Option<(&ArcStr, u64)>
@@ -47,6 +46,17 @@ fn heaviest_word(words: &[ArcStr]) -> Option<(&ArcStr, u64)>
     Some((best, most))
 }
 
+/// Whether a clause more can change what stands.
+fn counts(found: Found, occur: Occur) -> bool
+    ensures { result ≡ counts found occur }
+{
+    match (found, occur) {
+        (_, Occur::Must) => true,
+        (_, Occur::MustNot) | (Found::Required(_), Occur::Should) => false,
+        _ => true,
+    }
+}
+
 /// What stands with one clause more, whose child has this weight.
 fn next_found(found: Found, occur: Occur, weight: u64) -> Found
     ensures { result ≡ next_found found occur weight }
@@ -60,6 +70,7 @@ fn next_found(found: Found, occur: Occur, weight: u64) -> Found
     }
 }
 
+#[tactic(auto, unfolding(crate::specs::Groups::group_with))]
 /// The weight of what stands.
 fn weight_found(found: Found) -> u64
     ensures { (keys : List KeyValue) → (group_from found keys []).weight ≡ result }
@@ -70,9 +81,9 @@ fn weight_found(found: Found) -> u64
     }
 }
 
-/// The weight of a query: how many characters the word has by which it is found, by the rules of `keys`.
+/// The weight of a query's keys: how many characters the word has that decides, by the rules of `keys`; 0 for Any.
 ///
-/// 0 where any article may be meant. Takes no memory. Cost: one walk over the query.
+/// Takes no memory. Cost: one walk over the query.
 pub fn weight(query: &Query) -> u64
     ensures { result ≡ query_weight (tree_of query.now) }
 {
@@ -92,6 +103,9 @@ pub fn weight(query: &Query) -> u64
         Query::Group(clauses) => {
             let mut found = Found::Nothing;
             for (occur, child) in clauses {
+                if !counts(found, *occur) {
+                    continue;
+                }
                 found = next_found(found, *occur, weight(child));
             }
             weight_found(found)
@@ -108,24 +122,32 @@ fn remove(keys: &mut Vec<Key>, start: usize, end: usize)
     keys.drain(start..end);
 }
 
+/// Whether a Must child of this weight takes the place of what stands.
+fn outweighs(found: Found, weight: u64) -> bool
+    ensures { result ≡ outweighs found weight }
+{
+    match found {
+        Found::Required(best) => best < weight,
+        _ => true,
+    }
+}
+
 /// Keeps of a group's keys, which begin at `start`, those that count with one clause more, whose child's begin at `middle`.
 fn keep(found: Found, occur: Occur, weight: u64, keys: &mut Vec<Key>, start: usize, middle: usize)
     requires low { start ≤ middle }
     requires high { middle ≤ vec_len keys.old }
-    ensures front { take start keys.new.items ≡ take start keys.old.items }
+    ensures front { take start (map key_of keys.new.items) ≡ take start (map key_of keys.old.items) }
     ensures long { start ≤ vec_len keys.new }
-    ensures group { (others : List (Occur × Extracted)) → group_from found (map key_of (drop start (take middle keys.old.items))) ((occur, record { keys = map key_of (drop middle keys.old.items); weight = weight }) ∷ others)
-        ≡ group_from (next_found found occur weight) (map key_of (drop start keys.new.items)) others }
+    ensures kept { drop start (map key_of keys.new.items) ≡ kept found occur weight (drop start (take middle (map key_of keys.old.items))) (drop middle (map key_of keys.old.items)) }
 {
-    match (found, occur) {
-        (Found::Required(best), Occur::Must) if weight <= best => keys.truncate(middle),
-        (_, Occur::Must) => remove(keys, start, middle),
-        (Found::Required(_), Occur::Should) => keys.truncate(middle),
-        (_, Occur::MustNot) => keys.truncate(middle),
-        _ => {}
+    match occur {
+        Occur::Must if outweighs(found, weight) => remove(keys, start, middle),
+        Occur::Must => keys.truncate(middle),
+        Occur::Should | Occur::MustNot => {}
     }
 }
 
+/// Adds the key that every article has.
 fn push_any(keys: &mut Vec<Key>) -> Result<u64, NoMemory>
     ensures added { IfOk result (λ weight. map key_of keys.new.items ≡ map key_of keys.old.items ++ unnarrowed.keys) }
     ensures weight { IfOk result (λ weight. weight ≡ 0) }
@@ -162,29 +184,30 @@ fn add_keys(query: &Query, keys: &mut Vec<Key>) -> Result<u64, NoMemory>
             let start = keys.len();
             let mut found = Found::Nothing;
             for (occur, child) in clauses {
+                if !counts(found, *occur) {
+                    continue;
+                }
                 let middle = keys.len();
                 let weight = add_keys(child, keys)?;
                 keep(found, *occur, weight, keys, start, middle);
                 found = next_found(found, *occur, weight);
             }
-            if matches!(found, Found::Nothing) {
-                return push_any(keys);
+            match found {
+                Found::Nothing => push_any(keys),
+                _ => Ok(weight_found(found)),
             }
-            Ok(weight_found(found))
         }
     }
 }
 
-/// Sorts keys, and leaves each once.
-fn sorted(mut keys: Vec<Key>) -> Result<Vec<Key>, NoMemory>
-    ensures { IfOk result (λ sorted. map key_of sorted.items ≡ in_order (map key_of keys.items)) }
-{
-    keys.sort()?;
-    keys.dedup();
-    Ok(keys)
-}
-
-/// The keys of a query, in order, each once.
+/// The keys of a query, in order, each once: an article of which it holds has one of them.
+///
+/// As Lucene's term-filtered presearcher extracts terms: of a word its key, of a phrase that of its heaviest word, of a
+/// group those of its heaviest Must child or, without one, of all its Should children; Any for what nothing narrows. A
+/// word weighs as many as it has characters, and the first stands on a tie. Texts are shared with the query.
+///
+/// `NoMemory` where a growth was refused. Cost: one walk over the query, which moves the keys that are kept at most once
+/// for each group around them, and a sort of the keys.
 pub fn keys(alloc: Global, query: &Query) -> Result<Vec<Key>, NoMemory>
     ensures { IfOk result (λ found. map key_of found.items ≡ query_keys (tree_of query.now)) }
 {

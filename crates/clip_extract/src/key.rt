@@ -1,5 +1,7 @@
 //! Keys.
+ghost use Rattle.std.specs.Prelude.{◌≡◌, IfOk, map};
 
+use clip_words::NoMemory;
 use std::sync::ArcStr;
 
 /// What a standing query is found by: `Any`, which every article has, or a word of a field (field, word).
@@ -9,4 +11,17 @@ use std::sync::ArcStr;
 pub enum Key {
     Any,
     Word(ArcStr, ArcStr),
+}
+
+ghost use Rattle.clip_extract.specs.Keys.{key_of, in_order};
+
+/// Sorts keys, and leaves each once.
+///
+/// `NoMemory` where the sort's buffer was refused. Cost: n log n comparisons of n keys.
+pub fn sorted(mut keys: Vec<Key>) -> Result<Vec<Key>, NoMemory>
+    ensures { IfOk result (λ sorted. map key_of sorted.items ≡ in_order (map key_of keys.items)) }
+{
+    keys.sort()?;
+    keys.dedup();
+    Ok(keys)
 }

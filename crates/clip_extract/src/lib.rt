@@ -9,3 +9,6 @@ pub mod laws;
 
 pub use extraction::{keys, weight};
 pub use key::Key;
+
+#[cfg(test)]
+mod tests;

@@ -3,3 +3,4 @@ pub mod Splits
 pub mod Legal
 pub mod Entries
 pub mod Seqs
+pub mod Rows

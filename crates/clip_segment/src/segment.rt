@@ -1,12 +1,12 @@
 //! Segments: entries in the order of their seqs, with an index from keys to positions.
-ghost use Rattle.std.specs.Prelude.{◌≡◌, ◌==◌, ◌≤◌, ◌++◌, ◌∷◌, [], if◌then◌else◌, IfOk, OnOk, length, map, option_map};
+ghost use Rattle.std.specs.Prelude.{◌≡◌, ◌==◌, ◌<◌, ◌≤◌, ◌++◌, ◌∷◌, [], if◌then◌else◌, IfOk, OnOk, length, map, option_map};
 ghost use Rattle.std.specs.Arc.{arc_value};
-ghost use Rattle.std.specs.List.{slice_get};
+ghost use Rattle.std.specs.List.{All, AllPairs, slice_get};
 ghost use Rattle.std.specs.Option.{option_copied};
 ghost use Rattle.clip_extract.specs.declared.key.Key.{Key};
 ghost use Rattle.clip_extract.specs.Keys.{is_same, key_of};
 ghost use Rattle.clip_segment.specs.Positions.{positions_under};
-ghost use Rattle.clip_segment.specs.Segment.{IsRising, most_positions, positions_with};
+ghost use Rattle.clip_segment.specs.Segment.{IsRising, holds_key, most_positions, positions_with};
 
 use crate::entry::Entry;
 use clip_extract::Key;
@@ -16,8 +16,8 @@ use std::collections::HashMap;
 use std::marker::Model;
 use std::sync::Arc;
 
-/// Entries in the order of their seqs, with an index from keys to positions.
-#[derive(Drop)]
+/// Entries in the order of their seqs, with an index from each key to the positions of those that hold it.
+#[derive(Debug, Drop)]
 pub struct Segment {
     entries: Vec<Arc<Entry>>,
     positions: HashMap<Key, Vec<u32>>,
@@ -39,21 +39,45 @@ impl Model for Segment {
     ghost invariant = { IsSegment };
 }
 
+/// A copy of a key, which shares its texts.
+fn shared(key: &Key) -> Result<Key, NoMemory>
+    ensures { IfOk result (λ copy. key_of copy ≡ key_of key.now) }
+{
+    Ok(key.clone()?)
+}
+
 /// Adds a position at the end of those under a key.
 fn add_position(
     positions: &mut HashMap<Key, Vec<u32>>,
-    key: &Key,
+    key: Key,
     position: u32,
 ) -> Result<(), NoMemory>
     ensures { OnOk result ((other : Key) → positions_under positions.new other
-        ≡ positions_under positions.old other ++ (if is_same (key_of key.now) (key_of other) then position ∷ [] else [])) }
+        ≡ positions_under positions.old other ++ (if is_same (key_of key) (key_of other) then position ∷ [] else [])) }
 {
-    positions.entry(key.clone()?)?.or_default().push(position)?;
+    positions.entry(key)?.or_default().push(position)?;
+    Ok(())
+}
+
+/// Adds a position at the end of those under each key of an entry.
+fn add_entry(
+    positions: &mut HashMap<Key, Vec<u32>>,
+    entry: &Entry,
+    position: u32,
+) -> Result<(), NoMemory>
+    ensures { OnOk result ((other : Key) → positions_under positions.new other
+        ≡ positions_under positions.old other ++ (if holds_key (key_of other) entry.now then position ∷ [] else [])) }
+{
+    for key in entry.keys() {
+        add_position(positions, shared(key)?, position)?;
+    }
     Ok(())
 }
 
 impl Segment {
-    /// A segment of entries, which it shares. It costs a look-up for each key of each entry; `NoMemory` where a growth was refused.
+    /// The segment of these entries, which it shares. Their seqs rise, and there are at most 4,294,967,295.
+    ///
+    /// `NoMemory` where a growth was refused. Cost: one look-up for each key of each entry; no text is copied.
     pub fn build(alloc: Global, entries: Vec<Arc<Entry>>) -> Result<Segment, NoMemory>
         requires short { length entries.items ≤ most_positions }
         requires rising { IsRising (map arc_value entries.items) }
@@ -62,17 +86,18 @@ impl Segment {
         let mut positions = HashMap::new(alloc);
         let mut position = 0;
         for entry in &entries {
-            for key in entry.keys() {
-                add_position(&mut positions, key, position)?;
-            }
+            add_entry(&mut positions, entry, position)?;
             position += 1;
         }
         Ok(Segment { entries, positions })
     }
 
-    /// The positions of just the entries that hold the key, rising. It costs one look-up.
+    #[tactic(auto, using(crate::proofs::Holding::positions_within, crate::proofs::Holding::positions_rise))]
+    /// The positions, from 0 and rising, of just the entries that hold the key. Takes no memory. Cost: one look-up.
     pub fn with_key(&self, key: &Key) -> &[u32]
-        ensures { result.now ≡ positions_with (key_of key.now) self.now }
+        ensures holders { result.now ≡ positions_with (key_of key.now) self.now }
+        ensures within { All (λ position. position < length self.now) result.now }
+        ensures rising { AllPairs ◌<◌ result.now }
     {
         match self.positions.get(key) {
             Some(positions) => positions,
@@ -80,7 +105,7 @@ impl Segment {
         }
     }
 
-    /// The entry at a position, if there are so many.
+    /// The entry at a position from 0, or `None` past the end. Takes no memory.
     pub fn entry(&self, position: u32) -> Option<&Arc<Entry>>
         ensures { option_map arc_value (option_copied result) ≡ slice_get self.now position }
     {
@@ -96,7 +121,7 @@ impl Segment {
         &self.entries
     }
 
-    /// How many entries there are.
+    /// How many entries there are. Takes no memory.
     pub fn len(&self) -> usize
         ensures { result ≡ length self.now }
     {

@@ -136,9 +136,10 @@ impl Builder {
         match token {
             Token::Plus => self.group.occur = Occur::Must,
             Token::Minus | Token::Bang | Token::Not => self.group.occur = Occur::MustNot,
-            Token::Plain(text) if before_colon => self.group.nearer = Some(ArcStr::from_str(
-                alloc, text,
-            )?),
+            Token::Plain(text) if before_colon => {
+                let field = ArcStr::from_str(alloc, text)?;
+                self.group.nearer = Some(field);
+            }
             Token::Plain(_) | Token::Phrase(_) => self.add_words()?,
             Token::Front(text) => {
                 let field = self.group.item_field()?;

@@ -4,7 +4,8 @@ ghost use Rattle.std.specs.List.{count_by};
 ghost use Rattle.clip_grammar.specs.Shape as shape;
 ghost use Rattle.clip_grammar.specs.Shape.{Written, written_tree};
 ghost use Rattle.clip_grammar.specs.Reading.{IsTooBig};
-ghost use Rattle.clip_syntax.specs.Sizes.{is_node, is_colon, open_after, most_open};
+ghost use Rattle.clip_grammar.specs.LeftOut.{is_colon};
+ghost use Rattle.clip_syntax.specs.Sizes.{is_node, open_after, most_open};
 ghost use Rattle.clip_syntax.specs.TokenOf.{token_of};
 
 use crate::lexer::Token;
@@ -72,9 +73,9 @@ fn most_open(tokens: &[Token]) -> usize
     most
 }
 
-/// Whether the tree has more than 4,096 nodes, or more than 64 parentheses are open at once.
+/// Whether the tree has more than `MOST_NODES` nodes, or more than `MOST_OPEN` parentheses are open at once.
 ///
-/// Linear in the tokens, and flat.
+/// The cost is linear in the tokens, and nothing nests.
 pub fn is_too_big(tokens: &[Token]) -> bool
     ensures { (written : Written) → shape.tokens written ≡ map token_of tokens.now → (IsTrue result ↔ IsTooBig (written_tree written)) }
 {

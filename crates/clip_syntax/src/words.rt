@@ -46,9 +46,10 @@ fn shared_words(alloc: Global, text: &str) -> Result<Vec<ArcStr>, NoMemory>
     Ok(shared)
 }
 
-/// The words of each plain or quoted item in order, or `None` where an item has none.
+/// The words of each plain or quoted item in order, or `None` where an item has no words.
 ///
-/// Each word is cut and folded once. The cost is linear in the bytes of the tokens.
+/// A plain word before a colon is a field, and no item. Each word is cut and folded once, and is then shared.
+/// `NoMemory` where a growth is refused. The cost is linear in the bytes of the tokens.
 pub fn item_words(alloc: Global, tokens: &[Token]) -> Result<Option<Vec<Vec<ArcStr>>>, NoMemory>
     ensures words { IfOk result (λ found. IfSome found (λ items. map (λ words. map arc_str_bytes words.items) items.items ≡ items_words (map token_of tokens.now))) }
     ensures lacking { IfOk result (λ found. (written : Written) → shape.tokens written ≡ map token_of tokens.now → is_some found ≡ not (lacks_words written)) }
