@@ -11,6 +11,9 @@ mod roster;
 mod state;
 pub mod view;
 
+#[cfg(test)]
+mod tests;
+
 pub use command::{Applied, Command, HistoryEntry, Refused};
 pub use registrar::Registrar;
 pub use view::View;
