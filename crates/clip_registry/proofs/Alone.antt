@@ -1,12 +1,12 @@
 -- The queries that stand after a register, found by a roster of its list alone.
-use Rattle.std.proofs.Common.{◌≡◌, ℕ, suc, ◌<◌, ◌≤◌, ◌++◌, Bool, true, false, cond, List, [], ◌∷◌, length, refl, sym, ap, ◌∙◌, arith, Option, Some}
+use Rattle.std.proofs.Common.{◌≡◌, ℕ, suc, ◌<◌, ◌≤◌, ◌++◌, Bool, true, false, cond, List, [], ◌∷◌, length, refl, sym, ap, ◌∙◌, arith}
 use Rattle.std.proofs.lemmas.List.Elements.{All-head, All-tail}
 use Rattle.std.specs.List.{All, filter}
 use Rattle.std.specs.FinMap as finite
 use Rattle.std.specs.FinMap.{get-empty}
 use Rattle.clip_words.specs.Order.{bytes_cmp}
 use Rattle.clip_model.specs.Standing.{Standing}
-use Rattle.clip_model.specs.History.{Registered, Registry, Command, Register, register_all, is_live_in}
+use Rattle.clip_model.specs.History.{Registered, Registry, Register, register_all, is_live_in}
 use Rattle.clip_registry.specs.Roster.{Roster, IsNumbered, insert_all, roster_with_all}
 use Rattle.clip_registry.specs.Whole.{numbered, standing_after, segments_after}
 use Rattle.clip_registry.proofs.Live.{none_some}

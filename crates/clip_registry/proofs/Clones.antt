@@ -1,12 +1,9 @@
 -- Clones show what their sources show.
-use Rattle.std.proofs.Common.{◌≡◌, ℕ, List, [], ◌∷◌, map, refl, sym, ap, ◌∙◌, String, string_bytes}
+use Rattle.std.proofs.Common.{◌≡◌, List, [], ◌∷◌, map, refl}
 use Rattle.std.specs.List.{AllZip}
 use Rattle.std.specs.Arc.{arc_value}
-use Rattle.std.specs.BTreeMap.{BTreeMap, IsClone}
 use Rattle.std.specs.declared.sync.Arc.{Arc}
 use Rattle.std.specs.declared.alloc.Global.{Global}
-use Rattle.clip_model.specs.History.{Registered}
-use Rattle.clip_registry.specs.Flags.{shown_pair}
 
 -- a list of clones, seen through what they share with their sources
 pub map_clones : {X Y : Type 0} (C : X → X → Type 0) (f : X → Y) → ((x y : X) → C x y → f y ≡ f x) → (xs ys : List X) → AllZip C xs ys → map f ys ≡ map f xs

@@ -1,5 +1,5 @@
 -- How many queries there are, and how many were listed.
-use Rattle.std.proofs.Common.{◌≡◌, ℕ, suc, ◌+◌, ◌*◌, ◌-◌, ◌<◌, ◌≤◌, ◌⊎◌, Bool, true, false, cond, List, [], ◌∷◌, ◌++◌, length, map, refl, sym, ap, subst, ◌∙◌, arith, Option, Some, None, is_some, IsTrue, ◌==◌, ◌&&◌, nat_le, nat_lt, length-append, append-nil}
+use Rattle.std.proofs.Common.{◌≡◌, ℕ, suc, ◌+◌, ◌*◌, ◌-◌, ◌≤◌, Bool, true, false, cond, List, [], ◌∷◌, ◌++◌, length, map, refl, sym, ap, subst, ◌∙◌, arith, Some, is_some, IsTrue, ◌==◌}
 use Rattle.std.proofs.lemmas.Bool.Decides.{nat_tests}
 use Rattle.std.proofs.lemmas.Cmp.{nat_list_cmp_total}
 use Rattle.std.specs.List.{filter}
@@ -8,7 +8,7 @@ use Rattle.std.specs.FinMap as finite
 use Rattle.std.specs.FinMap.{get-insert, len-insert, len-remove}
 use Rattle.clip_words.specs.Order.{bytes_cmp}
 use Rattle.clip_model.specs.Standing.{Standing}
-use Rattle.clip_model.specs.History.{History, HistoryEntry, Command, Register, Delete, Clear, Registered, Registry, IsLegal, register_all, remove_all, listed, lists, own, fits, most_listed, most_entries}
+use Rattle.clip_model.specs.History.{History, HistoryEntry, Command, Register, Delete, Clear, Registered, Registry, IsLegal, register_all, remove_all, listed, lists, own, fits, most_entries}
 
 -- fewer by one, or as many
 not_more : (b : Bool) (n : ℕ) → cond b (n - 1) n ≤ n
@@ -78,8 +78,8 @@ pub own_more : (h : History) (e : HistoryEntry) (caller : ℕ) → length (own (
 own_more [] e caller = elim (e.caller == caller) as (λ b. length (map (λ (e : HistoryEntry). e.command) (cond b (e ∷ []) [])) ≡ cond b 1 0) [ true ↦ refl | false ↦ refl ]
 own_more (f ∷ h) e caller =
     elim (f.caller == caller) as (λ b. length (map (λ (e : HistoryEntry). e.command) (cond b (f ∷ filter (λ e. e.caller == caller) (h ++ e ∷ [])) (filter (λ e. e.caller == caller) (h ++ e ∷ []))))
-      ≡ cond (e.caller == caller) (suc (length (map (λ (e : HistoryEntry). e.command) (cond b (f ∷ filter (λ e. e.caller == caller) h) (filter (λ e. e.caller == caller) h)))))
-        (length (map (λ (e : HistoryEntry). e.command) (cond b (f ∷ filter (λ e. e.caller == caller) h) (filter (λ e. e.caller == caller) h))))) [
+    ≡ cond (e.caller == caller) (suc (length (map (λ (e : HistoryEntry). e.command) (cond b (f ∷ filter (λ e. e.caller == caller) h) (filter (λ e. e.caller == caller) h)))))
+    (length (map (λ (e : HistoryEntry). e.command) (cond b (f ∷ filter (λ e. e.caller == caller) h) (filter (λ e. e.caller == caller) h))))) [
       | true ↦ ap suc (own_more h e caller) ∙ pushed (e.caller == caller) (length (own h caller))
       | false ↦ own_more h e caller
     ]

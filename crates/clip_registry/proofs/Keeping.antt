@@ -1,18 +1,18 @@
 -- A registry is kept through commands.
-use Rattle.std.proofs.Common.{◌≡◌, ℕ, suc, ◌+◌, ◌-◌, ◌<◌, ◌≤◌, ◌⊎◌, Bool, true, false, cond, List, [], ◌∷◌, ◌++◌, length, map, get_or, set, refl, sym, ap, subst, ◌∙◌, inl, inr, arith, IsTrue, ◌==◌, ◌&&◌, nat_le, nat_lt}
+use Rattle.std.proofs.Common.{◌≡◌, ℕ, suc, ◌+◌, ◌-◌, ◌<◌, ◌≤◌, Bool, true, false, cond, List, length, get_or, set, sym, ap, subst, ◌∙◌, inl, inr, arith, IsTrue, ◌==◌, ◌&&◌, nat_le, nat_lt}
 use Rattle.std.proofs.lemmas.Bool.Decides.{nat_tests}
 use Rattle.std.proofs.lemmas.Bool.{cases_order}
 use Rattle.std.proofs.lemmas.List.{get_or_default, get_or-set_same, get_or-set_other}
 use Rattle.std.proofs.Math.ListN.{length-set}
 use Rattle.std.specs.FinMap as finite
-use Rattle.clip_model.specs.History.{History, Command, IsLegal, replay, listed, lists, own, fits, has_room, with_command, next_entry, after_command, most_live, most_entries}
+use Rattle.clip_model.specs.History.{History, Command, replay, listed, lists, own, fits, has_room, with_command, next_entry, after_command, most_live, most_entries}
 use Rattle.clip_model.proofs.Replay.{replays_on, listed_on}
 use Rattle.clip_model.proofs.Legal.{goes_on}
 use Rattle.clip_registry.specs.Changed.{IsChanged}
 use Rattle.clip_registry.specs.Kept.{AreKept}
 use Rattle.clip_registry.specs.Roster.{Roster}
-use Rattle.clip_registry.specs.Whole.{RegistryState, IsWhole, state_after, beginning}
-use Rattle.clip_registry.proofs.Counting.{own_more, own_length}
+use Rattle.clip_registry.specs.Whole.{RegistryState, state_after, beginning}
+use Rattle.clip_registry.proofs.Counting.{own_more}
 use Rattle.clip_registry.proofs.Legal.{legal_beginning}
 use Rattle.clip_registry.proofs.Whole.{whole_after, whole_beginning}
 
@@ -36,8 +36,10 @@ room_from h command small short = both _ _ (small_test _ small) (short_test _ sh
     both : (a b : Bool) → a ≡ true → b ≡ true → (a && b) ≡ true
     both true b p q = q
     both false b p q = p
+
     small_test : (n : ℕ) → n ≤ most_live → nat_le n most_live ≡ true
     small_test n h = grind (arith, nat_tests)
+
     short_test : (n : ℕ) → n < most_entries → nat_lt n most_entries ≡ true
     short_test n h = grind (arith, nat_tests)
 
@@ -57,13 +59,13 @@ counts_after h counts caller command x callers low high is before c above below 
     let e = next_entry h caller command in
     elim (cases_order caller c) [
       | inl same ↦
-        ap (λ k. get_or (set counts (caller - 1) (x + 1)) (k - 1) 0) (sym same) ∙ get_or-set_same counts (caller - 1) (x + 1) 0 (omega arith)
-        ∙ (let n : x + 1 ≡ suc (length (own h c)) = let k = ap (λ c. length (own h c)) same in omega arith in n)
-        ∙ sym (own_more h e c ∙ ap (λ b. cond b (suc (length (own h c))) (length (own h c))) (same_caller caller c same))
+          ap (λ k. get_or (set counts (caller - 1) (x + 1)) (k - 1) 0) (sym same) ∙ get_or-set_same counts (caller - 1) (x + 1) 0 (omega arith)
+          ∙ (let n : x + 1 ≡ suc (length (own h c)) = let k = ap (λ c. length (own h c)) same in omega arith in n)
+          ∙ sym (own_more h e c ∙ ap (λ b. cond b (suc (length (own h c))) (length (own h c))) (same_caller caller c same))
       | inr (inl less) ↦ get_or-set_other counts (caller - 1) (c - 1) (x + 1) 0 (λ k. omega arith) ∙ before c above below
-        ∙ sym (own_more h e c ∙ ap (λ b. cond b (suc (length (own h c))) (length (own h c))) (lower_caller caller c less))
+          ∙ sym (own_more h e c ∙ ap (λ b. cond b (suc (length (own h c))) (length (own h c))) (lower_caller caller c less))
       | inr (inr more) ↦ get_or-set_other counts (caller - 1) (c - 1) (x + 1) 0 (λ k. omega arith) ∙ before c above below
-        ∙ sym (own_more h e c ∙ ap (λ b. cond b (suc (length (own h c))) (length (own h c))) (higher_caller caller c more))
+          ∙ sym (own_more h e c ∙ ap (λ b. cond b (suc (length (own h c))) (length (own h c))) (higher_caller caller c more))
     ]
 
 pub kept_after : (state new : RegistryState) (roster changed : Roster) (counts : List ℕ) (caller : ℕ) (command : Command) (x : ℕ) → AreKept state roster counts
@@ -73,7 +75,7 @@ pub kept_after : (state new : RegistryState) (roster changed : Roster) (counts :
 kept_after state new roster changed counts caller command x kept fit low high small short is change at =
     let e = next_entry state.history caller command in
     let registry : changed.registry ≡ after_command (listed state.history) command (replay state.history) =
-        change.registry ∙ ap (λ n. after_command n command roster.registry) kept.listed ∙ ap (after_command (listed state.history) command) kept.registry in
+    change.registry ∙ ap (λ n. after_command n command roster.registry) kept.listed ∙ ap (after_command (listed state.history) command) kept.registry in
     let room = room_from state.history command (subst (λ m. finite.len m ≤ most_live) registry small) short in
     subst (λ s. AreKept s changed (set counts (caller - 1) (x + 1))) (sym is) (record {
       whole = whole_after state caller command kept.whole;

@@ -1,9 +1,9 @@
 -- Legal histories.
-use Rattle.std.proofs.Common.{◌≡◌, ℕ, suc, ◌+◌, ◌*◌, ◌<◌, ◌≤◌, List, [], ◌∷◌, ◌++◌, length, refl, sym, ap, subst, ◌∙◌, arith, length-append}
+use Rattle.std.proofs.Common.{◌≡◌, ◌≤◌, List, [], ◌∷◌, ◌++◌, length, refl, sym, ap, subst, arith, length-append}
 use Rattle.std.specs.FinMap as finite
 use Rattle.std.specs.FinMap.{len-empty}
 use Rattle.clip_words.specs.Order.{bytes_cmp}
-use Rattle.clip_model.specs.History.{History, HistoryEntry, IsLegal, Registered, replay, most_live}
+use Rattle.clip_model.specs.History.{History, IsLegal, Registered, replay, most_live}
 
 -- no list ends with an entry and is empty
 nothing_split : {A : Type 0} (before after : List A) (x : A) → [] ≡ before ++ x ∷ after → ⊥

@@ -1,5 +1,5 @@
 -- Keys of registries, and which seqs are live.
-use Rattle.std.proofs.Common.{◌≡◌, ℕ, suc, ◌≤◌, Bool, true, false, cond, ◌||◌, List, [], ◌∷◌, refl, sym, ap, subst, ◌∙◌, arith, Option, Some, None, nat_eq, ◌==◌}
+use Rattle.std.proofs.Common.{◌≡◌, ℕ, Bool, true, false, cond, ◌||◌, List, [], ◌∷◌, refl, sym, ap, ◌∙◌, arith, Some, None, ◌==◌}
 use Rattle.std.proofs.lemmas.Bool.Decides.{nat_tests}
 use Rattle.std.proofs.lemmas.Cmp.{nat_list_cmp_total, eq_by_cmp_equiv}
 use Rattle.std.specs.List.{list_any}
@@ -87,6 +87,7 @@ found_any id r (e ∷ es) h =
   where
     itself : (n : ℕ) → (n == n) ≡ true
     itself n = grind (arith, nat_tests)
+
     or_right : (a b : Bool) → b ≡ true → (a || b) ≡ true
     or_right true b h = refl
     or_right false b h = h

@@ -1,18 +1,17 @@
 -- A map by texts, as a finite map.
-use Rattle.std.proofs.Common.{◌≡◌, ℕ, suc, ◌+◌, Bool, true, false, cond, ◌&&◌, not, List, [], ◌∷◌, map, length, refl, sym, ap, subst, ◌∙◌, arith, Option, Some, None, is_some, String, string_bytes}
+use Rattle.std.proofs.Common.{◌≡◌, ℕ, suc, Bool, true, false, cond, ◌&&◌, List, [], ◌∷◌, map, length, refl, sym, ap, subst, ◌∙◌, Some, None, is_some, String, string_bytes}
 use Rattle.std.proofs.Math.Dec.{T}
 use Rattle.std.specs.Option.{option_map}
 use Rattle.std.specs.Arc.{arc_value}
 use Rattle.std.specs.Map.{lookup, remove_entry, set_value}
-use Rattle.std.specs.BTreeMap.{BTreeMap, insert_entry, is_at, IsOrdered, keys}
+use Rattle.std.specs.BTreeMap.{BTreeMap, insert_entry, is_at, IsOrdered}
 use Rattle.std.specs.String.{string_cmp}
 use Rattle.std.specs.List.{AllByRecursion}
 use Rattle.std.specs.List.Sorted.{IsStrictlySortedBy}
 use Rattle.std.specs.Cmp.Lexicographic.{slice_cmp}
 use Rattle.std.specs.Ordering.{eq_by_cmp, nat_cmp, match_ordering, is_eq, is_lt}
-use Rattle.std.proofs.lemmas.Cmp.{nat_list_cmp_total, eq_by_cmp_equiv}
+use Rattle.std.proofs.lemmas.Cmp.{nat_list_cmp_total}
 use Rattle.std.proofs.lemmas.Map.Keys.{sorted_head, sorted_tail}
-use Rattle.std.specs.declared.cmp.Ordering.{Ordering}
 use Rattle.std.specs.declared.cmp.Ordering.TheVariants.{Less, Equal, Greater}
 use Rattle.std.specs.declared.sync.Arc.{Arc}
 use Rattle.std.specs.declared.alloc.Global.{Global}
@@ -22,7 +21,7 @@ use Rattle.std.specs.FinMap.Entries.{find, put, find-put, by_order, is_sorted, b
 use Rattle.clip_words.specs.Order.{bytes_cmp}
 use Rattle.clip_model.specs.History.{Registered, Registry}
 use Rattle.clip_registry.specs.Flags.{shown_pair, shown, registry_of}
-use Rattle.clip_registry.proofs.Live.{bytes_same, bytes_itself, false_true}
+use Rattle.clip_registry.proofs.Live.{bytes_same, false_true}
 
 abbrev Held : Type 0
 Held = List (String Global × Arc Registered Global)
@@ -49,7 +48,7 @@ shown_insert : (k : String Global) (v : Arc Registered Global) (es : Held) → m
 shown_insert k v [] = refl
 shown_insert k v (e ∷ es) =
     elim (bytes_cmp (string_bytes k) (string_bytes e.0)) as (λ r. map shown_pair (match_ordering r ((k, v) ∷ e ∷ es) ((e.0, v) ∷ es) (e ∷ insert_entry string_cmp es k v))
-      ≡ by_order r ((string_bytes k, arc_value v) ∷ map shown_pair (e ∷ es)) ((string_bytes e.0, arc_value v) ∷ map shown_pair es) (shown_pair e ∷ put bytes_cmp (string_bytes k) (arc_value v) (map shown_pair es))) [
+    ≡ by_order r ((string_bytes k, arc_value v) ∷ map shown_pair (e ∷ es)) ((string_bytes e.0, arc_value v) ∷ map shown_pair es) (shown_pair e ∷ put bytes_cmp (string_bytes k) (arc_value v) (map shown_pair es))) [
       | Less ↦ refl
       | Equal ↦ refl
       | Greater ↦ ap (λ x. shown_pair e ∷ x) (shown_insert k v es)
@@ -82,15 +81,15 @@ find_set q id v [] some = absurd (false_true some)
 find_set q id v (e ∷ es) some =
     let key = string_bytes e.0 in
     elim (eq_by_cmp bytes_cmp id key) as (λ b. eq_by_cmp bytes_cmp id key ≡ b → is_some (cond b (Some (arc_value e.1)) (find bytes_cmp id (map shown_pair es))) ≡ true
-      → find bytes_cmp q (map shown_pair (cond b ((e.0, v) ∷ es) (e ∷ set_value (at_text id) es v))) ≡ cond (eq_by_cmp bytes_cmp q id) (Some (arc_value v)) (find bytes_cmp q (map shown_pair (e ∷ es)))) [
+    → find bytes_cmp q (map shown_pair (cond b ((e.0, v) ∷ es) (e ∷ set_value (at_text id) es v))) ≡ cond (eq_by_cmp bytes_cmp q id) (Some (arc_value v)) (find bytes_cmp q (map shown_pair (e ∷ es)))) [
       | true ↦ λ at _.
-        let one : eq_by_cmp bytes_cmp q key ≡ eq_by_cmp bytes_cmp q id = ap (eq_by_cmp bytes_cmp q) (sym (bytes_same id key at)) in
-        ap (λ b. cond b (Some (arc_value v)) (find bytes_cmp q (map shown_pair es))) one
-        ∙ shadowed (eq_by_cmp bytes_cmp q id) (Some (arc_value e.1)) (Some (arc_value v)) (find bytes_cmp q (map shown_pair es))
-        ∙ ap (λ b. cond (eq_by_cmp bytes_cmp q id) (Some (arc_value v)) (cond b (Some (arc_value e.1)) (find bytes_cmp q (map shown_pair es)))) (sym one)
+          let one : eq_by_cmp bytes_cmp q key ≡ eq_by_cmp bytes_cmp q id = ap (eq_by_cmp bytes_cmp q) (sym (bytes_same id key at)) in
+          ap (λ b. cond b (Some (arc_value v)) (find bytes_cmp q (map shown_pair es))) one
+          ∙ shadowed (eq_by_cmp bytes_cmp q id) (Some (arc_value e.1)) (Some (arc_value v)) (find bytes_cmp q (map shown_pair es))
+          ∙ ap (λ b. cond (eq_by_cmp bytes_cmp q id) (Some (arc_value v)) (cond b (Some (arc_value e.1)) (find bytes_cmp q (map shown_pair es)))) (sym one)
       | false ↦ λ at there.
-        ap (cond (eq_by_cmp bytes_cmp q key) (Some (arc_value e.1))) (find_set q id v es there)
-        ∙ swapped (eq_by_cmp bytes_cmp q id) (eq_by_cmp bytes_cmp q key) _ _ _ (λ here. ap (λ (x : List ℕ). eq_by_cmp bytes_cmp x key) (bytes_same q id here) ∙ at)
+          ap (cond (eq_by_cmp bytes_cmp q key) (Some (arc_value e.1))) (find_set q id v es there)
+          ∙ swapped (eq_by_cmp bytes_cmp q id) (eq_by_cmp bytes_cmp q key) _ _ _ (λ here. ap (λ (x : List ℕ). eq_by_cmp bytes_cmp x key) (bytes_same q id here) ∙ at)
     ] refl some
 
 pub set_shown : (id : List ℕ) (v : Arc Registered Global) (m n : BTreeMap (String Global) (Arc Registered Global))

@@ -1,5 +1,5 @@
 -- The flags of seqs.
-use Rattle.std.proofs.Common.{◌≡◌, ℕ, zero, suc, ◌+◌, ◌-◌, ◌<◌, ◌≤◌, ◌⊎◌, Bool, true, false, cond, ◌&&◌, nat_lt, List, [], ◌∷◌, ◌++◌, length, get_or, set, refl, sym, ap, subst, ◌∙◌, inl, inr, arith, ◌==◌, length-append, Option, Some, None, option_to_list, is_some}
+use Rattle.std.proofs.Common.{◌≡◌, ℕ, suc, ◌+◌, ◌-◌, ◌<◌, ◌≤◌, Bool, true, false, cond, ◌&&◌, nat_lt, List, [], ◌∷◌, ◌++◌, length, get_or, set, refl, sym, ap, subst, ◌∙◌, inl, inr, arith, ◌==◌, length-append, Option, Some, None, option_to_list, is_some}
 use Rattle.std.proofs.lemmas.Bool.Decides.{nat_tests}
 use Rattle.std.proofs.lemmas.Bool.{cases_lt, cases_order}
 use Rattle.std.proofs.lemmas.List.{get_or-set_same, get_or-set_other, get_or_append_left, get_or_push, get_or_past}
@@ -10,7 +10,7 @@ use Rattle.clip_words.specs.Order.{bytes_cmp}
 use Rattle.clip_model.specs.History.{Registered, Registry, is_live_in}
 use Rattle.clip_registry.specs.Flags.{flag_at, marked, IsMarked}
 use Rattle.clip_registry.specs.Roster.{IsNumbered, IsAbove, insert_one, restored}
-use Rattle.clip_registry.proofs.Live.{false_true, given_live, live_given, HasSeq, inserted_at, inserted_else, removed_at, removed_else, bytes_same}
+use Rattle.clip_registry.proofs.Live.{false_true, given_live, inserted_at, inserted_else, removed_at, removed_else, bytes_same}
 use Rattle.clip_registry.proofs.Maps.{same, swapped}
 use Rattle.clip_registry.proofs.Numbering.{numbered_insert, numbered_remove, has_seq, live_insert, live_remove, live_within}
 
@@ -58,8 +58,8 @@ flag_at-push base flags live seq =
         | inl same ↦ get_or_push flags live false (seq - suc base) (sym same) ∙ sym (choose (new == seq) true live (flag_at base flags seq) (is_same new seq (omega arith)))
         | inr (inl less) ↦ get_or_append_left flags (live ∷ []) false (seq - suc base) less ∙ sym (choose (new == seq) false live (flag_at base flags seq) (is_more new seq (omega arith)) ∙ flag_above base flags seq above)
         | inr (inr more) ↦
-          get_or_past (flags ++ live ∷ []) (seq - suc base) false (omega (arith, length-append flags (live ∷ [])))
-          ∙ sym (choose (new == seq) false live (flag_at base flags seq) (is_less new seq (omega arith)) ∙ flag_above base flags seq above ∙ get_or_past flags (seq - suc base) false (omega arith))
+            get_or_past (flags ++ live ∷ []) (seq - suc base) false (omega (arith, length-append flags (live ∷ [])))
+            ∙ sym (choose (new == seq) false live (flag_at base flags seq) (is_less new seq (omega arith)) ∙ flag_above base flags seq above ∙ get_or_past flags (seq - suc base) false (omega arith))
       ]
       | inr below ↦ flag_below base (flags ++ live ∷ []) seq below ∙ sym (choose (new == seq) false live (flag_at base flags seq) (is_more new seq (omega arith)) ∙ flag_below base flags seq below)
     ]
@@ -178,18 +178,19 @@ pub fewer_flagged : (base : ℕ) (flags : List Bool) (last : Bool) (n : ℕ) (be
     → flag_at base flags seq ≡ cond (has_seq found seq) false (is_live_in before seq)
 fewer_flagged base flags last n before entry id found seq numbered e key was len is =
     let live : is_live_in (insert_one before entry) seq ≡ cond (suc n == seq) true (cond (has_seq found seq) false (is_live_in before seq)) =
-        live_insert n before entry seq e numbered ∙ ap (λ (o : Option Registered). cond (suc n == seq) true (cond (has_seq o seq) false (is_live_in before seq))) (ap (finite.get before) key ∙ was) in
+    live_insert n before entry seq e numbered ∙ ap (λ (o : Option Registered). cond (suc n == seq) true (cond (has_seq o seq) false (is_live_in before seq))) (ap (finite.get before) key ∙ was) in
     let flag : cond (suc n == seq) last (flag_at base flags seq) ≡ cond (suc n == seq) true (cond (has_seq found seq) false (is_live_in before seq)) =
-        ap (λ k. cond (suc k == seq) last (flag_at base flags seq)) (sym len) ∙ sym (flag_at-push base flags last seq) ∙ is.flagged seq ∙ live in
+    ap (λ k. cond (suc k == seq) last (flag_at base flags seq)) (sym len) ∙ sym (flag_at-push base flags last seq) ∙ is.flagged seq ∙ live in
     elim (suc n == seq) as (λ b. (suc n == seq) ≡ b → cond b last (flag_at base flags seq) ≡ cond b true (cond (has_seq found seq) false (is_live_in before seq)) → flag_at base flags seq ≡ cond (has_seq found seq) false (is_live_in before seq)) [
       | true ↦ λ b _.
-        let at = same_seq (suc n) seq b in
-        past_flag base flags seq (omega arith) ∙ sym (none_past n before seq (has_seq found seq) numbered (omega arith))
+          let at = same_seq (suc n) seq b in
+          past_flag base flags seq (omega arith) ∙ sym (none_past n before seq (has_seq found seq) numbered (omega arith))
       | false ↦ λ b h. h
     ] refl flag
   where
     past_flag : (base : ℕ) (flags : List Bool) (seq : ℕ) → base + length flags < seq → flag_at base flags seq ≡ false
     past_flag base flags seq h = flag_above base flags seq (omega arith) ∙ get_or_past flags (seq - suc base) false (omega arith)
+
     none_past : (n : ℕ) (m : Registry) (seq : ℕ) (b : Bool) → IsNumbered n m → n < seq → cond b false (is_live_in m seq) ≡ false
     none_past n m seq true is h = refl
     none_past n m seq false is h = elim (is_live_in m seq) as (λ b. is_live_in m seq ≡ b → b ≡ false) [ true ↦ λ l. let w = (live_within n m seq is l).1 in absurd (omega arith) | false ↦ λ _. refl ] refl

@@ -1,5 +1,5 @@
 -- Numbered registries, after each change.
-use Rattle.std.proofs.Common.{◌≡◌, ℕ, suc, ◌+◌, ◌<◌, ◌≤◌, Bool, true, false, cond, List, [], ◌∷◌, refl, sym, ap, subst, ◌∙◌, arith, Option, Some, None, ◌==◌}
+use Rattle.std.proofs.Common.{◌≡◌, ℕ, suc, ◌<◌, ◌≤◌, Bool, true, false, cond, List, refl, sym, ap, subst, ◌∙◌, arith, Option, Some, None, ◌==◌}
 use Rattle.std.proofs.lemmas.Bool.Decides.{nat_tests}
 use Rattle.std.specs.Ordering.{eq_by_cmp}
 use Rattle.std.specs.FinMap as finite
@@ -7,7 +7,7 @@ use Rattle.std.specs.FinMap.{get-empty}
 use Rattle.clip_words.specs.Order.{bytes_cmp}
 use Rattle.clip_model.specs.History.{Registered, Registry, is_live_in}
 use Rattle.clip_registry.specs.Roster.{IsNumbered}
-use Rattle.clip_registry.proofs.Live.{AfterInsert, AfterRemove, new, old, after_insert, after_remove, bytes_itself, bytes_same, same_Some, none_some, false_true, same_bool, inserted_at, inserted_else, removed_else, given_live, HasSeq, live_given}
+use Rattle.clip_registry.proofs.Live.{new, old, after_insert, after_remove, bytes_itself, bytes_same, none_some, false_true, same_bool, inserted_at, inserted_else, removed_else, given_live, HasSeq, live_given}
 
 pub numbered_empty : (n : ℕ) → IsNumbered n finite.empty
 numbered_empty n = record {
@@ -99,11 +99,11 @@ insert_forth : (n : ℕ) (m : Registry) (r : Registered) (seq : ℕ) → r.seq �
 insert_forth n m r seq e is at =
     elim (after_insert m r.standing.id r at.id at.entry at.given) as (λ _. cond (suc n == seq) true (cond (has_seq (finite.get m r.standing.id) seq) false (is_live_in m seq)) ≡ true) [
       | new p same ↦
-        let seqs : suc n ≡ seq = sym e ∙ ap (λ (q : Registered). q.seq) (sym same) ∙ at.is in
-        ap (λ b. cond b true (cond (has_seq (finite.get m r.standing.id) seq) false (is_live_in m seq))) (numbers_same (suc n) seq seqs)
+          let seqs : suc n ≡ seq = sym e ∙ ap (λ (q : Registered). q.seq) (sym same) ∙ at.is in
+          ap (λ b. cond b true (cond (has_seq (finite.get m r.standing.id) seq) false (is_live_in m seq))) (numbers_same (suc n) seq seqs)
       | old other was ↦
-        let there : has_seq (finite.get m r.standing.id) at.entry.seq ≡ false = not_here n m r.standing.id at.id at.entry (finite.get m r.standing.id) is refl was other in
-        picked (suc n == seq) _ _ (ap (has_seq (finite.get m r.standing.id)) (sym at.is) ∙ there) (ap (is_live_in m) (sym at.is) ∙ given_live m at.id at.entry was)
+          let there : has_seq (finite.get m r.standing.id) at.entry.seq ≡ false = not_here n m r.standing.id at.id at.entry (finite.get m r.standing.id) is refl was other in
+          picked (suc n == seq) _ _ (ap (has_seq (finite.get m r.standing.id)) (sym at.is) ∙ there) (ap (is_live_in m) (sym at.is) ∙ given_live m at.id at.entry was)
     ]
 
 insert_old : (m : Registry) (r : Registered) (seq : ℕ) → has_seq (finite.get m r.standing.id) seq ≡ false → HasSeq m seq → is_live_in (finite.insert m r.standing.id r) seq ≡ true
@@ -116,8 +116,8 @@ insert_back : (n : ℕ) (m : Registry) (r : Registered) (seq : ℕ) → r.seq �
 insert_back n m r seq e h =
     elim (suc n == seq) as (λ b. (suc n == seq) ≡ b → cond b true (cond (has_seq (finite.get m r.standing.id) seq) false (is_live_in m seq)) ≡ true → is_live_in (finite.insert m r.standing.id r) seq ≡ true) [
       | true ↦ λ b _.
-        let seqs : r.seq ≡ seq = e ∙ same_numbers (suc n) seq b in
-        ap (is_live_in (finite.insert m r.standing.id r)) (sym seqs) ∙ given_live _ r.standing.id r (inserted_at m r.standing.id r)
+          let seqs : r.seq ≡ seq = e ∙ same_numbers (suc n) seq b in
+          ap (is_live_in (finite.insert m r.standing.id r)) (sym seqs) ∙ given_live _ r.standing.id r (inserted_at m r.standing.id r)
       | false ↦ λ b k. elim (has_seq (finite.get m r.standing.id) seq) as (λ c. has_seq (finite.get m r.standing.id) seq ≡ c → cond c false (is_live_in m seq) ≡ true → is_live_in (finite.insert m r.standing.id r) seq ≡ true) [
         | true ↦ λ c l. absurd (false_true l)
         | false ↦ λ c l. insert_old m r seq c (live_given m seq l)

@@ -1,14 +1,12 @@
 -- What a register leaves.
-use Rattle.std.proofs.Common.{◌≡◌, ℕ, suc, ◌+◌, ◌<◌, ◌≤◌, ◌⊎◌, Bool, true, false, cond, List, [], ◌∷◌, length, refl, sym, ap, subst, ◌∙◌, inl, inr, arith, Option, Some, None}
+use Rattle.std.proofs.Common.{◌≡◌, ℕ, suc, ◌+◌, ◌<◌, ◌⊎◌, List, [], ◌∷◌, length, refl, sym, ap, subst, ◌∙◌, inl, inr, arith, Some}
 use Rattle.std.specs.List.{Contains}
-use Rattle.std.specs.Ordering.{eq_by_cmp}
 use Rattle.std.specs.FinMap as finite
-use Rattle.clip_words.specs.Order.{bytes_cmp}
 use Rattle.clip_model.specs.Standing.{Standing}
 use Rattle.clip_model.specs.History.{Registered, Registry, register_all, remove_all, is_live_in}
 use Rattle.clip_registry.specs.Roster.{IsNumbered, insert_one, insert_all, SeqsFollow}
 use Rattle.clip_registry.specs.Whole.{numbered}
-use Rattle.clip_registry.proofs.Live.{AfterInsert, new, old, after_insert, after_remove, inserted_at, inserted_else, same_bool, HasSeq, live_given, given_live}
+use Rattle.clip_registry.proofs.Live.{new, old, after_insert, after_remove, inserted_at, inserted_else, same_bool, live_given, given_live}
 use Rattle.clip_registry.proofs.Numbering.{numbered_insert, numbered_remove, numbered_more}
 use Rattle.clip_registry.proofs.Rising.{contains_head, contains_later}
 

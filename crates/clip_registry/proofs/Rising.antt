@@ -2,9 +2,9 @@
 use Rattle.std.proofs.Common.{◌≡◌, ℕ, zero, suc, ◌+◌, ◌<◌, ◌≤◌, ◌⊎◌, Bool, true, false, cond, List, [], ◌∷◌, ◌++◌, length, get_or, refl, sym, ap, subst, ◌∙◌, inl, inr, arith}
 use Rattle.std.proofs.lemmas.Bool.{cases_order}
 use Rattle.std.proofs.lemmas.List.{get_or_default}
-use Rattle.std.proofs.lemmas.List.Elements.{All-nil, All-cons, All-head, All-tail, All-append, All-weaker, All-filter}
+use Rattle.std.proofs.lemmas.List.Elements.{All-nil, All-cons, All-head, All-tail, All-append, All-weaker}
 use Rattle.std.proofs.lemmas.List.Kept.{AllPairs-cons, AllPairs-filter}
-use Rattle.std.specs.List.{All, AllPairs, Contains, filter}
+use Rattle.std.specs.List.{All, Contains, filter}
 use Rattle.clip_segment.specs.Segment.{IsRising}
 use Rattle.clip_model.specs.Standing.{Standing}
 use Rattle.clip_model.specs.History.{Registered}
@@ -44,15 +44,15 @@ same_seq rs r t is (i, first, at) (j, within, there) e =
     elim (cases_order i j) [
       | inl same ↦ sym here ∙ ap (λ k. get_or rs k r) same ∙ that
       | inr (inl less) ↦
-        let h : (get_or rs i r).seq < (get_or rs j r).seq = is.rises i j r less within in
-        let a : (get_or rs i r).seq ≡ r.seq = ap (λ (q : Registered). q.seq) here in
-        let b : (get_or rs j r).seq ≡ t.seq = ap (λ (q : Registered). q.seq) that in
-        absurd (omega arith)
+          let h : (get_or rs i r).seq < (get_or rs j r).seq = is.rises i j r less within in
+          let a : (get_or rs i r).seq ≡ r.seq = ap (λ (q : Registered). q.seq) here in
+          let b : (get_or rs j r).seq ≡ t.seq = ap (λ (q : Registered). q.seq) that in
+          absurd (omega arith)
       | inr (inr more) ↦
-        let h : (get_or rs j r).seq < (get_or rs i r).seq = is.rises j i r more first in
-        let a : (get_or rs i r).seq ≡ r.seq = ap (λ (q : Registered). q.seq) here in
-        let b : (get_or rs j r).seq ≡ t.seq = ap (λ (q : Registered). q.seq) that in
-        absurd (omega arith)
+          let h : (get_or rs j r).seq < (get_or rs i r).seq = is.rises j i r more first in
+          let a : (get_or rs i r).seq ≡ r.seq = ap (λ (q : Registered). q.seq) here in
+          let b : (get_or rs j r).seq ≡ t.seq = ap (λ (q : Registered). q.seq) that in
+          absurd (omega arith)
     ]
 
 pub numbered_high : (n : ℕ) (ss : List Standing) → All (λ r. n < r.seq) (numbered n ss)
@@ -86,10 +86,10 @@ contains_filter p r [] is (k, lt, at) = absurd (omega arith)
 contains_filter p r (q ∷ rs) is h =
     elim (contains_cases q r rs h) [
       | inl same ↦
-        let passes : p q ≡ true = ap p same ∙ is in
-        let all : cond (p q) (q ∷ filter p rs) (filter p rs) ≡ q ∷ filter p rs = ap (λ b. cond b (q ∷ filter p rs) (filter p rs)) passes in
-        subst (λ xs. Contains xs r) (sym all) (subst (λ x. Contains (x ∷ filter p rs) r) (sym same) (contains_head r (filter p rs)))
+          let passes : p q ≡ true = ap p same ∙ is in
+          let all : cond (p q) (q ∷ filter p rs) (filter p rs) ≡ q ∷ filter p rs = ap (λ b. cond b (q ∷ filter p rs) (filter p rs)) passes in
+          subst (λ xs. Contains xs r) (sym all) (subst (λ x. Contains (x ∷ filter p rs) r) (sym same) (contains_head r (filter p rs)))
       | inr later ↦
-        let rest = contains_filter p r rs is later in
-        elim (p q) as (λ b. Contains (cond b (q ∷ filter p rs) (filter p rs)) r) [ true ↦ contains_later q r _ rest | false ↦ rest ]
+          let rest = contains_filter p r rs is later in
+          elim (p q) as (λ b. Contains (cond b (q ∷ filter p rs) (filter p rs)) r) [ true ↦ contains_later q r _ rest | false ↦ rest ]
     ]

@@ -1,17 +1,17 @@
 -- The registry stays whole.
-use Rattle.std.proofs.Common.{◌≡◌, ◌↔◌, ℕ, suc, ◌+◌, ◌<◌, ◌≤◌, ◌⊎◌, Bool, true, false, cond, List, [], ◌∷◌, ◌++◌, length, refl, sym, ap, subst, ◌∙◌, inl, inr, arith, Option, Some, None, IsTrue, append-nil, append_assoc, add-zero}
+use Rattle.std.proofs.Common.{◌≡◌, ◌↔◌, ℕ, suc, ◌+◌, ◌<◌, ◌≤◌, List, [], ◌∷◌, ◌++◌, length, refl, sym, ap, subst, ◌∙◌, inl, inr, arith, Some, IsTrue, append-nil, append_assoc, add-zero}
 use Rattle.std.proofs.lemmas.List.Elements.{All-nil, All-append, All-weaker, All-filter, Contains-append_left, Contains-append_right}
-use Rattle.std.specs.List.{All, Contains, filter}
+use Rattle.std.specs.List.{All, Contains}
 use Rattle.std.specs.FinMap as finite
 use Rattle.std.specs.FinMap.{get-empty}
 use Rattle.clip_words.specs.Order.{bytes_cmp}
 use Rattle.clip_segment.specs.Segment.{IsRising}
 use Rattle.clip_model.specs.Standing.{Standing}
-use Rattle.clip_model.specs.History.{History, HistoryEntry, Command, Register, Delete, Clear, Registered, Registry, register_all, remove_all, after_command, replay, replay_onto, listed, lists, is_live, is_live_in, with_command, next_entry}
+use Rattle.clip_model.specs.History.{History, Command, Register, Delete, Clear, Registered, Registry, register_all, remove_all, after_command, replay, replay_onto, listed, lists, is_live_in, with_command, next_entry}
 use Rattle.clip_model.proofs.Replay.{replays_on, listed_on}
-use Rattle.clip_registry.specs.Roster.{IsNumbered, insert_all}
+use Rattle.clip_registry.specs.Roster.{IsNumbered}
 use Rattle.clip_registry.specs.Whole.{RegistryState, IsWhole, all_entries, numbered, standing_after, segments_after, state_after, beginning}
-use Rattle.clip_registry.proofs.Live.{none_some, HasSeq, live_given, given_live}
+use Rattle.clip_registry.proofs.Live.{none_some, live_given, given_live}
 use Rattle.clip_registry.proofs.Numbering.{numbered_empty, numbered_more}
 use Rattle.clip_registry.proofs.Registering.{insert_all-numbered, numbered_follow, numbered_all, numbered_removed, inserted_or_old, removed_was}
 use Rattle.clip_registry.proofs.Rising.{rising_nil, rising_append, rising_filter, same_seq, numbered_rising, numbered_high, numbered_low, contains_filter}
@@ -32,11 +32,11 @@ pub live_entries : (n : ℕ) (entries : List Registered) (m : Registry) → IsSh
 live_entries n entries m is r = (
   λ h. (is.among r.standing.id r h, given_live m r.standing.id r h),
   λ (among, live).
-    let at = live_given m r.seq live in
-    let same : at.entry ≡ r = same_seq entries at.entry r is.rising (is.among at.id at.entry at.given) among at.is in
-    let here : finite.get m at.id ≡ Some r = at.given ∙ ap (λ x. Some x) same in
-    let id : r.standing.id ≡ at.id = is.numbered.keyed at.id r here in
-    ap (finite.get m) id ∙ here
+      let at = live_given m r.seq live in
+      let same : at.entry ≡ r = same_seq entries at.entry r is.rising (is.among at.id at.entry at.given) among at.is in
+      let here : finite.get m at.id ≡ Some r = at.given ∙ ap (λ x. Some x) same in
+      let id : r.standing.id ≡ at.id = is.numbered.keyed at.id r here in
+      ap (finite.get m) id ∙ here,
 )
 
 pub shelved : (state : RegistryState) → IsNumbered (listed state.history) (replay state.history) → IsWhole state → IsShelved (listed state.history) (all_entries state.segments) (replay state.history)
@@ -136,4 +136,3 @@ whole_after state caller command whole =
 
 pub whole_beginning : IsWhole beginning
 whole_beginning = whole_from beginning (shelved_nothing 0)
-

@@ -1,7 +1,6 @@
 -- What a command does to a roster.
-use Rattle.std.specs.Prelude.{◌≡◌, ℕ, ◌+◌, ◌≤◌, ◌<◌, List}
-use Rattle.std.specs.FinMap as finite
-use Rattle.clip_model.specs.History.{Command, Register, Delete, Clear, Registered, after_command, lists}
+use Rattle.std.specs.Prelude.{◌≡◌, ◌+◌}
+use Rattle.clip_model.specs.History.{Command, after_command, lists}
 use Rattle.clip_registry.specs.Roster.{Roster}
 
 -- The roster is what the command leaves of the other, wherever its base is.

@@ -52,7 +52,7 @@ segments_after segments n registry Clear = []
 abbrev pub state_after : RegistryState → ℕ → Command → RegistryState
 state_after state caller command = record {
   segments = segments_after state.segments (listed state.history) (replay state.history) command;
-  history = with_command state.history caller command
+  history = with_command state.history caller command;
 }
 
 -- the registry of a state that is there from the first command on

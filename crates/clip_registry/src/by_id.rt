@@ -64,7 +64,11 @@ impl ById {
     }
 
     /// Puts an entry in the place of the one with its id, which it gives.
-    pub fn insert(&mut self, alloc: Global, entry: Arc<Entry>) -> Result<Option<Arc<Entry>>, NoMemory>
+    pub fn insert(
+        &mut self,
+        alloc: Global,
+        entry: Arc<Entry>,
+    ) -> Result<Option<Arc<Entry>>, NoMemory>
         ensures inserted { OnOk result (self.new ≡ finite.insert self.old entry.value.standing.id entry.value) }
         ensures replaced { IfOk result (λ replaced. option_map arc_value replaced ≡ finite.get self.old entry.value.standing.id) }
         ensures unchanged { OnErr result (self.new ≡ self.old) }

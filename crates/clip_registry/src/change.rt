@@ -20,7 +20,11 @@ use std::sync::Arc;
 const MOST_LIVE: u64 = 1_000_000;
 
 /// The entries of the queries, with the seqs that follow those listed.
-fn numbered_entries(alloc: Global, listed: u64, standings: &[Arc<Standing>]) -> Result<Vec<Arc<Entry>>, NoMemory>
+fn numbered_entries(
+    alloc: Global,
+    listed: u64,
+    standings: &[Arc<Standing>],
+) -> Result<Vec<Arc<Entry>>, NoMemory>
     requires { listed + length standings.now < 2 ^ 64 }
     ensures { IfOk result (λ entries. map arc_value entries.items ≡ numbered listed (map arc_value standings.now)) }
 {
@@ -35,7 +39,11 @@ fn numbered_entries(alloc: Global, listed: u64, standings: &[Arc<Standing>]) -> 
 }
 
 /// Those of the entries that are live.
-fn live_entries(alloc: Global, roster: &Roster, entries: &[Arc<Entry>]) -> Result<Vec<Arc<Entry>>, NoMemory>
+fn live_entries(
+    alloc: Global,
+    roster: &Roster,
+    entries: &[Arc<Entry>],
+) -> Result<Vec<Arc<Entry>>, NoMemory>
     ensures { IfOk result (λ live. map arc_value live.items ≡ filter (λ r. is_live_in roster.now.registry r.seq) (map arc_value entries.now)) }
 {
     let mut live = Vec::new(alloc);

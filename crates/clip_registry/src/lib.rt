@@ -9,10 +9,9 @@ pub mod command;
 pub mod registrar;
 mod roster;
 mod state;
-pub mod view;
-
 #[cfg(test)]
 mod tests;
+pub mod view;
 
 pub use command::{Applied, Command, HistoryEntry, Refused};
 pub use registrar::Registrar;

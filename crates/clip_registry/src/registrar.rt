@@ -102,7 +102,7 @@ impl Registrar {
         }
         match &mut self.state {
             Some(state) => apply_to(self.alloc, state, caller, command),
-            None => Err((command, Refused::NoMemory)),
+            None => unreachable!(),
         }
     }
 

@@ -149,7 +149,12 @@ impl Roster {
     }
 
     /// Puts the next entries in the places of those with their ids, in order, or none of them: `Full` where more than `most` queries would then be registered.
-    pub fn insert_all(&mut self, alloc: Global, entries: &[Arc<Entry>], most: Option<u64>) -> Result<(), Refused>
+    pub fn insert_all(
+        &mut self,
+        alloc: Global,
+        entries: &[Arc<Entry>],
+        most: Option<u64>,
+    ) -> Result<(), Refused>
         requires { SeqsFollow self.old.listed (map arc_value entries.now) }
         ensures inserted { OnOk result (self.new ≡ roster_with_all self.old (map arc_value entries.now)) }
         ensures room { OnOk result (IfSome most (λ most. finite.len self.new.registry ≤ most)) }

@@ -120,18 +120,35 @@ impl State {
     }
 
     /// The entry of a caller's next command.
-    fn next_entry(&self, alloc: Global, caller: u32, command: &Command) -> Result<Arc<HistoryEntry>, NoMemory>
+    fn next_entry(
+        &self,
+        alloc: Global,
+        caller: u32,
+        command: &Command,
+    ) -> Result<Arc<HistoryEntry>, NoMemory>
         requires caller_from { 0 < caller }
         requires caller_to { caller ≤ 64 }
         ensures { IfOk result (λ entry. shared_entry entry ≡ next_entry self.now.history caller (command_of command.now)) }
     {
         let number = self.counts[caller as usize - 1] + 1;
         let command = command.copy()?;
-        Ok(Arc::new(alloc, HistoryEntry { caller, number, command })?)
+        Ok(Arc::new(
+            alloc,
+            HistoryEntry {
+                caller,
+                number,
+                command,
+            },
+        )?)
     }
 
     /// Accepts a caller's next command, or refuses it with nothing changed.
-    pub fn accept(&mut self, alloc: Global, caller: u32, command: &Command) -> Result<Applied, Refused>
+    pub fn accept(
+        &mut self,
+        alloc: Global,
+        caller: u32,
+        command: &Command,
+    ) -> Result<Applied, Refused>
         requires fits { IsTrue (fits (command_of command.now)) }
         requires caller_from { 0 < caller }
         requires caller_to { caller ≤ 64 }

@@ -56,10 +56,20 @@ fn a_query_is_replaced(rt: HostRuntime) -> Result<(), Fail> {
     assert!(rt; before.segments().is_empty());
     assert!(rt; registrar.history().is_empty());
 
-    assert_eq!(rt; answer(&rt, &mut registrar, 1, one(alloc, "q1", "tea")?), Ok(Applied::Registered(1)));
+    assert_eq!(rt;
+        answer(&rt, &mut registrar, 1, one(alloc, "q1", "tea")?),
+        Ok(Applied::Registered(1))
+    );
     let first = registrar.view()?;
-    let list = vec![in alloc; standing(alloc, "q2", "milk")?, standing(alloc, "q1", "mat")?, standing(alloc, "q1", "coffee")?]?;
-    assert_eq!(rt; answer(&rt, &mut registrar, 1, Command::Register(list)), Ok(Applied::Registered(2)));
+    let list = vec![in alloc;
+        standing(alloc, "q2", "milk")?,
+        standing(alloc, "q1", "mat")?,
+        standing(alloc, "q1", "coffee")?,
+    ]?;
+    assert_eq!(rt;
+        answer(&rt, &mut registrar, 1, Command::Register(list)),
+        Ok(Applied::Registered(2))
+    );
     let second = registrar.view()?;
 
     assert_eq!(rt; first.count(), 1);
@@ -70,7 +80,10 @@ fn a_query_is_replaced(rt: HostRuntime) -> Result<(), Fail> {
     assert_eq!(rt; second.place(), 2);
     assert_eq!(rt; second.text_of("q1"), Some("coffee"));
     assert_eq!(rt; second.text_of("q9"), None);
-    assert_eq!(rt; shelves(alloc, &second)?.as_slice(), [(1, 0), (2, 2)].as_slice());
+    assert_eq!(rt;
+        shelves(alloc, &second)?.as_slice(),
+        [(1, 0), (2, 2)].as_slice()
+    );
     Ok(())
 }
 
@@ -78,17 +91,42 @@ fn a_query_is_replaced(rt: HostRuntime) -> Result<(), Fail> {
 fn queries_are_deleted_and_cleared(rt: HostRuntime) -> Result<(), Fail> {
     let alloc = rt.alloc();
     let mut registrar = Registrar::new(alloc);
-    assert_eq!(rt; answer(&rt, &mut registrar, 1, one(alloc, "q1", "tea")?), Ok(Applied::Registered(1)));
+    assert_eq!(rt;
+        answer(&rt, &mut registrar, 1, one(alloc, "q1", "tea")?),
+        Ok(Applied::Registered(1))
+    );
     for deleted in [1, 0] {
-        let ids = vec![in alloc; String::from_str(alloc, "q1")?, String::from_str(alloc, "q1")?, String::from_str(alloc, "q9")?]?;
-        assert_eq!(rt; answer(&rt, &mut registrar, 1, Command::Delete(ids)), Ok(Applied::Deleted(deleted)));
+        let ids = vec![in alloc;
+            String::from_str(alloc, "q1")?,
+            String::from_str(alloc, "q1")?,
+            String::from_str(alloc, "q9")?,
+        ]?;
+        assert_eq!(rt;
+            answer(&rt, &mut registrar, 1, Command::Delete(ids)),
+            Ok(Applied::Deleted(deleted))
+        );
     }
-    assert_eq!(rt; shelves(alloc, &registrar.view()?)?.as_slice(), [(1, 0)].as_slice());
-    assert_eq!(rt; answer(&rt, &mut registrar, 1, Command::Clear), Ok(Applied::Cleared(0)));
+    assert_eq!(rt;
+        shelves(alloc, &registrar.view()?)?.as_slice(),
+        [(1, 0)].as_slice()
+    );
+    assert_eq!(rt;
+        answer(&rt, &mut registrar, 1, Command::Clear),
+        Ok(Applied::Cleared(0))
+    );
     assert!(rt; registrar.view()?.segments().is_empty());
-    assert_eq!(rt; answer(&rt, &mut registrar, 1, one(alloc, "q1", "tea")?), Ok(Applied::Registered(1)));
-    assert_eq!(rt; shelves(alloc, &registrar.view()?)?.as_slice(), [(1, 1)].as_slice());
-    assert_eq!(rt; answer(&rt, &mut registrar, 1, Command::Clear), Ok(Applied::Cleared(1)));
+    assert_eq!(rt;
+        answer(&rt, &mut registrar, 1, one(alloc, "q1", "tea")?),
+        Ok(Applied::Registered(1))
+    );
+    assert_eq!(rt;
+        shelves(alloc, &registrar.view()?)?.as_slice(),
+        [(1, 1)].as_slice()
+    );
+    assert_eq!(rt;
+        answer(&rt, &mut registrar, 1, Command::Clear),
+        Ok(Applied::Cleared(1))
+    );
     assert_eq!(rt; registrar.view()?.count(), 0);
     Ok(())
 }
@@ -98,9 +136,18 @@ fn commands_are_numbered_by_caller(rt: HostRuntime) -> Result<(), Fail> {
     let alloc = rt.alloc();
     let mut registrar = Registrar::new(alloc);
     let nothing = Command::Register(Vec::new(alloc));
-    assert_eq!(rt; answer(&rt, &mut registrar, 1, Command::Clear), Ok(Applied::Cleared(0)));
-    assert_eq!(rt; answer(&rt, &mut registrar, 64, nothing), Ok(Applied::Registered(0)));
-    assert_eq!(rt; answer(&rt, &mut registrar, 1, one(alloc, "q1", "tea")?), Ok(Applied::Registered(1)));
+    assert_eq!(rt;
+        answer(&rt, &mut registrar, 1, Command::Clear),
+        Ok(Applied::Cleared(0))
+    );
+    assert_eq!(rt;
+        answer(&rt, &mut registrar, 64, nothing),
+        Ok(Applied::Registered(0))
+    );
+    assert_eq!(rt;
+        answer(&rt, &mut registrar, 1, one(alloc, "q1", "tea")?),
+        Ok(Applied::Registered(1))
+    );
     let wanted = [(1, 1), (64, 1), (1, 2)];
     assert_eq!(rt; registrar.history().len(), wanted.len());
     for (entry, (caller, number)) in registrar.history().iter().zip(wanted.iter()) {
@@ -150,12 +197,21 @@ fn a_million_queries_fill_it(rt: HostRuntime) -> Result<(), Fail> {
         let from = list * 1024;
         let to = (from + 1024).min(1_000_000);
         let command = many(alloc, from, to)?;
-        assert_eq!(rt; answer(&rt, &mut registrar, 1, command), Ok(Applied::Registered((to - from) as u64)));
+        assert_eq!(rt;
+            answer(&rt, &mut registrar, 1, command),
+            Ok(Applied::Registered((to - from) as u64))
+        );
     }
     assert_eq!(rt; registrar.view()?.count(), 1_000_000);
-    assert_eq!(rt; answer(&rt, &mut registrar, 1, one(alloc, "new", "tea")?), Err(Refused::Full));
+    assert_eq!(rt;
+        answer(&rt, &mut registrar, 1, one(alloc, "new", "tea")?),
+        Err(Refused::Full)
+    );
     assert_eq!(rt; registrar.view()?.place(), 977);
-    assert_eq!(rt; answer(&rt, &mut registrar, 1, one(alloc, "7", "tea")?), Ok(Applied::Registered(1)));
+    assert_eq!(rt;
+        answer(&rt, &mut registrar, 1, one(alloc, "7", "tea")?),
+        Ok(Applied::Registered(1))
+    );
     assert_eq!(rt; registrar.view()?.count(), 1_000_000);
     Ok(())
 }

@@ -1,8 +1,8 @@
-use Rattle.std.proofs.Common.{◌≡◌, ◌≤◌, ℕ, sym, ap, subst, ◌∙◌, arith, List, map, string_bytes}
+use Rattle.std.proofs.Common.{◌≡◌, ◌≤◌, sym, ap, subst, ◌∙◌, arith, map, string_bytes}
 use Rattle.std.specs.FinMap as finite
 use Rattle.std.specs.FinMap.{len-empty}
 use Rattle.clip_words.specs.Order.{bytes_cmp}
-use Rattle.clip_model.specs.History.{Registered, remove_all}
+use Rattle.clip_model.specs.History.{Registered}
 use Rattle.clip_registry.specs.Roster.{Roster}
 use Rattle.clip_registry.proofs.Counting.{len_removed}
 use Rattle.clip_registry.proofs.change.change.Goals as goal

@@ -1,19 +1,15 @@
-use Rattle.std.proofs.Common.{◌≡◌, ◌+◌, ◌++◌, ◌∷◌, [], ◌<◌, ◌≤◌, ℕ, suc, sym, ap, subst, ◌∙◌, arith, List, Bool, true, false, length, map, ◌==◌}
+use Rattle.std.proofs.Common.{◌≡◌, ◌+◌, ◌++◌, ◌∷◌, [], ◌<◌, ℕ, sym, ap, subst, ◌∙◌, arith, List, true, false, length, map, ◌==◌}
 use Rattle.std.proofs.lemmas.Bool.Decides.{nat_tests}
 use Rattle.std.proofs.lemmas.List.{map-append}
 use Rattle.std.specs.Arc.{arc_value}
-use Rattle.std.specs.List.{filter}
 use Rattle.std.specs.FinMap as finite
 use Rattle.std.specs.FinMap.{len-empty}
-use Rattle.std.specs.declared.sync.Arc.{Arc}
-use Rattle.std.specs.declared.alloc.Global.{Global}
 use Rattle.clip_words.specs.Order.{bytes_cmp}
 use Rattle.clip_segment.specs.Segment.{IsRising}
-use Rattle.clip_model.specs.Standing.{Standing}
-use Rattle.clip_model.specs.History.{Registered, Registry, Register, register_all, is_live_in}
+use Rattle.clip_model.specs.History.{Registered, register_all, is_live_in}
 use Rattle.clip_registry.specs.declared.command.Applied.TheVariants as applied
 use Rattle.clip_registry.specs.Roster.{Roster, SeqsFollow, insert_all}
-use Rattle.clip_registry.specs.Whole.{numbered, standing_after}
+use Rattle.clip_registry.specs.Whole.{numbered}
 use Rattle.clip_registry.proofs.Alone.{fresh_registry, live_registered, filter_fewer, segments_register}
 use Rattle.clip_registry.proofs.Counting.{len_register, no_items, length_map}
 use Rattle.clip_registry.proofs.Registering.{insert_all-numbered, numbered_follow}
@@ -46,7 +42,7 @@ build-requires-clause-short c =
     let entries = c.in_ok-entries.ensures in
     let alone = fresh_registry c.listed-listed.result n ss c.new-fresh.result c.insert_all.new.self (map arc_value c.deref.result.now) c.new-fresh.ensures c.in_ok-insert_all.ensures.inserted (ap (map arc_value) c.deref.ensures.value ∙ entries) listed in
     let live = live_registered n ss c.args.roster.now.registry c.insert_all.new.self (map arc_value c.in_ok-live_entries.field-0.items) (map arc_value c.deref-2.result.now)
-        c.in_ok-live_entries.ensures alone (ap (map arc_value) c.deref-2.ensures.value ∙ entries ∙ ap (λ k. numbered k ss) listed) c.listed-listed.ensures.numbered in
+    c.in_ok-live_entries.ensures alone (ap (map arc_value) c.deref-2.ensures.value ∙ entries ∙ ap (λ k. numbered k ss) listed) c.listed-listed.ensures.numbered in
     let a = length_map arc_value c.in_ok-live_entries.field-0.items in
     let b = ap length live in
     let d = filter_fewer (λ r. is_live_in (register_all n ss c.args.roster.now.registry) r.seq) (numbered n ss) in
@@ -63,7 +59,7 @@ build-requires-clause-rising c =
     let entries = c.in_ok-entries.ensures in
     let alone = fresh_registry c.listed-listed.result n ss c.new-fresh.result c.insert_all.new.self (map arc_value c.deref.result.now) c.new-fresh.ensures c.in_ok-insert_all.ensures.inserted (ap (map arc_value) c.deref.ensures.value ∙ entries) listed in
     let live = live_registered n ss c.args.roster.now.registry c.insert_all.new.self (map arc_value c.in_ok-live_entries.field-0.items) (map arc_value c.deref-2.result.now)
-        c.in_ok-live_entries.ensures alone (ap (map arc_value) c.deref-2.ensures.value ∙ entries ∙ ap (λ k. numbered k ss) listed) c.listed-listed.ensures.numbered in
+    c.in_ok-live_entries.ensures alone (ap (map arc_value) c.deref-2.ensures.value ∙ entries ∙ ap (λ k. numbered k ss) listed) c.listed-listed.ensures.numbered in
     subst IsRising (sym live) (rising_filter _ _ (numbered_rising n ss))
 
 pub insert_all-requires-2 : goal.insert_all-requires-2
@@ -91,7 +87,7 @@ returns-in-Ok-clause-segments c =
     let entries = c.in_ok-entries.ensures in
     let alone = fresh_registry c.listed-listed.result n ss c.new-fresh.result c.insert_all.new.self (map arc_value c.deref.result.now) c.new-fresh.ensures c.in_ok-insert_all.ensures.inserted (ap (map arc_value) c.deref.ensures.value ∙ entries) listed in
     let live = live_registered n ss c.args.roster.now.registry c.insert_all.new.self (map arc_value c.in_ok-live_entries.field-0.items) (map arc_value c.deref-2.result.now)
-        c.in_ok-live_entries.ensures alone (ap (map arc_value) c.deref-2.ensures.value ∙ entries ∙ ap (λ k. numbered k ss) listed) c.listed-listed.ensures.numbered in
+    c.in_ok-live_entries.ensures alone (ap (map arc_value) c.deref-2.ensures.value ∙ entries ∙ ap (λ k. numbered k ss) listed) c.listed-listed.ensures.numbered in
     let some : 0 < length ss = let a = length_map arc_value c.args.standings.now in let b = some_length (length c.args.standings.now) c.if-is_empty.ensures in omega arith in
     ap (map arc_value) c.in_ok-push.ensures.items
     ∙ map-append arc_value c.args.segments.now.items (c.in_ok-new.field-0 ∷ [])

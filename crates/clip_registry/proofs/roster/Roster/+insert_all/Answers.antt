@@ -1,10 +1,10 @@
-use Rattle.std.proofs.Common.{◌≡◌, ◌≤◌, ◌∷◌, rules, ℕ, suc, sym, ap, subst, ◌∙◌, List, Option}
+use Rattle.std.proofs.Common.{◌≡◌, ◌≤◌, rules, sym, ap, subst, ◌∙◌}
 use Rattle.std.specs.Option.{option_map}
 use Rattle.std.specs.Arc.{arc_value}
 use Rattle.std.specs.FinMap as finite
 use Rattle.clip_model.specs.Standing.{Standing}
-use Rattle.clip_model.specs.History.{Registered, Registry}
-use Rattle.clip_registry.specs.Roster.{Roster, IsAbove, IsUndoable, undone, roster_with}
+use Rattle.clip_model.specs.History.{Registered}
+use Rattle.clip_registry.specs.Roster.{Roster, IsAbove, undone}
 use Rattle.clip_registry.proofs.Undoing.{undone_with}
 use Rattle.clip_registry.proofs.roster.Roster.+insert_all.Goals as goal
 

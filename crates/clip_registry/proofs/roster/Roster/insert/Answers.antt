@@ -1,10 +1,10 @@
-use Rattle.std.proofs.Common.{◌≡◌, ◌+◌, ◌++◌, ◌∷◌, [], ℕ, suc, sym, ap, subst, ◌∙◌, List, Bool, true, false, None, Some, Option, length}
+use Rattle.std.proofs.Common.{◌≡◌, ◌+◌, ◌++◌, ◌∷◌, [], ℕ, suc, sym, ap, subst, ◌∙◌, List, Bool, true, false, None, Some, length}
 use Rattle.std.specs.Option.{option_map}
 use Rattle.std.specs.Arc.{arc_value}
 use Rattle.std.specs.FinMap as finite
 use Rattle.std.proofs.lemmas.List.{with_items_is}
-use Rattle.clip_model.specs.History.{Registered, Registry}
-use Rattle.clip_registry.specs.Roster.{Roster, IsAbove, insert_one}
+use Rattle.clip_model.specs.History.{Registered}
+use Rattle.clip_registry.specs.Roster.{Roster, IsAbove}
 use Rattle.clip_registry.specs.Flags.{IsMarked, marked}
 use Rattle.clip_registry.proofs.Marks.{marked_new, marked_again, length-marked, above_base}
 use Rattle.clip_registry.proofs.roster.Roster.insert.Goals as goal
@@ -22,7 +22,7 @@ invariant_of-self-in-Some c =
     let seq : c.seq.result ≡ old.seq = c.seq.ensures ∙ ap (λ (r : Registered). r.seq) c.deref.ensures in
     let pushed : c.deref_mut.result.now ≡ flags ++ true ∷ [] = c.deref_mut.ensures.value ∙ c.in-Ok.ensures.items ∙ ap (λ (fs : List Bool). fs ++ true ∷ []) c.in_ok-reserve.ensures.items in
     let new : c.mark.new.flags ≡ marked base (flags ++ true ∷ []) old.seq false =
-        c.mark.ensures ∙ ap (λ fs. marked base fs c.seq.result false) pushed ∙ ap (λ s. marked base (flags ++ true ∷ []) s false) seq in
+    c.mark.ensures ∙ ap (λ fs. marked base fs c.seq.result false) pushed ∙ ap (λ s. marked base (flags ++ true ∷ []) s false) seq in
     let len : length c.mark.new.flags ≡ c.push.new.self.len = ap length c.mark.ensures ∙ length-marked base c.deref_mut.result.now c.seq.result false ∙ c.deref_mut.ensures.len in
     subst (λ fs. IsMarked base fs c.insert.new.self) (sym (with_items_is c.push.new.self c.mark.new.flags len ∙ new)) (subst (IsMarked base (marked base (flags ++ true ∷ []) old.seq false)) (sym c.in_ok-replaced.ensures.inserted) is)
 
@@ -42,4 +42,4 @@ pub returns-clause-above : goal.returns-clause-above
 returns-clause-above c =
     subst (λ b. IsAbove b (option_map arc_value c.in_ok-replaced.replaced)) (ap (λ (r : Roster). r.base) c.self.view_is)
     (above_base c.self.inside.base c.self.inside.live.items c.self.inside.by_id c.in_ok-shared.shared.value.standing.id (option_map arc_value c.in_ok-replaced.replaced)
-      c.self.invariant (c.in_ok-replaced.ensures.replaced))
+    c.self.invariant (c.in_ok-replaced.ensures.replaced))

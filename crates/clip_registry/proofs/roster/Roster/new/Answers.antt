@@ -1,4 +1,4 @@
-use Rattle.std.proofs.Common.{◌≡◌, sym, ap, subst, ◌∙◌}
+use Rattle.std.proofs.Common.{sym, ap, subst, ◌∙◌}
 use Rattle.clip_model.specs.History.{is_live_in}
 use Rattle.clip_registry.specs.Flags.{flag_at}
 use Rattle.clip_registry.specs.Roster.{IsNumbered}

@@ -1,10 +1,10 @@
-use Rattle.std.proofs.Common.{◌≡◌, ◌+◌, ◌++◌, ◌∷◌, [], ◌<◌, ◌≤◌, arith, ℕ, suc, sym, ap, subst, ◌∙◌, List, Bool, true, false, None, Some, Option, length, is_some}
+use Rattle.std.proofs.Common.{◌≡◌, ◌+◌, ◌<◌, ◌≤◌, arith, ℕ, suc, sym, ap, subst, ◌∙◌, List, Bool, true, None, Some, Option, length, is_some}
 use Rattle.std.specs.Option.{option_map}
 use Rattle.std.specs.Arc.{arc_value}
 use Rattle.std.specs.FinMap as finite
 use Rattle.std.proofs.lemmas.List.{with_items_is}
 use Rattle.clip_model.specs.History.{Registered, Registry}
-use Rattle.clip_registry.specs.Roster.{Roster, IsAbove, IsUndoable, insert_one, restored}
+use Rattle.clip_registry.specs.Roster.{Roster, IsAbove, insert_one}
 use Rattle.clip_registry.specs.Flags.{IsMarked, marked}
 use Rattle.clip_registry.proofs.Live.{inserted_at}
 use Rattle.clip_registry.proofs.Marks.{AreFewer, popped_flags, marked_back, marked_back_none, restored_before, length-marked}
@@ -28,7 +28,7 @@ invariant_of-self c =
     let low : base ≤ u.n = subst (λ b. b ≤ u.n) (sym same_base) u.base in
     let there : 0 < length flags → is_some c.pop.result ≡ true = λ h. c.pop.ensures.variant.1 (let k = c.self.inside.live.ok.0 in omega arith) in
     let fewer = popped_flags base flags rest c.pop.result u.n u.before c.self.inside.by_id u.entry c.args.id.now (option_map arc_value c.args.replaced)
-        c.pop.ensures.items there count low u.numbered u.seq u.key u.was same c.self.invariant in
+    c.pop.ensures.items there count low u.numbered u.seq u.key u.was same c.self.invariant in
     let t : Registered = c.in-Some.entry.value in
     let one : option_map arc_value c.args.replaced ≡ Some t = ap (option_map arc_value) c.in-Some.is in
     let was : finite.get u.before c.args.id.now ≡ Some t = u.was ∙ one in
@@ -52,7 +52,7 @@ invariant_of-self-in-None c =
     let low : base ≤ u.n = subst (λ b. b ≤ u.n) (sym same_base) u.base in
     let there : 0 < length flags → is_some c.pop.result ≡ true = λ h. c.pop.ensures.variant.1 (let k = c.self.inside.live.ok.0 in omega arith) in
     let fewer = popped_flags base flags rest c.pop.result u.n u.before c.self.inside.by_id u.entry c.args.id.now (option_map arc_value c.args.replaced)
-        c.pop.ensures.items there count low u.numbered u.seq u.key u.was same c.self.invariant in
+    c.pop.ensures.items there count low u.numbered u.seq u.key u.was same c.self.invariant in
     let one : option_map arc_value c.args.replaced ≡ None = ap (option_map arc_value) c.in-None.is in
     let was : finite.get u.before c.args.id.now ≡ None = u.was ∙ one in
     let is = marked_back_none base rest u.n u.before u.numbered (subst (λ o. AreFewer base rest u.n o u.before) one fewer) in
@@ -71,7 +71,7 @@ invariant_of-self-in-None-2 c =
     let low : base ≤ u.n = subst (λ b. b ≤ u.n) (sym same_base) u.base in
     let there : 0 < length flags → is_some c.pop.result ≡ true = λ h. c.pop.ensures.variant.1 (let k = c.self.inside.live.ok.0 in omega arith) in
     let fewer = popped_flags base flags rest c.pop.result u.n u.before c.self.inside.by_id u.entry c.args.id.now (option_map arc_value c.args.replaced)
-        c.pop.ensures.items there count low u.numbered u.seq u.key u.was same c.self.invariant in
+    c.pop.ensures.items there count low u.numbered u.seq u.key u.was same c.self.invariant in
     let one : option_map arc_value c.args.replaced ≡ None = ap (option_map arc_value) c.in-None.is in
     let was : finite.get u.before c.args.id.now ≡ None = u.was ∙ one in
     let is = marked_back_none base rest u.n u.before u.numbered (subst (λ o. AreFewer base rest u.n o u.before) one fewer) in

@@ -1,4 +1,4 @@
-use Rattle.std.proofs.Common.{◌≡◌, ◌-◌, ◌≤◌, ◌<◌, ℕ, sym, ap, subst, ◌∙◌, arith, length}
+use Rattle.std.proofs.Common.{◌-◌, ◌<◌, arith, length}
 use Rattle.clip_model.specs.History.{own}
 use Rattle.clip_registry.specs.Kept.{state_of}
 use Rattle.clip_registry.proofs.Counting.{own_length}

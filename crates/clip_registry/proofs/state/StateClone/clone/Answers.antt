@@ -1,4 +1,4 @@
-use Rattle.std.proofs.Common.{◌≡◌, ℕ, sym, ap, subst, ◌∙◌, map, List}
+use Rattle.std.proofs.Common.{◌≡◌, ℕ, sym, ap, subst, ◌∙◌, map}
 use Rattle.std.proofs.lemmas.List.Elements.{same_from_all_zip}
 use Rattle.std.specs.Arc.{arc_value}
 use Rattle.std.specs.declared.sync.Arc.{Arc}
@@ -7,7 +7,6 @@ use Rattle.clip_registry.specs.Command.{entry_of, shared_entry}
 use Rattle.clip_registry.specs.declared.command.HistoryEntry.{HistoryEntry}
 use Rattle.clip_registry.specs.Kept.{AreKept, state_of}
 use Rattle.clip_registry.specs.Roster.{Roster}
-use Rattle.clip_registry.specs.Whole.{RegistryState}
 use Rattle.clip_registry.proofs.Clones.{map_clones, map_shared}
 use Rattle.clip_registry.proofs.state.StateClone.clone.Goals as goal
 

@@ -1,5 +1,5 @@
-use Rattle.std.proofs.Common.{◌≡◌, sym, ap, ◌∙◌, false}
-use Rattle.clip_model.specs.History.{Registered, is_live}
+use Rattle.std.proofs.Common.{sym, ap, ◌∙◌}
+use Rattle.clip_model.specs.History.{is_live}
 use Rattle.clip_registry.specs.Whole.{RegistryState, kept_state}
 use Rattle.clip_registry.proofs.Numbering.{none_live}
 use Rattle.clip_registry.proofs.view.View.is_live.Goals as goal
