@@ -1,13 +1,12 @@
 -- A text has one fault, or one tree.
-use Rattle.std.proofs.Common.{◌≡◌, ◌≢◌, ℕ, zero, suc, ◌+◌, ◌<◌, ◌≤◌, ◌⊎◌, inl, inr, Bool, true, false, not, ◌&&◌, nat_lt, List, [], ◌∷◌, ◌++◌, length, refl, sym, ap, subst, ◌∙◌, arith, append-nil, encode_utf8_all, IsTrue}
+use Rattle.std.proofs.Common.{◌≡◌, ◌≢◌, ℕ, ◌<◌, Bool, true, false, not, ◌&&◌, nat_lt, List, [], length, refl, sym, ap, subst, ◌∙◌, arith, append-nil, IsTrue}
 use Rattle.std.specs.Str.{chars, IsUtf8}
 use Rattle.std.proofs.lemmas.Str.{encodes-chars}
 use Rattle.std.proofs.lemmas.Bool.Decides.{nat_tests}
 use Rattle.std.proofs.lemmas.Bool.{false≢true}
 use Rattle.clip_grammar.specs.Tokens.{Token, tokens_of}
-use Rattle.clip_grammar.specs.Shape.{Written, tokens, written_tree, lacks_words}
-use Rattle.clip_grammar.specs.Tree.{Tree, nodes, depth}
-use Rattle.clip_grammar.specs.Reading.{IsStuck, IsLeftOut, IsTooBig, IsFault, HasNoFault, Reads, Says, Writes, most_bytes}
+use Rattle.clip_grammar.specs.Shape.{Written, tokens, lacks_words}
+use Rattle.clip_grammar.specs.Reading.{IsStuck, IsLeftOut, IsFault, Says, Writes}
 use Rattle.clip_grammar.specs.Laws.{OneFault}
 use Rattle.clip_grammar.specs.declared.fault.QueryFault.{QueryFault}
 use Rattle.clip_grammar.specs.declared.fault.QueryFault.TheVariants.{TooLong, Lexical, LeftOut, Structure, NoWords, TooBig, NoMemory}
@@ -107,6 +106,7 @@ one_fault text f g utf8 hf hg a b =
   where
     earlier : (f g : QueryFault) → 0 < rank f → nat_lt (rank f) (rank g) ≡ true → comes_before f g ≡ true
     earlier f g p h = grind (arith, nat_tests)
+
     at : (s : Bool) → nat_lt (rank f) (rank g) ≡ s → (t : Bool) → nat_lt (rank g) (rank f) ≡ t → f ≡ g
     at true e t k = absurd (clash text f g utf8 (earlier f g (some_rank f hf) e) a b)
     at false e true k = absurd (clash text g f utf8 (earlier g f (some_rank g hg) k) b a)

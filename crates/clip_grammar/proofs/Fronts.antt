@@ -1,11 +1,11 @@
 -- What `lexeme_at` finds is spelled at the front, and what is spelled there is found.
-use Rattle.std.proofs.Common.{◌≡◌, ℕ, zero, suc, ◌+◌, ◌<◌, ◌≤◌, Bool, true, false, cond, not, ◌&&◌, ◌||◌, eqb, List, [], ◌∷◌, ◌++◌, length, Option, Some, None, refl, sym, ap, subst, ◌∙◌, arith, append_assoc, append-nil, length-append, codes}
+use Rattle.std.proofs.Common.{◌≡◌, ℕ, Bool, true, false, cond, not, ◌&&◌, ◌||◌, eqb, List, [], ◌∷◌, ◌++◌, Option, Some, None, refl, sym, ap, subst, ◌∙◌, arith, append_assoc, append-nil, codes}
 use Rattle.std.specs.Prelude.{IfSome}
-use Rattle.std.specs.List.{list_all, list_any}
+use Rattle.std.specs.List.{list_all}
 use Rattle.std.proofs.lemmas.Bool.Decides.{nat_tests}
-use Rattle.clip_grammar.specs.Lexemes.{Piece, Bare, Escape, Code, Ending, BareEnd, QuotedEnd, Lexeme, Blank, Word, Quoted, Range, Sign, Foreign, is_among, is_one_of, white_chars, is_white, is_start, spell, spell_end, spell_piece, spell_pieces, is_piece, is_lexeme, is_end, is_gap, is_word, is_to, is_bare}
+use Rattle.clip_grammar.specs.Lexemes.{Piece, Bare, Escape, Code, Ending, BareEnd, QuotedEnd, Lexeme, Blank, Word, Quoted, Range, Sign, Foreign, is_among, is_one_of, white_chars, is_white, spell, spell_end, spell_piece, spell_pieces, is_piece, is_lexeme, is_end, is_gap, is_word, is_to, is_bare}
 use Rattle.clip_grammar.specs.Lexer.{word_char, first_char, quotable_char, end_char, piece_at, pieces_at, close_quote, quoted_at, word_with, word_at, lexeme_at, span_white, gap_at, to_at, bracket_at, close_end, bare_end, ending_at, range_at, ◌>>=◌}
-use Rattle.clip_grammar.proofs.Pieces.{both, and_true, not_true, chosen_true, chosen_false, if_chosen, if_some_map, piece_found, piece_again, pieces_again, pieces_exact, pieces_none, pieces_found, pieces_end}
+use Rattle.clip_grammar.proofs.Pieces.{both, and_true, not_true, chosen_true, chosen_false, if_chosen, piece_found, piece_again, pieces_again, pieces_exact, pieces_none, pieces_found, pieces_end}
 
 -- ---- classes of characters
 
@@ -283,7 +283,7 @@ range_found left cs in_left =
     bind_found {A = ℕ × List ℕ} _ _ (BracketFound (span_white high.1).1) _ (bracket_found (span_white high.1).1) (λ right in_right.
     let d = span_found high.1 in
     let whole : (span_white cs).0 ++ (spell_end low.0 ++ (b.0 ++ (codes "TO" ++ (c.0 ++ (spell_end high.0 ++ ((span_white high.1).0 ++ right.0 ∷ right.1)))))) ≡ cs =
-        rw (in_right.1, d.1, in_high.1, in_c.1, in_to, in_b.1, in_low.1, a.1) refl in
+    rw (in_right.1, d.1, in_high.1, in_c.1, in_to, in_b.1, in_low.1, a.1) refl in
     record {
       is = and_true _ _ (and_true _ _ (and_true _ _ (and_true _ _ (and_true _ _ (and_true _ _ (and_true _ _ in_left a.0) in_low.0) in_b.0) in_c.0) in_high.0) d.0) in_right.0;
       parts = simp append_assoc (ap (λ x. left ∷ x) whole);
@@ -320,5 +320,5 @@ lexeme_found (c ∷ cs) =
     if_chosen (is_one_of "+-!():" c) _ _ _ (λ h. record { is = h; parts = refl; ends = λ w. cc }) (λ _.
     if_chosen (is_one_of "~^/" c) _ _ _ (λ h. record { is = h; parts = refl; ends = λ w. cc }) (λ _.
     if_chosen (eqb c 34) _ _ _ (λ h. let same : 34 ≡ c = grind (arith, nat_tests) in
-        subst (λ x. IfSome (close_quote (pieces_at quotable_char cs)) (LexemeFound (x ∷ cs))) same (quoted_found cs (pieces_at quotable_char cs) (pieces_found quotable_char cs).pieces (pieces_found quotable_char cs).parts)) (λ _.
+    subst (λ x. IfSome (close_quote (pieces_at quotable_char cs)) (LexemeFound (x ∷ cs))) same (quoted_found cs (pieces_at quotable_char cs) (pieces_found quotable_char cs).pieces (pieces_found quotable_char cs).parts)) (λ _.
     if_chosen (is_one_of "[{" c) _ _ _ (λ h. range_found c cs h) (λ _. word_found (c ∷ cs))))))

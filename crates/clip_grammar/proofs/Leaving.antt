@@ -1,11 +1,11 @@
 -- `leaves_out` finds the left-out forms, and no others.
-use Rattle.std.proofs.Common.{◌≡◌, ℕ, zero, suc, ◌+◌, ◌<◌, ◌≤◌, ◌⊎◌, inl, inr, Bool, true, false, not, ◌&&◌, ◌||◌, List, [], ◌∷◌, ◌++◌, length, get_or, refl, sym, ap, subst, ◌∙◌, arith, IsTrue}
-use Rattle.std.specs.Prelude.{Contains, reverse}
+use Rattle.std.proofs.Common.{◌≡◌, ℕ, zero, suc, ◌<◌, ◌⊎◌, inl, inr, Bool, true, false, not, ◌&&◌, ◌||◌, List, [], ◌∷◌, ◌++◌, length, get_or, refl, sym, ap, subst, ◌∙◌, arith, IsTrue}
+use Rattle.std.specs.Prelude.{Contains}
 use mathlib.Core.List.{reverse_aux}
 use Rattle.clip_grammar.specs.Tokens as token
 use Rattle.clip_grammar.specs.Tokens.{Token}
-use Rattle.clip_grammar.specs.Reading.{begins_colon_star, HasLoneStar, IsLeftOut}
-use Rattle.clip_grammar.specs.LeftOut.{is_other, is_star, is_colon, begins_left_out, leaves_out}
+use Rattle.clip_grammar.specs.Reading.{begins_colon_star, IsLeftOut}
+use Rattle.clip_grammar.specs.LeftOut.{is_star, is_colon, begins_left_out, leaves_out}
 use Rattle.clip_grammar.proofs.Pieces.{both, and_true}
 
 -- the tokens behind, last first, begin with a star
@@ -59,8 +59,8 @@ unfolding leaves_out
 found_after [] behind s b es eb h = cc
 found_after (t ∷ ts) behind s b es eb h =
     either (begins_left_out b t ts) (leaves_out (is_star t) (is_colon t && s) ts) h
-      (λ k. now t ts behind b eb k)
-      (λ k. later t ts behind (found_after ts (t ∷ behind) (is_star t) (is_colon t && s) refl (ap (λ x. is_colon t && x) es ∙ colon_then_star t behind) k))
+    (λ k. now t ts behind b eb k)
+    (λ k. later t ts behind (found_after ts (t ∷ behind) (is_star t) (is_colon t && s) refl (ap (λ x. is_colon t && x) es ∙ colon_then_star t behind) k))
 
 -- ---- what is left out is found
 
@@ -102,7 +102,7 @@ unfolding leaves_out
 left_after [] behind s b es eb left = absurd (nothing_left behind left)
 left_after (t ∷ ts) behind s b es eb left =
     at_place t ts behind b _ eb
-      (λ more. left_after ts (t ∷ behind) (is_star t) (is_colon t && s) refl (ap (λ x. is_colon t && x) es ∙ colon_then_star t behind) more) left
+    (λ more. left_after ts (t ∷ behind) (is_star t) (is_colon t && s) refl (ap (λ x. is_colon t && x) es ∙ colon_then_star t behind) more) left
 
 -- ---- both
 

@@ -1,15 +1,13 @@
 -- What the lexer finds is the one list of lexemes, or the longest front that has one.
-use Rattle.std.proofs.Common.{◌≡◌, ℕ, zero, suc, ◌+◌, ◌<◌, ◌≤◌, Bool, true, false, cond, not, ◌&&◌, ◌||◌, eqb, List, [], ◌∷◌, ◌++◌, length, Option, Some, None, refl, sym, ap, subst, ◌∙◌, encode_utf8_all, arith, append_assoc, append-nil, length-append, codes, flat_map, IsTrue}
-use Rattle.std.specs.Prelude.{IfSome}
-use Rattle.std.specs.List.{list_all, list_any}
+use Rattle.std.proofs.Common.{◌≡◌, ℕ, Bool, true, false, not, ◌&&◌, ◌||◌, List, [], ◌∷◌, ◌++◌, length, Some, None, refl, sym, ap, subst, ◌∙◌, encode_utf8_all, arith, append_assoc, append-nil, length-append, codes, flat_map}
 use Rattle.clip_grammar.specs.Lexemes.{Piece, Lexeme, Blank, Word, Quoted, Range, Sign, Foreign, Bare, Escape, Code, is_lexeme, is_word, are_lexemes, continues_word, is_piece, is_one_of, spell, spell_pieces, spell_piece, Lexes, white_chars, is_start}
 use Rattle.std.specs.Str.{chars}
 use Rattle.std.proofs.lemmas.Str.{encodes-append}
 use Rattle.std.proofs.lemmas.List.Concat.{flat_map-append}
 use Rattle.clip_grammar.specs.Reading.{IsStuck}
 use Rattle.clip_grammar.specs.Lexer.{word_char, first_char, piece_at, pieces_at, lexeme_at, Finds}
-use Rattle.clip_grammar.proofs.Pieces.{both, and_true, not_true, if_some_at, piece_again, pieces_none}
-use Rattle.clip_grammar.proofs.Fronts.{among_all, apart, no_backslash, ends_at, LexemeFound, lexeme_found, lexeme_again, word_longer}
+use Rattle.clip_grammar.proofs.Pieces.{both, and_true, not_true, if_some_at, piece_again}
+use Rattle.clip_grammar.proofs.Fronts.{among_all, no_backslash, ends_at, LexemeFound, lexeme_found, lexeme_again, word_longer}
 
 some_none : {A : Type 0} {x : A} → Some x ≡ None → ⊥
 some_none h = cc
@@ -191,7 +189,7 @@ longest (l ∷ ls) (m ∷ k ∷ ms) cs rest after f e ok h =
     let q = parts_of k ms p.2 in
     let x = flat_map spell (k ∷ ms) ++ after in
     let ends : is_word m ≡ true → piece_at word_char x ≡ None = λ w.
-        ap (piece_at word_char) (append_assoc (spell k) (flat_map spell ms) after) ∙ no_piece k ms (flat_map spell ms ++ after) q.0 (word_then m (k ∷ ms) p.1 w) in
+    ap (piece_at word_char) (append_assoc (spell k) (flat_map spell ms) after) ∙ no_piece k ms (flat_map spell ms ++ after) q.0 (word_then m (k ∷ ms) p.1 w) in
     let text : spell m ++ x ≡ cs = sym (append_assoc (spell m) (flat_map spell (k ∷ ms)) after) ∙ h in
     let found : (m, x) ≡ (l, f.0) = some_inj (sym (lexeme_again m x p.0 ends) ∙ ap lexeme_at text ∙ f.1) in
     let is : m ≡ l = ap (λ (v : Lexeme × List ℕ). v.0) found in

@@ -1,21 +1,20 @@
 -- Which refusal holds of a text, or that none does; and that it is read or refused.
-use Rattle.std.proofs.Common.{◌≡◌, ◌≢◌, ℕ, zero, suc, ◌+◌, ◌<◌, ◌≤◌, ◌⊎◌, inl, inr, Bool, true, false, not, ◌&&◌, nat_lt, List, [], ◌∷◌, ◌++◌, Option, Some, None, length, flat_map, refl, sym, ap, subst, ◌∙◌, arith, append-nil, length-append, encode_utf8_all, IsTrue}
+use Rattle.std.proofs.Common.{◌≡◌, ℕ, zero, suc, ◌+◌, ◌<◌, ◌≤◌, ◌⊎◌, inl, inr, Bool, true, false, not, nat_lt, List, [], ◌∷◌, Option, Some, None, length, flat_map, refl, sym, ap, subst, ◌∙◌, arith, length-append, encode_utf8_all}
 use Rattle.std.specs.Prelude.{is_some}
 use Rattle.std.specs.Str.{chars, IsUtf8}
 use Rattle.std.proofs.lemmas.Str.{encodes-append, encodes-chars, length-le-encodes}
 use Rattle.std.proofs.lemmas.Bool.{false≢true}
 use Rattle.std.proofs.lemmas.Bool.Decides.{nat_tests}
-use Rattle.clip_grammar.specs.Lexemes.{Piece, Lexeme, Blank, Word, Quoted, Range, Sign, Foreign, spell, spell_piece, spell_pieces, is_lexeme}
+use Rattle.clip_grammar.specs.Lexemes.{Lexeme, Blank, Word, Quoted, Range, Sign, Foreign, spell, spell_piece, spell_pieces, is_lexeme}
 use Rattle.clip_grammar.specs.Lexer.{lexeme_at, Finds}
 use Rattle.clip_grammar.specs.Tokens.{Token, tokens_of}
 use Rattle.clip_grammar.specs.Shape.{Written, tokens, written_tree, lacks_words}
 use Rattle.clip_grammar.specs.Parser.{parse, accepts}
 use Rattle.clip_grammar.specs.LeftOut.{leaves_out}
 use Rattle.clip_grammar.specs.Tree.{Tree, nodes, depth}
-use Rattle.clip_grammar.specs.Reading.{IsStuck, IsLeftOut, IsTooBig, IsFault, HasNoFault, Reads, Says, Writes, most_bytes}
+use Rattle.clip_grammar.specs.Reading.{IsLeftOut, IsTooBig, IsFault, HasNoFault, Reads, Says, Writes, most_bytes}
 use Rattle.clip_grammar.specs.Laws.{IsRead, IsRefused, ReadsOrFaults}
 use Rattle.clip_grammar.specs.declared.stage.Stage.TheVariants.{Fresh}
-use Rattle.clip_grammar.specs.declared.fault.QueryFault.{QueryFault}
 use Rattle.clip_grammar.specs.declared.fault.QueryFault.TheVariants.{TooLong, Lexical, LeftOut, Structure, NoWords, TooBig, NoMemory}
 use Rattle.clip_grammar.proofs.Pieces.{spelled, if_some_at}
 use Rattle.clip_grammar.proofs.Fronts.{LexemeFound, lexeme_found}
@@ -147,14 +146,17 @@ judged text ts utf8 says = kept (leaves_out false false ts) refl
     sized : (written : Written) → Writes text written → lacks_words written ≡ false → IsTooBig (written_tree written) ⊎ (¬ (IsTooBig (written_tree written))) → IsRead text ⊎ IsRefused text
     sized written writes has (inl big) = inr (TooBig, λ e. cc, (written, writes, ap not has, big))
     sized written writes has (inr small) = inl (written_tree written, reads_found text written (written_tree written) writes refl, no_fault text written utf8 writes has small)
+
     worded : (written : Written) → Writes text written → (b : Bool) → lacks_words written ≡ b → IsRead text ⊎ IsRefused text
     worded written writes true h = inr (NoWords, λ e. cc, (written, writes, h))
     worded written writes false h = sized written writes h (too_big (written_tree written))
+
     shaped : leaves_out false false ts ≡ false → (b : Bool) → accepts ts zero false Fresh ≡ b → IsRead text ⊎ IsRefused text
     shaped kept false h = inr (Structure, λ e. cc, structure_fault text ts says kept h)
     shaped kept true h =
         let written = written_found ts h in
         worded written.0 (writes_found text ts written.0 says kept written.1) (lacks_words written.0) refl
+
     kept : (b : Bool) → leaves_out false false ts ≡ b → IsRead text ⊎ IsRefused text
     kept true h = inr (LeftOut, λ e. cc, left_out_fault text ts says h)
     kept false h = shaped h (accepts ts zero false Fresh) refl
@@ -168,6 +170,7 @@ reads_or_faults text utf8 = short (nat_lt most_bytes (length text)) refl
         let some : 0 < length s.rest = omega (arith, ap length e) in
         let fits = whole_bytes text s.lexemes s.rest utf8 s.finds in
         inr (Lexical (length (encode_utf8_all (flat_map spell s.lexemes))), λ e. cc, lexical_fault text s.lexemes s.rest _ utf8 short s.finds s.end some fits)
+
     short : (b : Bool) → nat_lt most_bytes (length text) ≡ b → IsRead text ⊎ IsRefused text
     short true h = let long : most_bytes < length text = grind (arith, nat_tests) in inr (TooLong, λ e. cc, long)
     short false h =

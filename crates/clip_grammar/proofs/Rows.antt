@@ -1,7 +1,7 @@
 -- Worked rows, computed from the definitions.
-use Rattle.std.proofs.Common.{◌≡◌, ℕ, List, [], ◌∷◌, ◌++◌, refl, codes, map, None, Some}
+use Rattle.std.proofs.Common.{◌≡◌, ℕ, List, [], ◌∷◌, refl, codes, map, None, Some}
 use lib.Utf8.{encode as encode_utf8}
-use Rattle.clip_grammar.specs.Lexemes.{Lexeme, Lexes, Bare, Escape, Code, Word, Blank, Sign, Range, BareEnd, Quoted}
+use Rattle.clip_grammar.specs.Lexemes.{Lexeme, Lexes, Bare, Escape, Code, Word, Blank, Sign, Range, BareEnd}
 use Rattle.clip_grammar.specs.Tokens as token
 use Rattle.clip_grammar.specs.Tokens.{tokens_of, word_token, sign_token}
 use Rattle.clip_grammar.specs.Shape as shape

@@ -1,6 +1,5 @@
 -- The front of a text, cut as the lexer cuts it: what is found there, and what is left.
-use Rattle.std.specs.Prelude.{◌≡◌, ℕ, zero, suc, Bool, true, false, not, ◌&&◌, ◌||◌, ◌==◌, List, [], ◌∷◌, ◌++◌, length, Option, Some, None, if◌then◌else◌}
-use Rattle.std.specs.List.{list_all}
+use Rattle.std.specs.Prelude.{◌≡◌, ℕ, zero, suc, Bool, not, ◌&&◌, ◌||◌, ◌==◌, List, [], ◌∷◌, length, Option, Some, None, if◌then◌else◌}
 use Rattle.clip_grammar.specs.Lexemes.{Piece, Bare, Escape, Code, Ending, BareEnd, QuotedEnd, Lexeme, Blank, Word, Quoted, Range, Sign, Foreign, is_white, is_start, is_one_of, is_code, is_gap, is_end}
 
 abbrev pub word_char : ℕ → Bool

@@ -8,5 +8,4 @@ pub fn one_reading()
     ensures tree { OneTree }
     ensures fault { OneFault }
     ensures decided { ReadsOrFaults }
-{
-}
+{}

@@ -29,13 +29,26 @@ pub enum Bound {
 #[derive(Debug, PartialEq, Eq, Drop)]
 pub enum Query {
     /// The word is among the field's words.
-    Term { field: ArcStr, word: ArcStr },
+    Term {
+        field: ArcStr,
+        word: ArcStr,
+    },
     /// The words stand in the field one after the other.
-    Phrase { field: ArcStr, words: Vec<ArcStr> },
+    Phrase {
+        field: ArcStr,
+        words: Vec<ArcStr>,
+    },
     /// Some word of the field begins with the front.
-    Prefix { field: ArcStr, front: ArcStr },
+    Prefix {
+        field: ArcStr,
+        front: ArcStr,
+    },
     /// Some word of the field lies in the range.
-    Span { field: ArcStr, low: Bound, high: Bound },
+    Span {
+        field: ArcStr,
+        low: Bound,
+        high: Bound,
+    },
     /// Every article.
     All,
     /// Clauses, each with how it counts, in the order in which they are written.

@@ -1,4 +1,6 @@
 mod Fields
 mod Groups
+mod Numbered
 mod Pairs
+mod Postings
 pub mod Refusals

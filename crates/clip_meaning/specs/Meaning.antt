@@ -2,8 +2,7 @@
 use Rattle.std.specs.Prelude.{ℕ, Bool, true, false, not, ◌&&◌, ◌||◌, ◌==◌, List, [], ◌∷◌}
 use Rattle.std.specs.List.{list_any, list_all, starts_with}
 use Rattle.std.specs.Str.{bytes_eq}
-use Rattle.std.specs.declared.cmp.Ordering.{Ordering}
-use Rattle.std.specs.declared.cmp.Ordering.TheVariants.{Less, Equal, Greater}
+use Rattle.std.specs.Ordering.{is_lt, is_gt}
 use Rattle.clip_words.specs.Order.{bytes_cmp}
 use Rattle.clip_grammar.specs.Tokens.{End}
 use Rattle.clip_grammar.specs.Tree.{Tree, Clauses, none, clause}
@@ -25,25 +24,17 @@ is_nonempty (w ∷ ws) = true
 abbrev pub begins_with : List ℕ → List ℕ → Bool
 begins_with front word = starts_with (λ b c. b == c) word front
 
-abbrev pub is_less : Ordering → Bool
-is_less Less = true
-is_less _ = false
-
-abbrev pub is_greater : Ordering → Bool
-is_greater Greater = true
-is_greater _ = false
-
 -- the word is not below the low end of a range
 abbrev pub above : End → List ℕ → Bool
 above End.Free word = true
-above (End.With low) word = not (is_greater (bytes_cmp low word))
-above (End.Without low) word = is_less (bytes_cmp low word)
+above (End.With low) word = not (is_gt (bytes_cmp low word))
+above (End.Without low) word = is_lt (bytes_cmp low word)
 
 -- the word is not above the high end of a range
 abbrev pub below : End → List ℕ → Bool
 below End.Free word = true
-below (End.With high) word = not (is_greater (bytes_cmp word high))
-below (End.Without high) word = is_less (bytes_cmp word high)
+below (End.With high) word = not (is_gt (bytes_cmp word high))
+below (End.Without high) word = is_lt (bytes_cmp word high)
 
 -- ---- groups
 

@@ -1,12 +1,16 @@
 //! The words of one field of an article.
-ghost use Rattle.std.specs.Prelude.{◌≡◌, ◌&&◌, map, IfOk};
+ghost use Rattle.std.specs.Prelude.{◌≡◌, ◌&&◌, map, drop, IfOk, IsPermutation};
 ghost use Rattle.std.specs.Arc.{arc_str_bytes};
 ghost use Rattle.std.specs.List.{list_any, starts_with};
+ghost use Rattle.std.specs.List.Sorted.{IsSortedByKey};
 ghost use Rattle.std.specs.Str.{bytes_eq};
+ghost use Rattle.clip_words.specs.Order.{bytes_cmp};
 ghost use Rattle.clip_words.specs.Words.{words_of};
 ghost use Rattle.clip_grammar.specs.Tree.{end_of};
+ghost use Rattle.clip_meaning.specs.Index.{numbered, stands_at};
 ghost use Rattle.clip_meaning.specs.Meaning.{above, below, begins_with, has_run, is_nonempty};
 
+use crate::index::{Posting, WordIndex};
 use clip_syntax::Bound;
 use clip_words::{NoMemory, words};
 use std::alloc::Global;
@@ -18,15 +22,19 @@ use std::sync::ArcStr;
 pub struct Field {
     name: ArcStr,
     words: Vec<ArcStr>,
+    index: WordIndex,
 }
 
 impl Model for Field {
-    ghost use Rattle.std.specs.Prelude.{ℕ, List, map};
+    ghost use Rattle.std.specs.Prelude.{ℕ, List, map, IsPermutation};
     ghost use Rattle.std.specs.Arc.{arc_str_bytes};
+    ghost use Rattle.clip_meaning.specs.Index.{numbered, stands_at};
 
     ghost Value = { List ℕ × List (List ℕ) };
 
     ghost view = { λ f. (arc_str_bytes f.name, map arc_str_bytes f.words.items) };
+
+    ghost invariant = { λ f. IsPermutation (numbered 0 (map arc_str_bytes f.words.items)) f.index };
 }
 
 /// The words of a text, folded, each made once.
@@ -46,9 +54,11 @@ impl Field {
         ensures { IfOk result (λ field. field ≡ (name.now, words_of text.now)) }
     {
         let words = shared_words(alloc, text)?;
+        let index = WordIndex::read(alloc, &words)?;
         Ok(Field {
             name: ArcStr::from_str(alloc, name)?,
             words,
+            index,
         })
     }
 
@@ -66,58 +76,74 @@ impl Field {
         &self.words
     }
 
+    /// The field's words, each with its position, sorted by the bytes of the word and then by position.
+    pub fn postings(&self) -> &[Posting]
+        ensures words { IsPermutation (numbered 0 self.now.1) result.now }
+        ensures sorted { IsSortedByKey (λ p. p.0) bytes_cmp result.now }
+    {
+        self.index.postings()
+    }
+
     /// Whether a word is among the words.
     pub(crate) fn has_word(&self, word: &str) -> bool
         ensures { result ≡ list_any (λ w. bytes_eq w word.now) self.now.1 }
     {
-        for other in &self.words {
-            if other.as_str() == word {
-                return true;
-            }
-        }
-        false
+        self.index.has_word(word)
     }
 
     /// Whether the words of a phrase stand next to each other in order; an empty phrase never does.
     pub(crate) fn has_phrase(&self, phrase: &[ArcStr]) -> bool
         ensures { result ≡ (is_nonempty (map arc_str_bytes phrase.now) && has_run self.now.1 (map arc_str_bytes phrase.now)) }
     {
-        if phrase.is_empty() {
+        let Some(first) = phrase.first() else {
             return false;
-        }
-        let mut rest: &[ArcStr] = &self.words;
-        while let Some((_, after)) = rest.split_first() {
-            if starts_with(rest, phrase) {
-                return true;
-            }
-            rest = after;
-        }
-        false
+        };
+        stands_at_any(&self.words, self.index.occurrences(first), phrase)
     }
 
     /// Whether a word begins with the front.
     pub(crate) fn has_front(&self, front: &str) -> bool
         ensures { result ≡ list_any (begins_with front.now) self.now.1 }
     {
-        for word in &self.words {
-            if word.as_str().as_bytes().starts_with(front.as_bytes()) {
-                return true;
-            }
-        }
-        false
+        self.index.has_front(front)
     }
 
     /// Whether a word lies between the bounds.
     pub(crate) fn has_between(&self, low: &Bound, high: &Bound) -> bool
         ensures { result ≡ list_any (λ w. above (end_of low.now) w && below (end_of high.now) w) self.now.1 }
     {
-        for word in &self.words {
-            if is_above(low, word) && is_below(high, word) {
-                return true;
-            }
-        }
-        false
+        self.index.has_between(low, high)
     }
+}
+
+/// The words from a position on, none where it is past the end.
+fn words_from(words: &[ArcStr], position: usize) -> &[ArcStr]
+    ensures { result.now ≡ drop position words.now }
+{
+    if position < words.len() {
+        &words[position..]
+    } else {
+        &[]
+    }
+}
+
+/// Whether a phrase stands at a posting.
+fn stands_at(words: &[ArcStr], phrase: &[ArcStr], posting: &Posting) -> bool
+    ensures { result ≡ stands_at (map arc_str_bytes words.now) (map arc_str_bytes phrase.now) posting.now }
+{
+    starts_with(words_from(words, posting.position()), phrase)
+}
+
+/// Whether a phrase stands at one of the postings.
+fn stands_at_any(words: &[ArcStr], postings: &[Posting], phrase: &[ArcStr]) -> bool
+    ensures { result ≡ list_any (stands_at (map arc_str_bytes words.now) (map arc_str_bytes phrase.now)) postings.now }
+{
+    for posting in postings {
+        if stands_at(words, phrase, posting) {
+            return true;
+        }
+    }
+    false
 }
 
 /// Whether the words begin with those of a phrase.
@@ -137,26 +163,4 @@ fn starts_with(words: &[ArcStr], phrase: &[ArcStr]) -> bool
         phrase = others;
     }
     true
-}
-
-/// Whether a word is not below the low end of a range.
-fn is_above(low: &Bound, word: &str) -> bool
-    ensures { result ≡ above (end_of low.now) word.now }
-{
-    match low {
-        Bound::Free => true,
-        Bound::With(low) => low.as_str() <= word,
-        Bound::Without(low) => low.as_str() < word,
-    }
-}
-
-/// Whether a word is not above the high end of a range.
-fn is_below(high: &Bound, word: &str) -> bool
-    ensures { result ≡ below (end_of high.now) word.now }
-{
-    match high {
-        Bound::Free => true,
-        Bound::With(high) => word <= high.as_str(),
-        Bound::Without(high) => word < high.as_str(),
-    }
 }

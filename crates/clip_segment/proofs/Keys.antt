@@ -9,7 +9,6 @@ use Rattle.std.specs.declared.cmp.Ordering.TheVariants.{Less, Equal, Greater}
 use Rattle.std.specs.FinMap.Entries.{below_all}
 use Rattle.std.specs.Prelude.{nat_eq}
 use Rattle.std.specs.Arc.{arc_str_bytes}
-use Rattle.std.specs.Cmp.{IsTotalOrder}
 use Rattle.std.specs.Cmp.Lexicographic.{pointwise, lists_ties, texts_ties}
 use Rattle.std.specs.List.{list_any}
 use Rattle.std.specs.FinMap as finite

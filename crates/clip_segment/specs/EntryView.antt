@@ -9,6 +9,6 @@ use Rattle.clip_segment.specs.declared.entry.Entry.TheInside.{Inside}
 abbrev pub registered_of : Inside → Registered
 registered_of e = record { standing = e.standing.value; seq = e.seq }
 
--- the keys that are kept are those of the query, sorted and distinct
+-- the keys that are kept are those of the query, in order, each once
 pub record HasItsKeys (e : Inside) : Type 0 where
   pub keys : map key_of e.keys.items ≡ query_keys e.standing.value.tree

@@ -9,7 +9,7 @@ use Rattle.clip_model.specs.History.{Registered}
 abbrev pub holds_key : KeyValue → Registered → Bool
 holds_key key entry = list_any (is_same key) (query_keys entry.standing.tree)
 
--- the places, from 0 and rising, of the entries that hold the key
+-- the positions, from 0, of the entries that hold the key
 abbrev pub positions_with : KeyValue → List Registered → List ℕ
 positions_with key entries = map (λ e. e.0) (filter (λ e. holds_key key e.1) (enumerate_from 0 entries))
 

@@ -1,5 +1,5 @@
 -- A segment as contracts see it, and what holds of each.
-use Rattle.std.specs.Prelude.{◌≡◌, ℕ, ◌≤◌, List, map, length}
+use Rattle.std.specs.Prelude.{◌≡◌, ◌≤◌, List, map, length}
 use Rattle.std.specs.Arc.{arc_value}
 use Rattle.clip_extract.specs.Keys.{key_of}
 use Rattle.clip_extract.specs.declared.key.Key.{Key}
@@ -12,7 +12,7 @@ use Rattle.clip_segment.specs.declared.segment.Segment.TheInside.{Inside}
 abbrev pub entries_of : Inside → List Registered
 entries_of s = map arc_value s.entries.items
 
--- The seqs rise, there are not too many entries, and the map gives the places of just the entries that hold a key.
+-- The seqs rise, there are not too many entries, and the map has at each key the positions of just the entries that hold it.
 pub record IsSegment (s : Inside) : Type 0 where
   pub rising : IsRising (entries_of s)
   pub short : length s.entries.items ≤ most_positions

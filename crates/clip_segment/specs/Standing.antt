@@ -1,5 +1,5 @@
 -- What holds of every standing query, and why one is refused.
-use Rattle.std.specs.Prelude.{◌≡◌, ℕ, List, Bool, true, false, IsTrue}
+use Rattle.std.specs.Prelude.{◌≡◌, ℕ, List, true, false, IsTrue}
 use Rattle.clip_grammar.specs.Reading.{Reads, HasNoFault, IsFault}
 use Rattle.clip_grammar.specs.declared.fault.QueryFault.{QueryFault}
 use Rattle.clip_grammar.specs.declared.fault.QueryFault.TheVariants as query

@@ -10,7 +10,9 @@ use std::alloc::Global;
 use std::marker::Model;
 use std::sync::Arc;
 
-/// A standing query, the number under which it was registered, and the keys of its query.
+/// A standing query that is registered: the number that it was given, and the keys of its query.
+///
+/// No reader takes memory.
 #[derive(Debug, Drop)]
 pub struct Entry {
     seq: u64,
@@ -33,7 +35,9 @@ impl Model for Entry {
 }
 
 impl Entry {
-    /// An entry of a standing query, which it shares. It costs the extraction of the query's keys; `NoMemory` where a growth was refused.
+    /// The entry of a standing query, which it shares, under the number `seq`.
+    ///
+    /// `NoMemory` where a growth was refused. Cost: one extraction of the query's keys.
     pub fn new(alloc: Global, seq: u64, standing: Arc<Standing>) -> Result<Entry, NoMemory>
         ensures { IfOk result (λ entry. entry ≡ record { standing = standing.value; seq = seq }) }
     {
@@ -45,7 +49,7 @@ impl Entry {
         })
     }
 
-    /// The number under which it was registered, above those of all that were registered before.
+    /// Its number, by which registered queries are ordered.
     pub fn seq(&self) -> u64
         ensures { result ≡ self.now.seq }
     {
@@ -59,7 +63,7 @@ impl Entry {
         &self.standing
     }
 
-    /// The keys of its query, sorted and distinct.
+    /// The keys of its query, in order, each once.
     pub fn keys(&self) -> &[Key]
         ensures { map key_of result.now ≡ query_keys self.now.standing.tree }
     {

@@ -16,7 +16,7 @@ use std::collections::HashMap;
 use std::marker::Model;
 use std::sync::Arc;
 
-/// Entries in the order of their seqs, with an index from keys to positions.
+/// Entries in the order of their seqs, with an index from each key to the positions of those that hold it.
 #[derive(Debug, Drop)]
 pub struct Segment {
     entries: Vec<Arc<Entry>>,
@@ -75,7 +75,9 @@ fn add_entry(
 }
 
 impl Segment {
-    /// A segment of entries, which it shares. It costs a look-up for each key of each entry; `NoMemory` where a growth was refused.
+    /// The segment of these entries, which it shares. Their seqs rise, and there are at most 4,294,967,295.
+    ///
+    /// `NoMemory` where a growth was refused. Cost: one look-up for each key of each entry; no text is copied.
     pub fn build(alloc: Global, entries: Vec<Arc<Entry>>) -> Result<Segment, NoMemory>
         requires short { length entries.items ≤ most_positions }
         requires rising { IsRising (map arc_value entries.items) }
@@ -91,7 +93,7 @@ impl Segment {
     }
 
     #[tactic(auto, using(crate::proofs::Holding::positions_within, crate::proofs::Holding::positions_rise))]
-    /// The positions of just the entries that hold the key, rising. It costs one look-up.
+    /// The positions, from 0 and rising, of just the entries that hold the key. Takes no memory. Cost: one look-up.
     pub fn with_key(&self, key: &Key) -> &[u32]
         ensures holders { result.now ≡ positions_with (key_of key.now) self.now }
         ensures within { All (λ position. position < length self.now) result.now }
@@ -103,7 +105,7 @@ impl Segment {
         }
     }
 
-    /// The entry at a position, if there are so many.
+    /// The entry at a position from 0, or `None` past the end. Takes no memory.
     pub fn entry(&self, position: u32) -> Option<&Arc<Entry>>
         ensures { option_map arc_value (option_copied result) ≡ slice_get self.now position }
     {
@@ -119,7 +121,7 @@ impl Segment {
         &self.entries
     }
 
-    /// How many entries there are.
+    /// How many entries there are. Takes no memory.
     pub fn len(&self) -> usize
         ensures { result ≡ length self.now }
     {

@@ -61,7 +61,9 @@ impl From<QueryFault> for StandingFault {
     }
 }
 
-/// A standing query: a query under an id, with the name of a listener or none. Its texts are shared, and its query is the reading of its text.
+/// A standing query: a query under an id, with the name of a listener or none.
+///
+/// Its query is the reading of its text, which is kept beside it. Its texts are shared by clones. No reader takes memory.
 #[derive(Debug, Drop)]
 pub struct Standing {
     id: ArcStr,
@@ -86,7 +88,9 @@ impl Model for Standing {
 }
 
 impl Standing {
-    /// Reads a standing query. The refusals, the first that holds: `Id` where the id is not 1 to 256 bytes long, `Query` where the text is no query; `NoMemory` where a growth was refused. The id, the text and the listener's name are each made once; it costs the reading of the text.
+    /// Reads the text as a query, which stands under the id, with the name of a listener or none.
+    ///
+    /// Refusals, the first that holds: `Id` where the id is not 1 to 256 bytes long; `Query` where the text is no query, with `read_query`'s fault. `NoMemory` where a growth was refused. Cost: the reading of the text, and one copy of the id and of the text.
     pub fn read(
         alloc: Global,
         id: &str,
@@ -115,7 +119,7 @@ impl Standing {
         })
     }
 
-    /// The id.
+    /// The id, 1 to 256 bytes.
     pub fn id(&self) -> &str
         ensures { result.now ≡ self.now.id }
     {

@@ -1,4 +1,8 @@
 //! Worked examples and limits.
+ghost use Rattle.std.specs.Prelude.{◌≡◌, ◌≤◌, IfOk, length, map};
+ghost use Rattle.std.specs.Arc.{arc_value};
+ghost use Rattle.clip_segment.specs.Segment.{IsRising, most_positions};
+
 use crate::{Entry, Segment, Standing, StandingFault};
 use clip_extract::Key;
 use clip_grammar::fault::QueryFault;
@@ -14,10 +18,22 @@ fn word_key(alloc: Global, word: &str) -> Result<Key, Fail> {
     ))
 }
 
-fn entry(alloc: Global, seq: u64, text: &str) -> Result<Arc<Entry>, Fail> {
+fn entry(alloc: Global, seq: u64, text: &str) -> Result<Arc<Entry>, Fail>
+    ensures { IfOk result (λ entry. entry.value.seq ≡ seq) }
+{
     let standing = Standing::read(alloc, "q1", text, None)?;
     let standing = Arc::new(alloc, standing)?;
     Ok(Arc::new(alloc, Entry::new(alloc, seq, standing)?)?)
+}
+
+/// The entries of two texts.
+fn pair(alloc: Global, first: &str, second: &str) -> Result<Vec<Arc<Entry>>, Fail>
+    ensures short { IfOk result (λ entries. length entries.items ≤ most_positions) }
+    ensures rising { IfOk result (λ entries. IsRising (map arc_value entries.items)) }
+{
+    let first = entry(alloc, 1, first)?;
+    let second = entry(alloc, 2, second)?;
+    Ok(vec![in alloc; first, second]?)
 }
 
 #[test]

@@ -1,7 +1,7 @@
 -- The marks of pieces, step by step.
 use Rattle.std.proofs.Common.{◌≡◌, ℕ, Bool, true, false, cond, List, [], ◌∷◌, ◌++◌, map, Option, Some, None, refl, sym, ap, ◌∙◌, append_assoc, append-nil}
 use Rattle.std.specs.Option.{option_map}
-use Rattle.clip_grammar.specs.Lexemes.{Piece, Code, is_code, code_value}
+use Rattle.clip_grammar.specs.Lexemes.{Code, is_code, code_value}
 use Rattle.clip_grammar.specs.Lexer.{piece_at, pieces_at, code_at}
 use Rattle.clip_syntax.specs.Marks.{marked, marked_after}
 use Rattle.clip_grammar.specs.Tokens.{mark_of}

@@ -100,7 +100,7 @@ bare_said : (c : ℕ) (cs : List ℕ) (v : List Piece × List ℕ) → eqb c 34 
 bare_said c cs ([], rest) h found = refl
 bare_said c cs (p ∷ ps, rest) h found =
     at (not (is_bare 34 p)) (list_all (is_piece end_char) (p ∷ ps)) (is_to (p ∷ ps)) _
-       (no_first_quote c cs p (spell_pieces ps ++ rest) h (sym (append_assoc (spell_piece p) (spell_pieces ps) rest) ∙ found.parts)) found.pieces (is_to_marks (p ∷ ps))
+    (no_first_quote c cs p (spell_pieces ps ++ rest) h (sym (append_assoc (spell_piece p) (spell_pieces ps) rest) ∙ found.parts)) found.pieces (is_to_marks (p ∷ ps))
   where
     at : (a b t m : Bool) → a ≡ true → b ≡ true → t ≡ m → option_map end_said (cond (a && b && not t) (Some (BareEnd (p ∷ ps), rest)) None) ≡ cond m None (Some (free_text (map mark_of (p ∷ ps)), rest))
     at a b t m e f g = ap (λ x. option_map end_said (cond (x && b && not t) (Some (BareEnd (p ∷ ps), rest)) None)) e

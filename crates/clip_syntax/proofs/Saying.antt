@@ -1,14 +1,12 @@
 -- What the lexer says, step by step.
-use Rattle.std.proofs.Common.{◌≡◌, ℕ, ◌<◌, Bool, true, false, cond, eqb, List, [], ◌∷◌, ◌++◌, map, length, flat_map, Option, Some, None, refl, sym, ap, subst, ◌∙◌, arith, append_assoc, append-nil, length-append}
+use Rattle.std.proofs.Common.{◌≡◌, ℕ, ◌<◌, List, [], ◌∷◌, ◌++◌, length, flat_map, Some, refl, sym, ap, subst, ◌∙◌}
 use Rattle.std.specs.Option.{option_map}
 use Rattle.std.proofs.lemmas.List.{flat_map_more}
-use Rattle.clip_grammar.specs.Lexemes.{Piece, Lexeme, Blank, Word, Quoted, Range, Sign, Foreign, spell, spell_piece, spell_pieces, is_lexeme}
-use Rattle.clip_grammar.specs.Lexer.{piece_at, pieces_at, quoted_at, word_at, close_quote, word_with, lexeme_at, Finds, quotable_char, first_char, word_char}
-use Rattle.clip_syntax.specs.Marks.{marked, marked_after}
+use Rattle.clip_grammar.specs.Lexemes.{Lexeme}
+use Rattle.clip_grammar.specs.Lexer.{lexeme_at}
 use Rattle.clip_syntax.specs.Said.{said, IsLexing}
-use Rattle.clip_grammar.specs.Tokens.{Token, Phrase, mark_of, text_of, word_token, tokens_of, tokens_of_lexeme}
-use Rattle.clip_grammar.specs.declared.mark.Mark.{Mark}
-use Rattle.clip_syntax.proofs.Marking.{mapped_some, mapped_none}
+use Rattle.clip_grammar.specs.Tokens.{Token, tokens_of, tokens_of_lexeme}
+use Rattle.clip_syntax.proofs.Marking.{mapped_some}
 use Rattle.clip_grammar.proofs.Lexing.{finds_more}
 use Rattle.clip_grammar.proofs.Refusals.{lexeme_shorter}
 

@@ -9,7 +9,8 @@ use Rattle.clip_grammar.specs.Tokens.{Token}
 use Rattle.clip_grammar.specs.Tree.{nodes, clause_nodes, depth, clause_depth}
 use Rattle.clip_grammar.specs.Shape as shape
 use Rattle.clip_grammar.specs.Shape.{Sign, Written, one, more, WrittenClause, item, everything, Item, tokens, clause_tokens, item_tokens, sign_tokens, field_tokens, words_tree, clauses_in, clause_tree, item_tree, written_tree}
-use Rattle.clip_syntax.specs.Sizes.{is_node, is_colon, open_after, most_open}
+use Rattle.clip_grammar.specs.LeftOut.{is_colon}
+use Rattle.clip_syntax.specs.Sizes.{is_node, open_after, most_open}
 
 count-append : (p : Token → Bool) (ts us : List Token) → count_by p (ts ++ us) ≡ count_by p ts + count_by p us
 count-append p ts us = sum_by-append (λ t. cond (p t) 1 0) ts us

@@ -1,7 +1,7 @@
 -- Ranges, as the lexer reads them: what it keeps of each part.
 use Rattle.std.specs.Prelude.{ℕ, Bool, List, [], ◌∷◌, map, Option, Some, None, ◌==◌, if◌then◌else◌, codes}
 use Rattle.std.specs.Option.{option_map}
-use Rattle.clip_grammar.specs.Lexemes.{Ending, BareEnd, QuotedEnd, Piece}
+use Rattle.clip_grammar.specs.Lexemes.{Ending, BareEnd, QuotedEnd}
 use Rattle.clip_grammar.specs.Lexer.{span_white, gap_at, to_at, bracket_at, ending_at, ◌>>=◌}
 use Rattle.clip_grammar.specs.Tokens.{Token, Between, End, Free, mark_of, is_spelled, text_of, closing}
 use Rattle.clip_grammar.specs.declared.mark.Mark.{Mark}

@@ -13,10 +13,6 @@ is_node token.Star = true
 is_node token.Open = true
 is_node _ = false
 
-abbrev pub is_colon : Token → Bool
-is_colon token.Colon = true
-is_colon _ = false
-
 -- how many parentheses are open behind a token
 abbrev pub open_after : Token → ℕ → ℕ
 open_after token.Open n = n + 1

@@ -19,7 +19,7 @@ use std::vec::IntoIter;
 
 /// A group whose clauses are still read.
 #[derive(Drop)]
-struct OpenGroup {
+pub struct OpenGroup {
     clauses: Vec<(Occur, Query)>,
     /// The field of the items that name none.
     field: ArcStr,
@@ -87,8 +87,8 @@ fn fold_bound(alloc: Global, bound: &Bound) -> Result<Bound, NoMemory>
 
 /// A query of which some tokens have been read.
 #[derive(Drop)]
-struct Builder {
-    /// The groups around the one that is read, the innermost last.
+pub struct Builder {
+    /// The groups around, the innermost last.
     around: Vec<OpenGroup>,
     group: OpenGroup,
     /// The words of the items to come.
@@ -122,21 +122,23 @@ impl Builder {
         ensures { IfOk result (λ _. state_of self.new ≡ close (state_of self.old) (state_of self.old).around) }
     {
         if let Some(outer) = self.around.pop() {
-            let OpenGroup { clauses, .. } = mem::replace(&mut self.group, outer);
+            let inner = mem::replace(&mut self.group, outer);
+            let OpenGroup { clauses, .. } = inner;
             self.group.add(Query::Group(clauses))?;
         }
         Ok(())
     }
 
-    /// Reads a token. The second star of `*:*` has said nothing that the first has not.
+    /// Reads a token.
     fn read(&mut self, alloc: Global, token: &Token, before_colon: bool) -> Result<(), NoMemory>
         ensures { IfOk result (λ _. state_of self.new ≡ read (token_of token.now) before_colon (state_of self.old)) }
     {
         match token {
             Token::Plus => self.group.occur = Occur::Must,
             Token::Minus | Token::Bang | Token::Not => self.group.occur = Occur::MustNot,
-            Token::Plain(field) if before_colon => {
-                self.group.nearer = Some(ArcStr::from_str(alloc, field)?);
+            Token::Plain(text) if before_colon => {
+                let field = ArcStr::from_str(alloc, text)?;
+                self.group.nearer = Some(field);
             }
             Token::Plain(_) | Token::Phrase(_) => self.add_words()?,
             Token::Front(text) => {
@@ -150,10 +152,14 @@ impl Builder {
                 let high = fold_bound(alloc, high)?;
                 self.group.add(Query::Span { field, low, high })?;
             }
-            Token::Star if before_colon => self.group.add(Query::All)?,
+            Token::Star => {
+                if before_colon {
+                    self.group.add(Query::All)?;
+                }
+            }
             Token::Open => self.open(alloc)?,
             Token::Close => self.close()?,
-            Token::Star | Token::Colon | Token::Other => {}
+            Token::Colon | Token::Other => {}
         }
         Ok(())
     }
@@ -161,9 +167,8 @@ impl Builder {
 
 /// The query that the tokens write. Items that name no field are in `text`.
 ///
-/// `words` has the words of each plain or quoted item in order, as `item_words` gives them. They are moved, and a
-/// field is shared by the items in it. `NoMemory` where a growth is refused. The cost is linear in the tokens and the
-/// bytes of their texts. The query nests as deep as the parentheses do, so see first that they are not too many.
+/// `words` has the words of each plain or quoted item in order, as `item_words` gives them.
+/// The cost is linear in the tokens and the bytes of their texts: no word is copied, and a field is shared.
 #[tactic(auto, unfolding(crate::specs::Building::read_all))]
 pub fn build(alloc: Global, tokens: &[Token], words: Vec<Vec<ArcStr>>) -> Result<Query, NoMemory>
     requires { map (λ words. map arc_str_bytes words.items) words.items ≡ items_words (map token_of tokens.now) }
@@ -183,80 +188,4 @@ pub fn build(alloc: Global, tokens: &[Token], words: Vec<Vec<ArcStr>>) -> Result
     let Builder { group, .. } = builder;
     let OpenGroup { clauses, .. } = group;
     Ok(Query::Group(clauses))
-}
-
-#[cfg(test)]
-mod tests {
-    use super::*;
-    use crate::lexer::lex;
-    use crate::words::item_words;
-    use std::test::Fail;
-
-    fn built(alloc: Global, text: &str) -> Result<Query, NoMemory> {
-        let chars: Vec<char> = text.chars().collect(alloc)?;
-        let (tokens, _) = lex(alloc, &chars)?;
-        match item_words(alloc, &tokens)? {
-            Some(words) => build(alloc, &tokens, words),
-            None => Ok(Query::All),
-        }
-    }
-
-    fn shared(alloc: Global, text: &str) -> Result<ArcStr, NoMemory> {
-        Ok(ArcStr::from_str(alloc, text)?)
-    }
-
-    fn term(alloc: Global, field: &str, word: &str) -> Result<Query, NoMemory> {
-        Ok(Query::Term {
-            field: shared(alloc, field)?,
-            word: shared(alloc, word)?,
-        })
-    }
-
-    fn phrase(alloc: Global, field: &str, first: &str, second: &str) -> Result<Query, NoMemory> {
-        Ok(Query::Phrase {
-            field: shared(alloc, field)?,
-            words: vec![in alloc; shared(alloc, first)?, shared(alloc, second)?]?,
-        })
-    }
-
-    #[test]
-    fn a_group_is_in_its_field(rt: HostRuntime) -> Result<(), Fail> {
-        let alloc = rt.alloc();
-        let group = Query::Group(vec![in alloc;
-            (Occur::Must, term(alloc, "title", "tea")?),
-            (Occur::MustNot, phrase(alloc, "title", "green", "tea")?),
-        ]?);
-        let wanted = Query::Group(vec![in alloc;
-            (Occur::Should, group),
-            (Occur::Should, term(alloc, "text", "milk")?),
-        ]?);
-        assert_eq!(rt;
-            built(alloc, "title:(+tea -\"green tea\") text:milk")?,
-            wanted
-        );
-        Ok(())
-    }
-
-    #[test]
-    fn an_item_may_name_another_field(rt: HostRuntime) -> Result<(), Fail> {
-        let alloc = rt.alloc();
-        let prefix = Query::Prefix {
-            field: shared(alloc, "lead")?,
-            front: shared(alloc, "te")?,
-        };
-        let group = Query::Group(vec![in alloc;
-            (Occur::MustNot, prefix),
-            (Occur::Must, term(alloc, "title", "tea")?),
-        ]?);
-        let wanted = Query::Group(vec![in alloc;
-            (Occur::MustNot, group),
-            (Occur::MustNot, Query::All),
-            (Occur::Should, phrase(alloc, "text", "wi", "fi")?),
-        ]?);
-        assert_eq!(rt;
-            built(alloc, "-title:(!lead:Te* +tea) NOT *:* Wi-Fi")?,
-            wanted
-        );
-        Ok(())
-    }
 }

@@ -69,7 +69,22 @@ fn is_start(c: char) -> bool
     !is_white(c)
         && !matches!(
             c,
-            '+' | '-' | '!' | '(' | ')' | ':' | '^' | '[' | ']' | '"' | '{' | '}' | '~' | '*' | '?' | '\\' | '/'
+            '+' | '-'
+                | '!'
+                | '('
+                | ')'
+                | ':'
+                | '^'
+                | '['
+                | ']'
+                | '"'
+                | '{'
+                | '}'
+                | '~'
+                | '*'
+                | '?'
+                | '\\'
+                | '/'
         )
 }
 
@@ -237,7 +252,9 @@ fn has_operator(marks: &[Mark]) -> bool
         let Some(second) = after.first() else {
             return false;
         };
-        if is_bare('&', *first) && is_bare('&', *second) || is_bare('|', *first) && is_bare('|', *second) {
+        if is_bare('&', *first) && is_bare('&', *second)
+            || is_bare('|', *first) && is_bare('|', *second)
+        {
             return true;
         }
         rest = after;
@@ -270,7 +287,10 @@ fn word_token(alloc: Global, marks: &[Mark]) -> Result<Token, NoMemory>
     if is_spelled(&['*'], marks) {
         return Ok(Token::Star);
     }
-    if is_spelled(&['A', 'N', 'D'], marks) || is_spelled(&['O', 'R'], marks) || has_operator(marks) {
+    if is_spelled(&['A', 'N', 'D'], marks)
+        || is_spelled(&['O', 'R'], marks)
+        || has_operator(marks)
+    {
         return Ok(Token::Other);
     }
     if is_spelled(&['N', 'O', 'T'], marks) {

@@ -13,10 +13,9 @@ mod lexer;
 mod parser;
 mod reader;
 mod size;
-mod words;
-
 #[cfg(test)]
 mod tests;
+mod words;
 
 pub use clip_grammar::fault::QueryFault;
 pub use clip_grammar::query::{Bound, Occur, Query};

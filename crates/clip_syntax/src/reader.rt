@@ -37,7 +37,8 @@ fn tokens_of(alloc: Global, text: &str) -> Result<Vec<Token>, QueryFault>
     let chars: Vec<char> = text.chars().collect(alloc)?;
     let (tokens, rest) = lex(alloc, &chars)?;
     if !rest.is_empty() {
-        return Err(QueryFault::Lexical(text.len() - byte_len(rest)));
+        let place = text.len() - byte_len(rest);
+        return Err(QueryFault::Lexical(place));
     }
     Ok(tokens)
 }

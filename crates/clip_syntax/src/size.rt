@@ -4,7 +4,8 @@ ghost use Rattle.std.specs.List.{count_by};
 ghost use Rattle.clip_grammar.specs.Shape as shape;
 ghost use Rattle.clip_grammar.specs.Shape.{Written, written_tree};
 ghost use Rattle.clip_grammar.specs.Reading.{IsTooBig};
-ghost use Rattle.clip_syntax.specs.Sizes.{is_node, is_colon, open_after, most_open};
+ghost use Rattle.clip_grammar.specs.LeftOut.{is_colon};
+ghost use Rattle.clip_syntax.specs.Sizes.{is_node, open_after, most_open};
 ghost use Rattle.clip_syntax.specs.TokenOf.{token_of};
 
 use crate::lexer::Token;

@@ -1,4 +1,4 @@
-use Rattle.std.proofs.Common.{◌≡◌, ◌∙◌, ◌++◌, ◌∷◌, [], cond, map, take, ap, ◌+◌}
+use Rattle.std.proofs.Common.{◌∙◌, ◌++◌, ◌∷◌, [], cond, map, take, ap}
 use Rattle.std.specs.List.{list_any}
 use Rattle.clip_extract.specs.Keys.{is_same, key_of}
 use Rattle.clip_segment.specs.Positions.{positions_under}

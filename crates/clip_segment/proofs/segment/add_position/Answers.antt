@@ -1,4 +1,4 @@
-use Rattle.std.proofs.Common.{◌≡◌, ◌∙◌, ◌++◌, ◌∷◌, [], ap, arith, rules}
+use Rattle.std.proofs.Common.{◌∙◌, ◌++◌, ◌∷◌, [], ap, rules}
 use Rattle.std.specs.HashMap.Entry.{map_with_value}
 use Rattle.clip_segment.proofs.Positions.{items_of_entry, position_added}
 use Rattle.clip_segment.proofs.segment.add_position.Goals as goal

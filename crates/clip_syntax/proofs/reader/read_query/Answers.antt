@@ -1,10 +1,10 @@
-use Rattle.std.proofs.Common.{◌≡◌, ◌<◌, ◌≤◌, ℕ, Bool, true, false, not, length, map, refl, sym, ap, ◌∙◌, rules, arith, zero}
+use Rattle.std.proofs.Common.{◌≡◌, Bool, true, false, not, map, refl, sym, ap, ◌∙◌, zero}
 use Rattle.std.specs.Prelude.{is_some}
 use Rattle.std.proofs.lemmas.Bool.{false≢true}
 use Rattle.clip_grammar.specs.LeftOut.{leaves_out}
 use Rattle.clip_grammar.specs.Parser.{accepts}
 use Rattle.clip_grammar.specs.Reading.{IsTooBig}
-use Rattle.clip_grammar.specs.Shape.{lacks_words, tokens, written_tree}
+use Rattle.clip_grammar.specs.Shape.{lacks_words, written_tree}
 use Rattle.clip_grammar.specs.declared.stage.Stage.TheVariants.{Fresh}
 use Rattle.clip_grammar.proofs.Refusals.{left_out_fault, structure_fault, written_found, writes_found, reads_found, no_fault}
 use Rattle.clip_grammar.proofs.Pieces.{not_true}

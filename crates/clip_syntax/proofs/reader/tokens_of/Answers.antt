@@ -1,4 +1,4 @@
-use Rattle.std.proofs.Common.{◌≡◌, ◌∙◌, ◌<◌, ◌≤◌, length, arith, rules, map}
+use Rattle.std.proofs.Common.{◌≡◌, ◌∙◌, ◌<◌, length, arith, rules, map}
 use Rattle.std.proofs.lemmas.Bool.Decides.{nat_tests}
 use Rattle.std.proofs.lemmas.Str.{chars_from_encodes}
 use Rattle.std.specs.Str.{chars}
@@ -12,8 +12,8 @@ byte_len-requires c =
     let fits = rest_fits c.args.text.now _ (map token_of c.in_ok-tokens.tokens.items) c.in_ok-tokens.rest.now c.utf8.text (c.deref.ensures.value ∙ cs) c.in_ok-tokens.ensures in
     omega (arith, fits)
 
-pub overflow_sub-result : goal.overflow_sub-result
-overflow_sub-result c =
+pub overflow_sub-place : goal.overflow_sub-place
+overflow_sub-place c =
     let cs : c.in_ok-chars.chars.items ≡ chars c.args.text.now = search (rules, chars_from_encodes) in
     let fits = rest_fits c.args.text.now _ (map token_of c.in_ok-tokens.tokens.items) c.in_ok-tokens.rest.now c.utf8.text (c.deref.ensures.value ∙ cs) c.in_ok-tokens.ensures in
     omega (arith, fits)

@@ -1,4 +1,4 @@
-use Rattle.std.proofs.Common.{◌≡◌, ◌∙◌, ◌++◌, ◌∷◌, [], cond, get_or, map, take, ap, sym, ◌+◌}
+use Rattle.std.proofs.Common.{◌∙◌, ◌++◌, ◌∷◌, [], cond, get_or, map, take, ap, sym, ◌+◌}
 use Rattle.std.specs.Arc.{arc_value}
 use Rattle.clip_extract.specs.Keys.{key_of}
 use Rattle.clip_segment.specs.Segment.{holds_key, positions_with}

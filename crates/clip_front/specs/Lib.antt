@@ -1,0 +1,9 @@
+pub mod Device
+pub mod Lines
+pub mod Registry
+pub mod Request
+pub mod Meaning
+pub mod Reply
+pub mod Views
+pub mod Requests
+pub mod Outlines

@@ -1,0 +1,67 @@
+//! The run: lines in, replies out.
+ghost use Rattle.std.specs.Prelude.{◌≡◌, ◌≢◌, ◌⊎◌, List, ℕ, length, true, false, IfOk, OnOk, OnErr, IfSome, IfErr, Err};
+ghost use Rattle.std.specs.Io.KnownBytes.{Appends};
+ghost use Rattle.clip_front.specs.Lines.{lines_of};
+ghost use Rattle.clip_front.specs.Reply.{IsText, WritesFront};
+
+use crate::answer::answer;
+use crate::device::{Sink, Source};
+use crate::fault::RunFault;
+use crate::lines::LineReader;
+use crate::outbox::Outbox;
+use crate::registry::PlainList;
+use std::alloc::Global;
+
+/// What a run did.
+#[derive(Clone, Copy, Debug, PartialEq, Eq)]
+pub struct Ended {
+    pub lines: u64,
+}
+
+/// Writes the reply text of what it reads.
+pub fn run<R: Source, W: Sink>(
+    alloc: Global,
+    reader: &mut R,
+    writer: &mut W,
+) -> Result<Ended, RunFault>
+    requires unread { R.reads reader.old ≡ 0 }
+    requires reader_well { R.has_failed reader.old ≡ false }
+    requires writer_well { W.has_failed writer.old ≡ false }
+
+    // Where the bytes are known, what was written and flushed is their reply text.
+    ensures replies { OnOk result (IfSome (R.left reader.old) (λ input.
+        (text : List ℕ) × IsText input text × Appends (W.taken writer.old) (W.taken writer.new) text)) }
+    ensures flushed { OnOk result (W.is_flushed writer.new ≡ true) }
+    ensures lines { IfOk result (λ ended. IfSome (R.left reader.old) (λ input.
+        ended.lines ≡ length (lines_of input))) }
+
+    // No device has failed, where the run ended well, and each fault has its reason.
+    ensures ok { OnOk result ((R.has_failed reader.new ≡ false) × (W.has_failed writer.new ≡ false)) }
+    ensures read { result ≡ Err RunFault.Read
+        → (R.has_failed reader.new ≡ true) ⊎ (R.reads reader.new ≡ 1099511627776) }
+    ensures write { result ≡ Err RunFault.Write → W.has_failed writer.new ≡ true }
+
+    // After a fault, what was written is a front of the reply text of some of the first lines.
+    ensures front { OnErr result (IfSome (R.left reader.old) (λ input.
+        WritesFront input (W.taken writer.old) (W.taken writer.new))) }
+{
+    let mut lines = LineReader::new(alloc)?;
+    let mut registry = PlainList::new(alloc);
+    let mut outbox = Outbox::new(alloc);
+    let mut line = Vec::new(alloc);
+    let mut count = 0u64;
+    'lines: loop {
+        outbox.hand_over(writer, lines.has_line())?;
+        if !lines.next_line(reader, &mut line)? {
+            return Ok(Ended { lines: count });
+        }
+        count += 1;
+        let reply = answer(alloc, &mut registry, count, &line)?;
+        outbox.gather(&reply)?;
+    }
+}
+
+/// An input has one reply text, so `run` writes no other.
+pub fn one_text()
+    ensures { (input text other : List ℕ) → IsText input text → IsText input other → text ≡ other }
+{}

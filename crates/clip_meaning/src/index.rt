@@ -1,0 +1,196 @@
+//! The words of a field in byte order, each with its position.
+ghost use Rattle.std.specs.Prelude.{◌≡◌, ◌&&◌, map, filter, not, IfOk, IsPermutation};
+ghost use Rattle.std.specs.Arc.{arc_str_bytes};
+ghost use Rattle.std.specs.List.{list_any};
+ghost use Rattle.std.specs.List.Sorted.{IsSortedByKey};
+ghost use Rattle.std.specs.Str.{bytes_eq};
+ghost use Rattle.std.specs.Ordering.{is_gt, is_lt};
+ghost use Rattle.clip_words.specs.Order.{bytes_cmp};
+ghost use Rattle.clip_grammar.specs.Tokens.{End};
+ghost use Rattle.clip_grammar.specs.Tree.{end_of};
+ghost use Rattle.clip_meaning.specs.Index.{numbered, from_low};
+ghost use Rattle.clip_meaning.specs.Meaning.{above, below, begins_with};
+
+use clip_syntax::Bound;
+use clip_words::NoMemory;
+use std::alloc::Global;
+use std::cmp::Ordering;
+use std::marker::Model;
+use std::sync::ArcStr;
+
+/// A word of a field, and its position there, counted from 0.
+#[derive(Debug, Drop)]
+pub struct Posting {
+    word: ArcStr,
+    position: usize,
+}
+
+impl Model for Posting {
+    ghost use Rattle.std.specs.Prelude.{ℕ, List};
+    ghost use Rattle.std.specs.Arc.{arc_str_bytes};
+
+    ghost Value = { List ℕ × ℕ };
+
+    ghost view = { λ p. (arc_str_bytes p.word, p.position) };
+}
+
+impl Posting {
+    /// The word.
+    pub fn word(&self) -> &ArcStr
+        ensures { arc_str_bytes result.now ≡ self.now.0 }
+    {
+        &self.word
+    }
+
+    /// The word's position in its field.
+    pub fn position(&self) -> usize
+        ensures { result ≡ self.now.1 }
+    {
+        self.position
+    }
+}
+
+/// The words of a field with their positions, in the byte order of the words.
+#[derive(Debug, Drop)]
+pub(crate) struct WordIndex {
+    postings: Vec<Posting>,
+}
+
+impl Model for WordIndex {
+    ghost use Rattle.std.specs.Prelude.{ℕ, List};
+    ghost use Rattle.std.specs.List.Sorted.{IsSortedByKey};
+    ghost use Rattle.clip_words.specs.Order.{bytes_cmp};
+
+    ghost Value = { List (List ℕ × ℕ) };
+
+    ghost view = { λ index. index.postings.items };
+
+    ghost invariant = { λ index. IsSortedByKey (λ p. p.0) bytes_cmp index.postings.items };
+}
+
+/// The words, each with its position.
+fn postings_of(alloc: Global, words: &[ArcStr]) -> Result<Vec<Posting>, NoMemory>
+    ensures { IfOk result (λ postings. postings.items ≡ numbered 0 (map arc_str_bytes words.now)) }
+{
+    let mut postings = Vec::new(alloc);
+    for word in words {
+        let posting = Posting {
+            word: word.clone()?,
+            position: postings.len(),
+        };
+        postings.push(posting)?;
+    }
+    Ok(postings)
+}
+
+impl WordIndex {
+    /// Sorts the words of a field.
+    pub(crate) fn read(alloc: Global, words: &[ArcStr]) -> Result<WordIndex, NoMemory>
+        ensures { IfOk result (λ index. IsPermutation (numbered 0 (map arc_str_bytes words.now)) index) }
+    {
+        let mut postings = postings_of(alloc, words)?;
+        postings.sort_by(
+            |a: &Posting, b: &Posting| -> Ordering
+                ensures { result ≡ bytes_cmp a.now.0 b.now.0 }
+            { a.word().cmp(b.word()) },
+        )?;
+        Ok(WordIndex { postings })
+    }
+
+    pub(crate) fn postings(&self) -> &[Posting]
+        ensures value { result.now ≡ self.now }
+        ensures sorted { IsSortedByKey (λ p. p.0) bytes_cmp self.now }
+    {
+        &self.postings
+    }
+
+    /// The postings of the words that are not below a word.
+    fn not_below(&self, word: &str) -> &[Posting]
+        ensures value { result.now ≡ from_low (End.With word.now) self.now }
+        ensures sorted { IsSortedByKey (λ p. p.0) bytes_cmp self.now }
+    {
+        let postings = self.postings();
+        let place = postings.partition_point(
+            |posting: &Posting| -> bool
+                ensures { result ≡ is_gt (bytes_cmp word.entry.now posting.now.0) }
+            { word > posting.word().as_str() },
+        );
+        postings.split_at(place).1
+    }
+
+    /// The postings of the words that are above a word.
+    fn above(&self, word: &str) -> &[Posting]
+        ensures value { result.now ≡ from_low (End.Without word.now) self.now }
+        ensures sorted { IsSortedByKey (λ p. p.0) bytes_cmp self.now }
+    {
+        let postings = self.postings();
+        let place = postings.partition_point(
+            |posting: &Posting| -> bool
+                ensures { result ≡ not (is_lt (bytes_cmp word.entry.now posting.now.0)) }
+            { word >= posting.word().as_str() },
+        );
+        postings.split_at(place).1
+    }
+
+    fn from_low(&self, low: &Bound) -> &[Posting]
+        ensures value { result.now ≡ from_low (end_of low.now) self.now }
+        ensures sorted { IsSortedByKey (λ p. p.0) bytes_cmp self.now }
+    {
+        match low {
+            Bound::Free => self.postings(),
+            Bound::With(low) => self.not_below(low.as_str()),
+            Bound::Without(low) => self.above(low.as_str()),
+        }
+    }
+
+    /// The postings of a word, in the order of their positions.
+    pub(crate) fn occurrences(&self, word: &str) -> &[Posting]
+        ensures { result.now ≡ filter (λ p. bytes_eq p.0 word.now) self.now }
+    {
+        let postings = self.not_below(word);
+        let place = postings.partition_point(
+            |posting: &Posting| -> bool
+                ensures { result ≡ not (is_lt (bytes_cmp word.entry.now posting.now.0)) }
+            { word >= posting.word().as_str() },
+        );
+        postings.split_at(place).0
+    }
+
+    pub(crate) fn has_word(&self, word: &str) -> bool
+        ensures { result ≡ list_any (λ p. bytes_eq p.0 word.now) self.now }
+    {
+        match self.not_below(word).first() {
+            Some(posting) => posting.word().as_str() == word,
+            None => false,
+        }
+    }
+
+    pub(crate) fn has_front(&self, front: &str) -> bool
+        ensures { result ≡ list_any (λ p. begins_with front.now p.0) self.now }
+    {
+        match self.not_below(front).first() {
+            Some(posting) => posting.word().as_bytes().starts_with(front.as_bytes()),
+            None => false,
+        }
+    }
+
+    pub(crate) fn has_between(&self, low: &Bound, high: &Bound) -> bool
+        ensures { result ≡ list_any (λ p. above (end_of low.now) p.0 && below (end_of high.now) p.0) self.now }
+    {
+        match self.from_low(low).first() {
+            Some(posting) => is_below(high, posting.word()),
+            None => false,
+        }
+    }
+}
+
+/// Whether a word is not above the high end of a range.
+fn is_below(high: &Bound, word: &str) -> bool
+    ensures { result ≡ below (end_of high.now) word.now }
+{
+    match high {
+        Bound::Free => true,
+        Bound::With(high) => word <= high.as_str(),
+        Bound::Without(high) => word < high.as_str(),
+    }
+}

@@ -1,0 +1,56 @@
+//! `pressclip run`: requests on standard input, replies on standard output.
+#![tactic(auto)]
+
+mod kinds;
+mod words;
+
+use clip_front::{RunFault, StdSink, StdSource, run};
+use kinds::Mode;
+use std::io::ErrorKind;
+use std::process::ExitCode;
+use std::rt::Env;
+use std::{env, io};
+use words::{ending, mode};
+
+const USAGE: &str = "usage: pressclip run";
+
+// The words after the program's name.
+fn words_of<R: Env + AllocGlobal>(rt: &R) -> io::Result<Vec<String>> {
+    let mut words = Vec::new(rt.alloc());
+    for word in env::args(rt)?.skip(1) {
+        words.push(word)?;
+    }
+    Ok(words)
+}
+
+// Says the text on standard error, if there is one, and gives the status.
+fn end_with<R: Eprint>(rt: &R, status: u8, text: &str) -> ExitCode {
+    if !text.is_empty() {
+        let _ = rt.eprintln(text);
+    }
+    ExitCode::from(status)
+}
+
+// Runs over the standard streams.
+fn serve<R: Input + Print + Eprint + AllocGlobal>(rt: &R) -> ExitCode {
+    let mut source = StdSource::new(rt.reader());
+    let mut sink = StdSink::new(io::writer(rt));
+    let (status, text) = ending(&run(rt.alloc(), &mut source, &mut sink));
+    end_with(rt, status, text)
+}
+
+fn main(rt: HostRuntime) -> ExitCode {
+    match words_of(&rt) {
+        Ok(words) => match mode(&words) {
+            Some(Mode::Run) => serve(&rt),
+            None => end_with(&rt, 2, USAGE),
+        },
+        Err(error) => {
+            if error.kind() != ErrorKind::OutOfMemory {
+                return end_with(&rt, 2, USAGE);
+            }
+            let (status, text) = ending(&Err(RunFault::NoMemory));
+            end_with(&rt, status, text)
+        }
+    }
+}
