@@ -1,5 +1,5 @@
 -- An input has one reply text.
-use Rattle.std.proofs.Common.{◌≡◌, ◌≢◌, ℕ, zero, suc, List, [], ◌∷◌, ◌++◌, length, true, false, true≢false, refl, sym, ap, ap₂, ◌∙◌, subst, arith}
+use Rattle.std.proofs.Common.{◌≡◌, ◌≢◌, ℕ, zero, suc, List, [], ◌∷◌, ◌++◌, true, false, true≢false, refl, sym, ap, ap₂, ◌∙◌, subst}
 use Rattle.std.specs.Prelude.{Option}
 use Rattle.clip_grammar.proofs.Uniqueness.{one_tree}
 use Rattle.clip_grammar.specs.Reading.{IsFault}
@@ -7,9 +7,9 @@ use Rattle.clip_grammar.specs.Tree.{Tree}
 use Rattle.clip_grammar.specs.declared.fault.QueryFault.{QueryFault}
 use Rattle.clip_grammar.specs.declared.fault.QueryFault.TheVariants.{NoMemory}
 use Rattle.clip_model.specs.Standing.{Standing}
-use Rattle.clip_model.specs.History.{History, Command, Register, has_room}
-use Rattle.clip_front.specs.Request.{Outline, blank, unread, registers, counts, matches, outline}
-use Rattle.clip_front.specs.Meaning.{Meaning, nothing, refusal, refusal_at, command, counting, matching, IsQuery, ReadAs, FirstUnread, MeansRegister, MeansOutline, after}
+use Rattle.clip_model.specs.History.{History, Register, has_room}
+use Rattle.clip_front.specs.Request.{Outline, blank, refused, registers, counts, matches, outline}
+use Rattle.clip_front.specs.Meaning.{Meaning, nothing, refusal, refusal_at, command, counting, matching, IsQuery, ReadAs, FirstRefused, MeansRegister, MeansOutline, after}
 use Rattle.clip_front.specs.Reply.{reply, AreReplies}
 
 -- ---- a text is one query, or has a fault
@@ -37,18 +37,18 @@ read_as_once (p ∷ ps) [] ts a b = absurd a
 read_as_once (p ∷ ps) (s ∷ ss) [] a b = absurd b
 read_as_once (p ∷ ps) (s ∷ ss) (t ∷ ts) a b = ap₂ (λ x xs. x ∷ xs) (same_standing s t (a.0 ∙ sym b.0) (a.1 ∙ sym b.1) (one_tree p.1 s.tree t.tree a.3.0 b.3.0) (a.2 ∙ sym b.2)) (read_as_once ps ss ts a.4 b.4)
 
-never_read : (ps : List (List ℕ × List ℕ)) (ss : List Standing) (k : ℕ) → ReadAs ps ss → FirstUnread ps k → ⊥
+never_read : (ps : List (List ℕ × List ℕ)) (ss : List Standing) (k : ℕ) → ReadAs ps ss → FirstRefused ps k → ⊥
 never_read [] ss k a b = b
 never_read (p ∷ ps) [] k a b = a
 never_read (p ∷ ps) (s ∷ ss) zero a b = never_both p.1 s.tree b.0 a.3 b.1 b.2
 never_read (p ∷ ps) (s ∷ ss) (suc k) a b = never_read ps ss k a.4 b.1
 
-unread_once : (ps : List (List ℕ × List ℕ)) (j k : ℕ) → FirstUnread ps j → FirstUnread ps k → j ≡ k
-unread_once [] j k a b = absurd a
-unread_once (p ∷ ps) zero zero a b = refl
-unread_once (p ∷ ps) zero (suc k) a b = absurd (never_both p.1 b.0.0 a.0 b.0.1 a.1 a.2)
-unread_once (p ∷ ps) (suc j) zero a b = absurd (never_both p.1 a.0.0 b.0 a.0.1 b.1 b.2)
-unread_once (p ∷ ps) (suc j) (suc k) a b = ap suc (unread_once ps j k a.1 b.1)
+place_once : (ps : List (List ℕ × List ℕ)) (j k : ℕ) → FirstRefused ps j → FirstRefused ps k → j ≡ k
+place_once [] j k a b = absurd a
+place_once (p ∷ ps) zero zero a b = refl
+place_once (p ∷ ps) zero (suc k) a b = absurd (never_both p.1 b.0.0 a.0 b.0.1 a.1 a.2)
+place_once (p ∷ ps) (suc j) zero a b = absurd (never_both p.1 a.0.0 b.0 a.0.1 b.1 b.2)
+place_once (p ∷ ps) (suc j) (suc k) a b = ap suc (place_once ps j k a.1 b.1)
 
 -- ---- one line
 
@@ -69,7 +69,7 @@ register_once h ps (refusal_at v j) nothing a b = absurd b
 register_once h ps (refusal_at v j) counting a b = absurd b
 register_once h ps (refusal_at v j) (matching articles) a b = absurd b
 register_once h ps (refusal_at v j) (refusal w) a b = absurd (never_read ps b.1 j b.2 a.1)
-register_once h ps (refusal_at v j) (refusal_at w k) a b = ap₂ refusal_at (a.0 ∙ sym b.0) (unread_once ps j k a.1 b.1)
+register_once h ps (refusal_at v j) (refusal_at w k) a b = ap₂ refusal_at (a.0 ∙ sym b.0) (place_once ps j k a.1 b.1)
 register_once h ps (refusal_at v j) (command d) a b = absurd (never_read ps b.0 j b.1 a.1)
 register_once h ps (command c) nothing a b = absurd b
 register_once h ps (command c) counting a b = absurd b
@@ -80,7 +80,7 @@ register_once h ps (command c) (command d) a b = ap command (a.2 ∙ ap Register
 
 outline_once : (h : History) (o : Outline) (m n : Meaning) → MeansOutline h o m → MeansOutline h o n → m ≡ n
 outline_once h blank m n a b = a ∙ sym b
-outline_once h (unread w) m n a b = a ∙ sym b
+outline_once h (refused w) m n a b = a ∙ sym b
 outline_once h (registers ps) m n a b = register_once h ps m n a b
 outline_once h counts m n a b = a ∙ sym b
 outline_once h (matches articles) m n a b = a ∙ sym b

@@ -1,6 +1,5 @@
 -- A list of registered queries in the order of their ids, beside the map that it is.
-use Rattle.std.proofs.Common.{◌≡◌, ℕ, zero, suc, ◌+◌, ◌<◌, ◌≤◌, List, [], ◌∷◌, ◌++◌, length, map, take, drop, Bool, true, false, cond, ◌||◌, Less, Equal, Greater, bytes_eq, refl, sym, ap, ap₂, ◌∙◌, subst, arith, append_assoc, add-one, set, get_or, Option, Some, is_some, Result, Ok, Err, OnOk, OnErr}
-use Rattle.std.specs.Prelude.{⊤}
+use Rattle.std.proofs.Common.{◌≡◌, ℕ, zero, suc, ◌+◌, ◌<◌, ◌≤◌, List, [], ◌∷◌, ◌++◌, length, map, take, drop, Bool, true, false, cond, ◌||◌, Less, Equal, Greater, bytes_eq, refl, sym, ap, ap₂, ◌∙◌, subst, arith, append_assoc, add-one, set, get_or, Option, Some, is_some}
 use Rattle.std.proofs.Math.Dec.{T}
 use Rattle.std.proofs.lemmas.List.{take_more, length-map}
 use Rattle.std.proofs.lemmas.List.{map-append}

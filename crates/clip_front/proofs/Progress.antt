@@ -9,7 +9,7 @@ use Rattle.clip_model.specs.History.{History}
 use Rattle.clip_front.specs.Registry.{State, Stands}
 use Rattle.clip_front.specs.Request.{outline, blank, is_blank, json_of, outline_of_value}
 use Rattle.clip_front.specs.Meaning.{Means, MeansOutline, after}
-use Rattle.clip_front.specs.Reply.{reply, AreReplies, IsText, Answers, WritesFront}
+use Rattle.clip_front.specs.Reply.{AreReplies, IsText, Answers, WritesFront}
 use Rattle.clip_front.specs.Device.{AppendsFront, HandsOver}
 use Rattle.std.proofs.Math.Seq.{take-append-add}
 use Rattle.std.proofs.Common.{length-append, add-one}

@@ -1,5 +1,6 @@
 pub mod Device
 pub mod Lines
+pub mod Refusal
 pub mod Registry
 pub mod Request
 pub mod Meaning

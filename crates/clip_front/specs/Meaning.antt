@@ -1,5 +1,5 @@
 -- What a line means after a history.
-use Rattle.std.specs.Prelude.{◌≡◌, ◌≢◌, ℕ, zero, suc, List, [], ◌∷◌, true, false, codes, ⊤, Option, None}
+use Rattle.std.specs.Prelude.{◌≡◌, ◌≢◌, ℕ, zero, suc, List, [], ◌∷◌, true, false, ⊤, None}
 use Rattle.clip_grammar.specs.Tree.{Tree}
 use Rattle.clip_grammar.specs.Reading.{Reads, HasNoFault, IsFault}
 use Rattle.clip_grammar.specs.declared.fault.QueryFault.{QueryFault}
@@ -7,12 +7,14 @@ use Rattle.clip_grammar.specs.declared.fault.QueryFault.TheVariants.{NoMemory}
 use Rattle.clip_meaning.specs.Article.{ArticleValue}
 use Rattle.clip_model.specs.Standing.{Standing}
 use Rattle.clip_model.specs.History.{History, Command, Register, has_room, with_command}
-use Rattle.clip_front.specs.Request.{Outline, blank, unread, registers, counts, matches, outline}
+use Rattle.clip_front.specs.declared.refusal.Refusal.{Refusal}
+use Rattle.clip_front.specs.declared.refusal.Refusal.TheVariants.{Query, Full}
+use Rattle.clip_front.specs.Request.{Outline, blank, refused, registers, counts, matches, outline}
 
 pub data Meaning : Type 0 where
   nothing : Meaning
-  refusal : List ℕ → Meaning
-  refusal_at : List ℕ → ℕ → Meaning
+  refusal : Refusal → Meaning
+  refusal_at : Refusal → ℕ → Meaning
   command : Command → Meaning
   counting : Meaning
   matching : List ArticleValue → Meaning
@@ -29,22 +31,22 @@ ReadAs [] (s ∷ ss) = ⊥
 ReadAs (l ∷ ls) [] = ⊥
 
 -- the text at this place is the first that is refused
-abbrev pub FirstUnread : List (List ℕ × List ℕ) → ℕ → Type 0
-FirstUnread [] k = ⊥
-FirstUnread (l ∷ ls) zero = (f : QueryFault) × (f ≢ NoMemory) × IsFault l.1 f
-FirstUnread (l ∷ ls) (suc k) = ((tree : Tree) × IsQuery l.1 tree) × FirstUnread ls k
+abbrev pub FirstRefused : List (List ℕ × List ℕ) → ℕ → Type 0
+FirstRefused [] k = ⊥
+FirstRefused (l ∷ ls) zero = (f : QueryFault) × (f ≢ NoMemory) × IsFault l.1 f
+FirstRefused (l ∷ ls) (suc k) = ((tree : Tree) × IsQuery l.1 tree) × FirstRefused ls k
 
 abbrev pub MeansRegister : History → List (List ℕ × List ℕ) → Meaning → Type 0
 MeansRegister h listed nothing = ⊥
-MeansRegister h listed (refusal word) = (word ≡ codes "full") × (ss : List Standing) × ReadAs listed ss × (has_room h (Register ss) ≡ false)
-MeansRegister h listed (refusal_at word k) = (word ≡ codes "query") × FirstUnread listed k
+MeansRegister h listed (refusal r) = (r ≡ Full) × (ss : List Standing) × ReadAs listed ss × (has_room h (Register ss) ≡ false)
+MeansRegister h listed (refusal_at r k) = (r ≡ Query) × FirstRefused listed k
 MeansRegister h listed (command c) = (ss : List Standing) × ReadAs listed ss × (c ≡ Register ss) × (has_room h c ≡ true)
 MeansRegister h listed counting = ⊥
 MeansRegister h listed (matching articles) = ⊥
 
 abbrev pub MeansOutline : History → Outline → Meaning → Type 0
 MeansOutline h blank m = m ≡ nothing
-MeansOutline h (unread word) m = m ≡ refusal word
+MeansOutline h (refused r) m = m ≡ refusal r
 MeansOutline h (registers listed) m = MeansRegister h listed m
 MeansOutline h counts m = m ≡ counting
 MeansOutline h (matches articles) m = m ≡ matching articles
@@ -56,8 +58,8 @@ Means h line m = MeansOutline h (outline line) m
 -- the history after it, all of whose commands are caller 1's
 abbrev pub after : History → Meaning → History
 after h nothing = h
-after h (refusal word) = h
-after h (refusal_at word k) = h
+after h (refusal r) = h
+after h (refusal_at r k) = h
 after h (command c) = with_command h 1 c
 after h counting = h
 after h (matching articles) = h

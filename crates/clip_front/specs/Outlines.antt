@@ -6,11 +6,11 @@ use Rattle.clip_model.specs.History.{most_listed}
 use Rattle.clip_front.specs.Request as request
 use Rattle.clip_front.specs.Views.{listed_view}
 use Rattle.clip_front.specs.declared.request.Outline.{Outline}
-use Rattle.clip_front.specs.declared.request.Outline.TheVariants.{Blank, Unread, Register, Count, Match}
+use Rattle.clip_front.specs.declared.request.Outline.TheVariants.{Blank, Refused, Register, Count, Match}
 
 abbrev pub outline_view : Outline → request.Outline
 outline_view Blank = request.blank
-outline_view (Unread word) = request.unread word.now
+outline_view (Refused refusal) = request.refused refusal
 outline_view (Register listed) = request.registers (map listed_view listed.items)
 outline_view Count = request.counts
 outline_view (Match articles) = request.matches articles.items
@@ -18,7 +18,7 @@ outline_view (Match articles) = request.matches articles.items
 -- a register lists no more than it may
 abbrev pub IsFew : Outline → Type 0
 IsFew Blank = ⊤
-IsFew (Unread word) = ⊤
+IsFew (Refused refusal) = ⊤
 IsFew (Register listed) = length listed.items ≤ most_listed
 IsFew Count = ⊤
 IsFew (Match articles) = ⊤

@@ -10,6 +10,8 @@ use Rattle.clip_front.specs.Registry.{State, Stands}
 use Rattle.clip_front.specs.Meaning.{Meaning, nothing, refusal, refusal_at, command, counting, matching, Means, MeansOutline, after}
 use Rattle.clip_front.specs.Request.{Outline, outline}
 use Rattle.clip_front.specs.Lines.{lines_of}
+use Rattle.clip_front.specs.Refusal.{word_of}
+use Rattle.clip_front.specs.declared.refusal.Refusal.{Refusal}
 use Rattle.clip_front.specs.Device.{AppendsFront}
 
 -- ---- one line
@@ -32,11 +34,11 @@ alert_items registry (a ∷ more) = item (alert_data registry a) (alert_items re
 abbrev pub count_at : ℕ → Data
 count_at n = number (unsigned n)
 
-unfoldable pub refusal_data : ℕ → List ℕ → Data
-refusal_data n word = object (member (codes "line") (count_at n) (member (codes "refused") (string word) no_members))
+unfoldable pub refusal_data : ℕ → Refusal → Data
+refusal_data n r = object (member (codes "line") (count_at n) (member (codes "refused") (string (word_of r)) no_members))
 
-unfoldable pub refusal_at_data : ℕ → List ℕ → ℕ → Data
-refusal_at_data n word k = object (member (codes "line") (count_at n) (member (codes "refused") (string word) (member (codes "which") (count_at k) no_members)))
+unfoldable pub refusal_at_data : ℕ → Refusal → ℕ → Data
+refusal_at_data n r k = object (member (codes "line") (count_at n) (member (codes "refused") (string (word_of r)) (member (codes "which") (count_at k) no_members)))
 
 unfoldable pub registered_data : ℕ → ℕ → Data
 registered_data n k = object (member (codes "line") (count_at n) (member (codes "registered") (count_at k) no_members))
@@ -54,8 +56,8 @@ printed d = compact_text d ++ 10 ∷ []
 -- line n after the history
 abbrev pub reply : ℕ → History → Meaning → List ℕ
 reply n h nothing = []
-reply n h (refusal word) = printed (refusal_data n word)
-reply n h (refusal_at word k) = printed (refusal_at_data n word k)
+reply n h (refusal r) = printed (refusal_data n r)
+reply n h (refusal_at r k) = printed (refusal_at_data n r k)
 reply n h (command c) = printed (registered_data n (applied h c))
 reply n h counting = printed (count_data n (finite.len (replay h)))
 reply n h (matching articles) = printed (match_data n (replay h) articles)

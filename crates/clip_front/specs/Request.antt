@@ -7,6 +7,8 @@ use Rattle.serde_json.specs.Read.{read}
 use Rattle.serde_json.specs.Find.{get, as_str, as_array, as_object}
 use Rattle.serde_json.specs.Events.{members_len}
 use Rattle.clip_front.specs.Lines.{max_line}
+use Rattle.clip_front.specs.declared.refusal.Refusal.{Refusal}
+use Rattle.clip_front.specs.declared.refusal.Refusal.TheVariants as refusal
 use Rattle.clip_meaning.specs.Article.{ArticleValue, may_be, article_value}
 use Rattle.clip_model.specs.History.{most_listed, is_id}
 
@@ -89,7 +91,7 @@ within (asks_match drafts) = nat_le (length drafts) most_articles && list_all (�
 -- what a line says by itself: nothing, a refusal, or a request within the limits
 pub data Outline : Type 0 where
   blank : Outline
-  unread : List ℕ → Outline
+  refused : Refusal → Outline
   registers : List (List ℕ × List ℕ) → Outline
   counts : Outline
   matches : List ArticleValue → Outline
@@ -114,14 +116,14 @@ unfoldable pub json_of : List ℕ → Option Data
 json_of line = if is_utf8 line then read line else None
 
 abbrev pub outline_of_asked : Option Asked → Outline
-outline_of_asked None = unread (codes "shape")
-outline_of_asked (Some a) = if within a then requests a else unread (codes "limit")
+outline_of_asked None = refused refusal.Shape
+outline_of_asked (Some a) = if within a then requests a else refused refusal.Limit
 
 abbrev pub outline_of_value : Option Data → Outline
-outline_of_value None = unread (codes "json")
+outline_of_value None = refused refusal.Json
 outline_of_value (Some d) = outline_of_asked (asked_of d)
 
 unfoldable pub outline : List ℕ → Outline
 outline line =
-    if nat_lt max_line (length line) then unread (codes "long")
+    if nat_lt max_line (length line) then refused refusal.Long
     else (if is_blank line then blank else outline_of_value (json_of line))

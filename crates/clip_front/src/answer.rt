@@ -2,12 +2,13 @@
 ghost use Rattle.std.specs.Prelude.{◌≡◌, ◌≤◌, length, map, codes, IfOk, OnErr, Err, MatchResult};
 ghost use Rattle.clip_model.specs.History.{most_listed};
 ghost use Rattle.clip_front.specs.Request.{registers};
-ghost use Rattle.clip_front.specs.Meaning.{ReadAs, FirstUnread};
+ghost use Rattle.clip_front.specs.Meaning.{ReadAs, FirstRefused};
 ghost use Rattle.clip_front.specs.Reply.{Answers, AnswersOutline};
 ghost use Rattle.clip_front.specs.Outlines.{outline_view, IsFew};
 ghost use Rattle.clip_front.specs.Views.{listed_view};
 
 use crate::fault::RunFault;
+use crate::refusal::Refusal;
 use crate::registry::PlainList;
 use crate::reply::{counted, matched, refusal, refusal_at, registered};
 use crate::request::{Listed, Outline};
@@ -19,7 +20,7 @@ use std::alloc::{AllocError, Global};
 fn read_all(alloc: Global, listed: &[Listed]) -> Result<Result<Vec<Standing>, usize>, AllocError>
     ensures { IfOk result (λ read. MatchResult read
         (λ all. ReadAs (map listed_view listed.now) all.items)
-        (λ k. FirstUnread (map listed_view listed.now) k)) }
+        (λ k. FirstRefused (map listed_view listed.now) k)) }
 {
     let mut all = Vec::new(alloc);
     for (k, one) in listed.iter().enumerate() {
@@ -49,10 +50,10 @@ fn register(
         (registers (map listed_view listed.now)) text.items) }
 {
     match read_all(alloc, listed)? {
-        Err(k) => refusal_at(alloc, number, "query", k as u64),
+        Err(k) => refusal_at(alloc, number, Refusal::Query, k as u64),
         Ok(list) => match registry.register(alloc, list)? {
             Some(count) => registered(alloc, number, count as u64),
-            None => refusal(alloc, number, "full"),
+            None => refusal(alloc, number, Refusal::Full),
         },
     }
 }
@@ -68,7 +69,7 @@ fn answer_outline(
 {
     match outline {
         Outline::Blank => Ok(Vec::new(alloc)),
-        Outline::Unread(word) => refusal(alloc, number, word),
+        Outline::Refused(reason) => refusal(alloc, number, reason),
         Outline::Count => counted(alloc, number, registry.count() as u64),
         Outline::Register(listed) => register(alloc, registry, number, &listed),
         Outline::Match(articles) => matched(alloc, registry, number, &articles),

@@ -12,7 +12,7 @@ use thiserror::Error;
 #[error("a read or a write failed")]
 pub struct Failed;
 
-/// A reader.
+/// What a run reads from.
 pub trait Source {
     /// The bytes left, where it tells them.
     ghost left: { Self → Option (List ℕ) };
@@ -23,6 +23,8 @@ pub trait Source {
     /// How often it was read.
     ghost reads: { Self → ℕ };
 
+    /// Reads some bytes to the front of the buffer, and says how many: none only at the end, or
+    /// where the buffer has no room. After `Failed` no byte is lost.
     fn read(&mut self, buffer: &mut [u8]) -> Result<usize, Failed>
         requires { reads self.old < 2 ^ 63 }
         ensures bound { ReadsAtMost result buffer.new }
@@ -31,7 +33,7 @@ pub trait Source {
         ensures counted { reads self.new ≡ reads self.old + 1 };
 }
 
-/// A writer.
+/// What a run writes to.
 pub trait Sink {
     /// The bytes taken, where it tells them.
     ghost taken: { Self → Option (List ℕ) };
@@ -42,12 +44,14 @@ pub trait Sink {
     /// Whether a flush has gone well since the last write.
     ghost is_flushed: { Self → Bool };
 
+    /// Takes a front of the bytes, and says how many bytes it has. After `Failed` none is taken.
     fn write(&mut self, bytes: &[u8]) -> Result<usize, Failed>
         ensures bound { WritesAtMost result bytes.now }
         ensures bytes { WriteAppends (taken self.old) (taken self.new) result bytes.now }
         ensures failed { has_failed self.new
             ≡ (has_failed self.old || write_failed result bytes.now) };
 
+    /// Sends on what was taken.
     fn flush(&mut self) -> Result<(), Failed>
         ensures bytes { Keeps (taken self.old) (taken self.new) }
         ensures failed { has_failed self.new ≡ (has_failed self.old || is_err result) }
@@ -116,6 +120,7 @@ pub struct StdSource<R: Read> {
 }
 
 impl<R: Read> StdSource<R> {
+    /// The reader, of which nothing was read yet. Takes no memory.
     pub fn new(inner: R) -> StdSource<R>
         ensures left { ⟦<StdSource<R> as Source>⟧.left result ≡ R.remaining inner }
         ensures failed { ⟦<StdSource<R> as Source>⟧.has_failed result ≡ false }
@@ -153,6 +158,7 @@ pub struct StdSink<W: Write> {
 }
 
 impl<W: Write> StdSink<W> {
+    /// The writer, which has taken nothing yet. Takes no memory.
     pub fn new(inner: W) -> StdSink<W>
         ensures taken { ⟦<StdSink<W> as Sink>⟧.taken result ≡ W.contents inner }
         ensures failed { ⟦<StdSink<W> as Sink>⟧.has_failed result ≡ false }
@@ -196,7 +202,8 @@ impl<W: Write> Sink for StdSink<W> {
     }
 }
 
-/// Writes all of the bytes, by as many writes as it takes.
+/// Writes all of the bytes, by as many writes as it takes. `Failed` where a write answers it, or
+/// takes nothing.
 pub fn write_all<W: Sink>(writer: &mut W, bytes: &[u8]) -> Result<(), Failed>
     ensures ok { OnOk result (Appends (W.taken writer.old) (W.taken writer.new) bytes.now) }
     ensures front { OnErr result (AppendsFront (W.taken writer.old) (W.taken writer.new) bytes.now) }

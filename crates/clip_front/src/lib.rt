@@ -6,6 +6,7 @@ mod device;
 mod fault;
 mod lines;
 mod outbox;
+mod refusal;
 mod registry;
 mod reply;
 mod request;

@@ -70,6 +70,7 @@ fn extend_cut(line: &mut Vec<u8>, bytes: &[u8]) -> Result<(), AllocError>
 }
 
 impl LineReader {
+    /// Nothing read yet.
     pub fn new(alloc: Global) -> Result<LineReader, AllocError>
         ensures { IfOk result (λ r. (r.pending ≡ []) × (r.reads_left ≡ 1099511627776)
             × (r.is_at_end ≡ false)) }
@@ -156,7 +157,8 @@ impl LineReader {
         feed_of(&self.buffer[self.start..self.end]).is_some()
     }
 
-    /// The next line, without its line feed, or false at the end of the input.
+    /// The next line, without its line feed, or false at the end of the input. Of a line at most
+    /// 1,048,577 bytes are kept. `Read` where a read failed or 2^40 reads were made.
     pub fn next_line<R: Source>(
         &mut self,
         reader: &mut R,

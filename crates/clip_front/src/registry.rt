@@ -8,7 +8,6 @@ ghost use Rattle.clip_model.specs.History as history;
 
 use crate::standing::{Registered, Standing};
 use clip_meaning::article::Article;
-use clip_meaning::meaning::holds;
 use serde_json::Value;
 use std::alloc::{AllocError, AllocFailed, Global};
 use std::cmp::Ordering;
@@ -211,7 +210,7 @@ impl PlainList {
     {
         let mut found = Vec::new(alloc);
         for entry in &self.entries {
-            if holds(entry.query(), article) {
+            if entry.holds_of(article) {
                 found.push(Value::String(String::from_str(alloc, entry.id())?))?;
             }
         }

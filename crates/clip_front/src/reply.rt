@@ -5,6 +5,7 @@ ghost use Rattle.serde_json.specs.View.{view, items_view};
 ghost use Rattle.serde_json.specs.Written.{has_float};
 ghost use Rattle.clip_front.specs.Reply.{printed as printed_text, strings, alert_data, alert_items, refusal_data, refusal_at_data, registered_data, count_data, match_data};
 
+use crate::refusal::Refusal;
 use crate::registry::PlainList;
 use clip_meaning::article::Article;
 use serde_json::{Value, json};
@@ -22,17 +23,22 @@ pub fn printed(alloc: Global, value: &Value) -> Result<Vec<u8>, AllocError>
 }
 
 #[tactic(auto, unfolding(crate::specs::Reply::refusal_data))]
-fn refusal_value(alloc: Global, number: u64, word: &str) -> Result<Value, AllocError>
-    ensures { IfOk result (λ v. view v ≡ refusal_data number word.now) }
+fn refusal_value(alloc: Global, number: u64, reason: Refusal) -> Result<Value, AllocError>
+    ensures { IfOk result (λ v. view v ≡ refusal_data number reason) }
 {
-    json!(in alloc; {"line": number, "refused": word})
+    json!(in alloc; {"line": number, "refused": reason.word()})
 }
 
 #[tactic(auto, unfolding(crate::specs::Reply::refusal_at_data))]
-fn refusal_at_value(alloc: Global, number: u64, word: &str, place: u64) -> Result<Value, AllocError>
-    ensures { IfOk result (λ v. view v ≡ refusal_at_data number word.now place) }
+fn refusal_at_value(
+    alloc: Global,
+    number: u64,
+    reason: Refusal,
+    place: u64,
+) -> Result<Value, AllocError>
+    ensures { IfOk result (λ v. view v ≡ refusal_at_data number reason place) }
 {
-    json!(in alloc; {"line": number, "refused": word, "which": place})
+    json!(in alloc; {"line": number, "refused": reason.word(), "which": place})
 }
 
 #[tactic(auto, unfolding(crate::specs::Reply::registered_data))]
@@ -85,18 +91,23 @@ fn match_value(
 }
 
 #[tactic(auto, unfolding(crate::specs::Reply::refusal_data))]
-pub fn refusal(alloc: Global, number: u64, word: &str) -> Result<Vec<u8>, AllocError>
-    ensures { IfOk result (λ text. text.items ≡ printed_text (refusal_data number word.now)) }
+pub fn refusal(alloc: Global, number: u64, reason: Refusal) -> Result<Vec<u8>, AllocError>
+    ensures { IfOk result (λ text. text.items ≡ printed_text (refusal_data number reason)) }
 {
-    let value = refusal_value(alloc, number, word)?;
+    let value = refusal_value(alloc, number, reason)?;
     printed(alloc, &value)
 }
 
 #[tactic(auto, unfolding(crate::specs::Reply::refusal_at_data))]
-pub fn refusal_at(alloc: Global, number: u64, word: &str, place: u64) -> Result<Vec<u8>, AllocError>
-    ensures { IfOk result (λ text. text.items ≡ printed_text (refusal_at_data number word.now place)) }
+pub fn refusal_at(
+    alloc: Global,
+    number: u64,
+    reason: Refusal,
+    place: u64,
+) -> Result<Vec<u8>, AllocError>
+    ensures { IfOk result (λ text. text.items ≡ printed_text (refusal_at_data number reason place)) }
 {
-    let value = refusal_at_value(alloc, number, word, place)?;
+    let value = refusal_at_value(alloc, number, reason, place)?;
     printed(alloc, &value)
 }
 

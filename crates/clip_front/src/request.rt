@@ -7,6 +7,7 @@ ghost use Rattle.clip_model.specs.History.{is_id};
 ghost use Rattle.std.specs.List.{list_all};
 ghost use Rattle.clip_front.specs.Views.{fields_view, listed_view, draft_view};
 
+use crate::refusal::Refusal;
 use clip_meaning::article::Article;
 use clip_meaning::fault::ArticleFault;
 use serde_json::{Map, Value};
@@ -213,7 +214,7 @@ impl Asked {
 #[derive(Drop)]
 pub enum Outline {
     Blank,
-    Unread(&'static str),
+    Refused(Refusal),
     Register(Vec<Listed>),
     Count,
     Match(Vec<Article>),
@@ -304,17 +305,17 @@ impl Outline {
                 if listed.len() <= MAX_LISTED && have_ids(&listed) {
                     Ok(Outline::Register(listed))
                 } else {
-                    Ok(Outline::Unread("limit"))
+                    Ok(Outline::Refused(Refusal::Limit))
                 }
             }
             Asked::Count => Ok(Outline::Count),
             Asked::Match(drafts) => {
                 if drafts.len() > MAX_ARTICLES {
-                    return Ok(Outline::Unread("limit"));
+                    return Ok(Outline::Refused(Refusal::Limit));
                 }
                 match articles_of(alloc, &drafts)? {
                     Some(articles) => Ok(Outline::Match(articles)),
-                    None => Ok(Outline::Unread("limit")),
+                    None => Ok(Outline::Refused(Refusal::Limit)),
                 }
             }
         }
@@ -327,17 +328,17 @@ impl Outline {
         ensures few { IfOk result IsFew }
     {
         if line.len() > MAX_LINE {
-            return Ok(Outline::Unread("long"));
+            return Ok(Outline::Refused(Refusal::Long));
         }
         if is_blank_line(line) {
             return Ok(Outline::Blank);
         }
         let Some(value) = json_value(alloc, line)? else {
-            return Ok(Outline::Unread("json"));
+            return Ok(Outline::Refused(Refusal::Json));
         };
         match Asked::of_value(alloc, &value)? {
             Some(asked) => Outline::limited(alloc, asked),
-            None => Ok(Outline::Unread("shape")),
+            None => Ok(Outline::Refused(Refusal::Shape)),
         }
     }
 }

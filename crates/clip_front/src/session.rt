@@ -12,13 +12,22 @@ use crate::outbox::Outbox;
 use crate::registry::PlainList;
 use std::alloc::Global;
 
-/// What a run did.
+/// What a run did: how many lines it read, blank ones included.
 #[derive(Clone, Copy, Debug, PartialEq, Eq)]
 pub struct Ended {
     pub lines: u64,
 }
 
-/// Writes the reply text of what it reads.
+/// Reads requests, a JSON object a line, and writes the replies in the order of the lines.
+///
+/// Before it asks the reader for more bytes, each reply to a line that was read whole is written
+/// and flushed; between two reads the replies are gathered, so that the writer gets few writes.
+/// Each line is answered by the queries that the lines before it registered.
+///
+/// `Read` where a read failed, or 2^40 reads met no end; `Write` where a write or a flush failed,
+/// or a write took nothing; `NoMemory` where a growth was refused. After a fault nothing more is
+/// written. Takes memory for one line, the replies to the lines of a read, and the registered
+/// queries; a match tries each of them, and a register walks them twice for each that it lists.
 pub fn run<R: Source, W: Sink>(
     alloc: Global,
     reader: &mut R,

@@ -2,6 +2,8 @@
 ghost use Rattle.std.specs.Prelude.{◌≡◌};
 
 use clip_grammar::query::Query;
+use clip_meaning::article::Article;
+use clip_meaning::meaning::holds;
 use std::marker::Model;
 use std::sync::ArcStr;
 
@@ -80,7 +82,7 @@ impl Model for Registered {
 
 impl Registered {
     ghost use Rattle.std.specs.Prelude.{◌≡◌};
-    ghost use Rattle.clip_grammar.specs.Tree.{tree_of};
+    ghost use Rattle.clip_meaning.specs.Meaning as meaning;
 
     /// The standing query, registered at this place.
     pub fn new(standing: Standing, seq: u64) -> Registered
@@ -96,10 +98,10 @@ impl Registered {
         self.standing.id()
     }
 
-    /// Its query.
-    pub fn query(&self) -> &Query
-        ensures { tree_of result.now ≡ self.now.standing.tree }
+    /// Whether it holds of the article.
+    pub fn holds_of(&self, article: &Article) -> bool
+        ensures { result ≡ meaning.holds self.now.standing.tree article.now.fields }
     {
-        self.standing.query()
+        holds(self.standing.query(), article)
     }
 }

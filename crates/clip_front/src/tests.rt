@@ -4,6 +4,8 @@ ghost use Rattle.std.specs.Prelude.{◌≡◌, ◌<◌, Some, None, true, false}
 use crate::{Failed, RunFault, Sink, Source, StdSink, StdSource, run};
 use std::alloc::Global;
 use std::cell::Cell;
+use std::io;
+use std::io::{ErrorKind, Read, Write};
 use std::process::Abort;
 use std::test::Fail;
 
@@ -422,12 +424,58 @@ fn a_failed_flush_is_a_write_fault(rt: HostRuntime) -> Result<(), Fail> {
     Ok(())
 }
 
+// A device of std that a signal interrupts at every other call.
+#[derive(Drop)]
+struct Interrupted<T: Drop> {
+    inner: T,
+    is_next: bool,
+}
+
+impl<T: Drop> Interrupted<T> {
+    fn new(inner: T) -> Interrupted<T> {
+        Interrupted {
+            inner,
+            is_next: false,
+        }
+    }
+
+    fn signal(&mut self) -> io::Result<()> {
+        self.is_next = !self.is_next;
+        if self.is_next {
+            return Err(io::Error::from(ErrorKind::Interrupted));
+        }
+        Ok(())
+    }
+}
+
+impl<R: Read + Drop> Read for Interrupted<R> {
+    fn read(&mut self, buffer: &mut [u8]) -> io::Result<usize> {
+        self.signal()?;
+        self.inner.read(buffer)
+    }
+}
+
+impl<W: Write + Drop> Write for Interrupted<W> {
+    fn write(&mut self, bytes: &[u8]) -> io::Result<usize> {
+        self.signal()?;
+        self.inner.write(bytes)
+    }
+
+    fn flush(&mut self) -> io::Result<()> {
+        self.signal()?;
+        self.inner.flush()
+    }
+}
+
 #[test]
-fn runs_over_std(rt: HostRuntime) -> Result<(), Fail> {
+fn an_interrupted_call_is_made_again(rt: HostRuntime) -> Result<(), Fail> {
     let input = text_of(rt.alloc(), &PRESS)?;
-    let mut source = StdSource::new(input.as_bytes());
-    let mut sink = StdSink::new(Vec::new(rt.alloc()));
+    let wanted = text_of(rt.alloc(), &PRESSED)?;
+    let mut taken = Interrupted::new(Vec::new(rt.alloc()));
+    let mut source = StdSource::new(Interrupted::new(input.as_bytes()));
+    let mut sink = StdSink::new(&mut taken);
     assert_eq!(rt; run(rt.alloc(), &mut source, &mut sink)?.lines, 2);
+    assert!(rt; taken.inner.as_slice() == wanted.as_bytes());
     Ok(())
 }
 

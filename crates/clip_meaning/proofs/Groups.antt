@@ -1,6 +1,6 @@
 -- A group's meaning, clause by clause.
 use Rattle.std.proofs.lemmas.List.{drop_all}
-use Rattle.std.proofs.Common.{◌≡◌, ℕ, suc, ◌+◌, ◌<◌, ◌≤◌, add-one, drop-cons, Bool, true, false, not, ◌&&◌, ◌||◌, List, [], ◌∷◌, map, length, drop, get_or, refl, sym, ap, ◌∙◌}
+use Rattle.std.proofs.Common.{◌≡◌, ℕ, suc, ◌+◌, ◌<◌, ◌≤◌, add-one, drop-cons, Bool, true, false, ◌&&◌, ◌||◌, List, [], ◌∷◌, map, length, drop, get_or, refl, sym, ap, ◌∙◌}
 use Rattle.std.specs.List.{list_any, list_all}
 use Rattle.clip_grammar.specs.declared.query.Occur.{Occur}
 use Rattle.clip_grammar.specs.declared.query.Occur.TheVariants.{Must, Should, MustNot}
@@ -11,9 +11,9 @@ use Rattle.clip_grammar.specs.declared.query.Query.TheVariants.{rolls-Group}
 use Rattle.clip_grammar.specs.declared.query.Query.TheFolds.{fold-roll-Query}
 use Rattle.std.proofs.Common.{Vec, Global}
 use Rattle.clip_meaning.specs.Tally.{group_with}
-use Rattle.clip_grammar.specs.Tree.{Tree, Clauses, clauses_of, tree_of, tree_step}
+use Rattle.clip_grammar.specs.Tree.{Tree, clauses_of, tree_of, tree_step}
 use Rattle.clip_meaning.specs.Article.{Fields}
-use Rattle.clip_meaning.specs.Meaning.{holds, verdicts, group_holds, meets_must, meets_must_not, is_must, meets_should}
+use Rattle.clip_meaning.specs.Meaning.{holds, verdicts, group_holds, meets_must, is_must, meets_should}
 
 -- each clause with whether its child holds
 abbrev pub verdicts_of : Fields → List (Occur × Query) → List (Occur × Bool)

@@ -1,5 +1,5 @@
 -- The words of a field and their postings: a test of words, and a phrase.
-use Rattle.std.proofs.Common.{◌≡◌, ℕ, zero, suc, ◌+◌, ◌<◌, Bool, true, false, cond, ◌&&◌, ◌||◌, List, [], ◌∷◌, length, take, drop, map, filter, bytes_eq, IsPermutation, refl, sym, ap, ◌∙◌, arith, one-add, add-one, get_or}
+use Rattle.std.proofs.Common.{◌≡◌, ℕ, ◌+◌, ◌<◌, Bool, true, false, cond, ◌&&◌, ◌||◌, List, [], ◌∷◌, length, drop, map, filter, bytes_eq, IsPermutation, refl, sym, ap, ◌∙◌, arith, get_or}
 use Rattle.std.specs.List.{list_any, starts_with}
 use Rattle.std.specs.Cmp.Lexicographic.{nat_list_eq_equiv}
 use Rattle.std.proofs.lemmas.List.Sorted.{list_any-IsPermutation}

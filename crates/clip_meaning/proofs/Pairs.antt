@@ -1,5 +1,5 @@
 -- Pairs of distinct names, read one after another.
-use Rattle.std.proofs.Common.{◌≡◌, ℕ, zero, suc, ◌+◌, ◌<◌, Bool, true, false, cond, not, ◌||◌, List, [], ◌∷◌, ◌++◌, length, take, map, get_or, Some, None, Option, is_some, String, Global, string_bytes, is_eq, bytes_eq, if◌then◌else◌, nat_lt, refl, sym, ap, ◌∙◌, arith, true≢false}
+use Rattle.std.proofs.Common.{◌≡◌, ℕ, zero, suc, ◌+◌, ◌<◌, Bool, true, false, cond, not, ◌||◌, List, [], ◌∷◌, ◌++◌, length, take, map, get_or, Some, None, is_some, String, Global, string_bytes, bytes_eq, if◌then◌else◌, nat_lt, refl, sym, ap, ◌∙◌, arith, true≢false}
 use Rattle.std.specs.FinMap as finite
 use Rattle.std.specs.FinMap.{find, from_entries_push, get-from_entries, slice_cmp-IsAntisymmetric, nat_cmp-IsAntisymmetric}
 use Rattle.std.specs.List.{list_any, list_all}
@@ -10,7 +10,6 @@ use Rattle.std.proofs.lemmas.Map.Text.{is_eq-slice_cmp}
 use Rattle.clip_words.specs.Order.{bytes_cmp}
 use Rattle.clip_words.specs.Words.{words_of}
 use Rattle.clip_meaning.specs.Article.{fault_of, is_id, is_field_name, has_twice, names, pairs_of, read_fields}
-use Rattle.clip_meaning.specs.declared.fault.ArticleFault.{ArticleFault}
 use Rattle.clip_meaning.specs.declared.fault.ArticleFault.TheVariants.{Id, TooMany, Field, Twice}
 
 neither_first : (a b : Bool) → (a || b) ≡ false → a ≡ false

@@ -1,20 +1,20 @@
 -- Postings in the byte order of their words: where a range of words begins, and what its first word settles.
-use Rattle.std.proofs.Common.{◌≡◌, ℕ, zero, suc, ◌+◌, ◌<◌, ◌≤◌, Bool, true, false, not, cond, ◌&&◌, ◌||◌, List, [], ◌∷◌, length, take, drop, filter, get_or, bytes_eq, is_lt, is_gt, is_eq, nat_cmp, nat_lt, ◌==◌, Ordering, Less, Equal, Greater, IsPermutation, map, refl, sym, ap, subst, ◌∙◌, arith, true≢false, one-add, add-zero, length-drop, ◌-◌}
+use Rattle.std.proofs.Common.{◌≡◌, ℕ, zero, suc, ◌+◌, ◌<◌, ◌≤◌, Bool, true, false, not, cond, ◌&&◌, ◌||◌, List, [], ◌∷◌, length, take, drop, filter, get_or, bytes_eq, is_lt, is_gt, is_eq, nat_lt, ◌==◌, Ordering, Less, Equal, Greater, refl, sym, ap, ◌∙◌, arith, true≢false, one-add, add-zero, length-drop, ◌-◌}
 use Rattle.std.proofs.lemmas.List.{get_or-drop}
-use Rattle.std.proofs.lemmas.List.Sums.{prefix_len_stops, prefix_len-le-length}
-use Rattle.std.specs.List.{prefix_len, list_any, starts_with}
+use Rattle.std.proofs.lemmas.List.Sums.{prefix_len_stops}
+use Rattle.std.specs.List.{prefix_len, list_any}
 use Rattle.std.specs.List.Sorted.{IsSortedByKey, IsPartitionedBy, IsPartitionPoint}
 use Rattle.std.specs.Ordering.{ordering_reverse, ordering_then}
 use Rattle.std.specs.Cmp.Lexicographic.{nat_list_cmp_total}
 use Rattle.std.proofs.lemmas.Cmp.{alike_right, upto}
-use Rattle.std.proofs.lemmas.List.Sorted.{sorted_far, ranks_by, list_any-IsPermutation}
+use Rattle.std.proofs.lemmas.List.Sorted.{sorted_far, ranks_by}
 use Rattle.std.proofs.lemmas.Map.Text.{is_eq-slice_cmp}
 use borrow.Author.Tests.{eqb-true}
 use Rattle.clip_words.specs.Order.{bytes_cmp}
 use Rattle.clip_grammar.specs.Tokens.{End}
 use Rattle.clip_meaning.proofs.Fields.{prefix_from_point}
-use Rattle.clip_meaning.specs.Index.{numbered, from_low}
-use Rattle.clip_meaning.specs.Meaning.{above, below, begins_with, has_run}
+use Rattle.clip_meaning.specs.Index.{from_low}
+use Rattle.clip_meaning.specs.Meaning.{above, below, begins_with}
 
 abbrev pub Place : Type 0
 Place = List ℕ × ℕ

@@ -1,5 +1,5 @@
 -- What a refusal says of an article's id and fields.
-use Rattle.std.proofs.Common.{◌≡◌, ◌≢◌, ℕ, false, List, Some, None, Option, is_none, unwrap_or, sym, ap, ◌∙◌}
+use Rattle.std.proofs.Common.{◌≡◌, ◌≢◌, ℕ, false, List, Some, None, Option, is_none, unwrap_or, sym, ap}
 use Rattle.clip_meaning.specs.Article.{fault_of, may_be}
 use Rattle.clip_meaning.specs.declared.fault.ArticleFault.{ArticleFault}
 use Rattle.clip_meaning.specs.declared.fault.ArticleFault.TheVariants.{NoMemory}

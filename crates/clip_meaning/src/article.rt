@@ -1,4 +1,4 @@
-//! Articles.
+//! Articles: an id, and words by field.
 ghost use Rattle.std.specs.Prelude.{◌≡◌, map, None, IfOk, IfErr, option_map, unwrap_or};
 ghost use Rattle.std.specs.Arc.{arc_str_bytes};
 ghost use Rattle.std.specs.FinMap as finite;
@@ -11,7 +11,9 @@ use std::alloc::Global;
 use std::marker::Model;
 use std::sync::ArcStr;
 
-/// An article: an id and fields, the words of each cut and folded.
+/// An article: an id of 1 to 256 bytes, and at most 16 fields, each the words of a text.
+///
+/// Contracts see the id's bytes and a map from the bytes of each field's name to the words of its text.
 #[derive(Debug, Drop)]
 pub struct Article {
     id: ArcStr,
@@ -30,7 +32,14 @@ impl Model for Article {
 }
 
 impl Article {
-    /// Reads an article of an id and pairs of a field's name and its text.
+    /// The article of an id and of pairs of a field's name and its text, where it may be one.
+    ///
+    /// Each text is cut into words (Unicode Standard Annex #29) and each word is folded (full default case folding)
+    /// here and never again. The cost is that of cutting and folding, and of sorting each field's words.
+    ///
+    /// # Errors
+    ///
+    /// The first refusal of `ArticleFault` that holds, judged before any memory is taken; `NoMemory` only where there is none.
     pub fn read(
         alloc: Global,
         id: &str,
@@ -51,14 +60,14 @@ impl Article {
         Ok(Article { id, fields: kept })
     }
 
-    /// The article's id.
+    /// The article's id. Takes constant time.
     pub fn id(&self) -> &str
         ensures { result.now ≡ self.now.id }
     {
         self.id.as_str()
     }
 
-    /// The words of a field in order, none where the field is not there.
+    /// The words of a field in the order of its text, none where the field is not there. Searches among at most 16 names.
     pub fn field(&self, name: &str) -> &[ArcStr]
         ensures { map arc_str_bytes result.now ≡ words_in self.now.fields name.now }
     {
@@ -68,14 +77,14 @@ impl Article {
         }
     }
 
-    /// The field of a name.
+    /// The field of a name, if it is there. Searches among at most 16 names.
     pub(crate) fn named(&self, name: &str) -> Option<&Field>
         ensures { option_map (λ field. field.now.1) result ≡ finite.get self.now.fields name.now }
     {
         self.fields.get(name)
     }
 
-    /// The fields, in the byte order of their names.
+    /// The fields, in the byte order of their names. Takes constant time.
     pub fn fields(&self) -> &[Field]
         ensures { result.now ≡ finite.entries self.now.fields }
     {

@@ -17,17 +17,22 @@ pub const MOST_FIELDS: usize = 16;
 /// The most bytes of a field's name.
 pub const MOST_NAME_BYTES: usize = 64;
 
-/// Why an article is refused.
+/// Why an article is refused. The refusals but `NoMemory` are judged in this order, and the first that holds is answered.
 #[derive(Clone, Copy, Debug, PartialEq, Eq, Error)]
 pub enum ArticleFault {
+    /// The id has not 1 to 256 bytes.
     #[error("an article's id has 1 to 256 bytes")]
     Id,
+    /// There are more than 16 fields.
     #[error("an article has at most 16 fields")]
     TooMany,
+    /// Some field's name is not 1 to 64 ASCII letters, digits and `_`, or begins with a digit.
     #[error("a field's name is 1 to 64 ASCII letters, digits and `_`, and begins with no digit")]
     Field,
+    /// Two fields have one name.
     #[error("a field stands twice")]
     Twice,
+    /// A growth was refused.
     #[error("no memory")]
     NoMemory,
 }

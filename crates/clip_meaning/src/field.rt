@@ -17,7 +17,9 @@ use std::alloc::Global;
 use std::marker::Model;
 use std::sync::ArcStr;
 
-/// A field of an article: its name, and its words in order.
+/// A field of an article: its name, its words in the order of its text, and the same words sorted.
+///
+/// Contracts see the pair of the name's bytes and the list of the words' bytes.
 #[derive(Debug, Drop)]
 pub struct Field {
     name: ArcStr,
@@ -37,7 +39,7 @@ impl Model for Field {
     ghost invariant = { λ f. IsPermutation (numbered 0 (map arc_str_bytes f.words.items)) f.index };
 }
 
-/// The words of a text, folded, each made once.
+/// The words of a text in order, each folded, as texts that can be shared.
 fn shared_words(alloc: Global, text: &str) -> Result<Vec<ArcStr>, NoMemory>
     ensures { IfOk result (λ found. map arc_str_bytes found.items ≡ words_of text.now) }
 {
@@ -49,7 +51,7 @@ fn shared_words(alloc: Global, text: &str) -> Result<Vec<ArcStr>, NoMemory>
 }
 
 impl Field {
-    /// Cuts and folds a field's text.
+    /// Cuts a field's text into words, folds them and sorts them.
     pub(crate) fn read(alloc: Global, name: &str, text: &str) -> Result<Field, NoMemory>
         ensures { IfOk result (λ field. field ≡ (name.now, words_of text.now)) }
     {
@@ -62,21 +64,21 @@ impl Field {
         })
     }
 
-    /// The field's name.
+    /// The field's name. A `clone` of it shares the text. Takes constant time.
     pub fn name(&self) -> &ArcStr
         ensures { arc_str_bytes result.now ≡ self.now.0 }
     {
         &self.name
     }
 
-    /// The field's words, folded, in the order of the text.
+    /// The field's words, each folded, in the order of the text. A `clone` of one shares it. Takes constant time.
     pub fn words(&self) -> &[ArcStr]
         ensures { map arc_str_bytes result.now ≡ self.now.1 }
     {
         &self.words
     }
 
-    /// The field's words, each with its position, sorted by the bytes of the word and then by position.
+    /// Each of the field's words with its position, in the byte order of the words. Takes constant time.
     pub fn postings(&self) -> &[Posting]
         ensures words { IsPermutation (numbered 0 self.now.1) result.now }
         ensures sorted { IsSortedByKey (λ p. p.0) bytes_cmp result.now }
@@ -84,14 +86,15 @@ impl Field {
         self.index.postings()
     }
 
-    /// Whether a word is among the words.
+    /// Whether a word is among the words. Compares about the logarithm of the number of words.
     pub(crate) fn has_word(&self, word: &str) -> bool
         ensures { result ≡ list_any (λ w. bytes_eq w word.now) self.now.1 }
     {
         self.index.has_word(word)
     }
 
-    /// Whether the words of a phrase stand next to each other in order; an empty phrase never does.
+    /// Whether the words of a phrase stand next to each other in order, as in Lucene's PhraseQuery with no slop; an
+    /// empty phrase never does. Looks only where the phrase's first word stands.
     pub(crate) fn has_phrase(&self, phrase: &[ArcStr]) -> bool
         ensures { result ≡ (is_nonempty (map arc_str_bytes phrase.now) && has_run self.now.1 (map arc_str_bytes phrase.now)) }
     {
@@ -101,14 +104,15 @@ impl Field {
         stands_at_any(&self.words, self.index.occurrences(first), phrase)
     }
 
-    /// Whether a word begins with the front.
+    /// Whether a word begins with the front, as in Lucene's PrefixQuery. Compares about the logarithm of the number of words.
     pub(crate) fn has_front(&self, front: &str) -> bool
         ensures { result ≡ list_any (begins_with front.now) self.now.1 }
     {
         self.index.has_front(front)
     }
 
-    /// Whether a word lies between the bounds.
+    /// Whether a word lies between the bounds by bytes, as in Lucene's TermRangeQuery. Compares about the logarithm of
+    /// the number of words.
     pub(crate) fn has_between(&self, low: &Bound, high: &Bound) -> bool
         ensures { result ≡ list_any (λ w. above (end_of low.now) w && below (end_of high.now) w) self.now.1 }
     {

@@ -18,7 +18,7 @@ use std::cmp::Ordering;
 use std::marker::Model;
 use std::sync::ArcStr;
 
-/// A word of a field, and its position there, counted from 0.
+/// A word of a field and its position among the field's words, counted from 0. Contracts see the pair of both.
 #[derive(Debug, Drop)]
 pub struct Posting {
     word: ArcStr,
@@ -35,14 +35,14 @@ impl Model for Posting {
 }
 
 impl Posting {
-    /// The word.
+    /// The word, folded. A `clone` of it shares the text.
     pub fn word(&self) -> &ArcStr
         ensures { arc_str_bytes result.now ≡ self.now.0 }
     {
         &self.word
     }
 
-    /// The word's position in its field.
+    /// The word's position among the words of its field, counted from 0.
     pub fn position(&self) -> usize
         ensures { result ≡ self.now.1 }
     {
@@ -50,7 +50,7 @@ impl Posting {
     }
 }
 
-/// The words of a field with their positions, in the byte order of the words.
+/// The postings of a field, in the byte order of their words.
 #[derive(Debug, Drop)]
 pub(crate) struct WordIndex {
     postings: Vec<Posting>,
@@ -68,7 +68,7 @@ impl Model for WordIndex {
     ghost invariant = { λ index. IsSortedByKey (λ p. p.0) bytes_cmp index.postings.items };
 }
 
-/// The words, each with its position.
+/// The words in order, each with its position.
 fn postings_of(alloc: Global, words: &[ArcStr]) -> Result<Vec<Posting>, NoMemory>
     ensures { IfOk result (λ postings. postings.items ≡ numbered 0 (map arc_str_bytes words.now)) }
 {
@@ -132,6 +132,7 @@ impl WordIndex {
         postings.split_at(place).1
     }
 
+    /// The postings of the words that are not below the low end of a range.
     fn from_low(&self, low: &Bound) -> &[Posting]
         ensures value { result.now ≡ from_low (end_of low.now) self.now }
         ensures sorted { IsSortedByKey (λ p. p.0) bytes_cmp self.now }
@@ -143,7 +144,7 @@ impl WordIndex {
         }
     }
 
-    /// The postings of a word, in the order of their positions.
+    /// The postings of a word.
     pub(crate) fn occurrences(&self, word: &str) -> &[Posting]
         ensures { result.now ≡ filter (λ p. bytes_eq p.0 word.now) self.now }
     {

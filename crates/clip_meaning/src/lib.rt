@@ -1,4 +1,7 @@
 //! Articles, and when a query holds of one.
+//!
+//! An article's texts are cut into words and folded once, when it is read, and each field keeps its words sorted, so
+//! that a query is answered by searches among them.
 #![tactic(auto)]
 
 ghost use Rattle.std.specs.Prelude.{◌≡◌};
@@ -6,9 +9,11 @@ ghost use Rattle.std.specs.Prelude.{◌≡◌};
 pub mod article;
 pub mod fault;
 pub mod field;
-pub mod field_map;
+mod field_map;
 pub mod index;
 pub mod meaning;
+#[cfg(test)]
+mod tests;
 
 pub use article::Article;
 pub use fault::ArticleFault;

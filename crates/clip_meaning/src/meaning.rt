@@ -79,7 +79,20 @@ fn counted(tally: Tally, occur: Occur, held: bool) -> Option<Tally>
 }
 
 #[tactic(auto, using(crate::proofs::Groups::group_end))]
-/// Whether the query holds of the article.
+/// Whether a query holds of an article.
+///
+/// - `Term`: the word is among the field's words.
+/// - `Phrase`: its words stand next to each other in order in the field (Lucene's PhraseQuery with no slop); an empty
+///   phrase never holds.
+/// - `Prefix`: a word of the field begins with the front (PrefixQuery).
+/// - `Span`: a word of the field lies between the bounds, by the bytes of UTF-8; `With` lets its end in, `Without` does
+///   not, `Free` has no end (TermRangeQuery).
+/// - `All`: always.
+/// - `Group`: every Must child holds, no MustNot child holds and, where there is no Must child, at least one Should
+///   child holds (BooleanQuery with its default settings).
+///
+/// Takes no memory. A leaf is answered by searches among the sorted words of one field, a phrase by a look at each
+/// place of its first word; a group asks its children in order until it is settled.
 pub fn holds(query: &Query, article: &Article) -> bool
     ensures { result ≡ holds (tree_of query.now) article.now.fields }
 {

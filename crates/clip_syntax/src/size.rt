@@ -81,33 +81,3 @@ pub fn is_too_big(tokens: &[Token]) -> bool
 {
     node_count(tokens) > MOST_NODES || most_open(tokens) > MOST_OPEN
 }
-
-#[cfg(test)]
-mod tests {
-    use super::*;
-    use std::test::Fail;
-
-    #[test]
-    fn counts_the_outermost_group(rt: HostRuntime) -> Result<(), Fail> {
-        let mut tokens = Vec::new(rt.alloc());
-        for _ in 1..MOST_NODES {
-            tokens.push(Token::Front(String::new(rt.alloc())))?;
-        }
-        assert!(rt; !is_too_big(&tokens));
-        tokens.push(Token::Front(String::new(rt.alloc())))?;
-        assert!(rt; is_too_big(&tokens));
-        Ok(())
-    }
-
-    #[test]
-    fn counts_open_parentheses(rt: HostRuntime) -> Result<(), Fail> {
-        let mut tokens = Vec::new(rt.alloc());
-        for _ in 0..MOST_OPEN {
-            tokens.push(Token::Open)?;
-        }
-        assert!(rt; !is_too_big(&tokens));
-        tokens.push(Token::Open)?;
-        assert!(rt; is_too_big(&tokens));
-        Ok(())
-    }
-}

@@ -15,7 +15,7 @@ use std::alloc::Global;
 use std::sync::ArcStr;
 
 /// Whether a colon comes first.
-pub(crate) fn begins_colon(tokens: &[Token]) -> bool
+pub fn begins_colon(tokens: &[Token]) -> bool
     ensures { result ≡ begins_colon (map token_of tokens.now) }
 {
     match tokens.split_first() {
@@ -67,40 +67,4 @@ pub fn item_words(alloc: Global, tokens: &[Token]) -> Result<Option<Vec<Vec<ArcS
         }
     }
     Ok(Some(items))
-}
-
-#[cfg(test)]
-mod tests {
-    use super::*;
-    use crate::lexer::lex;
-    use std::test::Fail;
-
-    fn words_of_text(alloc: Global, text: &str) -> Result<Option<Vec<Vec<ArcStr>>>, NoMemory> {
-        let chars: Vec<char> = text.chars().collect(alloc)?;
-        let (tokens, _) = lex(alloc, &chars)?;
-        item_words(alloc, &tokens)
-    }
-
-    #[test]
-    fn leaves_fields_and_prefixes_out(rt: HostRuntime) -> Result<(), Fail> {
-        let found = words_of_text(rt.alloc(), "title:Wi-Fi te* *:* (\"Green tea\")")?.expect(
-            &rt,
-            "each item has words",
-        );
-        assert_eq!(rt; found.len(), 2);
-        assert_eq!(rt; found[0].len(), 2);
-        assert_eq!(rt; found[0][0].as_str(), "wi");
-        assert_eq!(rt; found[0][1].as_str(), "fi");
-        assert_eq!(rt; found[1].len(), 2);
-        assert_eq!(rt; found[1][0].as_str(), "green");
-        assert_eq!(rt; found[1][1].as_str(), "tea");
-        Ok(())
-    }
-
-    #[test]
-    fn finds_an_item_of_no_words(rt: HostRuntime) -> Result<(), Fail> {
-        assert!(rt; words_of_text(rt.alloc(), "tea (\"\")")?.is_none());
-        assert!(rt; words_of_text(rt.alloc(), "&:tea")?.is_some());
-        Ok(())
-    }
 }

@@ -1,8 +1,7 @@
 use Rattle.std.proofs.Common.{◌≡◌, suc, ◌+◌, [], ◌∷◌, ◌++◌, drop, map, sym, ap, ◌∙◌, subst, arith, append_assoc, append-nil}
 use Rattle.std.proofs.lemmas.List.{drop_more, drop_all}
 use Rattle.clip_grammar.specs.Reading.{IsFault}
-use Rattle.clip_grammar.specs.Tree.{tree_of}
-use Rattle.clip_front.specs.Meaning.{IsQuery, ReadAs, FirstUnread}
+use Rattle.clip_front.specs.Meaning.{IsQuery, ReadAs, FirstRefused}
 use Rattle.clip_front.specs.Views.{listed_view}
 use Rattle.clip_front.proofs.answer.read_all.Goals as goal
 
@@ -14,7 +13,7 @@ returns-in_default c =
     let here : drop k all ≡ one ∷ drop (k + 1) all = drop_more all k one c.loop-k-test.true ∙ ap (λ y. y ∷ drop (k + 1) all) (sym c.index-listed-k.is) in
     let fault : IsFault (listed_view one).1 c.in-Err.fault = rw (← c.as_str.ensures.value) c.in-Err.ensures.refused in
     let place : k + 0 ≡ k = omega arith in
-    subst (FirstUnread (map listed_view all)) place (c.loop-k.invariant.first 0 (subst (λ xs. FirstUnread (map listed_view xs) 0) (sym here) (c.in-Err.fault, c.in_default.not-NoMemory, fault)))
+    subst (FirstRefused (map listed_view all)) place (c.loop-k.invariant.first 0 (subst (λ xs. FirstRefused (map listed_view xs) 0) (sym here) (c.in-Err.fault, c.in_default.not-NoMemory, fault)))
 
 pub loop-k-preserved : goal.loop-k-preserved
 loop-k-preserved c =
@@ -32,7 +31,7 @@ loop-k-preserved c =
           (c.loop-k.invariant.reads (s ∷ more) (subst (λ xs. ReadAs (map listed_view xs) (s ∷ more)) (sym here) (id, text, c.new.ensures.listener, is, r)));
       first = λ j f.
           let shifted : k + suc j ≡ k + 1 + j = omega arith in
-          subst (FirstUnread (map listed_view all)) shifted (c.loop-k.invariant.first (suc j) (subst (λ xs. FirstUnread (map listed_view xs) (suc j)) (sym here) ((s.tree, is), f)));
+          subst (FirstRefused (map listed_view all)) shifted (c.loop-k.invariant.first (suc j) (subst (λ xs. FirstRefused (map listed_view xs) (suc j)) (sym here) ((s.tree, is), f)));
     }
 
 pub returns : goal.returns

@@ -1,6 +1,6 @@
 use Rattle.std.proofs.Common.{ℕ, ◌+◌, List, ◌++◌, drop, map}
 use Rattle.clip_model.specs.Standing.{Standing}
-use Rattle.clip_front.specs.Meaning.{ReadAs, FirstUnread}
+use Rattle.clip_front.specs.Meaning.{ReadAs, FirstRefused}
 use Rattle.clip_front.specs.Views.{listed_view}
 use Rattle.clip_front.proofs.answer.read_all.Given as goal
 
@@ -8,5 +8,5 @@ use Rattle.clip_front.proofs.answer.read_all.Given as goal
 abbrev pub invariant-loop-k : goal.invariant-loop-k
 invariant-loop-k l = record {
   reads : (more : List Standing) → ReadAs (map listed_view (drop l.k l.listed)) more → ReadAs (map listed_view l.listed) (l.all.items ++ more);
-  first : (j : ℕ) → FirstUnread (map listed_view (drop l.k l.listed)) j → FirstUnread (map listed_view l.listed) (l.k + j);
+  first : (j : ℕ) → FirstRefused (map listed_view (drop l.k l.listed)) j → FirstRefused (map listed_view l.listed) (l.k + j);
 }

@@ -1,4 +1,4 @@
-use Rattle.std.proofs.Common.{◌≡◌, ◌∙◌, ap, sym, map, drop, List, ℕ, bytes_eq}
+use Rattle.std.proofs.Common.{◌∙◌, ap, sym, map, drop, ℕ, bytes_eq}
 use Rattle.std.specs.Arc.{arc_str_bytes}
 use Rattle.std.specs.List.{starts_with}
 use Rattle.std.proofs.lemmas.List.{drop-map}

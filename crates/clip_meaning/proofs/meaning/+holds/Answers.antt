@@ -1,4 +1,4 @@
-use Rattle.std.proofs.Common.{◌≡◌, true, false, ◌||◌, sym, ap, ◌∙◌}
+use Rattle.std.proofs.Common.{false, ◌||◌, sym, ap, ◌∙◌}
 use Rattle.clip_meaning.specs.Tally.{group_with}
 use Rattle.clip_grammar.specs.Tree.{tree_of}
 use Rattle.clip_meaning.specs.Meaning.{holds}

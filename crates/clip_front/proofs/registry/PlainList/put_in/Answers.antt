@@ -1,6 +1,5 @@
-use Rattle.std.proofs.Common.{◌≡◌, ◌+◌, ◌≤◌, List, ap, ap₂, sym, ◌∙◌, subst, arith}
+use Rattle.std.proofs.Common.{◌+◌, ◌≤◌, ap, sym, subst, arith}
 use Rattle.std.specs.FinMap as finite
-use Rattle.clip_words.specs.Order.{bytes_cmp}
 use Rattle.clip_model.specs.History.{Registered}
 use Rattle.clip_front.specs.Registry.{State}
 use Rattle.clip_front.proofs.Places.{put_in_kept, put_in_gives, insert_of_list, map_of, seated}

@@ -1,4 +1,4 @@
-use Rattle.std.proofs.Common.{◌≡◌, ap, sym, ◌∙◌, List, ℕ, string_bytes, take}
+use Rattle.std.proofs.Common.{◌≡◌, ap, sym, ◌∙◌, string_bytes, take}
 use Rattle.std.specs.FinMap as finite
 use Rattle.clip_words.specs.Words.{words_of}
 use Rattle.clip_meaning.specs.Article.{Fields, pairs_of, read_fields}

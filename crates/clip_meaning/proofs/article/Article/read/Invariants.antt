@@ -1,5 +1,4 @@
-use Rattle.std.proofs.Common.{◌≡◌, map, take}
-use Rattle.std.specs.FinMap as finite
+use Rattle.std.proofs.Common.{◌≡◌, take}
 use Rattle.clip_meaning.specs.Article.{read_fields, pairs_of}
 use Rattle.clip_meaning.proofs.article.Article.read.Given as goal
 

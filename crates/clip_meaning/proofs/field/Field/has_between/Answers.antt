@@ -1,4 +1,4 @@
-use Rattle.std.proofs.Common.{◌≡◌, ◌∙◌, ◌&&◌, ap, List, ℕ}
+use Rattle.std.proofs.Common.{◌∙◌, ◌&&◌, ap}
 use Rattle.std.specs.List.{list_any}
 use Rattle.clip_grammar.specs.Tree.{end_of}
 use Rattle.clip_meaning.specs.Meaning.{above, below}

@@ -1,4 +1,4 @@
-use Rattle.std.proofs.Common.{◌≡◌, ◌≢◌, ◌∙◌, [], ap, sym, option_map, true, false, true≢false, bytes_eq, get_or, arith}
+use Rattle.std.proofs.Common.{◌≡◌, ◌≢◌, ◌∙◌, [], ap, sym, option_map, true≢false, arith}
 use Rattle.std.proofs.lemmas.Slice.Eq.{bytes_eq-Decides}
 use Rattle.clip_meaning.proofs.Fields.{Entry, got, not_got}
 use Rattle.clip_meaning.proofs.field_map.FieldMap.get.Goals as goal

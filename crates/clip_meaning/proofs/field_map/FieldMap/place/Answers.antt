@@ -1,4 +1,4 @@
-use Rattle.std.proofs.Common.{◌≡◌, ◌∙◌, [], sym, ap, rules, of_calls, T, subst, is_gt}
+use Rattle.std.proofs.Common.{◌∙◌, [], sym, ap, rules, of_calls, T, subst, is_gt}
 use Rattle.std.specs.Cmp.Lexicographic.{nat_list_cmp_total}
 use Rattle.std.specs.FinMap.{is_sorted, entries_sorted}
 use Rattle.std.specs.List.{prefix_len}

@@ -1,4 +1,4 @@
-use Rattle.std.proofs.Common.{◌≡◌, sym, subst, rules, of_calls, is_lt, not}
+use Rattle.std.proofs.Common.{sym, subst, rules, of_calls, is_lt, not}
 use Rattle.std.proofs.lemmas.Fn.{always_returns_same}
 use Rattle.clip_words.specs.Order.{bytes_cmp}
 use Rattle.clip_meaning.proofs.Postings.{Sorted, rises, upto_first, past_word}

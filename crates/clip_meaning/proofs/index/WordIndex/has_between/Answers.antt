@@ -1,4 +1,4 @@
-use Rattle.std.proofs.Common.{◌≡◌, ◌∙◌, ◌&&◌, ap, sym}
+use Rattle.std.proofs.Common.{◌∙◌, ◌&&◌, ap, sym}
 use Rattle.clip_grammar.specs.Tree.{end_of}
 use Rattle.clip_meaning.specs.Meaning.{above, below}
 use Rattle.clip_meaning.proofs.Postings.{rises, range_settles, first_read, none_read, first_above}

@@ -1,5 +1,5 @@
-use Rattle.std.proofs.Common.{◌≡◌, ◌∙◌, ap, sym, bytes_eq, List, ℕ}
-use Rattle.clip_meaning.proofs.Postings.{Place, rises, word_settles, first_read, none_read}
+use Rattle.std.proofs.Common.{◌∙◌, ap, sym, bytes_eq, List, ℕ}
+use Rattle.clip_meaning.proofs.Postings.{rises, word_settles, first_read, none_read}
 use Rattle.clip_meaning.proofs.index.WordIndex.has_word.Goals as goal
 
 pub returns-in-Some : goal.returns-in-Some

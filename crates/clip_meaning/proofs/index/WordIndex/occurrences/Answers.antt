@@ -1,8 +1,7 @@
-use Rattle.std.proofs.Common.{◌≡◌, sym, subst, rules, of_calls, is_lt, not}
+use Rattle.std.proofs.Common.{sym, subst, rules, of_calls, is_lt, not}
 use Rattle.std.proofs.lemmas.Fn.{always_returns_same}
 use Rattle.clip_words.specs.Order.{bytes_cmp}
 use Rattle.clip_grammar.specs.Tokens.{End}
-use Rattle.clip_meaning.specs.Index.{from_low}
 use Rattle.clip_meaning.proofs.Postings.{Rises, rises, rises_from, upto_first, occurrences_read}
 use Rattle.clip_meaning.proofs.index.WordIndex.occurrences.Goals as goal
 

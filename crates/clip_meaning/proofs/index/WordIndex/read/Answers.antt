@@ -1,4 +1,4 @@
-use Rattle.std.proofs.Common.{◌≡◌, ap, rules, of_calls, is_lt}
+use Rattle.std.proofs.Common.{ap, rules, of_calls, is_lt}
 use Rattle.std.specs.Cmp.Lexicographic.{nat_list_cmp_total}
 use Rattle.std.proofs.lemmas.List.Sorted.{answers_always, ranks_by}
 use Rattle.clip_words.specs.Order.{bytes_cmp}

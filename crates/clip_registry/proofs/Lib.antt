@@ -1,0 +1,14 @@
+pub mod Live
+pub mod Numbering
+pub mod Rising
+pub mod Registering
+pub mod Whole
+pub mod Maps
+pub mod Marks
+pub mod Legal
+pub mod Clones
+pub mod Undoing
+pub mod Entering
+pub mod Counting
+pub mod Alone
+pub mod Keeping

@@ -1,0 +1,108 @@
+-- Keys of registries, and which seqs are live.
+use Rattle.std.proofs.Common.{◌≡◌, ℕ, suc, ◌≤◌, Bool, true, false, cond, ◌||◌, List, [], ◌∷◌, refl, sym, ap, subst, ◌∙◌, arith, Option, Some, None, nat_eq, ◌==◌}
+use Rattle.std.proofs.lemmas.Bool.Decides.{nat_tests}
+use Rattle.std.proofs.lemmas.Cmp.{nat_list_cmp_total, eq_by_cmp_equiv}
+use Rattle.std.specs.List.{list_any}
+use Rattle.std.specs.Ordering.{eq_by_cmp, is_eq}
+use Rattle.std.specs.declared.cmp.Ordering.{Ordering}
+use Rattle.std.specs.declared.cmp.Ordering.TheVariants.{Less, Equal, Greater}
+use Rattle.std.specs.FinMap as finite
+use Rattle.std.specs.FinMap.{get-entries, get-insert, get-remove, slice_cmp-IsAntisymmetric, nat_cmp-IsAntisymmetric}
+use Rattle.std.specs.FinMap.Entries.{find}
+use Rattle.clip_words.specs.Order.{bytes_cmp}
+use Rattle.clip_model.specs.History.{Registered, Registry, is_live_in}
+use Rattle.clip_model.proofs.Entries.{entry_given}
+
+equal : (r : Ordering) → is_eq r ≡ true → r ≡ Equal
+equal Less p = cc
+equal Equal p = refl
+equal Greater p = cc
+
+pub bytes_same : (a b : List ℕ) → eq_by_cmp bytes_cmp a b ≡ true → a ≡ b
+bytes_same a b h = slice_cmp-IsAntisymmetric nat_cmp-IsAntisymmetric a b (equal _ h)
+
+pub bytes_itself : (a : List ℕ) → eq_by_cmp bytes_cmp a a ≡ true
+bytes_itself a = (eq_by_cmp_equiv nat_list_cmp_total).refl a
+
+pub same_Some : {A : Type 0} {x y : A} → Some x ≡ Some y → x ≡ y
+same_Some h = cc
+
+pub none_some : {A : Type 0} {x : A} → None ≡ Some x → ⊥
+none_some h = cc
+
+pub false_true : false ≡ true → ⊥
+false_true h = cc
+
+-- two tests that follow from each other are the same
+pub same_bool : (a b : Bool) → (a ≡ true → b ≡ true) → (b ≡ true → a ≡ true) → a ≡ b
+same_bool true b f g = sym (f refl)
+same_bool false true f g = g refl
+same_bool false false f g = refl
+
+-- what a registry gives after an insert: the new query under its id, and elsewhere what was there
+pub inserted_at : (m : Registry) (id : List ℕ) (r : Registered) → finite.get (finite.insert m id r) id ≡ Some r
+inserted_at m id r = get-insert nat_list_cmp_total m id r id ∙ ap (λ b. cond b (Some r) (finite.get m id)) (bytes_itself id)
+
+pub inserted_else : (m : Registry) (id : List ℕ) (r : Registered) (q : List ℕ) → eq_by_cmp bytes_cmp q id ≡ false → finite.get (finite.insert m id r) q ≡ finite.get m q
+inserted_else m id r q e = get-insert nat_list_cmp_total m id r q ∙ ap (λ b. cond b (Some r) (finite.get m q)) e
+
+pub removed_at : (m : Registry) (id : List ℕ) → finite.get (finite.remove m id) id ≡ None
+removed_at m id = get-remove nat_list_cmp_total m id id ∙ ap (λ b. cond b None (finite.get m id)) (bytes_itself id)
+
+pub removed_else : (m : Registry) (id : List ℕ) (q : List ℕ) → eq_by_cmp bytes_cmp q id ≡ false → finite.get (finite.remove m id) q ≡ finite.get m q
+removed_else m id q e = get-remove nat_list_cmp_total m id q ∙ ap (λ b. cond b None (finite.get m q)) e
+
+-- what is found behind an insert is the new query, or was there under another id
+pub data AfterInsert (m : Registry) (id : List ℕ) (r : Registered) (q : List ℕ) (s : Registered) : Type 0 where
+  new : q ≡ id → s ≡ r → AfterInsert m id r q s
+  old : eq_by_cmp bytes_cmp q id ≡ false → finite.get m q ≡ Some s → AfterInsert m id r q s
+
+pub after_insert : (m : Registry) (id : List ℕ) (r : Registered) (q : List ℕ) (s : Registered) → finite.get (finite.insert m id r) q ≡ Some s → AfterInsert m id r q s
+after_insert m id r q s h =
+    elim (eq_by_cmp bytes_cmp q id) as (λ b. eq_by_cmp bytes_cmp q id ≡ b → cond b (Some r) (finite.get m q) ≡ Some s → AfterInsert m id r q s) [
+      | true ↦ λ b is. new (bytes_same q id b) (sym (same_Some is))
+      | false ↦ λ b is. old b is
+    ] refl (sym (get-insert nat_list_cmp_total m id r q) ∙ h)
+
+pub record AfterRemove (m : Registry) (id q : List ℕ) (s : Registered) : Type 0 where
+  pub other : eq_by_cmp bytes_cmp q id ≡ false
+  pub was : finite.get m q ≡ Some s
+
+pub after_remove : (m : Registry) (id q : List ℕ) (s : Registered) → finite.get (finite.remove m id) q ≡ Some s → AfterRemove m id q s
+after_remove m id q s h =
+    elim (eq_by_cmp bytes_cmp q id) as (λ b. eq_by_cmp bytes_cmp q id ≡ b → cond b None (finite.get m q) ≡ Some s → AfterRemove m id q s) [
+      | true ↦ λ b is. absurd (none_some is)
+      | false ↦ λ b is. record { other = b; was = is }
+    ] refl (sym (get-remove nat_list_cmp_total m id q) ∙ h)
+
+-- ---- live seqs
+
+found_any : (id : List ℕ) (r : Registered) (es : List (List ℕ × Registered)) → find bytes_cmp id es ≡ Some r → list_any (λ e. e.1.seq == r.seq) es ≡ true
+found_any id r [] h = absurd (none_some h)
+found_any id r (e ∷ es) h =
+    elim (eq_by_cmp bytes_cmp id e.0) as (λ b. cond b (Some e.1) (find bytes_cmp id es) ≡ Some r → (e.1.seq == r.seq || list_any (λ e. e.1.seq == r.seq) es) ≡ true) [
+      | true ↦ λ is. let same : e.1 ≡ r = same_Some is in let seqs : (e.1.seq == r.seq) ≡ true = rw same (itself r.seq) in ap (λ b. b || list_any (λ e. e.1.seq == r.seq) es) seqs
+      | false ↦ λ is. or_right (e.1.seq == r.seq) _ (found_any id r es is)
+    ] h
+  where
+    itself : (n : ℕ) → (n == n) ≡ true
+    itself n = grind (arith, nat_tests)
+    or_right : (a b : Bool) → b ≡ true → (a || b) ≡ true
+    or_right true b h = refl
+    or_right false b h = h
+
+-- what the registry gives is live
+pub given_live : (m : Registry) (id : List ℕ) (r : Registered) → finite.get m id ≡ Some r → is_live_in m r.seq ≡ true
+given_live m id r h = found_any id r (finite.entries m) (sym (get-entries m id) ∙ h)
+
+-- the query that has a live seq
+pub record HasSeq (m : Registry) (seq : ℕ) : Type 0 where
+  pub id : List ℕ
+  pub entry : Registered
+  pub given : finite.get m id ≡ Some entry
+  pub is : entry.seq ≡ seq
+
+pub live_given : (m : Registry) (seq : ℕ) → is_live_in m seq ≡ true → HasSeq m seq
+live_given m seq h =
+    let given = entry_given nat_list_cmp_total (λ e. e.1.seq == seq) m h in
+    record { id = given.0; entry = given.1; given = given.2; is = let e = given.3 in grind (arith, nat_tests) }

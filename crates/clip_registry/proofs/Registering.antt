@@ -1,0 +1,71 @@
+-- What a register leaves.
+use Rattle.std.proofs.Common.{◌≡◌, ℕ, suc, ◌+◌, ◌<◌, ◌≤◌, ◌⊎◌, Bool, true, false, cond, List, [], ◌∷◌, length, refl, sym, ap, subst, ◌∙◌, inl, inr, arith, Option, Some, None}
+use Rattle.std.specs.List.{Contains}
+use Rattle.std.specs.Ordering.{eq_by_cmp}
+use Rattle.std.specs.FinMap as finite
+use Rattle.clip_words.specs.Order.{bytes_cmp}
+use Rattle.clip_model.specs.Standing.{Standing}
+use Rattle.clip_model.specs.History.{Registered, Registry, register_all, remove_all, is_live_in}
+use Rattle.clip_registry.specs.Roster.{IsNumbered, insert_one, insert_all, SeqsFollow}
+use Rattle.clip_registry.specs.Whole.{numbered}
+use Rattle.clip_registry.proofs.Live.{AfterInsert, new, old, after_insert, after_remove, inserted_at, inserted_else, same_bool, HasSeq, live_given, given_live}
+use Rattle.clip_registry.proofs.Numbering.{numbered_insert, numbered_remove, numbered_more}
+use Rattle.clip_registry.proofs.Rising.{contains_head, contains_later}
+
+-- to register is to insert the numbered queries
+pub insert_all-numbered : (n : ℕ) (ss : List Standing) (m : Registry) → insert_all m (numbered n ss) ≡ register_all n ss m
+insert_all-numbered n [] m = refl
+insert_all-numbered n (s ∷ ss) m = insert_all-numbered (suc n) ss _
+
+pub numbered_follow : (n : ℕ) (ss : List Standing) → SeqsFollow n (numbered n ss)
+numbered_follow n [] = tt
+numbered_follow n (s ∷ ss) = (refl, numbered_follow (suc n) ss)
+
+pub numbered_all : (n : ℕ) (rs : List Registered) (m : Registry) → SeqsFollow n rs → IsNumbered n m → IsNumbered (n + length rs) (insert_all m rs)
+numbered_all n [] m follow is = numbered_more n (n + 0) m (omega arith) is
+numbered_all n (r ∷ rs) m follow is =
+    numbered_more (suc n + length rs) (n + suc (length rs)) _ (omega arith) (numbered_all (suc n) rs (insert_one m r) follow.1 (numbered_insert n m r follow.0 is))
+
+pub numbered_removed : (n : ℕ) (ids : List (List ℕ)) (m : Registry) → IsNumbered n m → IsNumbered n (remove_all ids m)
+numbered_removed n [] m is = is
+numbered_removed n (id ∷ ids) m is = numbered_removed n ids _ (numbered_remove n m id is)
+
+-- what is there after inserts was inserted or was there
+pub inserted_or_old : (rs : List Registered) (m : Registry) (id : List ℕ) (r : Registered) → finite.get (insert_all m rs) id ≡ Some r → Contains rs r ⊎ (finite.get m id ≡ Some r)
+inserted_or_old [] m id r h = inr h
+inserted_or_old (q ∷ rs) m id r h =
+    elim (inserted_or_old rs (insert_one m q) id r h) as (λ _. Contains (q ∷ rs) r ⊎ (finite.get m id ≡ Some r)) [
+      | inl later ↦ inl (contains_later q r rs later)
+      | inr here ↦ elim (after_insert m q.standing.id q id r here) as (λ _. Contains (q ∷ rs) r ⊎ (finite.get m id ≡ Some r)) [
+        | new _ same ↦ inl (subst (λ x. Contains (x ∷ rs) r) same (contains_head r rs))
+        | old _ was ↦ inr was
+      ]
+    ]
+
+pub removed_was : (ids : List (List ℕ)) (m : Registry) (id : List ℕ) (r : Registered) → finite.get (remove_all ids m) id ≡ Some r → finite.get m id ≡ Some r
+removed_was [] m id r h = h
+removed_was (gone ∷ ids) m id r h = (after_remove m gone id r (removed_was ids _ id r h)).was
+
+-- two registries give the same queries above n
+pub record Agree (n : ℕ) (m k : Registry) : Type 0 where
+  pub forth : (id : List ℕ) (r : Registered) → n < r.seq → finite.get m id ≡ Some r → finite.get k id ≡ Some r
+  pub back : (id : List ℕ) (r : Registered) → n < r.seq → finite.get k id ≡ Some r → finite.get m id ≡ Some r
+
+agree_one : (m k : Registry) (q : Registered) (id : List ℕ) (r : Registered) → (finite.get m id ≡ Some r → finite.get k id ≡ Some r) → finite.get (insert_one m q) id ≡ Some r → finite.get (insert_one k q) id ≡ Some r
+agree_one m k q id r f h =
+    elim (after_insert m q.standing.id q id r h) as (λ _. finite.get (insert_one k q) id ≡ Some r) [
+      | new at same ↦ ap (finite.get (insert_one k q)) at ∙ inserted_at k q.standing.id q ∙ ap (λ x. Some x) (sym same)
+      | old other was ↦ inserted_else k q.standing.id q id other ∙ f was
+    ]
+
+pub agree_all : (n : ℕ) (rs : List Registered) (m k : Registry) → Agree n m k → Agree n (insert_all m rs) (insert_all k rs)
+agree_all n [] m k are = are
+agree_all n (q ∷ rs) m k are = agree_all n rs _ _ (record {
+  forth = λ id r high. agree_one m k q id r (are.forth id r high);
+  back = λ id r high. agree_one k m q id r (are.back id r high);
+})
+
+pub live_agree : (n : ℕ) (m k : Registry) (seq : ℕ) → n < seq → Agree n m k → is_live_in m seq ≡ is_live_in k seq
+live_agree n m k seq high are = same_bool _ _
+    (λ h. let at = live_given m seq h in let above : n < at.entry.seq = let e = at.is in omega arith in ap (is_live_in k) (sym at.is) ∙ given_live k at.id at.entry (are.forth at.id at.entry above at.given))
+    (λ h. let at = live_given k seq h in let above : n < at.entry.seq = let e = at.is in omega arith in ap (is_live_in m) (sym at.is) ∙ given_live m at.id at.entry (are.back at.id at.entry above at.given))

@@ -1,0 +1,79 @@
+use Rattle.std.proofs.Common.{◌≡◌, ◌+◌, ◌++◌, ◌∷◌, [], ◌<◌, ◌≤◌, arith, ℕ, suc, sym, ap, subst, ◌∙◌, List, Bool, true, false, None, Some, Option, length, is_some}
+use Rattle.std.specs.Option.{option_map}
+use Rattle.std.specs.Arc.{arc_value}
+use Rattle.std.specs.FinMap as finite
+use Rattle.std.proofs.lemmas.List.{with_items_is}
+use Rattle.clip_model.specs.History.{Registered, Registry}
+use Rattle.clip_registry.specs.Roster.{Roster, IsAbove, IsUndoable, insert_one, restored}
+use Rattle.clip_registry.specs.Flags.{IsMarked, marked}
+use Rattle.clip_registry.proofs.Live.{inserted_at}
+use Rattle.clip_registry.proofs.Marks.{AreFewer, popped_flags, marked_back, marked_back_none, restored_before, length-marked}
+use Rattle.clip_registry.proofs.roster.Roster.undo.Goals as goal
+
+pub put_back-requires : goal.put_back-requires
+put_back-requires c =
+    let u = c.requires in
+    let same : c.self.inside.by_id ≡ insert_one u.before u.entry = ap (λ (r : Roster). r.registry) c.self.view_is ∙ u.registry in
+    ap (λ (m : Registry). is_some (finite.get m c.args.id.now)) same ∙ ap (λ k. is_some (finite.get (insert_one u.before u.entry) k)) (sym u.key) ∙ ap (λ (o : Option Registered). is_some o) (inserted_at u.before u.entry.standing.id u.entry)
+
+pub invariant_of-self : goal.invariant_of-self
+invariant_of-self c =
+    let u = c.requires in
+    let base : ℕ = c.self.inside.base in
+    let flags : List Bool = c.self.inside.live.items in
+    let rest : List Bool = c.pop.new.self.items in
+    let same : c.self.inside.by_id ≡ insert_one u.before u.entry = ap (λ (r : Roster). r.registry) c.self.view_is ∙ u.registry in
+    let same_base : base ≡ c.args.self.now.base = ap (λ (r : Roster). r.base) c.self.view_is in
+    let count : base + length flags ≡ suc u.n = ap (λ (r : Roster). r.listed) c.self.view_is ∙ u.listed in
+    let low : base ≤ u.n = subst (λ b. b ≤ u.n) (sym same_base) u.base in
+    let there : 0 < length flags → is_some c.pop.result ≡ true = λ h. c.pop.ensures.variant.1 (let k = c.self.inside.live.ok.0 in omega arith) in
+    let fewer = popped_flags base flags rest c.pop.result u.n u.before c.self.inside.by_id u.entry c.args.id.now (option_map arc_value c.args.replaced)
+        c.pop.ensures.items there count low u.numbered u.seq u.key u.was same c.self.invariant in
+    let t : Registered = c.in-Some.entry.value in
+    let one : option_map arc_value c.args.replaced ≡ Some t = ap (option_map arc_value) c.in-Some.is in
+    let was : finite.get u.before c.args.id.now ≡ Some t = u.was ∙ one in
+    let above : IsAbove base (Some t) = subst (IsAbove base) one (subst (λ b. IsAbove b (option_map arc_value c.args.replaced)) (sym same_base) u.above) in
+    let is = marked_back base rest u.n u.before c.args.id.now t u.numbered above was (subst (λ o. AreFewer base rest u.n o u.before) one fewer) in
+    let reg : c.put_back.new.self ≡ u.before = c.put_back.ensures ∙ ap (λ m. finite.insert m c.args.id.now t) same ∙ restored_before u.before u.entry c.args.id.now (Some t) u.key was in
+    let seq : c.seq.result ≡ t.seq = c.seq.ensures ∙ ap (λ (r : Registered). r.seq) c.deref.ensures in
+    let new : c.mark.new.flags ≡ marked base rest t.seq true = c.mark.ensures ∙ ap (λ fs. marked base fs c.seq.result true) c.deref_mut.ensures.value ∙ ap (λ s. marked base rest s true) seq in
+    let len : length c.mark.new.flags ≡ c.pop.new.self.len = ap length c.mark.ensures ∙ length-marked base c.deref_mut.result.now c.seq.result true ∙ c.deref_mut.ensures.len in
+    subst (λ fs. IsMarked base fs c.put_back.new.self) (sym (with_items_is c.pop.new.self c.mark.new.flags len ∙ new)) (subst (IsMarked base (marked base rest t.seq true)) (sym reg) is)
+
+pub invariant_of-self-in-None : goal.invariant_of-self-in-None
+invariant_of-self-in-None c =
+    let u = c.requires in
+    let base : ℕ = c.self.inside.base in
+    let flags : List Bool = c.self.inside.live.items in
+    let rest : List Bool = c.pop.new.self.items in
+    let same : c.self.inside.by_id ≡ insert_one u.before u.entry = ap (λ (r : Roster). r.registry) c.self.view_is ∙ u.registry in
+    let same_base : base ≡ c.args.self.now.base = ap (λ (r : Roster). r.base) c.self.view_is in
+    let count : base + length flags ≡ suc u.n = ap (λ (r : Roster). r.listed) c.self.view_is ∙ u.listed in
+    let low : base ≤ u.n = subst (λ b. b ≤ u.n) (sym same_base) u.base in
+    let there : 0 < length flags → is_some c.pop.result ≡ true = λ h. c.pop.ensures.variant.1 (let k = c.self.inside.live.ok.0 in omega arith) in
+    let fewer = popped_flags base flags rest c.pop.result u.n u.before c.self.inside.by_id u.entry c.args.id.now (option_map arc_value c.args.replaced)
+        c.pop.ensures.items there count low u.numbered u.seq u.key u.was same c.self.invariant in
+    let one : option_map arc_value c.args.replaced ≡ None = ap (option_map arc_value) c.in-None.is in
+    let was : finite.get u.before c.args.id.now ≡ None = u.was ∙ one in
+    let is = marked_back_none base rest u.n u.before u.numbered (subst (λ o. AreFewer base rest u.n o u.before) one fewer) in
+    let reg : c.remove.new.self ≡ u.before = c.remove.ensures.removed ∙ ap (λ m. finite.remove m c.args.id.now) same ∙ restored_before u.before u.entry c.args.id.now None u.key was in
+    subst (IsMarked base rest) (sym reg) is
+
+pub invariant_of-self-in-None-2 : goal.invariant_of-self-in-None-2
+invariant_of-self-in-None-2 c =
+    let u = c.requires in
+    let base : ℕ = c.self.inside.base in
+    let flags : List Bool = c.self.inside.live.items in
+    let rest : List Bool = c.pop.new.self.items in
+    let same : c.self.inside.by_id ≡ insert_one u.before u.entry = ap (λ (r : Roster). r.registry) c.self.view_is ∙ u.registry in
+    let same_base : base ≡ c.args.self.now.base = ap (λ (r : Roster). r.base) c.self.view_is in
+    let count : base + length flags ≡ suc u.n = ap (λ (r : Roster). r.listed) c.self.view_is ∙ u.listed in
+    let low : base ≤ u.n = subst (λ b. b ≤ u.n) (sym same_base) u.base in
+    let there : 0 < length flags → is_some c.pop.result ≡ true = λ h. c.pop.ensures.variant.1 (let k = c.self.inside.live.ok.0 in omega arith) in
+    let fewer = popped_flags base flags rest c.pop.result u.n u.before c.self.inside.by_id u.entry c.args.id.now (option_map arc_value c.args.replaced)
+        c.pop.ensures.items there count low u.numbered u.seq u.key u.was same c.self.invariant in
+    let one : option_map arc_value c.args.replaced ≡ None = ap (option_map arc_value) c.in-None.is in
+    let was : finite.get u.before c.args.id.now ≡ None = u.was ∙ one in
+    let is = marked_back_none base rest u.n u.before u.numbered (subst (λ o. AreFewer base rest u.n o u.before) one fewer) in
+    let reg : c.remove.new.self ≡ u.before = c.remove.ensures.removed ∙ ap (λ m. finite.remove m c.args.id.now) same ∙ restored_before u.before u.entry c.args.id.now None u.key was in
+    subst (IsMarked base rest) (sym reg) is

@@ -1,0 +1,28 @@
+use Rattle.std.proofs.Common.{◌≡◌, ℕ, sym, ap, subst, ◌∙◌, map, List}
+use Rattle.std.proofs.lemmas.List.Elements.{same_from_all_zip}
+use Rattle.std.specs.Arc.{arc_value}
+use Rattle.std.specs.declared.sync.Arc.{Arc}
+use Rattle.std.specs.declared.alloc.Global.{Global}
+use Rattle.clip_registry.specs.Command.{entry_of, shared_entry}
+use Rattle.clip_registry.specs.declared.command.HistoryEntry.{HistoryEntry}
+use Rattle.clip_registry.specs.Kept.{AreKept, state_of}
+use Rattle.clip_registry.specs.Roster.{Roster}
+use Rattle.clip_registry.specs.Whole.{RegistryState}
+use Rattle.clip_registry.proofs.Clones.{map_clones, map_shared}
+use Rattle.clip_registry.proofs.state.StateClone.clone.Goals as goal
+
+same_state : (c : goal.In_ok-clone-4) → record { segments = map arc_value c.in_ok-clone.field-0.items; history = map shared_entry c.in_ok-clone-2.field-0.items } ≡ state_of c.self.inside
+same_state c = λ i. record {
+  segments = map_shared c.self.inside.segments.items c.in_ok-clone.field-0.items c.in_ok-clone.ensures.cases.0 i;
+  history = map_clones (λ (x y : Arc HistoryEntry Global). arc_value y ≡ arc_value x) shared_entry (λ x y e. ap entry_of e) c.self.inside.history.items c.in_ok-clone-2.field-0.items c.in_ok-clone-2.ensures.cases.0 i;
+}
+
+pub invariant_of-result : goal.invariant_of-result
+invariant_of-result c =
+    let counts : c.in_ok-clone-4.field-0.items ≡ c.self.inside.counts.items = same_from_all_zip (λ (x y : ℕ). y ≡ x) _ _ c.in_ok-clone-4.ensures.cases.0 (λ x y e. e) in
+    subst (λ s. AreKept s c.in_ok-clone-3.field-0 c.in_ok-clone-4.field-0.items) (sym (same_state c))
+    (subst (λ (r : Roster). AreKept (state_of c.self.inside) r c.in_ok-clone-4.field-0.items) (sym c.in_ok-clone-3.ensures.cases)
+    (subst (AreKept (state_of c.self.inside) c.self.inside.roster) (sym counts) c.self.invariant))
+
+pub returns : goal.returns
+returns c = record { cases = same_state c ∙ c.self.view_is }

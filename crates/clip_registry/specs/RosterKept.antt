@@ -1,0 +1,12 @@
+-- How a roster is kept.
+use Rattle.std.specs.Prelude.{◌+◌, length}
+use Rattle.clip_registry.specs.Flags.{IsMarked}
+use Rattle.clip_registry.specs.Roster.{Roster}
+use Rattle.clip_registry.specs.declared.roster.Roster.TheInside.{Inside}
+
+abbrev pub roster_of : Inside → Roster
+roster_of r = record { registry = r.by_id; listed = r.base + length r.live.items; base = r.base }
+
+-- The flags are those of the live seqs.
+abbrev pub IsRoster : Inside → Type 0
+IsRoster r = IsMarked r.base r.live.items r.by_id

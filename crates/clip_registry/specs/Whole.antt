@@ -1,0 +1,61 @@
+-- A registry as contracts see it: its segments and its history.
+use Rattle.std.specs.Prelude.{◌≡◌, ◌↔◌, ℕ, suc, ◌≤◌, List, [], ◌∷◌, ◌++◌, filter, Option, Some, None, IsTrue, All, Contains, refl}
+use Rattle.std.specs.Arc.{arc_value}
+use Rattle.std.specs.FinMap as finite
+use Rattle.std.specs.declared.sync.Arc.{Arc}
+use Rattle.std.specs.declared.alloc.Global.{Global}
+use Rattle.std.specs.Coded.{Coded, code_by, coded×, coded_list}
+use Rattle.clip_model.specs.Standing.{Standing}
+use Rattle.clip_model.specs.History.{History, Command, Register, Delete, Clear, Registered, Registry, replay, listed, is_live, is_live_in, after_command, with_command, history_code, registered_code}
+use Rattle.clip_segment.specs.Segment.{IsRising}
+
+-- segments, each as its list of entries, and the history of accepted commands
+pub record RegistryState : Type 0 where
+  pub segments : List (List Registered)
+  pub history : History
+
+abbrev pub state_code : Coded RegistryState
+state_code = code_by (List (List Registered) × History) (coded× (coded_list (coded_list registered_code)) history_code) (λ s. (s.segments, s.history)) (λ p. record { segments = p.0; history = p.1 }) (λ _. refl)
+
+-- no segment and no command yet
+abbrev pub beginning : RegistryState
+beginning = record { segments = []; history = [] }
+
+-- the entries of all segments, in order
+abbrev pub all_entries : List (List Registered) → List Registered
+all_entries [] = []
+all_entries (segment ∷ segments) = segment ++ all_entries segments
+
+-- Seqs rise through all segments, none is above those listed, and the live entries are, by id, exactly the registered queries.
+pub record IsWhole (state : RegistryState) : Type 0 where
+  pub rising : IsRising (all_entries state.segments)
+  pub within : All (λ r. r.seq ≤ listed state.history) (all_entries state.segments)
+  pub live_entries : (r : Registered) → (finite.get (replay state.history) r.standing.id ≡ Some r) ↔ (Contains (all_entries state.segments) r × IsTrue (is_live state.history r.seq))
+
+-- the queries with their seqs, where n were listed before
+abbrev pub numbered : ℕ → List Standing → List Registered
+numbered n [] = []
+numbered n (s ∷ ss) = record { standing = s; seq = suc n } ∷ numbered (suc n) ss
+
+-- of the queries that a register lists, those that stand after it, where n were listed before
+abbrev pub standing_after : ℕ → List Standing → Registry → List Registered
+standing_after n standings registry = filter (λ r. is_live_in (after_command n (Register standings) registry) r.seq) (numbered n standings)
+
+-- Where n were listed before: a register of at least one query adds a segment at the end, a delete leaves the segments, and a clear takes all away.
+abbrev pub segments_after : List (List Registered) → ℕ → Registry → Command → List (List Registered)
+segments_after segments n registry (Register []) = segments
+segments_after segments n registry (Register (s ∷ ss)) = segments ++ standing_after n (s ∷ ss) registry ∷ []
+segments_after segments n registry (Delete ids) = segments
+segments_after segments n registry Clear = []
+
+-- the registry after a caller's next command
+abbrev pub state_after : RegistryState → ℕ → Command → RegistryState
+state_after state caller command = record {
+  segments = segments_after state.segments (listed state.history) (replay state.history) command;
+  history = with_command state.history caller command
+}
+
+-- the registry of a state that is there from the first command on
+abbrev pub kept_state : Option (Arc RegistryState Global) → RegistryState
+kept_state None = beginning
+kept_state (Some state) = arc_value state

@@ -1,0 +1,93 @@
+//! Entries by the ids of their standing queries.
+ghost use Rattle.std.specs.Prelude.{◌≡◌, option_map, option_copied, is_some, true, IfOk, IfErr, OnOk, OnErr};
+ghost use Rattle.std.specs.Arc.{arc_value};
+ghost use Rattle.std.specs.FinMap as finite;
+ghost use Rattle.clip_model.specs.History.{Registry};
+
+use clip_segment::Entry;
+use clip_words::NoMemory;
+use std::alloc::{AllocError, Global};
+use std::collections::BTreeMap;
+use std::marker::Model;
+use std::sync::Arc;
+
+/// Entries by the ids of their standing queries.
+#[derive(Drop)]
+pub struct ById {
+    entries: BTreeMap<String, Arc<Entry>>,
+}
+
+impl Model for ById {
+    ghost use Rattle.clip_model.specs.History.{Registry, registry_code};
+
+    ghost Value = { Registry };
+
+    ghost coded = { registry_code };
+
+    ghost use Rattle.clip_registry.specs.Flags.{registry_of};
+
+    ghost view = { λ m. registry_of m.entries };
+}
+
+impl Clone for ById {
+    ghost is_clone = { λ map copy. copy ≡ map };
+
+    fn clone(&self) -> Result<ById, AllocError> {
+        Ok(ById {
+            entries: self.entries.clone()?,
+        })
+    }
+}
+
+impl ById {
+    /// No entries.
+    pub fn new(alloc: Global) -> ById
+        ensures { result ≡ finite.empty }
+    {
+        ById {
+            entries: BTreeMap::new(alloc),
+        }
+    }
+
+    /// How many entries there are.
+    pub fn len(&self) -> u64
+        ensures { result ≡ finite.len self.now }
+    {
+        self.entries.len() as u64
+    }
+
+    /// The entry under the id.
+    pub fn get(&self, id: &str) -> Option<&Arc<Entry>>
+        ensures { option_map arc_value (option_copied result) ≡ finite.get self.now id.now }
+    {
+        self.entries.get(id)
+    }
+
+    /// Puts an entry in the place of the one with its id, which it gives.
+    pub fn insert(&mut self, alloc: Global, entry: Arc<Entry>) -> Result<Option<Arc<Entry>>, NoMemory>
+        ensures inserted { OnOk result (self.new ≡ finite.insert self.old entry.value.standing.id entry.value) }
+        ensures replaced { IfOk result (λ replaced. option_map arc_value replaced ≡ finite.get self.old entry.value.standing.id) }
+        ensures unchanged { OnErr result (self.new ≡ self.old) }
+    {
+        let id = String::from_str(alloc, entry.standing().id())?;
+        Ok(self.entries.insert(id, entry)?)
+    }
+
+    /// Puts an entry under an id that is there. It takes no memory.
+    pub fn put_back(&mut self, id: &str, entry: Arc<Entry>)
+        requires { is_some (finite.get self.old id.now) ≡ true }
+        ensures { self.new ≡ finite.insert self.old id.now entry.value }
+    {
+        if let Some(place) = self.entries.get_mut(id) {
+            *place = entry;
+        }
+    }
+
+    /// Takes out the entry under the id.
+    pub fn remove(&mut self, id: &str) -> Option<Arc<Entry>>
+        ensures removed { self.new ≡ finite.remove self.old id.now }
+        ensures gone { option_map arc_value result ≡ finite.get self.old id.now }
+    {
+        self.entries.remove(id)
+    }
+}

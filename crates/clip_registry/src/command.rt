@@ -1,0 +1,117 @@
+//! Commands, the entries of the history, and the answers to commands.
+ghost use Rattle.std.specs.Prelude.{◌≡◌, IfOk, map, string_bytes};
+ghost use Rattle.std.specs.List.{list_all};
+ghost use Rattle.clip_model.specs.History.{fits, is_id};
+ghost use Rattle.clip_registry.specs.Command.{command_of};
+
+use clip_segment::Standing;
+use clip_words::NoMemory;
+use std::alloc::AllocFailed;
+use std::sync::Arc;
+use thiserror::Error;
+
+/// The most queries or ids that a command lists.
+pub const MOST_LISTED: usize = 1024;
+
+/// The most bytes of an id.
+const MOST_ID_BYTES: usize = 256;
+
+/// A change of the registry.
+#[derive(Drop)]
+pub enum Command {
+    /// Registers the queries in order; each takes the place of the one with its id.
+    Register(Vec<Arc<Standing>>),
+    /// Takes the queries with these ids out.
+    Delete(Vec<String>),
+    /// Takes all queries out.
+    Clear,
+}
+
+/// A command that was accepted.
+#[derive(Drop)]
+pub struct HistoryEntry {
+    /// Who gave it, from 1 to 64.
+    pub caller: u32,
+    /// Its number among that caller's commands, from 1.
+    pub number: u64,
+    pub command: Command,
+}
+
+/// The answer to a command that was accepted.
+#[derive(Clone, Copy, Debug, PartialEq, Eq)]
+pub enum Applied {
+    /// How many distinct ids were registered.
+    Registered(u64),
+    /// How many distinct ids were deleted that were there.
+    Deleted(u64),
+    /// How many queries were there.
+    Cleared(u64),
+}
+
+/// Why a command was not accepted.
+#[derive(Clone, Copy, Debug, PartialEq, Eq, Error)]
+pub enum Refused {
+    /// The live queries would be more than 1,000,000, or the history more than 4,294,967,295 entries long.
+    #[error("the registry is full")]
+    Full,
+    #[error("no memory")]
+    NoMemory,
+}
+
+impl From<NoMemory> for Refused {
+    ghost use Rattle.clip_registry.specs.declared.command.Refused.TheVariants as refused;
+
+    ghost from_gives = { λ _ r. r ≡ refused.NoMemory };
+
+    fn from(_error: NoMemory) -> Refused {
+        Refused::NoMemory
+    }
+}
+
+impl<T: Drop> From<AllocFailed<T>> for Refused {
+    ghost use Rattle.clip_registry.specs.declared.command.Refused.TheVariants as refused;
+
+    ghost from_gives = { λ _ r. r ≡ refused.NoMemory };
+
+    fn from(_error: AllocFailed<T>) -> Refused {
+        Refused::NoMemory
+    }
+}
+
+/// Whether the id is 1 to 256 bytes long.
+fn is_id(id: &str) -> bool
+    ensures { result ≡ is_id id.now }
+{
+    !id.is_empty() && id.len() <= MOST_ID_BYTES
+}
+
+/// Whether each id is 1 to 256 bytes long.
+fn are_ids(ids: &[String]) -> bool
+    ensures { result ≡ list_all (λ id. is_id (string_bytes id)) ids.now }
+{
+    ids.iter().all(|id| is_id(id))
+}
+
+impl Command {
+    /// Whether a registrar takes the command: it lists at most 1,024 queries or ids, and each id to delete is 1 to 256 bytes long. Its cost is in the ids to delete.
+    pub fn fits(&self) -> bool
+        ensures { result ≡ fits (command_of self.now) }
+    {
+        match self {
+            Command::Register(standings) => standings.len() <= MOST_LISTED,
+            Command::Delete(ids) => ids.len() <= MOST_LISTED && are_ids(ids),
+            Command::Clear => true,
+        }
+    }
+
+    /// A command with the same content, whose queries are shared and whose ids are copied.
+    pub(crate) fn copy(&self) -> Result<Command, NoMemory>
+        ensures { IfOk result (λ copy. command_of copy ≡ command_of self.now) }
+    {
+        match self {
+            Command::Register(standings) => Ok(Command::Register(standings.clone()?)),
+            Command::Delete(ids) => Ok(Command::Delete(ids.clone()?)),
+            Command::Clear => Ok(Command::Clear),
+        }
+    }
+}

@@ -1,0 +1,16 @@
+//! The registry of standing queries: commands, their history, the registrar that applies them, and views of it.
+#![tactic(auto)]
+
+ghost use Rattle.std.specs.Prelude.{◌≡◌};
+
+mod by_id;
+mod change;
+pub mod command;
+pub mod registrar;
+mod roster;
+mod state;
+pub mod view;
+
+pub use command::{Applied, Command, HistoryEntry, Refused};
+pub use registrar::Registrar;
+pub use view::View;
