@@ -3,7 +3,7 @@ use Rattle.std.specs.FinMap as finite
 use Rattle.std.specs.Vec.Iter.{into_iter_items}
 use Rattle.clip_model.specs.History.{register_all}
 use Rattle.clip_front.proofs.Places.{len-register_all, registered_first, seated}
-use Rattle.clip_front.proofs.registry.PlainList.put_all.Goals as goal
+use Rattle.clip_front.proofs.registry.StandingQueries.put_all.Goals as goal
 
 pub put_in-requires-clause-room : goal.put_in-requires-clause-room
 put_in-requires-clause-room c =

@@ -1,7 +1,7 @@
 use Rattle.std.proofs.Common.{◌≡◌, ◌+◌, ◌≤◌, take}
 use Rattle.std.specs.FinMap as finite
 use Rattle.clip_model.specs.History.{register_all}
-use Rattle.clip_front.proofs.registry.PlainList.grown.Given as goal
+use Rattle.clip_front.proofs.registry.StandingQueries.grown.Given as goal
 
 abbrev pub invariant-loop-i : goal.invariant-loop-i
 invariant-loop-i l = record {

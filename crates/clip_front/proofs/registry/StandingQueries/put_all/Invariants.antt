@@ -1,7 +1,7 @@
 use Rattle.std.proofs.Common.{◌≡◌, ◌+◌, length}
 use Rattle.std.specs.Vec.Iter.{into_iter_items}
 use Rattle.clip_model.specs.History.{register_all}
-use Rattle.clip_front.proofs.registry.PlainList.put_all.Given as goal
+use Rattle.clip_front.proofs.registry.StandingQueries.put_all.Given as goal
 
 abbrev pub invariant-loop-standing : goal.invariant-loop-standing
 invariant-loop-standing l = record {

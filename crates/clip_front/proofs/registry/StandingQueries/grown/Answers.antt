@@ -1,7 +1,7 @@
 use Rattle.std.proofs.Common.{◌≡◌, ℕ, ◌+◌, Bool, not, true, false, cond, sym, ap, ◌∙◌, arith, true≢false}
 use Rattle.clip_front.proofs.Places.{grown_step}
-use Rattle.clip_front.proofs.registry.PlainList.grown.Goals as goal
-use Rattle.clip_front.proofs.registry.PlainList.grown.Goals.{then-is_new, else-is_new}
+use Rattle.clip_front.proofs.registry.StandingQueries.grown.Goals as goal
+use Rattle.clip_front.proofs.registry.StandingQueries.grown.Goals.{then-is_new, else-is_new}
 
 counted_new : (b : Bool) (n m : ℕ) → true ≡ not b → m ≡ cond b n (n + 1) → n + 1 ≡ m
 counted_new true n m t e = absurd (true≢false t)
