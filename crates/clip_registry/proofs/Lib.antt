@@ -3,7 +3,6 @@ pub mod Numbering
 pub mod Rising
 pub mod Registering
 pub mod Whole
-pub mod Maps
 pub mod Marks
 pub mod Legal
 pub mod Clones

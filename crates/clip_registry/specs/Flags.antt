@@ -1,23 +1,7 @@
 -- How a roster is kept: its entries by id, and for each seq above a base whether it is live.
-use Rattle.std.specs.Prelude.{◌≡◌, ℕ, suc, ◌+◌, ◌-◌, Bool, false, ◌&&◌, nat_lt, List, map, length, slice_index_or, slice_set, cond, String, string_bytes}
-use Rattle.std.specs.Arc.{arc_value}
-use Rattle.std.specs.FinMap as finite
-use Rattle.std.specs.BTreeMap.{BTreeMap}
-use Rattle.std.specs.declared.sync.Arc.{Arc}
-use Rattle.std.specs.declared.alloc.Global.{Global}
-use Rattle.clip_model.specs.History.{Registered, Registry, is_live_in}
+use Rattle.std.specs.Prelude.{◌≡◌, ℕ, suc, ◌+◌, ◌-◌, Bool, false, ◌&&◌, nat_lt, List, length, slice_index_or, slice_set, cond}
+use Rattle.clip_model.specs.History.{Registry, is_live_in}
 use Rattle.clip_registry.specs.Roster.{IsNumbered}
-
-abbrev pub shown_pair : String Global × Arc Registered Global → List ℕ × Registered
-shown_pair e = (string_bytes e.0, arc_value e.1)
-
--- the entries of the map, with its keys as bytes
-abbrev pub shown : BTreeMap (String Global) (Arc Registered Global) → List (List ℕ × Registered)
-shown m = map shown_pair m.entries
-
--- the map, with its keys as bytes
-abbrev pub registry_of : BTreeMap (String Global) (Arc Registered Global) → Registry
-registry_of m = finite.from_entries (shown m)
 
 -- the flag of a seq: flags are for the seqs above the base, in order
 abbrev pub flag_at : ℕ → List Bool → ℕ → Bool

@@ -24,9 +24,10 @@ impl Model for ById {
 
     ghost coded = { registry_code };
 
-    ghost use Rattle.clip_registry.specs.Flags.{registry_of};
+    ghost use Rattle.std.specs.Arc.{arc_value};
+    ghost use Rattle.clip_model.specs.ById.{map_of};
 
-    ghost view = { λ m. registry_of m.entries };
+    ghost view = { λ m. map_of arc_value m.entries };
 }
 
 impl Clone for ById {
