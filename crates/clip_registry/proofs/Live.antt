@@ -1,28 +1,16 @@
 -- Keys of registries, and which seqs are live.
 use Rattle.std.proofs.Common.{◌≡◌, ℕ, Bool, true, false, cond, ◌||◌, List, [], ◌∷◌, refl, sym, ap, ◌∙◌, arith, Some, None, ◌==◌}
 use Rattle.std.proofs.lemmas.Bool.Decides.{nat_tests}
-use Rattle.std.proofs.lemmas.Cmp.{nat_list_cmp_total, eq_by_cmp_equiv}
+use Rattle.std.proofs.lemmas.Cmp.{nat_list_cmp_total}
 use Rattle.std.specs.List.{list_any}
-use Rattle.std.specs.Ordering.{eq_by_cmp, is_eq}
-use Rattle.std.specs.declared.cmp.Ordering.{Ordering}
-use Rattle.std.specs.declared.cmp.Ordering.TheVariants.{Less, Equal, Greater}
+use Rattle.std.specs.Ordering.{eq_by_cmp}
 use Rattle.std.specs.FinMap as finite
-use Rattle.std.specs.FinMap.{get-entries, get-insert, get-remove, slice_cmp-IsAntisymmetric, nat_cmp-IsAntisymmetric}
+use Rattle.std.specs.FinMap.{get-entries, get-insert, get-remove}
 use Rattle.std.specs.FinMap.Entries.{find}
 use Rattle.clip_words.specs.Order.{bytes_cmp}
 use Rattle.clip_model.specs.History.{Registered, Registry, is_live_in}
+use Rattle.clip_model.proofs.ById.{bytes_same, bytes_itself}
 use Rattle.clip_model.proofs.Entries.{entry_given}
-
-equal : (r : Ordering) → is_eq r ≡ true → r ≡ Equal
-equal Less p = cc
-equal Equal p = refl
-equal Greater p = cc
-
-pub bytes_same : (a b : List ℕ) → eq_by_cmp bytes_cmp a b ≡ true → a ≡ b
-bytes_same a b h = slice_cmp-IsAntisymmetric nat_cmp-IsAntisymmetric a b (equal _ h)
-
-pub bytes_itself : (a : List ℕ) → eq_by_cmp bytes_cmp a a ≡ true
-bytes_itself a = (eq_by_cmp_equiv nat_list_cmp_total).refl a
 
 pub same_Some : {A : Type 0} {x y : A} → Some x ≡ Some y → x ≡ y
 same_Some h = cc

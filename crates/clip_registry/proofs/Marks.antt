@@ -10,8 +10,8 @@ use Rattle.clip_words.specs.Order.{bytes_cmp}
 use Rattle.clip_model.specs.History.{Registered, Registry, is_live_in}
 use Rattle.clip_registry.specs.Flags.{flag_at, marked, IsMarked}
 use Rattle.clip_registry.specs.Roster.{IsNumbered, IsAbove, insert_one, restored}
-use Rattle.clip_registry.proofs.Live.{false_true, given_live, inserted_at, inserted_else, removed_at, removed_else, bytes_same}
-use Rattle.clip_model.proofs.ById.{same, swapped}
+use Rattle.clip_registry.proofs.Live.{false_true, given_live, inserted_at, inserted_else, removed_at, removed_else}
+use Rattle.clip_model.proofs.ById.{bytes_same, same, swapped}
 use Rattle.clip_registry.proofs.Numbering.{numbered_insert, numbered_remove, has_seq, live_insert, live_remove, live_within}
 
 pub flag_at-nil : (base seq : ℕ) → flag_at base [] seq ≡ false

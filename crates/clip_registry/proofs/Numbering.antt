@@ -7,7 +7,8 @@ use Rattle.std.specs.FinMap.{get-empty}
 use Rattle.clip_words.specs.Order.{bytes_cmp}
 use Rattle.clip_model.specs.History.{Registered, Registry, is_live_in}
 use Rattle.clip_registry.specs.Roster.{IsNumbered}
-use Rattle.clip_registry.proofs.Live.{new, old, after_insert, after_remove, bytes_itself, bytes_same, none_some, false_true, same_bool, inserted_at, inserted_else, removed_else, given_live, HasSeq, live_given}
+use Rattle.clip_model.proofs.ById.{bytes_itself, bytes_same}
+use Rattle.clip_registry.proofs.Live.{new, old, after_insert, after_remove, none_some, false_true, same_bool, inserted_at, inserted_else, removed_else, given_live, HasSeq, live_given}
 
 pub numbered_empty : (n : ℕ) → IsNumbered n finite.empty
 numbered_empty n = record {
