@@ -1,5 +1,6 @@
 //! Keys.
 ghost use Rattle.std.specs.Prelude.{◌≡◌, IfOk, map};
+ghost use Rattle.clip_extract.specs.Keys.{key_of, in_order};
 
 use clip_words::NoMemory;
 use std::sync::ArcStr;
@@ -12,8 +13,6 @@ pub enum Key {
     Any,
     Word(ArcStr, ArcStr),
 }
-
-ghost use Rattle.clip_extract.specs.Keys.{key_of, in_order};
 
 /// Sorts keys, and leaves each once.
 ///

@@ -8,7 +8,6 @@ use Rattle.clip_meaning.specs.Article.{ArticleValue}
 use Rattle.clip_meaning.specs.Meaning.{holds}
 use Rattle.clip_model.specs.History.{Registered, Registry}
 use Rattle.clip_model.specs.Alerts.{holds_of, alert_of}
-use Rattle.clip_front.specs.Registry.{entries_of}
 use Rattle.clip_front.specs.Reply.{strings, ids_met, alert_data, alert_items, match_data}
 use Rattle.serde_json.specs.Written.{has_float, items_have_float}
 
@@ -28,15 +27,14 @@ pub view-String : (s : String Global) → view (value.String s) ≡ string (stri
 view-String s = search (rules, the_lemmas)
 
 -- the ids of those that hold of the article
-abbrev pub met : ArticleValue → List Registered → Items
-met a rs = strings (map (λ a. a.query) (map alert_of (filter (holds_of a) (entries_of rs))))
+abbrev pub met : ArticleValue → List (List ℕ × Registered) → Items
+met a es = strings (map (λ a. a.query) (map alert_of (filter (holds_of a) es)))
 
 -- a query that holds of the article, and one that does not
-pub met_step : (a : ArticleValue) (r : Registered) (rs : List Registered) (b : Bool) → b ≡ holds r.standing.tree a.fields → met a (r ∷ rs) ≡ cond b (item (string r.standing.id) (met a rs)) (met a rs)
-met_step a r rs b e = ap (λ t. strings (map (λ a. a.query) (map alert_of (cond t ((r.standing.id, r) ∷ filter (holds_of a) (entries_of rs)) (filter (holds_of a) (entries_of rs)))))) (sym e) ∙ chosen b
+pub met_step : (a : ArticleValue) (e : List ℕ × Registered) (es : List (List ℕ × Registered)) (b : Bool) → b ≡ holds e.1.standing.tree a.fields → met a (e ∷ es) ≡ cond b (item (string e.0) (met a es)) (met a es)
+met_step a e es b is = ap (λ t. strings (map (λ a. a.query) (map alert_of (cond t (e ∷ filter (holds_of a) es) (filter (holds_of a) es))))) (sym is) ∙ chosen b
   where
-    chosen : (t : Bool) → strings (map (λ a. a.query) (map alert_of (cond t ((r.standing.id, r) ∷ filter (holds_of a) (entries_of rs)) (filter (holds_of a) (entries_of rs)))))
-        ≡ cond t (item (string r.standing.id) (met a rs)) (met a rs)
+    chosen : (t : Bool) → strings (map (λ a. a.query) (map alert_of (cond t (e ∷ filter (holds_of a) es) (filter (holds_of a) es)))) ≡ cond t (item (string e.0) (met a es)) (met a es)
     chosen true = refl
     chosen false = refl
 

@@ -218,13 +218,11 @@ fault_handing (Some input) (Some rest) taken_first taken new_taken gathered n s 
       subst (AppendsFront taken_first new_taken) (sym (append-nil (p.sent ++ gathered))) (front_on taken_first taken new_taken p.sent gathered p.written some),
     )
 
--- nothing more was written
-pub fault_between : (input rest : Option (List ℕ)) (taken_first taken : Option (List ℕ)) (gathered : List ℕ) (n : ℕ) (s : State) → Progress input rest taken_first taken gathered n s → IfSome input (λ bytes. WritesFront bytes taken_first taken)
-fault_between input rest taken_first taken gathered n s p = fault_handing input rest taken_first taken taken gathered n s p (0, appends_none taken)
-
-pub keeps_same : (old : Option (List ℕ)) → Keeps old old
-keeps_same None = tt
-keeps_same (Some xs) = refl
+-- replies were handed over, and nothing more was written
+pub fault_handed : (input rest : Option (List ℕ)) (taken_first taken new_taken : Option (List ℕ)) (gathered left : List ℕ) (n : ℕ) (s : State) → Progress input rest taken_first taken gathered n s → HandsOver taken gathered new_taken left
+    → IfSome input (λ bytes. WritesFront bytes taken_first new_taken)
+fault_handed input rest taken_first taken new_taken gathered left n s p h =
+    fault_handing input rest taken_first new_taken new_taken left n s (progress_handed input rest taken_first taken new_taken gathered left n s p h) (0, appends_none new_taken)
 
 pub on_err : {T E P : Type 0} (r : Result T E) → P → OnErr r P
 on_err (Ok x) p = tt

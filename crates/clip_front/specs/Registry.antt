@@ -1,5 +1,5 @@
 -- What a registry shows, and what it answers to a list of queries.
-use Rattle.std.specs.Prelude.{◌≡◌, ℕ, ◌+◌, ◌&&◌, List, length, map, Bool, true, false, nat_le, nat_lt, refl, Option, Some, None}
+use Rattle.std.specs.Prelude.{◌≡◌, ℕ, ◌+◌, ◌&&◌, List, length, Bool, true, false, nat_le, nat_lt, refl, Option, Some, None}
 use Rattle.std.specs.FinMap as finite
 use Rattle.std.specs.Coded.{Coded, code_by, coded×, coded_ℕ}
 use Rattle.clip_model.specs.Standing.{Standing}
@@ -17,10 +17,6 @@ state_code = code_by (Registry × (ℕ × ℕ)) (coded× registry_code (coded× 
 -- the registry is at this history
 abbrev pub Stands : State → History → Type 0
 Stands s h = (s.registry ≡ replay h) × (s.listed ≡ listed h) × (s.changes ≡ length h)
-
--- registered queries by their ids
-abbrev pub entries_of : List Registered → List (List ℕ × Registered)
-entries_of = map (λ r. (r.standing.id, r))
 
 -- these queries may be registered
 abbrev pub may_register : State → List Standing → Bool

@@ -9,7 +9,7 @@ ghost use Rattle.clip_front.specs.Views.{listed_view};
 
 use crate::fault::RunFault;
 use crate::refusal::Refusal;
-use crate::registry::PlainList;
+use crate::registry::StandingQueries;
 use crate::reply::{counted, matched, refusal, refusal_at, registered};
 use crate::request::{Listed, Outline};
 use crate::standing::Standing;
@@ -41,7 +41,7 @@ fn read_all(alloc: Global, listed: &[Listed]) -> Result<Result<Vec<Standing>, us
 
 fn register(
     alloc: Global,
-    registry: &mut PlainList,
+    registry: &mut StandingQueries,
     number: u64,
     listed: &[Listed],
 ) -> Result<Vec<u8>, AllocError>
@@ -60,7 +60,7 @@ fn register(
 
 fn answer_outline(
     alloc: Global,
-    registry: &mut PlainList,
+    registry: &mut StandingQueries,
     number: u64,
     outline: Outline,
 ) -> Result<Vec<u8>, AllocError>
@@ -79,7 +79,7 @@ fn answer_outline(
 /// The reply to a line of this number, with its line feed, or nothing for a blank line.
 pub fn answer(
     alloc: Global,
-    registry: &mut PlainList,
+    registry: &mut StandingQueries,
     number: u64,
     line: &[u8],
 ) -> Result<Vec<u8>, RunFault>

@@ -2,6 +2,7 @@
 #![tactic(auto)]
 
 mod answer;
+mod by_id;
 mod device;
 mod fault;
 mod lines;

@@ -1,62 +1,17 @@
-//! The registered queries, as a plain list in the byte order of their ids.
-ghost use Rattle.std.specs.Prelude.{◌≡◌, ◌+◌, ◌<◌, ◌≤◌, ◌∷◌, ◌++◌, length, take, drop, IfOk, IfErr, OnErr, OnOk, bytes_eq};
+//! The registered queries by id, with the counts that the history's limits are judged by.
+ghost use Rattle.std.specs.Prelude.{◌≡◌, ◌+◌, ◌<◌, ◌≤◌, bytes_eq};
 ghost use Rattle.std.specs.List.{list_any};
-ghost use Rattle.std.specs.FinMap.{put};
-ghost use Rattle.clip_words.specs.Order.{bytes_cmp};
-ghost use Rattle.clip_front.specs.Registry.{entries_of};
-ghost use Rattle.clip_model.specs.History as history;
 
+use crate::by_id::ById;
 use crate::standing::{Registered, Standing};
 use clip_meaning::article::Article;
 use serde_json::Value;
-use std::alloc::{AllocError, AllocFailed, Global};
-use std::cmp::Ordering;
+use std::alloc::{AllocError, Global};
 use std::marker::Model;
 
 const MOST_LIVE: usize = 1_000_000;
 
 const MOST_CHANGES: u64 = 4_294_967_295;
-
-// Where the id stands, or else where it would.
-fn place_of(entries: &[Registered], id: &str) -> Result<usize, usize>
-    ensures within { IfOk result (λ i. i < length entries.now) }
-    ensures over { IfOk result (λ i. (r : history.Registered) → r.standing.id ≡ id.now
-        → put bytes_cmp r.standing.id r (entries_of entries.now) ≡ entries_of (take i entries.now ++ r ∷ drop (i + 1) entries.now)) }
-    ensures absent { IfErr result (λ i. i ≤ length entries.now) }
-    ensures between { IfErr result (λ i. (r : history.Registered) → r.standing.id ≡ id.now
-        → put bytes_cmp r.standing.id r (entries_of entries.now) ≡ entries_of (take i entries.now ++ r ∷ drop i entries.now)) }
-{
-    for (i, entry) in entries.iter().enumerate() {
-        match id.cmp(entry.id()) {
-            Ordering::Less => return Err(i),
-            Ordering::Equal => return Ok(i),
-            Ordering::Greater => {}
-        }
-    }
-    Err(entries.len())
-}
-
-// Puts a query in its place, or in the place of the one with its id.
-fn set(entries: &mut Vec<Registered>, entry: Registered) -> Result<(), AllocFailed<Registered>>
-    ensures ok { OnOk result (entries_of entries.new.items
-        ≡ put bytes_cmp entry.standing.id entry (entries_of entries.old.items)) }
-    ensures err { OnErr result (entries.new.items ≡ entries.old.items) }
-{
-    match place_of(entries, entry.id()) {
-        Ok(i) => {
-            entries[i] = entry;
-            Ok(())
-        }
-        Err(i) => entries.insert(i, entry),
-    }
-}
-
-// Whether the id is registered here.
-fn has_id(entries: &[Registered], id: &str) -> bool
-    ensures { result ≡ list_any (λ r. bytes_eq id.now r.standing.id) entries.now }
-{
-    entries.iter().any(|r| id == r.id())
-}
 
 // Whether the id is among these.
 fn lists_id(list: &[Standing], id: &str) -> bool
@@ -67,34 +22,32 @@ fn lists_id(list: &[Standing], id: &str) -> bool
 
 /// The registered queries, how many queries were ever listed, and how many changes were accepted.
 #[derive(Drop)]
-pub struct PlainList {
-    entries: Vec<Registered>,
+pub struct StandingQueries {
+    entries: ById,
     listed: u64,
     changes: u64,
 }
 
-impl Model for PlainList {
-    ghost use Rattle.std.specs.Prelude.{IsTrue, ◌≤◌, ◌*◌, length};
-    ghost use Rattle.std.specs.FinMap.{from_sorted, is_sorted};
-    ghost use Rattle.clip_words.specs.Order.{bytes_cmp};
-    ghost use Rattle.clip_front.specs.Registry.{State, state_code, entries_of};
+impl Model for StandingQueries {
+    ghost use Rattle.std.specs.Prelude.{◌≤◌, ◌*◌};
+    ghost use Rattle.std.specs.FinMap as finite;
+    ghost use Rattle.clip_front.specs.Registry.{State, state_code};
 
     ghost Value = { State };
 
     ghost coded = { state_code };
 
     ghost view = { λ p. record {
-      registry = from_sorted (entries_of p.entries.items);
+      registry = p.entries;
       listed = p.listed;
       changes = p.changes;
     } };
 
-    ghost invariant = { λ p. IsTrue (is_sorted bytes_cmp (entries_of p.entries.items))
-        × (length p.entries.items ≤ 1000000)
+    ghost invariant = { λ p. (finite.len p.entries ≤ 1000000)
         × (p.listed ≤ 1024 * p.changes) × (p.changes ≤ 4294967295) };
 }
 
-impl PlainList {
+impl StandingQueries {
     ghost use Rattle.std.specs.Prelude.{◌≡◌, ◌≤◌, ◌<◌, ◌*◌, ◌||◌, not, length, bytes_eq, IfOk, OnOk, OnErr};
     ghost use Rattle.std.specs.List.{list_any};
     ghost use Rattle.std.specs.FinMap as finite;
@@ -104,13 +57,13 @@ impl PlainList {
     ghost use Rattle.serde_json.specs.View.{items_view};
 
     /// No query, and no change yet.
-    pub fn new(alloc: Global) -> PlainList
+    pub fn new(alloc: Global) -> StandingQueries
         ensures registry { result.registry ≡ finite.empty }
         ensures listed { result.listed ≡ 0 }
         ensures changes { result.changes ≡ 0 }
     {
-        PlainList {
-            entries: Vec::new(alloc),
+        StandingQueries {
+            entries: ById::new(alloc),
             listed: 0,
             changes: 0,
         }
@@ -127,7 +80,7 @@ impl PlainList {
     fn has(&self, id: &str) -> bool
         ensures { result ≡ finite.contains_key self.now.registry id.now }
     {
-        has_id(&self.entries, id)
+        self.entries.has(id)
     }
 
     // Whether the id is neither registered here nor in the list.
@@ -152,7 +105,7 @@ impl PlainList {
     }
 
     // Puts one query in.
-    fn put_in(&mut self, standing: Standing) -> Result<(), AllocError>
+    fn put_in(&mut self, alloc: Global, standing: Standing) -> Result<(), AllocError>
         requires room { finite.len (finite.insert self.old.registry standing.id (record { standing = standing; seq = self.old.listed + 1 })) ≤ 1000000 }
         requires few { self.old.listed < 1024 * self.old.changes }
         ensures ok { OnOk result (self.new ≡ record {
@@ -162,13 +115,13 @@ impl PlainList {
         }) }
     {
         let seq = self.listed + 1;
-        set(&mut self.entries, Registered::new(standing, seq))?;
+        self.entries.insert(alloc, Registered::new(standing, seq))?;
         self.listed = seq;
         Ok(())
     }
 
     // Puts each query of the list in, in order.
-    fn put_all(&mut self, list: Vec<Standing>) -> Result<(), AllocError>
+    fn put_all(&mut self, alloc: Global, list: Vec<Standing>) -> Result<(), AllocError>
         requires room { finite.len (register_all self.old.listed list.items self.old.registry) ≤ 1000000 }
         requires few { self.old.listed + length list.items ≤ 1024 * self.old.changes }
         ensures ok { OnOk result (self.new ≡ record {
@@ -178,14 +131,14 @@ impl PlainList {
         }) }
     {
         for standing in list {
-            self.put_in(standing)?;
+            self.put_in(alloc, standing)?;
         }
         Ok(())
     }
 
     /// Registers the queries in order, and says how many ids they have; or does nothing where
-    /// over a million queries or too many changes would be. Walks the registered queries twice
-    /// for each listed one.
+    /// over a million queries or too many changes would be. A search
+    /// among the ids for each listed query.
     pub fn register(
         &mut self,
         alloc: Global,
@@ -197,9 +150,9 @@ impl PlainList {
         if self.grown(&list) > MOST_LIVE || self.changes >= MOST_CHANGES {
             return Ok(None);
         }
-        let distinct = PlainList::new(alloc).grown(&list);
+        let distinct = StandingQueries::new(alloc).grown(&list);
         self.changes += 1;
-        self.put_all(list)?;
+        self.put_all(alloc, list)?;
         Ok(Some(distinct))
     }
 
@@ -208,12 +161,6 @@ impl PlainList {
     pub fn ids_met(&self, alloc: Global, article: &Article) -> Result<Vec<Value>, AllocError>
         ensures { IfOk result (λ found. items_view found.items ≡ strings (ids_met self.now.registry article.now)) }
     {
-        let mut found = Vec::new(alloc);
-        for entry in &self.entries {
-            if entry.holds_of(article) {
-                found.push(Value::String(String::from_str(alloc, entry.id())?))?;
-            }
-        }
-        Ok(found)
+        self.entries.ids_met(alloc, article)
     }
 }

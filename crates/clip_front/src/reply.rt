@@ -6,7 +6,7 @@ ghost use Rattle.serde_json.specs.Written.{has_float};
 ghost use Rattle.clip_front.specs.Reply.{printed as printed_text, strings, alert_data, alert_items, refusal_data, refusal_at_data, registered_data, count_data, match_data};
 
 use crate::refusal::Refusal;
-use crate::registry::PlainList;
+use crate::registry::StandingQueries;
 use clip_meaning::article::Article;
 use serde_json::{Value, json};
 use std::alloc::{AllocError, Global};
@@ -56,7 +56,11 @@ fn count_value(alloc: Global, number: u64, count: u64) -> Result<Value, AllocErr
 }
 
 #[tactic(auto, unfolding(crate::specs::Reply::alert_data))]
-fn alert_value(alloc: Global, registry: &PlainList, article: &Article) -> Result<Value, AllocError>
+fn alert_value(
+    alloc: Global,
+    registry: &StandingQueries,
+    article: &Article,
+) -> Result<Value, AllocError>
     ensures { IfOk result (λ v. view v ≡ alert_data registry.now.registry article.now) }
 {
     let queries = registry.ids_met(alloc, article)?;
@@ -65,7 +69,7 @@ fn alert_value(alloc: Global, registry: &PlainList, article: &Article) -> Result
 
 fn alert_values(
     alloc: Global,
-    registry: &PlainList,
+    registry: &StandingQueries,
     articles: &[Article],
 ) -> Result<Vec<Value>, AllocError>
     ensures { IfOk result (λ v. items_view v.items ≡ alert_items registry.now.registry articles.now) }
@@ -80,7 +84,7 @@ fn alert_values(
 #[tactic(auto, unfolding(crate::specs::Reply::match_data))]
 fn match_value(
     alloc: Global,
-    registry: &PlainList,
+    registry: &StandingQueries,
     number: u64,
     articles: &[Article],
 ) -> Result<Value, AllocError>
@@ -130,7 +134,7 @@ pub fn counted(alloc: Global, number: u64, count: u64) -> Result<Vec<u8>, AllocE
 #[tactic(auto, unfolding(crate::specs::Reply::match_data))]
 pub fn matched(
     alloc: Global,
-    registry: &PlainList,
+    registry: &StandingQueries,
     number: u64,
     articles: &[Article],
 ) -> Result<Vec<u8>, AllocError>

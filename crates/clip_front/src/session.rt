@@ -9,7 +9,7 @@ use crate::device::{Sink, Source};
 use crate::fault::RunFault;
 use crate::lines::LineReader;
 use crate::outbox::Outbox;
-use crate::registry::PlainList;
+use crate::registry::StandingQueries;
 use std::alloc::Global;
 
 /// What a run did: how many lines it read, blank ones included.
@@ -55,7 +55,7 @@ pub fn run<R: Source, W: Sink>(
         WritesFront input (W.taken writer.old) (W.taken writer.new))) }
 {
     let mut lines = LineReader::new(alloc)?;
-    let mut registry = PlainList::new(alloc);
+    let mut registry = StandingQueries::new(alloc);
     let mut outbox = Outbox::new(alloc);
     let mut line = Vec::new(alloc);
     let mut count = 0u64;

@@ -1,6 +1,8 @@
 //! Runs over devices in memory, some of which fail.
 ghost use Rattle.std.specs.Prelude.{◌≡◌, ◌<◌, Some, None, true, false};
 
+mod syntax;
+
 use crate::{Failed, RunFault, Sink, Source, StdSink, StdSource, run};
 use std::alloc::Global;
 use std::cell::Cell;

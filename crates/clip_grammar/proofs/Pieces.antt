@@ -142,7 +142,7 @@ unfolding pieces_within pieces_at
 within_again test quiet [] rest n ok h = bound_free test n (length rest) rest h (omega arith)
 within_again test quiet (p ∷ ps) rest zero ok h = absurd (let s : 0 < length (spell_piece p) = spelled p in omega (arith, length-append (spell_piece p) (spell_pieces ps), length-append (spell_piece p ++ spell_pieces ps) rest))
 within_again test quiet (p ∷ ps) rest (suc n) ok h =
-    let parts = both _ _ ok in
+    let parts = both (is_piece test p) (list_all (is_piece test) ps) ok in
     let s : 0 < length (spell_piece p) = spelled p in
     let e : (spell_piece p ++ spell_pieces ps) ++ rest ≡ spell_piece p ++ (spell_pieces ps ++ rest) = append_assoc (spell_piece p) (spell_pieces ps) rest in
     let shorter : length (spell_pieces ps ++ rest) ≤ n = omega (arith, ap length e, length-append (spell_piece p) (spell_pieces ps ++ rest)) in

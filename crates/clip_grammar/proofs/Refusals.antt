@@ -13,7 +13,7 @@ use Rattle.clip_grammar.specs.Parser.{parse, accepts}
 use Rattle.clip_grammar.specs.LeftOut.{leaves_out}
 use Rattle.clip_grammar.specs.Tree.{Tree, nodes, depth}
 use Rattle.clip_grammar.specs.Reading.{IsLeftOut, IsTooBig, IsFault, HasNoFault, Reads, Says, Writes, most_bytes}
-use Rattle.clip_grammar.specs.Laws.{IsRead, IsRefused, ReadsOrFaults}
+use Rattle.clip_grammar.specs.Laws.{IsRead, IsRefused, ReadsApart, ReadsOrFaults}
 use Rattle.clip_grammar.specs.declared.stage.Stage.TheVariants.{Fresh}
 use Rattle.clip_grammar.specs.declared.fault.QueryFault.TheVariants.{TooLong, Lexical, LeftOut, Structure, NoWords, TooBig, NoMemory}
 use Rattle.clip_grammar.proofs.Pieces.{spelled, if_some_at}
@@ -177,3 +177,6 @@ reads_or_faults text utf8 = short (nat_lt most_bytes (length text)) refl
         let fits : length text ≤ most_bytes = grind (arith, nat_tests) in
         let s = stops (length (chars text)) (chars text) (omega arith) in
         whole fits s s.rest refl
+
+pub reads_apart : ReadsApart
+reads_apart text read refused = read.2 refused.0 refused.1 refused.2

@@ -1,4 +1,4 @@
--- Worked rows, computed from the definitions.
+-- Worked examples, computed from the definitions.
 use Rattle.std.proofs.Common.{◌≡◌, ℕ, List, [], ◌∷◌, refl, codes, map, None, Some}
 use lib.Utf8.{encode as encode_utf8}
 use Rattle.clip_grammar.specs.Lexemes.{Lexeme, Lexes, Bare, Escape, Code, Word, Blank, Sign, Range, BareEnd}

@@ -27,6 +27,10 @@ IsRead text = (tree : Tree) × Reads text tree × HasNoFault text
 abbrev pub IsRefused : List ℕ → Type 0
 IsRefused text = (f : QueryFault) × (f ≢ fault.NoMemory) × IsFault text f
 
--- a text has a tree and no fault, or it has a fault
+-- no text has both
+abbrev pub ReadsApart : Type 0
+ReadsApart = (text : List ℕ) → IsRead text → ¬ (IsRefused text)
+
+-- each text in UTF-8 has one of them
 abbrev pub ReadsOrFaults : Type 0
 ReadsOrFaults = (text : List ℕ) → IsUtf8 text → IsRead text ⊎ IsRefused text

@@ -50,3 +50,18 @@ impl From<AllocError> for QueryFault {
         QueryFault::NoMemory
     }
 }
+
+#[cfg(test)]
+mod tests {
+    use super::*;
+    use std::test::Fail;
+
+    #[test]
+    fn tells_the_place(rt: HostRuntime) -> Result<(), Fail> {
+        let told = QueryFault::Lexical(2).to_string(rt.alloc())?;
+        assert_eq!(rt; told.as_str(), "no lexeme begins at byte 2");
+        assert_eq!(rt; QueryFault::from(NoMemory), QueryFault::NoMemory);
+        assert_eq!(rt; QueryFault::from(AllocError), QueryFault::NoMemory);
+        Ok(())
+    }
+}

@@ -24,8 +24,7 @@ pub enum Bound {
     Without(String),
 }
 
-/// What is asked of an article. Fields stand as they are written, words and fronts are folded; all are shared, so a clone of one
-/// copies no text.
+/// What is asked of an article. Fields stand as they are written; words and fronts are folded. Each is a shared text.
 #[derive(Debug, PartialEq, Eq, Drop)]
 pub enum Query {
     /// The word is among the field's words.

@@ -18,6 +18,7 @@ use Rattle.clip_meaning.specs.declared.fault.ArticleFault.TheVariants.{Id, TooMa
 abbrev pub Fields : Type 0
 Fields = finite.FinMap bytes_cmp (List (List ℕ))
 
+-- an id, and the words of each field
 pub record ArticleValue : Type 0 where
   pub id : List ℕ
   pub fields : Fields
@@ -26,6 +27,7 @@ pub record ArticleValue : Type 0 where
 abbrev pub words_in : Fields → List ℕ → List (List ℕ)
 words_in fields name = unwrap_or (finite.get fields name) []
 
+-- by these codes a type whose value holds fields, or an article, has a model
 abbrev pub fields_code : Coded Fields
 fields_code = finite.code bytes_code (coded_list bytes_code)
 
@@ -43,6 +45,7 @@ is_id id = nat_lt 0 (length id) && nat_le (length id) 256
 abbrev pub is_name_byte : ℕ → Bool
 is_name_byte byte = is_ascii_alphanumeric byte || byte == 95
 
+-- the first byte is an ASCII digit
 abbrev pub begins_with_digit : List ℕ → Bool
 begins_with_digit [] = false
 begins_with_digit (first ∷ _) = is_ascii_digit first

@@ -12,15 +12,17 @@ use Rattle.clip_meaning.specs.Article.{Fields, words_in}
 
 -- ---- words
 
--- the words stand somewhere next to each other, in order
+-- the words of the phrase stand somewhere next to each other, in order
 abbrev pub has_run : List (List ℕ) → List (List ℕ) → Bool
 has_run [] phrase = false
 has_run (w ∷ ws) phrase = starts_with bytes_eq (w ∷ ws) phrase || has_run ws phrase
 
+-- there is a word
 abbrev pub is_nonempty : List (List ℕ) → Bool
 is_nonempty [] = false
 is_nonempty (w ∷ ws) = true
 
+-- the word begins with the front
 abbrev pub begins_with : List ℕ → List ℕ → Bool
 begins_with front word = starts_with (λ b c. b == c) word front
 
@@ -38,19 +40,22 @@ below (End.Without high) word = is_lt (bytes_cmp word high)
 
 -- ---- groups
 
--- of a clause and whether its child holds: what it asks for
+-- a clause and whether its child holds: a Must child has to hold
 abbrev pub meets_must : Occur × Bool → Bool
 meets_must (Must, held) = held
 meets_must _ = true
 
+-- a MustNot child has not to hold
 abbrev pub meets_must_not : Occur × Bool → Bool
 meets_must_not (MustNot, held) = not held
 meets_must_not _ = true
 
+-- a Must clause
 abbrev pub is_must : Occur × Bool → Bool
 is_must (Must, _) = true
 is_must _ = false
 
+-- a Should child that holds
 abbrev pub meets_should : Occur × Bool → Bool
 meets_should (Should, held) = held
 meets_should _ = false
@@ -60,6 +65,7 @@ unfoldable pub group_holds : List (Occur × Bool) → Bool
 group_holds vs = list_all meets_must vs && list_all meets_must_not vs && (list_any is_must vs || list_any meets_should vs)
 
 abbrev mutual
+  -- the query holds of these fields
   pub holds : Tree → Fields → Bool
   holds (Tree.Term field word) fields = list_any (λ w. bytes_eq w word) (words_in fields field)
   holds (Tree.Phrase field words) fields = is_nonempty words && has_run (words_in fields field) words

@@ -67,6 +67,13 @@ impl Article {
         self.id.as_str()
     }
 
+    /// The article's id, as a text that a `clone` shares. Takes constant time.
+    pub fn shared_id(&self) -> &ArcStr
+        ensures { arc_str_bytes result.now ≡ self.now.id }
+    {
+        &self.id
+    }
+
     /// The words of a field in the order of its text, none where the field is not there. Searches among at most 16 names.
     pub fn field(&self, name: &str) -> &[ArcStr]
         ensures { map arc_str_bytes result.now ≡ words_in self.now.fields name.now }

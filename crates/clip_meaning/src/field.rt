@@ -12,7 +12,7 @@ ghost use Rattle.clip_meaning.specs.Meaning.{above, below, begins_with, has_run,
 
 use crate::index::{Posting, WordIndex};
 use clip_syntax::Bound;
-use clip_words::{NoMemory, words};
+use clip_words::{NoMemory, shared_words};
 use std::alloc::Global;
 use std::marker::Model;
 use std::sync::ArcStr;
@@ -37,17 +37,6 @@ impl Model for Field {
     ghost view = { λ f. (arc_str_bytes f.name, map arc_str_bytes f.words.items) };
 
     ghost invariant = { λ f. IsPermutation (numbered 0 (map arc_str_bytes f.words.items)) f.index };
-}
-
-/// The words of a text in order, each folded, as texts that can be shared.
-fn shared_words(alloc: Global, text: &str) -> Result<Vec<ArcStr>, NoMemory>
-    ensures { IfOk result (λ found. map arc_str_bytes found.items ≡ words_of text.now) }
-{
-    let mut shared = Vec::new(alloc);
-    for word in words(alloc, text)? {
-        shared.push(ArcStr::from_string(word)?)?;
-    }
-    Ok(shared)
 }
 
 impl Field {

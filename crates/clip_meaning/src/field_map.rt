@@ -32,6 +32,7 @@ impl Model for FieldMap {
 }
 
 impl FieldMap {
+    /// No fields.
     pub(crate) fn new(alloc: Global) -> FieldMap
         ensures { result ≡ finite.empty }
     {
@@ -40,6 +41,7 @@ impl FieldMap {
         }
     }
 
+    /// The fields in order.
     pub(crate) fn as_slice(&self) -> &[Field]
         ensures { result.now ≡ finite.entries self.now }
     {
@@ -69,7 +71,7 @@ impl FieldMap {
         }
     }
 
-    /// Adds a field whose name is new.
+    /// Adds a field whose name is new; on a refusal of memory nothing changes.
     pub(crate) fn insert(&mut self, field: Field) -> Result<(), NoMemory>
         requires { finite.contains_key self.old field.0 ≡ false }
         ensures ok { OnOk result (self.new ≡ finite.insert self.old field.0 field.1) }

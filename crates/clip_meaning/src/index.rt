@@ -97,6 +97,7 @@ impl WordIndex {
         Ok(WordIndex { postings })
     }
 
+    /// All postings in order.
     pub(crate) fn postings(&self) -> &[Posting]
         ensures value { result.now ≡ self.now }
         ensures sorted { IsSortedByKey (λ p. p.0) bytes_cmp self.now }
@@ -157,6 +158,7 @@ impl WordIndex {
         postings.split_at(place).0
     }
 
+    /// Whether a word is among the words.
     pub(crate) fn has_word(&self, word: &str) -> bool
         ensures { result ≡ list_any (λ p. bytes_eq p.0 word.now) self.now }
     {
@@ -166,6 +168,7 @@ impl WordIndex {
         }
     }
 
+    /// Whether a word begins with the front.
     pub(crate) fn has_front(&self, front: &str) -> bool
         ensures { result ≡ list_any (λ p. begins_with front.now p.0) self.now }
     {
@@ -175,6 +178,7 @@ impl WordIndex {
         }
     }
 
+    /// Whether a word lies between the bounds.
     pub(crate) fn has_between(&self, low: &Bound, high: &Bound) -> bool
         ensures { result ≡ list_any (λ p. above (end_of low.now) p.0 && below (end_of high.now) p.0) self.now }
     {

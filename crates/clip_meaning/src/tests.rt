@@ -192,6 +192,7 @@ fn reads_an_article(rt: HostRuntime) -> Result<(), Fail> {
         &[("title", "Green Tea"), ("body", "tea, TEA and milk")],
     )?;
     assert_eq!(rt; article.id(), "a1");
+    assert_eq!(rt; article.shared_id().as_str(), "a1");
     assert_eq!(rt; article.field("text").len(), 0);
     let body = article.field("body");
     assert_eq!(rt; body.len(), 4);

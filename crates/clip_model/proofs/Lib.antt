@@ -4,3 +4,4 @@ pub mod Legal
 pub mod Entries
 pub mod Seqs
 pub mod Rows
+pub mod ById

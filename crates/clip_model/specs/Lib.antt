@@ -1,4 +1,5 @@
 pub mod Alerts
+pub mod ById
 pub mod History
 pub mod Laws
 pub mod Standing

@@ -10,7 +10,7 @@ ghost use Rattle.clip_syntax.specs.Items.{item_text, items_words};
 ghost use Rattle.clip_syntax.specs.TokenOf.{token_of};
 
 use crate::lexer::Token;
-use clip_words::{NoMemory, words};
+use clip_words::{NoMemory, shared_words};
 use std::alloc::Global;
 use std::sync::ArcStr;
 
@@ -33,17 +33,6 @@ fn item_text(token: &Token, before_colon: bool) -> Option<&str>
         Token::Phrase(text) => Some(text),
         _ => None,
     }
-}
-
-/// The words of a text, each to be shared.
-fn shared_words(alloc: Global, text: &str) -> Result<Vec<ArcStr>, NoMemory>
-    ensures { IfOk result (λ found. map arc_str_bytes found.items ≡ words_of text.now) }
-{
-    let mut shared = Vec::new(alloc);
-    for word in words(alloc, text)? {
-        shared.push(ArcStr::from_string(word)?)?;
-    }
-    Ok(shared)
 }
 
 /// The words of each plain or quoted item in order, or `None` where an item has no words.

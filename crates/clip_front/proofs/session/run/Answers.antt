@@ -1,7 +1,7 @@
 use Rattle.std.proofs.Common.{◌+◌, refl, sym, ◌∙◌, arith, true≢false}
 use Rattle.std.specs.Io.KnownBytes.{prepend_known}
 use Rattle.clip_front.proofs.Fuel.{fuel_new}
-use Rattle.clip_front.proofs.Progress.{progress_first, progress_handed, progress_line, progress_end, prepend_nothing, fault_between, fault_handing, on_err}
+use Rattle.clip_front.proofs.Progress.{progress_first, progress_handed, progress_line, progress_end, prepend_nothing, fault_handing, fault_handed, on_err}
 use Rattle.clip_front.proofs.session.run.Goals as goal
 
 pub lines-init : goal.lines-init
@@ -51,24 +51,18 @@ returns-in_err-hand_over-clause-front g c =
 
 pub returns-in_err-next_line-clause-front : goal.returns-in_err-next_line-clause-front
 returns-in_err-next_line-clause-front g c =
-    let rest = prepend_known c.lines.lines.pending (g.R.Source.left c.lines.reader) in
     on_err c.from_residual-in_err-next_line.result
-    (fault_between (g.R.Source.left c.args.reader.now) rest (g.W.Sink.taken c.args.writer.now) (g.W.Sink.taken c.hand_over.new.writer) c.hand_over.new.self c.lines.count c.lines.registry
-    (progress_handed (g.R.Source.left c.args.reader.now) rest (g.W.Sink.taken c.args.writer.now) (g.W.Sink.taken c.lines.writer) (g.W.Sink.taken c.hand_over.new.writer) c.lines.outbox c.hand_over.new.self c.lines.count c.lines.registry
-    c.lines.invariant.progress c.in_ok-hand_over.ensures.moved))
+    (fault_handed (g.R.Source.left c.args.reader.now) (prepend_known c.lines.lines.pending (g.R.Source.left c.lines.reader)) (g.W.Sink.taken c.args.writer.now) (g.W.Sink.taken c.lines.writer) (g.W.Sink.taken c.hand_over.new.writer)
+    c.lines.outbox c.hand_over.new.self c.lines.count c.lines.registry c.lines.invariant.progress c.in_ok-hand_over.ensures.moved)
 
 pub returns-in_err-reply-clause-front : goal.returns-in_err-reply-clause-front
 returns-in_err-reply-clause-front g c =
-    let rest = prepend_known c.lines.lines.pending (g.R.Source.left c.lines.reader) in
     on_err c.from_residual-in_err-reply.result
-    (fault_between (g.R.Source.left c.args.reader.now) rest (g.W.Sink.taken c.args.writer.now) (g.W.Sink.taken c.hand_over.new.writer) c.hand_over.new.self c.lines.count c.lines.registry
-    (progress_handed (g.R.Source.left c.args.reader.now) rest (g.W.Sink.taken c.args.writer.now) (g.W.Sink.taken c.lines.writer) (g.W.Sink.taken c.hand_over.new.writer) c.lines.outbox c.hand_over.new.self c.lines.count c.lines.registry
-    c.lines.invariant.progress c.in_ok-hand_over.ensures.moved))
+    (fault_handed (g.R.Source.left c.args.reader.now) (prepend_known c.lines.lines.pending (g.R.Source.left c.lines.reader)) (g.W.Sink.taken c.args.writer.now) (g.W.Sink.taken c.lines.writer) (g.W.Sink.taken c.hand_over.new.writer)
+    c.lines.outbox c.hand_over.new.self c.lines.count c.lines.registry c.lines.invariant.progress c.in_ok-hand_over.ensures.moved)
 
 pub returns-in_err-gather-clause-front : goal.returns-in_err-gather-clause-front
 returns-in_err-gather-clause-front g c =
-    let rest = prepend_known c.lines.lines.pending (g.R.Source.left c.lines.reader) in
     on_err c.from_residual-in_err-gather.result
-    (fault_between (g.R.Source.left c.args.reader.now) rest (g.W.Sink.taken c.args.writer.now) (g.W.Sink.taken c.hand_over.new.writer) c.hand_over.new.self c.lines.count c.lines.registry
-    (progress_handed (g.R.Source.left c.args.reader.now) rest (g.W.Sink.taken c.args.writer.now) (g.W.Sink.taken c.lines.writer) (g.W.Sink.taken c.hand_over.new.writer) c.lines.outbox c.hand_over.new.self c.lines.count c.lines.registry
-    c.lines.invariant.progress c.in_ok-hand_over.ensures.moved))
+    (fault_handed (g.R.Source.left c.args.reader.now) (prepend_known c.lines.lines.pending (g.R.Source.left c.lines.reader)) (g.W.Sink.taken c.args.writer.now) (g.W.Sink.taken c.lines.writer) (g.W.Sink.taken c.hand_over.new.writer)
+    c.lines.outbox c.hand_over.new.self c.lines.count c.lines.registry c.lines.invariant.progress c.in_ok-hand_over.ensures.moved)

@@ -1,0 +1,23 @@
+-- The entries that are tried on an article.
+use Rattle.std.specs.Prelude.{◌≡◌, Bool, true, ◌&&◌, List, filter, Contains, Some}
+use Rattle.std.specs.FinMap as finite
+use Rattle.clip_meaning.specs.Article.{ArticleValue, Fields}
+use Rattle.clip_meaning.specs.Meaning.{holds}
+use Rattle.clip_model.specs.History.{History, Registered, replay, is_live}
+use Rattle.clip_extract.specs.Keys.{share}
+use Rattle.clip_extract.specs.Extraction.{query_keys}
+use Rattle.clip_extract.specs.Covering.{article_keys}
+use Rattle.clip_registry.specs.Whole.{RegistryState, all_entries}
+
+-- an entry that is live, and whose query has a key in common with the article
+abbrev pub is_candidate : History → Fields → Registered → Bool
+is_candidate history fields r = is_live history r.seq && share (query_keys r.standing.tree) (article_keys fields)
+
+-- of all segments' entries, in order
+abbrev pub candidates_of : RegistryState → ArticleValue → List Registered
+candidates_of state article = filter (is_candidate state.history article.fields) (all_entries state.segments)
+
+-- each registered query that holds of the article is among the entries
+abbrev pub MissesNone : RegistryState → ArticleValue → List Registered → Type 0
+MissesNone state article found =
+    (r : Registered) → finite.get (replay state.history) r.standing.id ≡ Some r → holds r.standing.tree article.fields ≡ true → Contains found r
