@@ -11,7 +11,7 @@ use std::collections::BTreeMap;
 use std::marker::Model;
 use std::sync::Arc;
 
-/// Entries by the ids of their standing queries.
+/// Entries by the ids of their standing queries. The keys are copies of the ids: std's maps are asked by a `&str` where their keys are `String`s, and not where they are `ArcStr`s.
 #[derive(Drop)]
 pub struct ById {
     entries: BTreeMap<String, Arc<Entry>>,
