@@ -1,15 +1,11 @@
 -- Registered queries, one more at a time.
-use Rattle.std.proofs.Common.{◌≡◌, ℕ, zero, suc, ◌+◌, ◌<◌, ◌≤◌, List, [], ◌∷◌, ◌++◌, length, map, take, drop, Bool, true, false, cond, ◌||◌, Less, Equal, Greater, bytes_eq, refl, sym, ap, ap₂, ◌∙◌, subst, arith, append_assoc, add-one, set, get_or, Option, Some, is_some}
-use Rattle.std.proofs.Math.Dec.{T}
-use Rattle.std.proofs.lemmas.List.{take_more, length-map}
-use Rattle.std.proofs.lemmas.List.{map-append}
+use Rattle.std.proofs.Common.{◌≡◌, ℕ, suc, ◌+◌, ◌<◌, ◌≤◌, List, [], ◌∷◌, ◌++◌, length, take, Bool, true, false, cond, ◌||◌, bytes_eq, refl, sym, ap, ◌∙◌, arith, add-one, get_or, Option, Some, is_some}
+use Rattle.std.proofs.lemmas.List.{take_more}
 use Rattle.std.proofs.lemmas.Cmp.{nat_list_cmp_total}
 use Rattle.std.proofs.lemmas.Map.Text.{is_eq-slice_cmp}
 use Rattle.std.specs.List.{list_any}
-use Rattle.std.specs.Ordering.{eq_by_cmp}
 use Rattle.std.specs.FinMap as finite
-use Rattle.std.specs.FinMap.{put, slice_cmp-IsAntisymmetric, nat_cmp-IsAntisymmetric}
-use Rattle.clip_words.specs.Order.{bytes_cmp}
+use Rattle.std.specs.FinMap.{put}
 use Rattle.clip_model.specs.Standing.{Standing}
 use Rattle.clip_model.specs.History.{Registered, Registry, register_all}
 use Rattle.clip_front.specs.Registry.{State}

@@ -3,7 +3,7 @@ use Rattle.std.specs.Prelude.{◌≡◌, ℕ, ◌+◌, ◌&&◌, List, length, B
 use Rattle.std.specs.FinMap as finite
 use Rattle.std.specs.Coded.{Coded, code_by, coded×, coded_ℕ}
 use Rattle.clip_model.specs.Standing.{Standing}
-use Rattle.clip_model.specs.History.{History, Register, Registered, Registry, registry_code, replay, listed, register_all, applied_to, most_live, most_entries}
+use Rattle.clip_model.specs.History.{History, Register, Registry, registry_code, replay, listed, register_all, applied_to, most_live, most_entries}
 
 -- the registered queries by id, how many queries were ever listed, and how many changes were accepted
 pub record State : Type 0 where

@@ -10,7 +10,8 @@ use Rattle.clip_front.specs.Lines.{max_line}
 use Rattle.clip_front.specs.declared.refusal.Refusal.{Refusal}
 use Rattle.clip_front.specs.declared.refusal.Refusal.TheVariants as refusal
 use Rattle.clip_meaning.specs.Article.{ArticleValue, may_be, article_value}
-use Rattle.clip_model.specs.History.{most_listed, is_id}
+use Rattle.clip_words.specs.Ids.{is_id}
+use Rattle.clip_model.specs.History.{most_listed}
 
 -- an article as it was written: its id, and of each field the name and the text
 abbrev pub Draft : Type 0

@@ -3,13 +3,14 @@ ghost use Rattle.std.specs.Prelude.{◌≡◌, IfOk, OnErr, List, ℕ, length, s
 ghost use Rattle.clip_meaning.specs.Article.{may_be};
 ghost use Rattle.serde_json.specs.View.{view, items_view, members_view};
 ghost use Rattle.clip_front.specs.Request.{has_members, text_member, items_member, members_member, all_of, fields_of, listed_of as listed_spec, draft_of as draft_spec, article_of, json_of, is_blank, is_blank_byte as blank_byte};
-ghost use Rattle.clip_model.specs.History.{is_id};
+ghost use Rattle.clip_words.specs.Ids.{is_id};
 ghost use Rattle.std.specs.List.{list_all};
 ghost use Rattle.clip_front.specs.Views.{fields_view, listed_view, draft_view};
 
 use crate::refusal::Refusal;
 use clip_meaning::article::Article;
 use clip_meaning::fault::ArticleFault;
+use clip_words::is_id;
 use serde_json::{Map, Value};
 use std::alloc::{AllocError, Global};
 use std::sync::ArcStr;
@@ -255,17 +256,11 @@ fn is_blank_line(line: &[u8]) -> bool
     line.iter().all(|b| is_blank_byte(*b))
 }
 
-fn is_id_text(id: &str) -> bool
-    ensures { result ≡ is_id id.now }
-{
-    !id.is_empty() && id.len() <= 256
-}
-
 fn have_ids(listed: &[Listed]) -> bool
     ensures { result ≡ list_all (λ p. is_id p.0) (map listed_view listed.now) }
 {
     for l in listed {
-        if !is_id_text(l.id.as_str()) {
+        if !is_id(l.id.as_str()) {
             return false;
         }
     }

@@ -9,7 +9,8 @@ use Rattle.std.proofs.lemmas.List.{take_more, map-append}
 use Rattle.std.proofs.lemmas.Map.Text.{is_eq-slice_cmp}
 use Rattle.clip_words.specs.Order.{bytes_cmp}
 use Rattle.clip_words.specs.Words.{words_of}
-use Rattle.clip_meaning.specs.Article.{fault_of, is_id, is_field_name, has_twice, names, pairs_of, read_fields}
+use Rattle.clip_words.specs.Ids.{is_id}
+use Rattle.clip_meaning.specs.Article.{fault_of, is_field_name, has_twice, names, pairs_of, read_fields}
 use Rattle.clip_meaning.specs.declared.fault.ArticleFault.TheVariants.{Id, TooMany, Field, Twice}
 
 neither_first : (a b : Bool) → (a || b) ≡ false → a ≡ false

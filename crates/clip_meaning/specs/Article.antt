@@ -6,6 +6,7 @@ use Rattle.std.specs.FinMap as finite
 use Rattle.std.specs.List.{list_any, list_all}
 use Rattle.std.specs.Str.{bytes_eq}
 use Rattle.std.specs.Coded.{Coded, code_by, coded×, coded_list}
+use Rattle.clip_words.specs.Ids.{is_id}
 use Rattle.clip_words.specs.Order.{bytes_cmp}
 use Rattle.clip_words.specs.Words.{words_of}
 use Rattle.clip_grammar.specs.TreeCode.{bytes_code}
@@ -36,10 +37,6 @@ article_code =
     code_by (List ℕ × Fields) (coded× bytes_code fields_code) (λ a. (a.id, a.fields)) (λ p. record { id = p.0; fields = p.1 }) (λ _. refl)
 
 -- ---- which may be one
-
--- 1 to 256 bytes
-unfoldable pub is_id : List ℕ → Bool
-is_id id = nat_lt 0 (length id) && nat_le (length id) 256
 
 -- an ASCII letter, a digit or `_`
 abbrev pub is_name_byte : ℕ → Bool

@@ -2,14 +2,11 @@
 ghost use Rattle.std.specs.Prelude.{◌≡◌, length};
 ghost use Rattle.std.specs.List.{list_all, list_any};
 ghost use Rattle.std.specs.Str.{bytes_eq};
-ghost use Rattle.clip_meaning.specs.Article.{is_id, is_name_byte, begins_with_digit, is_field_name, has_twice, names, pairs_of, fault_of};
+ghost use Rattle.clip_meaning.specs.Article.{is_name_byte, begins_with_digit, is_field_name, has_twice, names, pairs_of, fault_of};
 
-use clip_words::NoMemory;
+use clip_words::{NoMemory, is_id};
 use std::alloc::{AllocError, AllocFailed};
 use thiserror::Error;
-
-/// The most bytes of an article's id.
-pub const MOST_ID_BYTES: usize = 256;
 
 /// The most fields of an article.
 pub const MOST_FIELDS: usize = 16;
@@ -55,13 +52,6 @@ impl From<AllocError> for ArticleFault {
     fn from(_error: AllocError) -> ArticleFault {
         ArticleFault::NoMemory
     }
-}
-
-#[tactic(auto, unfolding(crate::specs::Article::is_id))]
-fn is_id(id: &str) -> bool
-    ensures { result ≡ is_id id.now }
-{
-    !id.is_empty() && id.len() <= MOST_ID_BYTES
 }
 
 fn is_name_byte(byte: u8) -> bool

@@ -1,5 +1,5 @@
 -- The entries of a finite map, and what it gives.
-use Rattle.std.proofs.Common.{◌≡◌, ℕ, Bool, true, false, cond, List, [], ◌∷◌, refl, sym, ap, subst, ◌∙◌, Option, Some, None, ◌||◌, ◌&&◌, is_lt}
+use Rattle.std.proofs.Common.{◌≡◌, Bool, true, false, cond, List, [], ◌∷◌, refl, ap, ◌∙◌, Some, None, ◌||◌, ◌&&◌, is_lt}
 use Rattle.std.proofs.Math.Dec.{T}
 use Rattle.std.specs.List.{list_any}
 use Rattle.std.specs.Cmp.{IsTotalOrder}

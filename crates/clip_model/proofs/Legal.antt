@@ -1,9 +1,8 @@
 -- A legal history that goes on, and its fronts.
-use Rattle.std.proofs.Common.{◌≡◌, ◌<◌, ◌≤◌, ◌+◌, ◌⊎◌, ℕ, suc, true, List, [], ◌∷◌, ◌++◌, length, refl, sym, ap, subst, ◌∙◌, arith, inl, inr, append_assoc, IsTrue, length-append, nat_le, nat_lt}
-use Rattle.std.proofs.lemmas.Grind.{common_steps}
+use Rattle.std.proofs.Common.{◌≡◌, ◌<◌, ◌≤◌, suc, [], ◌∷◌, ◌++◌, length, sym, ap, subst, ◌∙◌, arith, inl, inr, append_assoc, IsTrue, length-append}
 use Rattle.std.proofs.lemmas.Bool.Decides.{nat_tests}
 use Rattle.std.specs.FinMap as finite
-use Rattle.clip_model.specs.History.{History, HistoryEntry, Command, IsLegal, own, replay, listed, after_command, with_command, next_entry, has_room, fits, most_live, most_entries}
+use Rattle.clip_model.specs.History.{History, HistoryEntry, Command, own, replay, listed, after_command, next_entry, has_room, fits, most_live, most_entries}
 use Rattle.clip_model.specs.Laws.{FrontsAreLegal, GoesOn}
 use Rattle.clip_model.proofs.Replay.{replays_on}
 use Rattle.clip_model.proofs.Splits.{entry_split, front_split}

@@ -1,7 +1,7 @@
 -- A history that goes on.
-use Rattle.std.proofs.Common.{◌≡◌, ℕ, ◌+◌, List, [], ◌∷◌, ◌++◌, refl, sym, ap, ◌∙◌, add-zero, zero-add, add_assoc}
+use Rattle.std.proofs.Common.{◌≡◌, ℕ, ◌+◌, [], ◌∷◌, ◌++◌, sym, ap, ◌∙◌, add-zero, zero-add, add_assoc}
 use Rattle.std.specs.FinMap as finite
-use Rattle.clip_model.specs.History.{History, HistoryEntry, Command, Registry, lists, listed, after_command, replay, replay_onto}
+use Rattle.clip_model.specs.History.{History, HistoryEntry, Registry, lists, listed, after_command, replay, replay_onto}
 use Rattle.clip_model.specs.Laws.{ReplaysOn}
 
 onto_one_more : (n : ℕ) (h : History) (e : HistoryEntry) (registry : Registry) → replay_onto n (h ++ e ∷ []) registry ≡ after_command (n + listed h) e.command (replay_onto n h registry)

@@ -1,13 +1,12 @@
 -- Small histories, worked out.
-use Rattle.std.proofs.Common.{◌≡◌, ℕ, ◌+◌, List, [], ◌∷◌, refl, sym, ap, ◌∙◌, Option, Some, None, codes, cond}
+use Rattle.std.proofs.Common.{◌≡◌, [], ◌∷◌, refl, ◌∙◌, Some, None, codes}
 use Rattle.std.specs.FinMap as finite
 use Rattle.std.specs.FinMap.{len-insert, len-empty, get-insert, get-empty}
 use Rattle.std.proofs.lemmas.Cmp.{nat_list_cmp_total}
-use Rattle.std.specs.Ordering.{eq_by_cmp}
 use Rattle.clip_grammar.specs.Tree.{Tree}
 use Rattle.clip_words.specs.Order.{bytes_cmp}
 use Rattle.clip_model.specs.Standing.{Standing}
-use Rattle.clip_model.specs.History.{Command, Register, Registered, Registry, applied, register_all}
+use Rattle.clip_model.specs.History.{Register, Registered, Registry, applied, register_all}
 
 abbrev tea : Standing
 tea = record { id = codes "q1"; text = codes "tea"; tree = Tree.Term (codes "text") (codes "tea"); listener = None }

@@ -1,5 +1,5 @@
 -- The seqs of a registry's queries.
-use Rattle.std.proofs.Common.{◌≡◌, ◌<◌, ◌≤◌, ◌+◌, ◌⊎◌, ℕ, suc, Bool, true, false, cond, List, [], ◌∷◌, length, refl, sym, ap, subst, ◌∙◌, arith, inl, inr, Option, Some, None, ◌==◌}
+use Rattle.std.proofs.Common.{◌≡◌, ◌<◌, ◌≤◌, ◌+◌, ◌⊎◌, ℕ, suc, Bool, true, false, cond, List, [], ◌∷◌, length, sym, subst, ◌∙◌, arith, inl, inr, Option, Some, None, ◌==◌}
 use Rattle.std.proofs.lemmas.Cmp.{nat_list_cmp_total}
 use Rattle.std.specs.Ordering.{eq_by_cmp}
 use Rattle.std.specs.FinMap as finite
@@ -7,7 +7,7 @@ use Rattle.std.specs.FinMap.{get-insert, get-remove, get-empty}
 use Rattle.std.proofs.lemmas.Bool.Decides.{nat_tests}
 use Rattle.clip_words.specs.Order.{bytes_cmp}
 use Rattle.clip_model.specs.Standing.{Standing}
-use Rattle.clip_model.specs.History.{History, HistoryEntry, Command, Register, Delete, Clear, Registered, Registry, lists, listed, register_all, remove_all, after_command, replay_onto, replay, is_live}
+use Rattle.clip_model.specs.History.{History, Command, Register, Delete, Clear, Registered, Registry, lists, listed, register_all, remove_all, after_command, replay_onto, replay}
 use Rattle.clip_model.specs.Laws.{SeqsAreListed}
 use Rattle.clip_model.proofs.Entries.{entry_given}
 

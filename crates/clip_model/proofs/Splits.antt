@@ -1,5 +1,5 @@
 -- Where a history with one entry more is split.
-use Rattle.std.proofs.Common.{◌≡◌, ◌⊎◌, ℕ, List, [], ◌∷◌, ◌++◌, refl, sym, ap, ◌∙◌, inl, inr, append-nil}
+use Rattle.std.proofs.Common.{◌≡◌, ◌⊎◌, List, [], ◌∷◌, ◌++◌, refl, ap, inl, inr}
 
 module _ {A : Type 0} where
   -- the entry behind a split is the last, or it stands before the last

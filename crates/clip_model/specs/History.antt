@@ -1,9 +1,10 @@
 -- The history of accepted commands, and the registry that it amounts to.
-use Rattle.std.specs.Prelude.{◌≡◌, ℕ, ◌+◌, ◌-◌, ◌&&◌, ◌==◌, ◌<◌, ◌≤◌, ◌⊎◌, suc, List, [], ◌∷◌, ◌++◌, length, map, filter, Bool, true, false, nat_le, nat_lt, IsTrue, refl, Option}
+use Rattle.std.specs.Prelude.{◌≡◌, ℕ, ◌+◌, ◌-◌, ◌&&◌, ◌==◌, ◌<◌, ◌≤◌, ◌⊎◌, suc, List, [], ◌∷◌, ◌++◌, length, map, filter, Bool, true, nat_le, nat_lt, IsTrue, refl}
 use Rattle.std.specs.List.{list_any, list_all}
 use Rattle.std.specs.FinMap as finite
 use Rattle.std.specs.Coded.{Coded, code_by, coded×, coded⊎, coded_ℕ, coded_list}
 use Rattle.std.proofs.Common.{inl, inr}
+use Rattle.clip_words.specs.Ids.{is_id}
 use Rattle.clip_words.specs.Order.{bytes_cmp}
 use Rattle.clip_grammar.specs.TreeCode.{bytes_code}
 use Rattle.clip_model.specs.Standing.{Standing, standing_code}
@@ -96,10 +97,6 @@ most_live = 1000000
 
 abbrev pub most_entries : ℕ
 most_entries = 4294967295
-
--- 1 to 256 bytes
-abbrev pub is_id : List ℕ → Bool
-is_id id = nat_lt 0 (length id) && nat_le (length id) 256
 
 abbrev pub fits : Command → Bool
 fits (Register standings) = nat_le (length standings) most_listed

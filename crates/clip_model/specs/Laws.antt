@@ -1,7 +1,6 @@
 -- Laws of histories.
-use Rattle.std.specs.Prelude.{◌≡◌, ℕ, suc, ◌+◌, ◌≤◌, ◌<◌, List, [], ◌∷◌, ◌++◌, length, true, IsTrue}
-use Rattle.std.specs.FinMap as finite
-use Rattle.clip_model.specs.History.{History, HistoryEntry, Command, IsLegal, replay, listed, lists, after_command, is_live, with_command, has_room, fits}
+use Rattle.std.specs.Prelude.{◌≡◌, ℕ, ◌≤◌, ◌<◌, [], ◌∷◌, ◌++◌, true, IsTrue}
+use Rattle.clip_model.specs.History.{History, HistoryEntry, Command, IsLegal, replay, listed, after_command, is_live, with_command, has_room, fits}
 
 -- one entry more is one command more
 abbrev pub ReplaysOn : Type 0

@@ -1,5 +1,5 @@
 -- A standing query as contracts see it.
-use Rattle.std.specs.Prelude.{◌≡◌, ℕ, List, Option, refl}
+use Rattle.std.specs.Prelude.{ℕ, List, Option, refl}
 use Rattle.std.specs.Coded.{Coded, code_by, coded×, coded_option}
 use Rattle.clip_grammar.specs.Tree.{Tree}
 use Rattle.clip_grammar.specs.TreeCode.{tree_code, bytes_code}

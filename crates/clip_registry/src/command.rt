@@ -1,21 +1,18 @@
 //! Commands, the entries of the history, and the answers to commands.
 ghost use Rattle.std.specs.Prelude.{◌≡◌, IfOk, map, string_bytes};
 ghost use Rattle.std.specs.List.{list_all};
-ghost use Rattle.clip_model.specs.History.{fits, is_id};
+ghost use Rattle.clip_model.specs.History.{fits};
+ghost use Rattle.clip_words.specs.Ids.{is_id};
 ghost use Rattle.clip_registry.specs.Command.{command_of};
 
 use clip_segment::Standing;
-use clip_words::NoMemory;
+use clip_words::{NoMemory, is_id};
 use std::alloc::AllocFailed;
 use std::sync::Arc;
 use thiserror::Error;
 
 /// The most queries or ids that a command lists.
 pub const MOST_LISTED: usize = 1024;
-
-/// The most bytes of an id.
-const MOST_ID_BYTES: usize = 256;
-
 /// A change of the registry.
 #[derive(Drop)]
 pub enum Command {
@@ -76,13 +73,6 @@ impl<T: Drop> From<AllocFailed<T>> for Refused {
     fn from(_error: AllocFailed<T>) -> Refused {
         Refused::NoMemory
     }
-}
-
-/// Whether the id is 1 to 256 bytes long.
-fn is_id(id: &str) -> bool
-    ensures { result ≡ is_id id.now }
-{
-    !id.is_empty() && id.len() <= MOST_ID_BYTES
 }
 
 /// Whether each id is 1 to 256 bytes long.

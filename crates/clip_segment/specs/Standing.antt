@@ -3,7 +3,7 @@ use Rattle.std.specs.Prelude.{◌≡◌, ℕ, List, true, false, IsTrue}
 use Rattle.clip_grammar.specs.Reading.{Reads, HasNoFault, IsFault}
 use Rattle.clip_grammar.specs.declared.fault.QueryFault.{QueryFault}
 use Rattle.clip_grammar.specs.declared.fault.QueryFault.TheVariants as query
-use Rattle.clip_model.specs.History.{is_id}
+use Rattle.clip_words.specs.Ids.{is_id}
 use Rattle.clip_model.specs.Standing as value
 use Rattle.clip_segment.specs.declared.standing.StandingFault.{StandingFault}
 use Rattle.clip_segment.specs.declared.standing.StandingFault.TheVariants as fault

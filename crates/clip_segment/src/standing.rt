@@ -8,15 +8,11 @@ ghost use Rattle.clip_grammar.specs.Tree.{tree_of};
 use clip_grammar::fault::QueryFault;
 use clip_grammar::query::Query;
 use clip_syntax::read_query;
-use clip_words::NoMemory;
+use clip_words::{NoMemory, is_id};
 use std::alloc::{AllocError, Global};
 use std::marker::Model;
 use std::sync::ArcStr;
 use thiserror::Error;
-
-/// The most bytes of an id.
-pub const MOST_ID_BYTES: usize = 256;
-
 /// Why a standing query isn't one, the first that holds in this order; `NoMemory` comes wherever it stands.
 #[derive(Clone, Copy, Debug, PartialEq, Eq, Error)]
 pub enum StandingFault {
@@ -103,7 +99,7 @@ impl Standing {
         ensures standing { IfOk result IsStanding }
         ensures refused { IfErr result (λ fault. IsStandingFault id.now text.now fault) }
     {
-        if id.is_empty() || id.len() > MOST_ID_BYTES {
+        if !is_id(id) {
             return Err(StandingFault::Id);
         }
         let query = read_query(alloc, text)?;

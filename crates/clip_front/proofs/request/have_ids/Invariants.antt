@@ -1,6 +1,6 @@
 use Rattle.std.proofs.Common.{◌≡◌, drop, map}
 use Rattle.std.specs.List.{list_all}
-use Rattle.clip_model.specs.History.{is_id}
+use Rattle.clip_words.specs.Ids.{is_id}
 use Rattle.clip_front.specs.Views.{listed_view}
 use Rattle.clip_front.proofs.request.have_ids.Given as goal
 

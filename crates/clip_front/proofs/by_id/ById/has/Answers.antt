@@ -1,4 +1,4 @@
-use Rattle.std.proofs.Common.{◌≡◌, sym, ap, ◌∙◌, is_some, refl, Option, Some, None}
+use Rattle.std.proofs.Common.{◌≡◌, ap, ◌∙◌, is_some, refl, Option, Some, None}
 use Rattle.std.specs.Option.{option_map, option_copied}
 use Rattle.std.specs.Borrow.{Bor}
 use Rattle.std.specs.FinMap as finite

@@ -1,4 +1,4 @@
-use Rattle.std.proofs.Common.{◌≡◌, [], ◌∷◌, map, true, false, sym, ap, ◌∙◌, rules, String, Global, List}
+use Rattle.std.proofs.Common.{◌≡◌, map, true, false, sym, ap, ◌∙◌, rules, String, Global, List}
 use Rattle.std.specs.FinMap as finite
 use Rattle.serde_json.specs.Data.{string, item}
 use Rattle.clip_model.specs.ById.{shown_pair}

@@ -1,7 +1,6 @@
-use Rattle.std.proofs.Common.{◌≡◌, sym, ap, ◌∙◌, string_bytes}
+use Rattle.std.proofs.Common.{◌≡◌, ap, ◌∙◌, string_bytes}
 use Rattle.std.specs.FinMap as finite
 use Rattle.clip_model.specs.ById.{map_of}
-use Rattle.clip_model.specs.History.{Registered}
 use Rattle.clip_model.proofs.ById.{insert_shown}
 use Rattle.clip_front.proofs.by_id.ById.insert.Goals as goal
 

@@ -1,4 +1,4 @@
-use Rattle.std.proofs.Common.{sym, ap, ◌∙◌}
+use Rattle.std.proofs.Common.{ap, ◌∙◌}
 use Rattle.std.specs.FinMap as finite
 use Rattle.clip_model.proofs.ById.{len_shown}
 use Rattle.clip_front.proofs.by_id.ById.len.Goals as goal

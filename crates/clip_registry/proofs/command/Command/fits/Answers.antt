@@ -2,7 +2,8 @@ use Rattle.std.proofs.Common.{◌≡◌, ◌≤◌, ◌&&◌, ℕ, sym, ap, ◌�
 use Rattle.std.proofs.lemmas.Bool.Decides.{nat_tests}
 use Rattle.std.specs.List.{list_all}
 use Rattle.std.specs.declared.alloc.Global.{Global}
-use Rattle.clip_model.specs.History.{fits, is_id, most_listed}
+use Rattle.clip_words.specs.Ids.{is_id}
+use Rattle.clip_model.specs.History.{fits, most_listed}
 use Rattle.clip_registry.specs.Command.{command_of}
 use Rattle.clip_registry.proofs.Counting.{length_map}
 use Rattle.clip_registry.proofs.command.Command.fits.Goals as goal
