@@ -10,7 +10,9 @@ use std::sync::ArcStr;
 /// Ordered as written, then by field, then by word, by bytes. A clone shares the texts.
 #[derive(Clone, Debug, PartialEq, Eq, PartialOrd, Ord, Hash, Drop)]
 pub enum Key {
+    /// What every article has.
     Any,
+    /// A word of a field: the field, and the word.
     Word(ArcStr, ArcStr),
 }
 

@@ -137,8 +137,9 @@ impl StandingQueries {
     }
 
     /// Registers the queries in order, and says how many ids they have; or does nothing where
-    /// over a million queries or too many changes would be. A search
-    /// among the ids for each listed query.
+    /// over a million queries or too many changes would be. Where a growth is refused, some of
+    /// the queries may be in. A search among the ids for each listed query, and a comparison of
+    /// each with those before it in the list, which has at most 1,024.
     pub fn register(
         &mut self,
         alloc: Global,

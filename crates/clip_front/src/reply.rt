@@ -94,6 +94,7 @@ fn match_value(
     json!(in alloc; {"alerts": alerts, "line": number, "notes": []})
 }
 
+/// The reply to a line that is refused.
 #[tactic(auto, unfolding(crate::specs::Reply::refusal_data))]
 pub fn refusal(alloc: Global, number: u64, reason: Refusal) -> Result<Vec<u8>, AllocError>
     ensures { IfOk result (λ text. text.items ≡ printed_text (refusal_data number reason)) }
@@ -102,6 +103,7 @@ pub fn refusal(alloc: Global, number: u64, reason: Refusal) -> Result<Vec<u8>, A
     printed(alloc, &value)
 }
 
+/// The reply to a register line of which the query at a place is refused.
 #[tactic(auto, unfolding(crate::specs::Reply::refusal_at_data))]
 pub fn refusal_at(
     alloc: Global,
@@ -115,6 +117,7 @@ pub fn refusal_at(
     printed(alloc, &value)
 }
 
+/// The reply to a register line that was accepted.
 #[tactic(auto, unfolding(crate::specs::Reply::registered_data))]
 pub fn registered(alloc: Global, number: u64, count: u64) -> Result<Vec<u8>, AllocError>
     ensures { IfOk result (λ text. text.items ≡ printed_text (registered_data number count)) }
@@ -123,6 +126,7 @@ pub fn registered(alloc: Global, number: u64, count: u64) -> Result<Vec<u8>, All
     printed(alloc, &value)
 }
 
+/// The reply to a count line.
 #[tactic(auto, unfolding(crate::specs::Reply::count_data))]
 pub fn counted(alloc: Global, number: u64, count: u64) -> Result<Vec<u8>, AllocError>
     ensures { IfOk result (λ text. text.items ≡ printed_text (count_data number count)) }
@@ -131,6 +135,7 @@ pub fn counted(alloc: Global, number: u64, count: u64) -> Result<Vec<u8>, AllocE
     printed(alloc, &value)
 }
 
+/// The reply to a match line.
 #[tactic(auto, unfolding(crate::specs::Reply::match_data))]
 pub fn matched(
     alloc: Global,

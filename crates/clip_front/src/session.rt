@@ -15,6 +15,7 @@ use std::alloc::Global;
 /// What a run did: how many lines it read, blank ones included.
 #[derive(Clone, Copy, Debug, PartialEq, Eq)]
 pub struct Ended {
+    /// How many lines the input had, blank ones among them.
     pub lines: u64,
 }
 
@@ -26,8 +27,9 @@ pub struct Ended {
 ///
 /// `Read` where a read failed, or 2^40 reads met no end; `Write` where a write or a flush failed,
 /// or a write took nothing; `NoMemory` where a growth was refused. After a fault nothing more is
-/// written. Takes memory for one line, the replies to the lines of a read, and the registered
-/// queries; a match tries each of them, and a register walks them twice for each that it lists.
+/// written. Takes memory for one line, up to 64 KiB of gathered replies and one reply more, and the
+/// registered queries. A match tries each registered query on each article; a register searches the
+/// ids for each query that it lists, and compares it with those before it in its list.
 pub fn run<R: Source, W: Sink>(
     alloc: Global,
     reader: &mut R,
@@ -70,7 +72,7 @@ pub fn run<R: Source, W: Sink>(
     }
 }
 
-/// An input has one reply text, so `run` writes no other.
+/// An input has at most one reply text, so `run` writes no other.
 pub fn one_text()
     ensures { (input text other : List ℕ) → IsText input text → IsText input other → text ≡ other }
 {}

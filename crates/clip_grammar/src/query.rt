@@ -18,13 +18,15 @@ pub enum Occur {
 pub enum Bound {
     /// No limit on this side.
     Free,
-    /// Up to this folded text, itself included.
+    /// This text is the end, itself included.
     With(String),
-    /// Up to this folded text, itself left out.
+    /// This text is the end, itself left out.
     Without(String),
 }
 
-/// What is asked of an article. Fields stand as they are written; words and fronts are folded. Each is a shared text.
+/// What is asked of an article. Fields stand as they are written; words, fronts and ends of ranges are folded.
+/// Texts are shared, but for the ends of ranges. Dropping and comparing recurse as deep as groups nest, which is at most 65 in a
+/// query that was read.
 #[derive(Debug, PartialEq, Eq, Drop)]
 pub enum Query {
     /// The word is among the field's words.

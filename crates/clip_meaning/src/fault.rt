@@ -126,8 +126,8 @@ fn has_twice(fields: &[(String, String)]) -> bool
     false
 }
 
-#[tactic(auto, unfolding(crate::specs::Article::fault_of))]
 /// The first refusal that holds of an id and of pairs of a field's name and its text.
+#[tactic(auto, unfolding(crate::specs::Article::fault_of))]
 pub(crate) fn fault_of(id: &str, fields: &[(String, String)]) -> Option<ArticleFault>
     ensures { result ≡ fault_of id.now (pairs_of fields.now) }
 {

@@ -83,7 +83,8 @@ impl Field {
     }
 
     /// Whether the words of a phrase stand next to each other in order, as in Lucene's PhraseQuery with no slop; an
-    /// empty phrase never does. Looks only where the phrase's first word stands.
+    /// empty phrase never does. Looks only where the phrase's first word
+    /// stands: at worst these places times the words of the phrase.
     pub(crate) fn has_phrase(&self, phrase: &[ArcStr]) -> bool
         ensures { result ≡ (is_nonempty (map arc_str_bytes phrase.now) && has_run self.now.1 (map arc_str_bytes phrase.now)) }
     {

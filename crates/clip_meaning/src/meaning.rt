@@ -91,8 +91,10 @@ fn counted(tally: Tally, occur: Occur, held: bool) -> Option<Tally>
 /// - `Group`: every Must child holds, no MustNot child holds and, where there is no Must child, at least one Should
 ///   child holds (BooleanQuery with its default settings).
 ///
-/// Takes no memory. A leaf is answered by searches among the sorted words of one field, a phrase by a look at each
-/// place of its first word; a group asks its children in order until it is settled.
+/// Takes no memory. A leaf is answered by searches among the sorted words of one field; a phrase also by a look at each
+/// place of its first word, at worst these places times the words of the phrase. A group asks its children in order, up
+/// to the first Must child that does not hold or MustNot child that does. Recurses as deep as groups nest, which is at
+/// most 65 in a query that was read.
 pub fn holds(query: &Query, article: &Article) -> bool
     ensures { result ≡ holds (tree_of query.now) article.now.fields }
 {

@@ -14,6 +14,6 @@ FrontsAreLegal = (before after : History) → IsLegal (before ++ after) → IsLe
 abbrev pub GoesOn : Type 0
 GoesOn = (h : History) (caller : ℕ) (command : Command) → IsLegal h → 0 < caller → caller ≤ 64 → IsTrue (fits command) → IsTrue (has_room h command) → IsLegal (with_command h caller command)
 
--- a seq is given to one query: what is registered later is above all that was listed before
+-- the seqs of registered queries are from 1 to the number of queries listed
 abbrev pub SeqsAreListed : Type 0
 SeqsAreListed = (h : History) (seq : ℕ) → is_live h seq ≡ true → (0 < seq) × (seq ≤ listed h)

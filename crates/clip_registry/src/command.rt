@@ -13,6 +13,7 @@ use thiserror::Error;
 
 /// The most queries or ids that a command lists.
 pub const MOST_LISTED: usize = 1024;
+
 /// A change of the registry.
 #[derive(Drop)]
 pub enum Command {
@@ -31,6 +32,7 @@ pub struct HistoryEntry {
     pub caller: u32,
     /// Its number among that caller's commands, from 1.
     pub number: u64,
+    /// The command itself.
     pub command: Command,
 }
 
@@ -51,6 +53,7 @@ pub enum Refused {
     /// The live queries would be more than 1,000,000, or the history more than 4,294,967,295 entries long.
     #[error("the registry is full")]
     Full,
+    /// A growth was refused.
     #[error("no memory")]
     NoMemory,
 }

@@ -15,7 +15,7 @@ use std::alloc::{AllocError, Global};
 use std::marker::Model;
 use std::sync::Arc;
 
-/// The live entries by id, and for each seq above a base whether it is live.
+/// The live entries by id, and for each seq above a base whether it is live: one flag is kept for each query listed since the last clear.
 #[derive(Drop)]
 pub struct Roster {
     by_id: ById,
@@ -148,7 +148,7 @@ impl Roster {
         }
     }
 
-    /// Puts the next entries in the places of those with their ids, in order, or none of them: `Full` where more than `most` queries would then be registered.
+    /// Puts the next entries in the places of those with their ids, in order, or none of them: `Full` where more than `most` queries would then be registered. Recursion is as deep as the list is long.
     pub fn insert_all(
         &mut self,
         alloc: Global,

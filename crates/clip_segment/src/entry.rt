@@ -12,7 +12,7 @@ use std::sync::Arc;
 
 /// A standing query that is registered: the number that it was given, and the keys of its query.
 ///
-/// No reader takes memory.
+/// No reader takes memory, and each takes constant time.
 #[derive(Debug, Drop)]
 pub struct Entry {
     seq: u64,

@@ -105,14 +105,14 @@ impl Segment {
         }
     }
 
-    /// The entry at a position from 0, or `None` past the end. Takes no memory.
+    /// The entry at a position from 0, or `None` past the end. Takes no memory. Constant time.
     pub fn entry(&self, position: u32) -> Option<&Arc<Entry>>
         ensures { option_map arc_value (option_copied result) ≡ slice_get self.now position }
     {
         self.entries.get(position as usize)
     }
 
-    /// The entries, in the order of their seqs.
+    /// The entries, in the order of their seqs. Constant time.
     pub fn entries(&self) -> &[Arc<Entry>]
         ensures value { map arc_value result.now ≡ self.now }
         ensures short { length self.now ≤ most_positions }
@@ -121,14 +121,14 @@ impl Segment {
         &self.entries
     }
 
-    /// How many entries there are. Takes no memory.
+    /// How many entries there are. Takes no memory. Constant time.
     pub fn len(&self) -> usize
         ensures { result ≡ length self.now }
     {
         self.entries.len()
     }
 
-    /// Whether there are no entries.
+    /// Whether there are no entries. Constant time.
     pub fn is_empty(&self) -> bool
         ensures { result ≡ (length self.now == 0) }
     {

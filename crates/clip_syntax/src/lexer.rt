@@ -21,12 +21,19 @@ use std::alloc::Global;
 /// What a lexeme says, however it is spelled. Its texts have no quotes, and each escape stands as its character.
 #[derive(Debug, PartialEq, Eq, Drop)]
 pub enum Token {
+    /// The sign `+`.
     Plus,
+    /// The sign `-`.
     Minus,
+    /// The sign `!`.
     Bang,
+    /// The word `NOT`.
     Not,
+    /// The sign `(`.
     Open,
+    /// The sign `)`.
     Close,
+    /// The sign `:`.
     Colon,
     /// A star alone.
     Star,
@@ -36,7 +43,7 @@ pub enum Token {
     Front(String),
     /// A quoted text.
     Phrase(String),
-    /// A range.
+    /// A range, its ends not yet folded.
     Between(Bound, Bound),
     /// A form that is left out: an operator word, a word with wild cards elsewhere, `~`, `^` or `/`.
     Other,

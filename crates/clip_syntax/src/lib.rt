@@ -2,10 +2,10 @@
 //!
 //! The syntax is Lucene's classic query syntax (`QueryParser`) in part: words, quoted phrases, prefixes (`tea*`), ranges
 //! (`[a TO b}`), fields (`title:tea`), groups, the signs `+`, `-`, `!` and `NOT`, and `*:*`. The operators `AND`, `OR`, `&&` and
-//! `||`, wild cards inside a word, fuzzy words, boosts and regular expressions are refused by name.
+//! `||`, other wild cards, fuzzy words, boosts and regular expressions are refused as `LeftOut`.
 //!
-//! A text is read in passes along one list of tokens, none of which recurses: length, lexemes, left-out forms, clauses, words,
-//! size. Only then is the tree built, and it is then at most 65 groups deep.
+//! A text is judged in passes, along its characters and then its tokens, none of which recurses along the text: length, lexemes,
+//! left-out forms, clauses, words, size. Only then is the tree built, and it is then at most 65 groups deep.
 #![tactic(auto)]
 
 mod build;

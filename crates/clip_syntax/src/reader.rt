@@ -54,7 +54,7 @@ fn tokens_of(alloc: Global, text: &str) -> Result<Vec<Token>, QueryFault>
 /// `Structure`: its lexemes are not clauses.
 /// `NoWords`: a word or a quoted text that is asked for has no words.
 /// `TooBig`: the tree has over 4,096 nodes, or over 64 parentheses are open at once.
-/// `NoMemory`: a growth was refused; it may come in place of any answer but `TooLong`.
+/// `NoMemory`: a growth was refused; it may come in place of another answer.
 ///
 /// The cost is linear in the bytes of the text.
 pub fn read_query(alloc: Global, text: &str) -> Result<Query, QueryFault>

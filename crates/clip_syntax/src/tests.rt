@@ -77,7 +77,7 @@ fn shown(alloc: Global, text: &str) -> Result<String, Fail> {
     }
 }
 
-static ROWS: [(&str, &str); 163] = [
+static ROWS: [(&str, &str); 164] = [
     // words and blanks
     ("tea", "(text=tea)"),
     (" \t\r\ntea\n", "(text=tea)"),
@@ -136,6 +136,7 @@ static ROWS: [(&str, &str); 163] = [
     ("\\u0041\\u0042", "(text=ab)"),
     ("\\u00e9t\\u00E9", "(text=été)"),
     ("a\\u0062c", "(text=abc)"),
+    ("\\U0041", "(text=u0041)"),
     ("\\u0020x", "(text=x)"),
     ("a\\ b", "(text=\"a b\")"),
     ("a\\:b", "(text=a:b)"),

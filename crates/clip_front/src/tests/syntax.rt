@@ -78,6 +78,14 @@ fn repeated(alloc: Global, text: &str, times: usize) -> Result<String, AllocErro
     Ok(all)
 }
 
+// A word in so many groups.
+fn grouped(alloc: Global, groups: usize) -> Result<String, AllocError> {
+    let mut text = repeated(alloc, "(", groups)?;
+    text.push('a')?;
+    text.push_str(&repeated(alloc, ")", groups)?)?;
+    Ok(text)
+}
+
 #[test]
 fn texts_are_taken_up_to_their_limits(rt: HostRuntime) -> Result<(), Fail> {
     let alloc = rt.alloc();
@@ -89,14 +97,11 @@ fn texts_are_taken_up_to_their_limits(rt: HostRuntime) -> Result<(), Fail> {
         let line = register_line(alloc, &over)?;
         are_answered(&rt, &[line.as_str()], &[REFUSED])?;
     }
-    for (groups, reply) in [(64, REGISTERED), (65, REFUSED)] {
-        let mut text = repeated(alloc, "(", groups)?;
-        text.push('a')?;
-        text.push_str(&repeated(alloc, ")", groups)?)?;
-        let line = register_line(alloc, &text)?;
-        are_answered(&rt, &[line.as_str()], &[reply])?;
-    }
-    Ok(())
+    let line = register_line(alloc, &grouped(alloc, 64)?)?;
+    let article = match_line(alloc, "a")?;
+    are_answered(&rt, &[line.as_str(), article.as_str()], &[REGISTERED, MET])?;
+    let line = register_line(alloc, &grouped(alloc, 65)?)?;
+    are_answered(&rt, &[line.as_str()], &[REFUSED])
 }
 
 // A query, the text of an article, and whether they meet.
