@@ -28,13 +28,13 @@ view-String s = search (rules, the_lemmas)
 
 -- the ids of those that hold of the article
 abbrev pub met : ArticleValue → List (List ℕ × Registered) → Items
-met a es = strings (map (λ a. a.query) (map alert_of (filter (holds_of a) es)))
+met a es = strings (map (λ a. a.query) (map (alert_of a) (filter (holds_of a) es)))
 
 -- a query that holds of the article, and one that does not
 pub met_step : (a : ArticleValue) (e : List ℕ × Registered) (es : List (List ℕ × Registered)) (b : Bool) → b ≡ holds e.1.standing.tree a.fields → met a (e ∷ es) ≡ cond b (item (string e.0) (met a es)) (met a es)
-met_step a e es b is = ap (λ t. strings (map (λ a. a.query) (map alert_of (cond t (e ∷ filter (holds_of a) es) (filter (holds_of a) es))))) (sym is) ∙ chosen b
+met_step a e es b is = ap (λ t. strings (map (λ a. a.query) (map (alert_of a) (cond t (e ∷ filter (holds_of a) es) (filter (holds_of a) es))))) (sym is) ∙ chosen b
   where
-    chosen : (t : Bool) → strings (map (λ a. a.query) (map alert_of (cond t (e ∷ filter (holds_of a) es) (filter (holds_of a) es)))) ≡ cond t (item (string e.0) (met a es)) (met a es)
+    chosen : (t : Bool) → strings (map (λ a. a.query) (map (alert_of a) (cond t (e ∷ filter (holds_of a) es) (filter (holds_of a) es)))) ≡ cond t (item (string e.0) (met a es)) (met a es)
     chosen true = refl
     chosen false = refl
 

@@ -5,20 +5,21 @@ use Rattle.clip_meaning.specs.Article.{ArticleValue}
 use Rattle.clip_meaning.specs.Meaning.{holds}
 use Rattle.clip_model.specs.History.{History, Registered, Registry, replay}
 
--- the id of a query that holds, and the name of its listener, if it has one
+-- the id of a query that holds, the id of the article that it holds of, and the name of the query's listener, if it has one
 pub record Alert : Type 0 where
   pub query : List ℕ
+  pub article : List ℕ
   pub listener : Option (List ℕ)
 
 abbrev pub holds_of : ArticleValue → List ℕ × Registered → Bool
 holds_of article entry = holds entry.1.standing.tree article.fields
 
-abbrev pub alert_of : List ℕ × Registered → Alert
-alert_of entry = record { query = entry.0; listener = entry.1.standing.listener }
+abbrev pub alert_of : ArticleValue → List ℕ × Registered → Alert
+alert_of article entry = record { query = entry.0; article = article.id; listener = entry.1.standing.listener }
 
 -- of the registered queries that hold of the article, in byte order of their ids
 abbrev pub alerts_in : Registry → ArticleValue → List Alert
-alerts_in registry article = map alert_of (filter (holds_of article) (finite.entries registry))
+alerts_in registry article = map (alert_of article) (filter (holds_of article) (finite.entries registry))
 
 abbrev pub alerts : History → ArticleValue → List Alert
 alerts h article = alerts_in (replay h) article

@@ -1,0 +1,2 @@
+//! Tests of the crates below the front, by their public calls: worked examples, limits, and each call that takes memory once.
+#![tactic(auto)]
