@@ -1,0 +1,14 @@
+//! The streams of a run: what it reads from and writes to, lines in, replies on their way out.
+#![tactic(auto)]
+
+mod device;
+mod fault;
+mod limits;
+mod lines;
+mod outbox;
+
+pub use device::{Failed, Sink, Source, StdSink, StdSource};
+pub use fault::RunFault;
+pub use limits::{MOST_LINE_BYTES, MOST_READS};
+pub use lines::LineReader;
+pub use outbox::Outbox;

@@ -1,0 +1,194 @@
+//! Cuts what a reader gives into lines.
+ghost use Rattle.std.specs.Prelude.{◌≡◌, ◌≢◌, ◌+◌, ◌-◌, ◌<◌, ◌≤◌, ◌++◌, ◌⊎◌, [], length, take, drop, true, false, is_err, is_ok, IfOk, OnOk, OnErr, IfSome, IfNone, MatchOption, MatchBool, Err, IfErr};
+ghost use Rattle.std.specs.Io.KnownBytes.{prepend_known, IsAtEnd, Keeps};
+ghost use Rattle.clip_stream.specs.Steps.Reading.{has_feed, first_line, after_line, cut, fuel, FindsKnownLine, Gathers, IsStill, IsExhausted};
+
+use crate::device::Source;
+use crate::fault::RunFault;
+use crate::limits::{MOST_LINE_BYTES, MOST_READS};
+use clip_words::NoMemory;
+use std::alloc::Global;
+use std::marker::Model;
+
+/// How many bytes a read may give.
+const CHUNK: usize = 65_536;
+
+/// How many bytes of a line are kept: one more than a line may have tells that it is too long.
+const KEPT: usize = MOST_LINE_BYTES + 1;
+
+/// What was read and not yet taken, and how many reads are left.
+#[derive(Drop)]
+pub struct LineReader {
+    buffer: Vec<u8>,
+    start: usize,
+    end: usize,
+    reads_left: u64,
+    is_at_end: bool,
+}
+
+impl Model for LineReader {
+    ghost use Rattle.std.specs.Prelude.{◌≡◌, ◌≤◌, ◌-◌, take, drop, vec_len, true};
+    ghost use Rattle.clip_stream.specs.Steps.Reading.{Reading};
+    ghost use Rattle.clip_stream.specs.declared.limits.TheConstants.{MOST_READS};
+
+    ghost Value = { Reading };
+
+    ghost view = { λ r. record {
+      pending = take (r.end - r.start) (drop r.start r.buffer.items);
+      reads_left = r.reads_left;
+      is_at_end = r.is_at_end;
+    } };
+
+    ghost invariant = { λ r. (r.start ≤ r.end) × (r.end ≤ vec_len r.buffer) × (vec_len r.buffer ≡ 65536)
+        × (r.reads_left ≤ MOST_READS) × (r.is_at_end ≡ true → r.start ≡ r.end) };
+}
+
+/// Where the first line feed stands.
+fn feed_of(bytes: &[u8]) -> Option<usize>
+    ensures none { IfNone result (has_feed bytes.now ≡ false) }
+    ensures some { IfSome result (λ _. has_feed bytes.now ≡ true) }
+    ensures within { IfSome result (λ i. i < length bytes.now) }
+    ensures first { IfSome result (λ i. first_line bytes.now ≡ take i bytes.now) }
+    ensures after { IfSome result (λ i. after_line bytes.now ≡ drop (i + 1) bytes.now) }
+{
+    for (i, b) in bytes.iter().enumerate() {
+        if *b == b'\n' {
+            return Some(i);
+        }
+    }
+    None
+}
+
+/// Adds bytes to a line, of which no more is kept than tells that it is too long.
+fn extend_cut(line: &mut Vec<u8>, bytes: &[u8]) -> Result<(), NoMemory>
+    requires { length line.old.items ≤ KEPT }
+    ensures { OnOk result (line.new.items ≡ cut (line.old.items ++ bytes.now)) }
+{
+    let room = KEPT - line.len();
+    let more = bytes.len().min(room);
+    line.extend_from_slice(&bytes[..more])?;
+    Ok(())
+}
+
+impl LineReader {
+    /// Nothing read yet.
+    pub fn new(alloc: Global) -> Result<LineReader, NoMemory>
+        ensures { IfOk result (λ r. (r.pending ≡ []) × (r.reads_left ≡ MOST_READS)
+            × (r.is_at_end ≡ false)) }
+    {
+        Ok(LineReader {
+            buffer: vec![in alloc; 0; CHUNK]?,
+            start: 0,
+            end: 0,
+            reads_left: MOST_READS,
+            is_at_end: false,
+        })
+    }
+}
+
+impl LineReader {
+    /// Takes what is pending up to a line feed, or all of it.
+    fn take_front(&mut self, line: &mut Vec<u8>) -> Result<bool, NoMemory>
+        requires { length line.old.items ≤ KEPT }
+        ensures line { OnOk result (line.new.items
+            ≡ cut (line.old.items ++ first_line self.old.pending)) }
+        ensures rest { OnOk result (self.new.pending ≡ after_line self.old.pending) }
+        ensures found { IfOk result (λ found. found ≡ has_feed self.old.pending) }
+        ensures reads { self.new.reads_left ≡ self.old.reads_left }
+        ensures end { self.new.is_at_end ≡ self.old.is_at_end }
+    {
+        let pending = &self.buffer[self.start..self.end];
+        match feed_of(pending) {
+            Some(i) => {
+                extend_cut(line, &pending[..i])?;
+                self.start += i + 1;
+                Ok(true)
+            }
+            None => {
+                extend_cut(line, pending)?;
+                self.start = self.end;
+                Ok(false)
+            }
+        }
+    }
+
+    /// Reads more, where there is more.
+    fn refill<R: Source>(&mut self, reader: &mut R) -> Result<bool, RunFault>
+        requires empty { self.old.pending ≡ [] }
+        requires budget { R.reads reader.old + self.old.reads_left ≡ MOST_READS }
+        requires ended { self.old.is_at_end ≡ true → IsAtEnd (R.left reader.old) }
+        ensures budget { R.reads reader.new + self.new.reads_left ≡ MOST_READS }
+        ensures ended { self.new.is_at_end ≡ true → IsAtEnd (R.left reader.new) }
+        ensures bytes { OnOk result (IsStill (R.left reader.old)
+            (prepend_known self.new.pending (R.left reader.new))) }
+        ensures fuel { IfOk result (λ more. MatchBool more
+            ((self.new.reads_left + 1 ≡ self.old.reads_left) × (length self.new.pending ≤ 65536) × (self.new.is_at_end ≡ false) × (self.old.is_at_end ≡ false))
+            ((self.new.pending ≡ []) × (self.new.is_at_end ≡ true) × (self.new.reads_left ≤ self.old.reads_left))) }
+        ensures failed { OnOk result (R.has_failed reader.new ≡ R.has_failed reader.old) }
+        ensures fault { OnErr result (result ≡ Err RunFault.Read) }
+        ensures same_end { OnOk result (self.new.is_at_end ≡ false → R.met_end reader.new ≡ R.met_end reader.old) }
+        ensures read { result ≡ Err RunFault.Read → (R.has_failed reader.new ≡ true)
+            ⊎ IsExhausted self.old (R.reads reader.new) (R.met_end reader.old) (R.met_end reader.new) }
+    {
+        if self.is_at_end {
+            return Ok(false);
+        }
+        if self.reads_left == 0 {
+            return Err(RunFault::Read);
+        }
+        self.reads_left -= 1;
+        self.start = 0;
+        self.end = 0;
+        match reader.read(&mut self.buffer) {
+            Ok(0) => {
+                self.is_at_end = true;
+                Ok(false)
+            }
+            Ok(n) => {
+                self.end = n;
+                Ok(true)
+            }
+            Err(_) => Err(RunFault::Read),
+        }
+    }
+
+    /// Whether a whole line is pending, so that it comes without a read.
+    pub fn has_line(&self) -> bool
+        ensures { result ≡ has_feed self.now.pending }
+    {
+        feed_of(&self.buffer[self.start..self.end]).is_some()
+    }
+
+    /// The next line, without its line feed, or false at the end of the input. Of a line at most
+    /// 1,048,577 bytes are kept. `Read` where a read failed or 2^40 reads were made.
+    pub fn next_line<R: Source>(
+        &mut self,
+        reader: &mut R,
+        line: &mut Vec<u8>,
+    ) -> Result<bool, RunFault>
+        requires budget { R.reads reader.old + self.old.reads_left ≡ MOST_READS }
+        requires ended { self.old.is_at_end ≡ true → IsAtEnd (R.left reader.old) }
+        ensures budget { R.reads reader.new + self.new.reads_left ≡ MOST_READS }
+        ensures ended { self.new.is_at_end ≡ true → IsAtEnd (R.left reader.new) }
+        ensures line { IfOk result (λ found. FindsKnownLine found
+            (prepend_known self.old.pending (R.left reader.old))
+            line.new.items (prepend_known self.new.pending (R.left reader.new))) }
+        ensures none { IfOk result (λ found. found ≡ false → has_feed self.old.pending ≡ false) }
+        ensures fuel { IfOk result (λ found. found ≡ true → fuel self.new < fuel self.old) }
+        ensures failed { OnOk result (R.has_failed reader.new ≡ R.has_failed reader.old) }
+        ensures fault { IfErr result (λ e. e ≢ RunFault.Write) }
+        ensures same_end { OnOk result (self.new.is_at_end ≡ false → R.met_end reader.new ≡ R.met_end reader.old) }
+        ensures read { result ≡ Err RunFault.Read → (R.has_failed reader.new ≡ true)
+            ⊎ IsExhausted self.old (R.reads reader.new) (R.met_end reader.old) (R.met_end reader.new) }
+    {
+        line.clear();
+        'pieces: loop {
+            if self.take_front(line)? {
+                return Ok(true);
+            }
+            if !self.refill(reader)? {
+                return Ok(!line.is_empty());
+            }
+        }
+    }
+}
