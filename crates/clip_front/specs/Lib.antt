@@ -1,10 +1,5 @@
-pub mod Device
-pub mod Lines
 pub mod Refusal
-pub mod Registry
 pub mod Request
-pub mod Meaning
+pub mod LineMeaning
 pub mod Reply
-pub mod Views
-pub mod Requests
-pub mod Outlines
+pub mod Steps

@@ -1,66 +1,90 @@
 -- The reply to a line, and to the whole input.
-use Rattle.std.specs.Prelude.{◌≡◌, ℕ, suc, map, List, [], ◌∷◌, ◌++◌, Option, codes}
+use Rattle.std.specs.Prelude.{◌≡◌, ℕ, suc, map, List, [], ◌∷◌, ◌++◌, Option, Some, None, option_map, codes}
 use Rattle.std.specs.FinMap as finite
-use Rattle.serde_json.specs.Data.{Data, number, unsigned, string, array, object, Items, no_items, item, no_members, member}
+use Rattle.serde_json.specs.Data.{Data, null, number, unsigned, string}
 use Rattle.serde_json.specs.Written.{compact_text}
 use Rattle.clip_meaning.specs.Article.{ArticleValue}
-use Rattle.clip_model.specs.History.{History, Registry, replay, applied}
-use Rattle.clip_model.specs.Alerts.{alerts_in}
-use Rattle.clip_front.specs.Registry.{State, Stands}
-use Rattle.clip_front.specs.Meaning.{Meaning, nothing, refusal, refusal_at, command, counting, matching, Means, MeansOutline, after}
-use Rattle.clip_front.specs.Request.{Outline, outline}
-use Rattle.clip_front.specs.Lines.{lines_of}
+use Rattle.clip_model.specs.History.{History, Command, Register, Delete, Clear, replay, applied}
+use Rattle.clip_model.specs.Alerts.{alerts}
+use Rattle.clip_stream.specs.Device.{AppendsFront}
+use Rattle.clip_stream.specs.Lines.{lines_of}
+use Rattle.clip_front.specs.LineMeaning as line
+use Rattle.clip_front.specs.LineMeaning.{Meaning, Means, after}
 use Rattle.clip_front.specs.Refusal.{word_of}
+use Rattle.clip_front.specs.Request.{object_of, array_of}
 use Rattle.clip_front.specs.declared.refusal.Refusal.{Refusal}
-use Rattle.clip_front.specs.Device.{AppendsFront}
 
 -- ---- one line
 
-abbrev pub strings : List (List ℕ) → Items
-strings [] = no_items
-strings (s ∷ ss) = item (string s) (strings ss)
+-- what is answered, to a blank line nothing; of each article its id and the ids of queries
+pub data Reply : Type 0 where
+  nothing : Reply
+  refused : Refusal → Reply
+  refused_at : Refusal → ℕ → Reply
+  registered : ℕ → Reply
+  deleted : ℕ → Reply
+  cleared : ℕ → Reply
+  counted : ℕ → Reply
+  shown : Option (List ℕ) → Reply
+  matched : List (List ℕ × List (List ℕ)) → Reply
 
--- the ids, in byte order, of the registered queries that hold of the article
-abbrev pub ids_met : Registry → ArticleValue → List (List ℕ)
-ids_met registry article = map (λ a. a.query) (alerts_in registry article)
+-- a command that counts n
+abbrev pub accepted : Command → ℕ → Reply
+accepted (Register standings) n = registered n
+accepted (Delete ids) n = deleted n
+accepted Clear n = cleared n
 
-unfoldable pub alert_data : Registry → ArticleValue → Data
-alert_data registry a = object (member (codes "article") (string a.id) (member (codes "queries") (array (strings (ids_met registry a))) no_members))
+-- the article's id, and the ids of its alerts
+abbrev pub alerts_shown : History → ArticleValue → List ℕ × List (List ℕ)
+alerts_shown h article = (article.id, map (λ a. a.query) (alerts h article))
 
-abbrev pub alert_items : Registry → List ArticleValue → Items
-alert_items registry [] = no_items
-alert_items registry (a ∷ more) = item (alert_data registry a) (alert_items registry more)
+-- what is answered to a line that means this after the history
+abbrev pub answer_to : History → Meaning → Reply
+answer_to h line.nothing = nothing
+answer_to h (line.refusal r) = refused r
+answer_to h (line.refusal_at r k) = refused_at r k
+answer_to h (line.command c) = accepted c (applied h c)
+answer_to h line.counting = counted (finite.len (replay h))
+answer_to h (line.showing id) = shown (option_map (λ r. r.standing.text) (finite.get (replay h) id))
+answer_to h (line.matching articles) = matched (map (alerts_shown h) articles)
 
-abbrev pub count_at : ℕ → Data
-count_at n = number (unsigned n)
+-- ---- its text
 
-unfoldable pub refusal_data : ℕ → Refusal → Data
-refusal_data n r = object (member (codes "line") (count_at n) (member (codes "refused") (string (word_of r)) no_members))
+abbrev pub number_of : ℕ → Data
+number_of n = number (unsigned n)
 
-unfoldable pub refusal_at_data : ℕ → Refusal → ℕ → Data
-refusal_at_data n r k = object (member (codes "line") (count_at n) (member (codes "refused") (string (word_of r)) (member (codes "which") (count_at k) no_members)))
+abbrev pub text_or_null : Option (List ℕ) → Data
+text_or_null None = null
+text_or_null (Some text) = string text
 
-unfoldable pub registered_data : ℕ → ℕ → Data
-registered_data n k = object (member (codes "line") (count_at n) (member (codes "registered") (count_at k) no_members))
+abbrev pub alert_value : List ℕ × List (List ℕ) → Data
+alert_value a = object_of ((codes "article", string a.0) ∷ (codes "queries", array_of (map string a.1)) ∷ [])
 
-unfoldable pub count_data : ℕ → ℕ → Data
-count_data n k = object (member (codes "count") (count_at k) (member (codes "line") (count_at n) no_members))
-
-unfoldable pub match_data : ℕ → Registry → List ArticleValue → Data
-match_data n registry articles = object (member (codes "alerts") (array (alert_items registry articles)) (member (codes "line") (count_at n) (member (codes "notes") (array no_items) no_members)))
+-- the value of a reply to line n; that of no reply is never printed
+unfoldable pub reply_value : ℕ → Reply → Data
+reply_value n nothing = null
+reply_value n (refused r) = object_of ((codes "line", number_of n) ∷ (codes "refused", string (word_of r)) ∷ [])
+reply_value n (refused_at r k) = object_of ((codes "line", number_of n) ∷ (codes "refused", string (word_of r)) ∷ (codes "which", number_of k) ∷ [])
+reply_value n (registered k) = object_of ((codes "line", number_of n) ∷ (codes "registered", number_of k) ∷ [])
+reply_value n (deleted k) = object_of ((codes "deleted", number_of k) ∷ (codes "line", number_of n) ∷ [])
+reply_value n (cleared k) = object_of ((codes "cleared", number_of k) ∷ (codes "line", number_of n) ∷ [])
+reply_value n (counted k) = object_of ((codes "count", number_of k) ∷ (codes "line", number_of n) ∷ [])
+reply_value n (shown text) = object_of ((codes "line", number_of n) ∷ (codes "query", text_or_null text) ∷ [])
+reply_value n (matched found) =
+    object_of ((codes "alerts", array_of (map alert_value found)) ∷ (codes "line", number_of n) ∷ (codes "notes", array_of []) ∷ [])
 
 -- the value as compact JSON, and a line feed
 unfoldable pub printed : Data → List ℕ
 printed d = compact_text d ++ 10 ∷ []
 
--- line n after the history
+-- the text of a reply to line n
+abbrev pub reply_text : ℕ → Reply → List ℕ
+reply_text n nothing = []
+reply_text n r = printed (reply_value n r)
+
+-- the reply to line n, which means this after the history
 abbrev pub reply : ℕ → History → Meaning → List ℕ
-reply n h nothing = []
-reply n h (refusal r) = printed (refusal_data n r)
-reply n h (refusal_at r k) = printed (refusal_at_data n r k)
-reply n h (command c) = printed (registered_data n (applied h c))
-reply n h counting = printed (count_data n (finite.len (replay h)))
-reply n h (matching articles) = printed (match_data n (replay h) articles)
+reply n h m = reply_text n (answer_to h m)
 
 -- ---- the whole input
 
@@ -76,10 +100,3 @@ IsText input text = AreReplies 1 [] (lines_of input) text
 -- what was written is a front of the reply text of some of the first lines
 abbrev pub WritesFront : List ℕ → Option (List ℕ) → Option (List ℕ) → Type 0
 WritesFront input old new = (lines later : List (List ℕ)) × (text : List ℕ) × (lines_of input ≡ lines ++ later) × AreReplies 1 [] lines text × AppendsFront old new text
-
--- A registry goes on by a line that says this, and these are the bytes of the reply: whatever history it is at, the line means something, the reply says it, and the registry is at the history after it.
-abbrev pub AnswersOutline : State → State → ℕ → Outline → List ℕ → Type 0
-AnswersOutline old new n o bytes = (h : History) → Stands old h → (m : Meaning) × MeansOutline h o m × Stands new (after h m) × (bytes ≡ reply n h m)
-
-abbrev pub Answers : State → State → ℕ → List ℕ → List ℕ → Type 0
-Answers old new n line bytes = AnswersOutline old new n (outline line) bytes

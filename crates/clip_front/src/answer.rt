@@ -1,91 +1,107 @@
 //! One line in, one reply out.
-ghost use Rattle.std.specs.Prelude.{◌≡◌, ◌≤◌, length, map, codes, IfOk, OnErr, Err, MatchResult};
-ghost use Rattle.clip_model.specs.History.{most_listed};
-ghost use Rattle.clip_front.specs.Request.{registers};
-ghost use Rattle.clip_front.specs.Meaning.{ReadAs, FirstRefused};
-ghost use Rattle.clip_front.specs.Reply.{Answers, AnswersOutline};
-ghost use Rattle.clip_front.specs.Outlines.{outline_view, IsFew};
-ghost use Rattle.clip_front.specs.Views.{listed_view};
+ghost use Rattle.std.specs.Prelude.{◌≡◌, IfOk, IsTrue, map, string_bytes, true};
+ghost use Rattle.std.specs.Arc.{arc_value};
+ghost use Rattle.std.specs.List.{list_all};
+ghost use Rattle.clip_model.specs.History.{fits};
+ghost use Rattle.clip_registry.specs.Command.{command_of};
+ghost use Rattle.clip_words.specs.Ids.{is_id};
+ghost use Rattle.clip_front.specs.Steps.Answers.{Answers, Judges, ReadsList, Responds};
+ghost use Rattle.clip_front.specs.Steps.Outline.{is_within, registers};
+ghost use Rattle.clip_front.specs.Steps.Views.{line_view, listing_view, reply_view};
 
-use crate::fault::RunFault;
+use crate::line::Line;
 use crate::refusal::Refusal;
-use crate::registry::StandingQueries;
-use crate::reply::{counted, matched, refusal, refusal_at, registered};
-use crate::request::{Listed, Outline};
-use crate::standing::Standing;
-use clip_syntax::{QueryFault, read_query};
-use std::alloc::{AllocError, Global};
+use crate::reply::Reply;
+use crate::request::Listing;
+use clip_match::match_batch;
+use clip_registry::{Applied, Command, Refused, Registrar, View};
+use clip_segment::{Standing, StandingFault};
+use clip_words::NoMemory;
+use std::alloc::{AllocError, AllocFailed, Global};
+use std::sync::Arc;
 
-// The standing queries of the texts, or the place of the first text that is refused.
-fn read_all(alloc: Global, listed: &[Listed]) -> Result<Result<Vec<Standing>, usize>, AllocError>
-    ensures { IfOk result (λ read. MatchResult read
-        (λ all. ReadAs (map listed_view listed.now) all.items)
-        (λ k. FirstRefused (map listed_view listed.now) k)) }
+/// The caller of each change.
+const CALLER: u32 = 1;
+
+/// Why a list of queries is not registered.
+#[derive(Clone, Copy, Debug, PartialEq, Eq)]
+enum ListFault {
+    /// The text at this place, from 0, is the first that is no query.
+    Query(u64),
+    /// An allocation failed.
+    NoMemory,
+}
+
+impl From<AllocError> for ListFault {
+    ghost use Rattle.clip_front.specs.declared.answer.ListFault.TheVariants as faults;
+
+    ghost from_gives = { λ _ e. e ≡ faults.NoMemory };
+
+    fn from(_error: AllocError) -> ListFault {
+        ListFault::NoMemory
+    }
+}
+
+impl<T: Drop> From<AllocFailed<T>> for ListFault {
+    ghost use Rattle.clip_front.specs.declared.answer.ListFault.TheVariants as faults;
+
+    ghost from_gives = { λ _ e. e ≡ faults.NoMemory };
+
+    fn from(_error: AllocFailed<T>) -> ListFault {
+        ListFault::NoMemory
+    }
+}
+
+/// The standing queries of a list, or the place of the first text that is refused.
+fn standings_of(alloc: Global, listings: &[Listing]) -> Result<Vec<Arc<Standing>>, ListFault>
+    requires { list_all (λ l. is_id l.id) (map listing_view listings.now) ≡ true }
+    ensures { ReadsList (map listing_view listings.now) result }
 {
-    let mut all = Vec::new(alloc);
-    for (k, one) in listed.iter().enumerate() {
-        match read_query(alloc, one.query.as_str()) {
-            Ok(query) => {
-                let id = one.id.clone()?;
-                let text = one.query.clone()?;
-                all.push(Standing::new(id, text, query))?;
-            }
-            Err(fault) => match fault {
-                QueryFault::NoMemory => return Err(AllocError),
-                _ => return Ok(Err(k)),
-            },
+    let mut all = Vec::with_capacity(alloc, listings.len())?;
+    for (k, listing) in listings.iter().enumerate() {
+        match Standing::read(alloc, listing.id.as_str(), listing.query.as_str(), None) {
+            Ok(standing) => all.push(Arc::new(alloc, standing)?)?,
+            Err(StandingFault::NoMemory) => return Err(ListFault::NoMemory),
+            Err(_) => return Err(ListFault::Query(k as u64)),
         }
     }
-    Ok(Ok(all))
+    Ok(all)
 }
 
+/// The reply to a command that was accepted.
+fn accepted(applied: Applied) -> Reply {
+    match applied {
+        Applied::Registered(count) => Reply::Registered(count),
+        Applied::Deleted(count) => Reply::Deleted(count),
+        Applied::Cleared(count) => Reply::Cleared(count),
+    }
+}
+
+/// Applies a command, where there is room for it.
+fn apply(registrar: &mut Registrar, command: Command) -> Result<Reply, NoMemory>
+    requires { IsTrue (fits (command_of command)) }
+    ensures { IfOk result (λ reply. Judges registrar.old registrar.new (command_of command) (reply_view reply)) }
+{
+    match registrar.apply(CALLER, command) {
+        Ok(applied) => Ok(accepted(applied)),
+        Err((_, Refused::Full)) => Ok(Reply::Refused(Refusal::Full)),
+        Err((_, Refused::NoMemory)) => Err(NoMemory),
+    }
+}
+
+/// Registers a list of queries, all or none.
 fn register(
     alloc: Global,
-    registry: &mut StandingQueries,
-    number: u64,
-    listed: &[Listed],
-) -> Result<Vec<u8>, AllocError>
-    requires { length listed.now ≤ most_listed }
-    ensures { IfOk result (λ text. AnswersOutline registry.old registry.new number
-        (registers (map listed_view listed.now)) text.items) }
+    registrar: &mut Registrar,
+    listings: &[Listing],
+) -> Result<Reply, NoMemory>
+    requires { is_within (registers (map listing_view listings.now)) ≡ true }
+    ensures { IfOk result (λ reply. Responds registrar.old registrar.new
+        (registers (map listing_view listings.now)) (reply_view reply)) }
 {
-    match read_all(alloc, listed)? {
-        Err(k) => refusal_at(alloc, number, Refusal::Query, k as u64),
-        Ok(list) => match registry.register(alloc, list)? {
-            Some(count) => registered(alloc, number, count as u64),
-            None => refusal(alloc, number, Refusal::Full),
-        },
+    match standings_of(alloc, listings) {
+        Ok(standings) => apply(registrar, Command::Register(standings)),
+        Err(ListFault::Query(place)) => Ok(Reply::RefusedAt(Refusal::Query, place)),
+        Err(ListFault::NoMemory) => Err(NoMemory),
     }
-}
-
-fn answer_outline(
-    alloc: Global,
-    registry: &mut StandingQueries,
-    number: u64,
-    outline: Outline,
-) -> Result<Vec<u8>, AllocError>
-    requires { IsFew outline }
-    ensures { IfOk result (λ text. AnswersOutline registry.old registry.new number (outline_view outline) text.items) }
-{
-    match outline {
-        Outline::Blank => Ok(Vec::new(alloc)),
-        Outline::Refused(reason) => refusal(alloc, number, reason),
-        Outline::Count => counted(alloc, number, registry.count() as u64),
-        Outline::Register(listed) => register(alloc, registry, number, &listed),
-        Outline::Match(articles) => matched(alloc, registry, number, &articles),
-    }
-}
-
-/// The reply to a line of this number, with its line feed, or nothing for a blank line.
-pub fn answer(
-    alloc: Global,
-    registry: &mut StandingQueries,
-    number: u64,
-    line: &[u8],
-) -> Result<Vec<u8>, RunFault>
-    ensures answer { IfOk result (λ bytes. Answers registry.old registry.new number line.now bytes.items) }
-    ensures fault { OnErr result (result ≡ Err RunFault.NoMemory) }
-{
-    let outline = Outline::of_line(alloc, line)?;
-    Ok(answer_outline(alloc, registry, number, outline)?)
 }

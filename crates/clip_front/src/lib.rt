@@ -2,20 +2,9 @@
 #![tactic(auto)]
 
 mod answer;
-mod by_id;
-mod device;
-mod fault;
-mod lines;
-mod outbox;
+mod limits;
+mod line;
+mod members;
 mod refusal;
-mod registry;
 mod reply;
 mod request;
-mod session;
-mod standing;
-#[cfg(test)]
-mod tests;
-
-pub use device::{Failed, Sink, Source, StdSink, StdSource};
-pub use fault::RunFault;
-pub use session::{Ended, one_text, run};

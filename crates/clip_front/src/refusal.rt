@@ -2,6 +2,9 @@
 ghost use Rattle.std.specs.Prelude.{◌≡◌};
 ghost use Rattle.clip_front.specs.Refusal.{word_of};
 
+use clip_words::NoMemory as OutOfMemory;
+use std::alloc::{AllocError, AllocFailed};
+
 /// Why a line is refused, in the order in which these are judged.
 #[derive(Clone, Copy, Debug, PartialEq, Eq)]
 pub enum Refusal {
@@ -9,13 +12,13 @@ pub enum Refusal {
     Long,
     /// `serde_json` reads no value from it.
     Json,
-    /// The value is no request: a member is missing, unknown or of another type.
+    /// The value is no request's: a member is missing, unknown or of another type.
     Shape,
     /// An id, a field's name or a list is beyond its limit.
     Limit,
     /// A listed query's text is refused.
     Query,
-    /// There is no room for the listed queries.
+    /// The registry has no room for the change.
     Full,
 }
 
@@ -32,5 +35,47 @@ impl Refusal {
             Refusal::Query => "query",
             Refusal::Full => "full",
         }
+    }
+}
+
+/// Why no request was read.
+#[derive(Clone, Copy, Debug, PartialEq, Eq)]
+pub enum Unread {
+    /// There is none to read.
+    Refused(Refusal),
+    /// An allocation failed.
+    NoMemory,
+}
+
+/// No request has this shape.
+pub const UNSHAPED: Unread = Unread::Refused(Refusal::Shape);
+
+impl From<OutOfMemory> for Unread {
+    ghost use Rattle.clip_front.specs.declared.refusal.Unread.TheVariants.{NoMemory};
+
+    ghost from_gives = { λ _ e. e ≡ NoMemory };
+
+    fn from(_error: OutOfMemory) -> Unread {
+        Unread::NoMemory
+    }
+}
+
+impl From<AllocError> for Unread {
+    ghost use Rattle.clip_front.specs.declared.refusal.Unread.TheVariants.{NoMemory};
+
+    ghost from_gives = { λ _ e. e ≡ NoMemory };
+
+    fn from(_error: AllocError) -> Unread {
+        Unread::NoMemory
+    }
+}
+
+impl<T: Drop> From<AllocFailed<T>> for Unread {
+    ghost use Rattle.clip_front.specs.declared.refusal.Unread.TheVariants.{NoMemory};
+
+    ghost from_gives = { λ _ e. e ≡ NoMemory };
+
+    fn from(_error: AllocFailed<T>) -> Unread {
+        Unread::NoMemory
     }
 }

@@ -1,19 +1,45 @@
-//! The replies as JSON values, and their text.
-ghost use Rattle.std.specs.Prelude.{◌≡◌, false, IfOk, codes};
-ghost use Rattle.std.specs.FinMap as finite;
-ghost use Rattle.serde_json.specs.View.{view, items_view};
+//! Replies, and their text.
+ghost use Rattle.std.specs.Prelude.{◌≡◌, false, IfOk, map};
+ghost use Rattle.std.specs.Arc.{arc_str_bytes};
+ghost use Rattle.serde_json.specs.Data.{string};
+ghost use Rattle.serde_json.specs.View.{view, items_view, items_of};
 ghost use Rattle.serde_json.specs.Written.{has_float};
-ghost use Rattle.clip_front.specs.Reply.{printed as printed_text, strings, alert_data, alert_items, refusal_data, refusal_at_data, registered_data, count_data, match_data};
+ghost use Rattle.clip_match.specs.Alerts.{alerts_value};
+ghost use Rattle.clip_front.specs.Reply.{printed as printed_text, alert_value};
+ghost use Rattle.clip_front.specs.Steps.Views.{alerts_ids};
 
 use crate::refusal::Refusal;
-use crate::registry::StandingQueries;
-use clip_meaning::article::Article;
+use clip_match::{Alert, Alerts};
+use clip_words::NoMemory;
 use serde_json::{Value, json};
-use std::alloc::{AllocError, Global};
+use std::alloc::Global;
+
+/// What is answered to a line.
+#[derive(Drop)]
+pub enum Reply {
+    /// Nothing, to a blank line.
+    Nothing,
+    /// The line is refused.
+    Refused(Refusal),
+    /// The line is refused for what its list has at this place, from 0.
+    RefusedAt(Refusal, u64),
+    /// So many distinct ids were registered.
+    Registered(u64),
+    /// So many queries were deleted.
+    Deleted(u64),
+    /// So many queries were there, and all are deleted.
+    Cleared(u64),
+    /// So many queries are registered.
+    Counted(u64),
+    /// The text of a query, where one is registered under the id.
+    Shown(Option<String>),
+    /// The alerts of each article.
+    Matched(Vec<Alerts>),
+}
 
 /// The value as compact JSON, and a line feed.
 #[tactic(auto, unfolding(crate::specs::Reply::printed))]
-pub fn printed(alloc: Global, value: &Value) -> Result<Vec<u8>, AllocError>
+fn printed(alloc: Global, value: &Value) -> Result<Vec<u8>, NoMemory>
     requires { has_float (view value.now) ≡ false }
     ensures { IfOk result (λ text. text.items ≡ printed_text (view value.now)) }
 {
@@ -22,129 +48,78 @@ pub fn printed(alloc: Global, value: &Value) -> Result<Vec<u8>, AllocError>
     Ok(text)
 }
 
-#[tactic(auto, unfolding(crate::specs::Reply::refusal_data))]
-fn refusal_value(alloc: Global, number: u64, reason: Refusal) -> Result<Value, AllocError>
-    ensures { IfOk result (λ v. view v ≡ refusal_data number reason) }
+/// The ids of the queries, as JSON.
+fn query_ids(alloc: Global, alerts: &[Alert]) -> Result<Vec<Value>, NoMemory>
+    ensures { IfOk result (λ ids. items_view ids.items
+        ≡ items_of (map (λ a. string (arc_str_bytes a.query)) alerts.now)) }
 {
-    json!(in alloc; {"line": number, "refused": reason.word()})
+    let mut ids = Vec::with_capacity(alloc, alerts.len())?;
+    for alert in alerts {
+        ids.push(Value::String(String::from_str(alloc, alert.query.as_str())?))?;
+    }
+    Ok(ids)
 }
 
-#[tactic(auto, unfolding(crate::specs::Reply::refusal_at_data))]
-fn refusal_at_value(
-    alloc: Global,
-    number: u64,
-    reason: Refusal,
-    place: u64,
-) -> Result<Value, AllocError>
-    ensures { IfOk result (λ v. view v ≡ refusal_at_data number reason place) }
+/// An article's alerts, as JSON.
+fn alerts_json(alloc: Global, found: &Alerts) -> Result<Value, NoMemory>
+    ensures { IfOk result (λ v. view v ≡ alert_value (alerts_ids (alerts_value found.now))) }
 {
-    json!(in alloc; {"line": number, "refused": reason.word(), "which": place})
+    let queries = query_ids(alloc, &found.alerts)?;
+    Ok(json!(in alloc; {"article": found.article.as_str(), "queries": queries})?)
 }
 
-#[tactic(auto, unfolding(crate::specs::Reply::registered_data))]
-fn registered_value(alloc: Global, number: u64, count: u64) -> Result<Value, AllocError>
-    ensures { IfOk result (λ v. view v ≡ registered_data number count) }
+/// The alerts of each article, as JSON.
+fn all_alerts_json(alloc: Global, found: &[Alerts]) -> Result<Vec<Value>, NoMemory>
+    ensures { IfOk result (λ all. items_view all.items
+        ≡ items_of (map (λ a. alert_value (alerts_ids (alerts_value a))) found.now)) }
 {
-    json!(in alloc; {"line": number, "registered": count})
-}
-
-#[tactic(auto, unfolding(crate::specs::Reply::count_data))]
-fn count_value(alloc: Global, number: u64, count: u64) -> Result<Value, AllocError>
-    ensures { IfOk result (λ v. view v ≡ count_data number count) }
-{
-    json!(in alloc; {"count": count, "line": number})
-}
-
-#[tactic(auto, unfolding(crate::specs::Reply::alert_data))]
-fn alert_value(
-    alloc: Global,
-    registry: &StandingQueries,
-    article: &Article,
-) -> Result<Value, AllocError>
-    ensures { IfOk result (λ v. view v ≡ alert_data registry.now.registry article.now) }
-{
-    let queries = registry.ids_met(alloc, article)?;
-    json!(in alloc; {"article": article.id(), "queries": queries})
-}
-
-fn alert_values(
-    alloc: Global,
-    registry: &StandingQueries,
-    articles: &[Article],
-) -> Result<Vec<Value>, AllocError>
-    ensures { IfOk result (λ v. items_view v.items ≡ alert_items registry.now.registry articles.now) }
-{
-    let mut all = Vec::new(alloc);
-    for article in articles {
-        all.push(alert_value(alloc, registry, article)?)?;
+    let mut all = Vec::with_capacity(alloc, found.len())?;
+    for alerts in found {
+        all.push(alerts_json(alloc, alerts)?)?;
     }
     Ok(all)
 }
 
-#[tactic(auto, unfolding(crate::specs::Reply::match_data))]
-fn match_value(
-    alloc: Global,
-    registry: &StandingQueries,
-    number: u64,
-    articles: &[Article],
-) -> Result<Value, AllocError>
-    ensures { IfOk result (λ v. view v ≡ match_data number registry.now.registry articles.now) }
-{
-    let alerts = alert_values(alloc, registry, articles)?;
-    json!(in alloc; {"alerts": alerts, "line": number, "notes": []})
-}
+impl Reply {
+    ghost use Rattle.std.specs.Prelude.{◌≡◌, IfOk};
+    ghost use Rattle.serde_json.specs.View.{view};
+    ghost use Rattle.clip_front.specs.Reply.{reply_value, reply_text};
+    ghost use Rattle.clip_front.specs.Steps.Views.{reply_view};
 
-/// The reply to a line that is refused.
-#[tactic(auto, unfolding(crate::specs::Reply::refusal_data))]
-pub fn refusal(alloc: Global, number: u64, reason: Refusal) -> Result<Vec<u8>, AllocError>
-    ensures { IfOk result (λ text. text.items ≡ printed_text (refusal_data number reason)) }
-{
-    let value = refusal_value(alloc, number, reason)?;
-    printed(alloc, &value)
-}
+    /// The JSON value of the reply to the line of this number.
+    #[tactic(auto, unfolding(crate::specs::Reply::reply_value))]
+    fn value(self, alloc: Global, number: u64) -> Result<Value, NoMemory>
+        ensures { IfOk result (λ v. view v ≡ reply_value number (reply_view self)) }
+    {
+        let value = match self {
+            Reply::Nothing => Value::Null,
+            Reply::Refused(reason) => json!(in alloc; {"line": number, "refused": reason.word()})?,
+            Reply::RefusedAt(reason, place) => {
+                json!(in alloc; {"line": number, "refused": reason.word(), "which": place})?
+            }
+            Reply::Registered(count) => json!(in alloc; {"line": number, "registered": count})?,
+            Reply::Deleted(count) => json!(in alloc; {"deleted": count, "line": number})?,
+            Reply::Cleared(count) => json!(in alloc; {"cleared": count, "line": number})?,
+            Reply::Counted(count) => json!(in alloc; {"count": count, "line": number})?,
+            Reply::Shown(Some(text)) => json!(in alloc; {"line": number, "query": text})?,
+            Reply::Shown(None) => json!(in alloc; {"line": number, "query": null})?,
+            Reply::Matched(found) => {
+                let alerts = all_alerts_json(alloc, &found)?;
+                json!(in alloc; {"alerts": alerts, "line": number, "notes": []})?
+            }
+        };
+        Ok(value)
+    }
 
-/// The reply to a register line of which the query at a place is refused.
-#[tactic(auto, unfolding(crate::specs::Reply::refusal_at_data))]
-pub fn refusal_at(
-    alloc: Global,
-    number: u64,
-    reason: Refusal,
-    place: u64,
-) -> Result<Vec<u8>, AllocError>
-    ensures { IfOk result (λ text. text.items ≡ printed_text (refusal_at_data number reason place)) }
-{
-    let value = refusal_at_value(alloc, number, reason, place)?;
-    printed(alloc, &value)
-}
-
-/// The reply to a register line that was accepted.
-#[tactic(auto, unfolding(crate::specs::Reply::registered_data))]
-pub fn registered(alloc: Global, number: u64, count: u64) -> Result<Vec<u8>, AllocError>
-    ensures { IfOk result (λ text. text.items ≡ printed_text (registered_data number count)) }
-{
-    let value = registered_value(alloc, number, count)?;
-    printed(alloc, &value)
-}
-
-/// The reply to a count line.
-#[tactic(auto, unfolding(crate::specs::Reply::count_data))]
-pub fn counted(alloc: Global, number: u64, count: u64) -> Result<Vec<u8>, AllocError>
-    ensures { IfOk result (λ text. text.items ≡ printed_text (count_data number count)) }
-{
-    let value = count_value(alloc, number, count)?;
-    printed(alloc, &value)
-}
-
-/// The reply to a match line.
-#[tactic(auto, unfolding(crate::specs::Reply::match_data))]
-pub fn matched(
-    alloc: Global,
-    registry: &StandingQueries,
-    number: u64,
-    articles: &[Article],
-) -> Result<Vec<u8>, AllocError>
-    ensures { IfOk result (λ text. text.items ≡ printed_text (match_data number registry.now.registry articles.now)) }
-{
-    let value = match_value(alloc, registry, number, articles)?;
-    printed(alloc, &value)
+    /// The text of the reply to the line of this number: compact JSON and a line feed, or nothing.
+    ///
+    /// `NoMemory` where an allocation failed. Its cost is linear in the text.
+    pub fn text(self, alloc: Global, number: u64) -> Result<Vec<u8>, NoMemory>
+        ensures { IfOk result (λ text. text.items ≡ reply_text number (reply_view self)) }
+    {
+        match self {
+            Reply::Nothing => Ok(Vec::new(alloc)),
+            reply => printed(alloc, &reply.value(alloc, number)?),
+        }
+    }
 }

@@ -1,339 +1,257 @@
-//! Reads what a line asks for.
-ghost use Rattle.std.specs.Prelude.{◌≡◌, IfOk, OnErr, List, ℕ, length, string_bytes, option_map, map, true, false, IsTrue, codes, Err, MatchOption};
-ghost use Rattle.clip_meaning.specs.Article.{may_be};
+//! Requests, read from JSON values.
+ghost use Rattle.std.specs.Prelude.{◌≡◌, option_map, map, string_bytes};
+ghost use Rattle.serde_json.specs.Find.{as_str};
 ghost use Rattle.serde_json.specs.View.{view, items_view, members_view};
-ghost use Rattle.clip_front.specs.Request.{has_members, text_member, items_member, members_member, all_of, fields_of, listed_of as listed_spec, draft_of as draft_spec, article_of, json_of, is_blank, is_blank_byte as blank_byte};
-ghost use Rattle.clip_words.specs.Ids.{is_id};
-ghost use Rattle.std.specs.List.{list_all};
-ghost use Rattle.clip_front.specs.Views.{fields_view, listed_view, draft_view};
+ghost use Rattle.clip_front.specs.Steps.Outline.{ReadsAs, all_of, fields_of, listing_of, draft_of, operation_of, operation_in};
+ghost use Rattle.clip_front.specs.Steps.Views.{fields_view, listing_view, draft_view};
 
-use crate::refusal::Refusal;
-use clip_meaning::article::Article;
-use clip_meaning::fault::ArticleFault;
-use clip_words::is_id;
+use crate::members::{has_one_member, items_of, members_of, text_of, two_members};
+use crate::refusal::{Refusal, UNSHAPED, Unread};
 use serde_json::{Map, Value};
-use std::alloc::{AllocError, Global};
-use std::sync::ArcStr;
+use std::alloc::Global;
 
 /// A query that a register lists.
 #[derive(Debug, Drop)]
-pub struct Listed {
-    pub id: ArcStr,
-    pub query: ArcStr,
+pub struct Listing {
+    /// The id under which it is to stand.
+    pub id: String,
+    /// Its text.
+    pub query: String,
 }
 
-/// An article as it was read, before its limits are known.
+/// An article that a match lists, before its limits are judged.
 #[derive(Debug, Drop)]
 pub struct Draft {
+    /// Its id.
     pub id: String,
+    /// Of each field the name and the text.
     pub fields: Vec<(String, String)>,
 }
 
-// Whether the value is an object of so many members.
-#[tactic(auto, unfolding(crate::specs::Request::has_members))]
-fn is_object_of(value: &Value, count: usize) -> bool
-    ensures { result ≡ has_members count (view value.now) }
-{
-    match value.as_object() {
-        Some(members) => members.len() == count,
-        None => false,
-    }
-}
-
-#[tactic(auto, unfolding(crate::specs::Request::text_member))]
-fn text_of<'v>(value: &'v Value, name: &str) -> Option<&'v str>
-    ensures { option_map (λ s. s.now) result ≡ text_member name.now (view value.now) }
-{
-    value.get(name).and_then(Value::as_str)
-}
-
-#[tactic(auto, unfolding(crate::specs::Request::items_member))]
-fn items_of<'v>(value: &'v Value, name: &str) -> Option<&'v Vec<Value>>
-    ensures { option_map (λ v. items_view v.now.items) result ≡ items_member name.now (view value.now) }
-{
-    value.get(name).and_then(Value::as_array)
-}
-
-#[tactic(auto, unfolding(crate::specs::Request::members_member))]
-fn members_of<'v>(value: &'v Value, name: &str) -> Option<&'v Map<String, Value>>
-    ensures { option_map (λ m. members_view m.now.entries) result ≡ members_member name.now (view value.now) }
-{
-    value.get(name).and_then(Value::as_object)
-}
-
-#[tactic(auto, unfolding(crate::specs::Request::listed_of))]
-fn listed_of(alloc: Global, value: &Value) -> Result<Option<Listed>, AllocError>
-    ensures { IfOk result (λ found. option_map listed_view found ≡ listed_spec (view value.now)) }
-{
-    if !is_object_of(value, 2) {
-        return Ok(None);
-    }
-    let (Some(id), Some(query)) = (text_of(value, "id"), text_of(value, "query")) else {
-        return Ok(None);
-    };
-    Ok(Some(Listed {
-        id: ArcStr::from_str(alloc, id)?,
-        query: ArcStr::from_str(alloc, query)?,
-    }))
-}
-
-fn all_listed(alloc: Global, items: &Vec<Value>) -> Result<Option<Vec<Listed>>, AllocError>
-    ensures { IfOk result (λ found. option_map (λ v. map listed_view v.items) found
-        ≡ all_of listed_spec (items_view items.now.items)) }
-{
-    let mut all = Vec::new(alloc);
-    for item in items {
-        match listed_of(alloc, item)? {
-            Some(listed) => all.push(listed)?,
-            None => return Ok(None),
-        }
-    }
-    Ok(Some(all))
-}
-
-fn all_fields(
-    alloc: Global,
-    members: &Map<String, Value>,
-) -> Result<Option<Vec<(String, String)>>, AllocError>
-    ensures { IfOk result (λ found. option_map (λ v. fields_view v.items) found
-        ≡ fields_of (members_view members.now.entries)) }
-{
-    let mut all = Vec::new(alloc);
-    for (name, member) in members.iter() {
-        let Some(text) = member.as_str() else {
-            return Ok(None);
-        };
-        all.push((
-            String::from_str(alloc, name.as_str())?,
-            String::from_str(alloc, text)?,
-        ))?;
-    }
-    Ok(Some(all))
-}
-
-#[tactic(auto, unfolding(crate::specs::Request::draft_of))]
-fn draft_of(alloc: Global, value: &Value) -> Result<Option<Draft>, AllocError>
-    ensures { IfOk result (λ found. option_map draft_view found ≡ draft_spec (view value.now)) }
-{
-    if !is_object_of(value, 2) {
-        return Ok(None);
-    }
-    let (Some(id), Some(members)) = (text_of(value, "id"), members_of(value, "fields")) else {
-        return Ok(None);
-    };
-    let Some(fields) = all_fields(alloc, members)? else {
-        return Ok(None);
-    };
-    Ok(Some(Draft {
-        id: String::from_str(alloc, id)?,
-        fields,
-    }))
-}
-
-fn all_drafts(alloc: Global, items: &Vec<Value>) -> Result<Option<Vec<Draft>>, AllocError>
-    ensures { IfOk result (λ found. option_map (λ v. map draft_view v.items) found
-        ≡ all_of draft_spec (items_view items.now.items)) }
-{
-    let mut all = Vec::new(alloc);
-    for item in items {
-        match draft_of(alloc, item)? {
-            Some(draft) => all.push(draft)?,
-            None => return Ok(None),
-        }
-    }
-    Ok(Some(all))
-}
-
-/// A well-formed request.
+/// What a line may ask for.
 #[derive(Debug, Drop)]
-pub enum Asked {
-    Register(Vec<Listed>),
+pub enum Request {
+    /// Register these queries.
+    Register(Vec<Listing>),
+    /// Delete the queries under these ids.
+    Delete(Vec<String>),
+    /// Delete all queries.
+    Clear,
+    /// Count the registered queries.
     Count,
+    /// Show the text of the query under this id.
+    Show(String),
+    /// Match these articles.
     Match(Vec<Draft>),
 }
 
-impl Asked {
-    ghost use Rattle.clip_front.specs.Requests.{asked_view, register_of as register_spec, match_of as match_spec, asked_of as asked_spec, within};
-
-    #[tactic(auto, unfolding(crate::specs::Request::register_of))]
-    fn register_of(alloc: Global, value: &Value) -> Result<Option<Asked>, AllocError>
-        ensures { IfOk result (λ found. option_map asked_view found ≡ register_spec (view value.now)) }
-    {
-        if !is_object_of(value, 2) {
-            return Ok(None);
-        }
-        let Some(items) = items_of(value, "queries") else {
-            return Ok(None);
-        };
-        match all_listed(alloc, items)? {
-            Some(listed) => Ok(Some(Asked::Register(listed))),
-            None => Ok(None),
-        }
-    }
-
-    #[tactic(auto, unfolding(crate::specs::Request::match_of))]
-    fn match_of(alloc: Global, value: &Value) -> Result<Option<Asked>, AllocError>
-        ensures { IfOk result (λ found. option_map asked_view found ≡ match_spec (view value.now)) }
-    {
-        if !is_object_of(value, 2) {
-            return Ok(None);
-        }
-        let Some(items) = items_of(value, "articles") else {
-            return Ok(None);
-        };
-        match all_drafts(alloc, items)? {
-            Some(drafts) => Ok(Some(Asked::Match(drafts))),
-            None => Ok(None),
-        }
-    }
-
-    /// What the value asks for, where its shape is a request's.
-    #[tactic(auto, unfolding(crate::specs::Request::asked_of))]
-    pub fn of_value(alloc: Global, value: &Value) -> Result<Option<Asked>, AllocError>
-        ensures { IfOk result (λ found. option_map asked_view found ≡ asked_spec (view value.now)) }
-    {
-        let Some(op) = text_of(value, "op") else {
-            return Ok(None);
-        };
-        if op == "register" {
-            return Asked::register_of(alloc, value);
-        }
-        if op == "count" {
-            if is_object_of(value, 1) {
-                return Ok(Some(Asked::Count));
-            }
-            return Ok(None);
-        }
-        if op == "match" {
-            return Asked::match_of(alloc, value);
-        }
-        Ok(None)
-    }
-}
-
-/// What a line says, before its texts are read as queries.
-#[derive(Drop)]
-pub enum Outline {
-    Blank,
-    Refused(Refusal),
-    Register(Vec<Listed>),
+/// The operations, by which requests are told apart.
+#[derive(Clone, Copy, Debug, PartialEq, Eq)]
+enum Operation {
+    Register,
+    Delete,
+    Clear,
     Count,
-    Match(Vec<Article>),
+    Show,
+    Match,
 }
 
-const MAX_LINE: usize = 1_048_576;
-
-const MAX_LISTED: usize = 1024;
-
-const MAX_ARTICLES: usize = 256;
-
-// The value that the bytes are, if `serde_json` reads one.
-#[tactic(auto, unfolding(crate::specs::Request::json_of))]
-fn json_value(alloc: Global, line: &[u8]) -> Result<Option<Value>, AllocError>
-    ensures { IfOk result (λ found. option_map view found ≡ json_of line.now) }
-{
-    match Value::from_slice(alloc, line) {
-        Ok(value) => Ok(Some(value)),
-        Err(e) => {
-            if e.is_memory() {
-                Err(AllocError)
-            } else {
-                Ok(None)
-            }
-        }
-    }
-}
-
-fn is_blank_byte(b: u8) -> bool
-    ensures { result ≡ blank_byte b }
-{
-    b == b' ' || b == b'\t' || b == b'\r'
-}
-
-fn is_blank_line(line: &[u8]) -> bool
-    ensures { result ≡ is_blank line.now }
-{
-    line.iter().all(|b| is_blank_byte(*b))
-}
-
-fn have_ids(listed: &[Listed]) -> bool
-    ensures { result ≡ list_all (λ p. is_id p.0) (map listed_view listed.now) }
-{
-    for l in listed {
-        if !is_id(l.id.as_str()) {
-            return false;
-        }
-    }
-    true
-}
-
-// The articles, where each of them may be.
-fn articles_of(alloc: Global, drafts: &[Draft]) -> Result<Option<Vec<Article>>, AllocError>
-    ensures { IfOk result (λ found. MatchOption found
-        (list_all (λ d. may_be d.0 d.1) (map draft_view drafts.now) ≡ false)
-        (λ v. (list_all (λ d. may_be d.0 d.1) (map draft_view drafts.now) ≡ true)
-        × (v.items ≡ map article_of (map draft_view drafts.now)))) }
-{
-    let mut all = Vec::new(alloc);
-    for draft in drafts {
-        match Article::read(alloc, draft.id.as_str(), &draft.fields) {
-            Ok(article) => all.push(article)?,
-            Err(ArticleFault::NoMemory) => return Err(AllocError),
-            Err(_) => return Ok(None),
-        }
-    }
-    Ok(Some(all))
-}
-
-impl Outline {
-    ghost use Rattle.std.specs.Prelude.{◌≡◌, IfOk, Some};
-    ghost use Rattle.clip_front.specs.Outlines.{outline_view, outline, outline_of_asked, asked_view, IsFew};
-
-    // What is asked, where it is within the limits.
-    #[tactic(auto, unfolding(crate::specs::Request::within))]
-    fn limited(alloc: Global, asked: Asked) -> Result<Outline, AllocError>
-        ensures outline { IfOk result (λ o. outline_view o ≡ outline_of_asked (Some (asked_view asked))) }
-        ensures few { IfOk result IsFew }
+impl Operation {
+    /// The operation of this name.
+    #[tactic(auto, unfolding(crate::specs::Steps::Outline::operation_of))]
+    fn named(word: &str) -> Option<Operation>
+        ensures { result ≡ operation_of word.now }
     {
-        match asked {
-            Asked::Register(listed) => {
-                if listed.len() <= MAX_LISTED && have_ids(&listed) {
-                    Ok(Outline::Register(listed))
-                } else {
-                    Ok(Outline::Refused(Refusal::Limit))
-                }
-            }
-            Asked::Count => Ok(Outline::Count),
-            Asked::Match(drafts) => {
-                if drafts.len() > MAX_ARTICLES {
-                    return Ok(Outline::Refused(Refusal::Limit));
-                }
-                match articles_of(alloc, &drafts)? {
-                    Some(articles) => Ok(Outline::Match(articles)),
-                    None => Ok(Outline::Refused(Refusal::Limit)),
-                }
-            }
+        if word == "register" {
+            Some(Operation::Register)
+        } else if word == "delete" {
+            Some(Operation::Delete)
+        } else if word == "clear" {
+            Some(Operation::Clear)
+        } else if word == "count" {
+            Some(Operation::Count)
+        } else if word == "show" {
+            Some(Operation::Show)
+        } else if word == "match" {
+            Some(Operation::Match)
+        } else {
+            None
         }
     }
 
-    /// What the line says.
-    #[tactic(auto, unfolding(crate::specs::Request::outline))]
-    pub fn of_line(alloc: Global, line: &[u8]) -> Result<Outline, AllocError>
-        ensures outline { IfOk result (λ o. outline_view o ≡ outline line.now) }
-        ensures few { IfOk result IsFew }
+    /// The operation that an object asks for.
+    #[tactic(auto, unfolding(crate::specs::Steps::Outline::operation_in))]
+    fn of_value(value: &Value) -> Option<Operation>
+        ensures { result ≡ operation_in (view value.now) }
     {
-        if line.len() > MAX_LINE {
-            return Ok(Outline::Refused(Refusal::Long));
-        }
-        if is_blank_line(line) {
-            return Ok(Outline::Blank);
-        }
-        let Some(value) = json_value(alloc, line)? else {
-            return Ok(Outline::Refused(Refusal::Json));
+        Operation::named(value.get("op").and_then(Value::as_str)?)
+    }
+}
+
+/// The query that a value lists.
+#[tactic(auto, unfolding(crate::specs::Steps::Outline::listing_of))]
+fn listing_of(value: Value) -> Option<Listing>
+    ensures { option_map listing_view result ≡ listing_of (view value) }
+{
+    let (id, query) = two_members(value, "id", "query")?;
+    let id = text_of(id)?;
+    let query = text_of(query)?;
+    Some(Listing { id, query })
+}
+
+/// The queries that values list.
+fn listings_of(alloc: Global, items: Vec<Value>) -> Result<Vec<Listing>, Unread>
+    ensures { ReadsAs Refusal.Shape (λ all. map listing_view all.items) (all_of listing_of (items_view items.items)) result }
+{
+    let mut all = Vec::with_capacity(alloc, items.len())?;
+    for item in items {
+        let Some(listing) = listing_of(item) else {
+            return Err(UNSHAPED);
         };
-        match Asked::of_value(alloc, &value)? {
-            Some(asked) => Outline::limited(alloc, asked),
-            None => Ok(Outline::Refused(Refusal::Shape)),
+        all.push(listing)?;
+    }
+    Ok(all)
+}
+
+/// The texts that values are.
+fn texts_of(alloc: Global, items: Vec<Value>) -> Result<Vec<String>, Unread>
+    ensures { ReadsAs Refusal.Shape (λ all. map string_bytes all.items) (all_of as_str (items_view items.items)) result }
+{
+    let mut all = Vec::with_capacity(alloc, items.len())?;
+    for item in items {
+        let Some(text) = text_of(item) else {
+            return Err(UNSHAPED);
+        };
+        all.push(text)?;
+    }
+    Ok(all)
+}
+
+/// The fields of an article, in the byte order of their names.
+fn fields_of(alloc: Global, members: Map<String, Value>) -> Result<Vec<(String, String)>, Unread>
+    ensures { ReadsAs Refusal.Shape (λ all. fields_view all.items) (fields_of (members_view members.entries)) result }
+{
+    let mut all = Vec::with_capacity(alloc, members.len())?;
+    for (name, member) in members {
+        let Some(text) = text_of(member) else {
+            return Err(UNSHAPED);
+        };
+        all.push((name, text))?;
+    }
+    Ok(all)
+}
+
+/// The article that a value lists.
+#[tactic(auto, unfolding(crate::specs::Steps::Outline::draft_of))]
+fn draft_of(alloc: Global, value: Value) -> Result<Draft, Unread>
+    ensures { ReadsAs Refusal.Shape draft_view (draft_of (view value)) result }
+{
+    let Some((fields, id)) = two_members(value, "fields", "id") else {
+        return Err(UNSHAPED);
+    };
+    let (Some(members), Some(id)) = (members_of(fields), text_of(id)) else {
+        return Err(UNSHAPED);
+    };
+    let fields = fields_of(alloc, members)?;
+    Ok(Draft { id, fields })
+}
+
+/// The articles that values list.
+fn drafts_of(alloc: Global, items: Vec<Value>) -> Result<Vec<Draft>, Unread>
+    ensures { ReadsAs Refusal.Shape (λ all. map draft_view all.items) (all_of draft_of (items_view items.items)) result }
+{
+    let mut all = Vec::with_capacity(alloc, items.len())?;
+    for item in items {
+        all.push(draft_of(alloc, item)?)?;
+    }
+    Ok(all)
+}
+
+impl Request {
+    ghost use Rattle.clip_front.specs.Steps.Outline.{alone, register_of, delete_of, show_of, match_of, request_of};
+    ghost use Rattle.clip_front.specs.Steps.Views.{request_view};
+
+    #[tactic(auto, unfolding(crate::specs::Steps::Outline::register_of))]
+    fn register(alloc: Global, value: Value) -> Result<Request, Unread>
+        ensures { ReadsAs Refusal.Shape request_view (register_of (view value)) result }
+    {
+        let Some((_, queries)) = two_members(value, "op", "queries") else {
+            return Err(UNSHAPED);
+        };
+        let Some(items) = items_of(queries) else {
+            return Err(UNSHAPED);
+        };
+        Ok(Request::Register(listings_of(alloc, items)?))
+    }
+
+    #[tactic(auto, unfolding(crate::specs::Steps::Outline::delete_of))]
+    fn delete(alloc: Global, value: Value) -> Result<Request, Unread>
+        ensures { ReadsAs Refusal.Shape request_view (delete_of (view value)) result }
+    {
+        let Some((ids, _)) = two_members(value, "ids", "op") else {
+            return Err(UNSHAPED);
+        };
+        let Some(items) = items_of(ids) else {
+            return Err(UNSHAPED);
+        };
+        Ok(Request::Delete(texts_of(alloc, items)?))
+    }
+
+    #[tactic(auto, unfolding(crate::specs::Steps::Outline::show_of))]
+    fn show(value: Value) -> Result<Request, Unread>
+        ensures { ReadsAs Refusal.Shape request_view (show_of (view value)) result }
+    {
+        let Some((id, _)) = two_members(value, "id", "op") else {
+            return Err(UNSHAPED);
+        };
+        match text_of(id) {
+            Some(id) => Ok(Request::Show(id)),
+            None => Err(UNSHAPED),
+        }
+    }
+
+    #[tactic(auto, unfolding(crate::specs::Steps::Outline::match_of))]
+    fn matching(alloc: Global, value: Value) -> Result<Request, Unread>
+        ensures { ReadsAs Refusal.Shape request_view (match_of (view value)) result }
+    {
+        let Some((articles, _)) = two_members(value, "articles", "op") else {
+            return Err(UNSHAPED);
+        };
+        let Some(items) = items_of(articles) else {
+            return Err(UNSHAPED);
+        };
+        Ok(Request::Match(drafts_of(alloc, items)?))
+    }
+
+    /// The request, where the value has no member but the operation.
+    fn alone(self, value: &Value) -> Result<Request, Unread>
+        ensures { ReadsAs Refusal.Shape request_view (alone (request_view self) (view value.now)) result }
+    {
+        if has_one_member(value) {
+            Ok(self)
+        } else {
+            Err(UNSHAPED)
+        }
+    }
+
+    /// The request that has this value. Texts are moved out of it.
+    ///
+    /// `Refused` with `Shape` where no request has it; `NoMemory` where an allocation failed. Its cost is that of
+    /// moving the texts of the value.
+    #[tactic(auto, unfolding(crate::specs::Steps::Outline::request_of))]
+    pub fn of_value(alloc: Global, value: Value) -> Result<Request, Unread>
+        ensures { ReadsAs Refusal.Shape request_view (request_of (view value)) result }
+    {
+        let Some(operation) = Operation::of_value(&value) else {
+            return Err(UNSHAPED);
+        };
+        match operation {
+            Operation::Register => Request::register(alloc, value),
+            Operation::Delete => Request::delete(alloc, value),
+            Operation::Clear => Request::Clear.alone(&value),
+            Operation::Count => Request::Count.alone(&value),
+            Operation::Show => Request::show(value),
+            Operation::Match => Request::matching(alloc, value),
         }
     }
 }

@@ -1,0 +1,79 @@
+//! JSON values taken apart, their texts moved out and not copied.
+ghost use Rattle.std.specs.Prelude.{◌≡◌, option_map, string_bytes};
+ghost use Rattle.serde_json.specs.Find.{as_str, as_array, as_object};
+ghost use Rattle.serde_json.specs.View.{view, items_view, members_view};
+ghost use Rattle.clip_front.specs.Steps.Outline.{has_one_member, take_member, two_members};
+
+use serde_json::{Map, Value};
+
+/// The text of a value that is one.
+pub fn text_of(value: Value) -> Option<String>
+    ensures { option_map string_bytes result ≡ as_str (view value) }
+{
+    match value {
+        Value::String(text) => Some(text),
+        _ => None,
+    }
+}
+
+/// The items of a value that is an array.
+pub fn items_of(value: Value) -> Option<Vec<Value>>
+    ensures { option_map (λ items. items_view items.items) result ≡ as_array (view value) }
+{
+    match value {
+        Value::Array(items) => Some(items),
+        _ => None,
+    }
+}
+
+/// The members of a value that is an object.
+pub fn members_of(value: Value) -> Option<Map<String, Value>>
+    ensures { option_map (λ members. members_view members.entries) result ≡ as_object (view value) }
+{
+    match value {
+        Value::Object(members) => Some(members),
+        _ => None,
+    }
+}
+
+/// Whether a value is an object of just one member.
+#[tactic(auto, unfolding(crate::specs::Steps::Outline::has_one_member))]
+pub fn has_one_member(value: &Value) -> bool
+    ensures { result ≡ has_one_member (view value.now) }
+{
+    match value.as_object() {
+        Some(members) => members.len() == 1,
+        None => false,
+    }
+}
+
+/// Takes the first member out, where it has the name.
+fn take_member(members: &mut Map<String, Value>, name: &str) -> Option<Value>
+    ensures { option_map (λ value. (view value, members_view members.new.entries)) result
+        ≡ take_member name.now (members_view members.old.entries) }
+{
+    match members.pop_first() {
+        Some((key, value)) => {
+            if key.as_str() == name {
+                Some(value)
+            } else {
+                None
+            }
+        }
+        None => None,
+    }
+}
+
+/// The values of an object of just these two members, whose names are in byte order.
+pub fn two_members(value: Value, first: &str, second: &str) -> Option<(Value, Value)>
+    ensures { option_map (λ p. (view p.0, view p.1)) result ≡ two_members first.now second.now (view value) }
+{
+    let mut members = members_of(value)?;
+    let first = take_member(&mut members, first)?;
+    let second = take_member(&mut members, second)?;
+    if members.is_empty() {
+        Some((first, second))
+    } else {
+        None
+    }
+}
