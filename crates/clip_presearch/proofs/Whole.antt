@@ -1,13 +1,14 @@
 -- What the candidates of a whole registry are.
 use Rattle.std.proofs.Common.{◌≡◌, ℕ, zero, suc, ◌<◌, Bool, true, false, cond, List, [], ◌∷◌, length, get_or, filter, Contains, sym, ap, ◌∙◌, subst, arith}
-use Rattle.std.proofs.lemmas.Bool.{and_from}
+use Rattle.std.proofs.lemmas.Bool.{and_from, and_parts}
+use Rattle.std.proofs.lemmas.List.Elements.{All-filter, All-contains_itself, filter_passes}
 use Rattle.std.proofs.lemmas.List.Kept.{AllPairs-filter}
 use Rattle.clip_meaning.specs.Article.{ArticleValue}
 use Rattle.clip_model.specs.History.{Registered, is_live}
 use Rattle.clip_segment.specs.Segment.{IsRising}
 use Rattle.clip_registry.specs.Whole.{RegistryState, IsWhole, all_entries}
 use Rattle.clip_extract.proofs.Covers.{covering}
-use Rattle.clip_presearch.specs.Candidates.{is_candidate, candidates_of, MissesNone}
+use Rattle.clip_presearch.specs.Candidates.{is_candidate, candidates_of, MissesNone, AreRegistered}
 
 contains_filter : (p : Registered → Bool) (xs : List Registered) (x : Registered) (k : ℕ) → k < length xs → get_or xs k x ≡ x → p x ≡ true → Contains (filter p xs) x
 contains_filter p [] x k lt is h = absurd (omega arith)
@@ -33,3 +34,11 @@ pub candidates_rise : (state : RegistryState) (article : ArticleValue) → IsWho
 candidates_rise state article whole = record {
   rises = AllPairs-filter (λ e f. e.seq < f.seq) (is_candidate state.history article.fields) (all_entries state.segments) whole.rising.rises;
 }
+
+pub candidates_registered : (state : RegistryState) (article : ArticleValue) → IsWhole state → AreRegistered state (candidates_of state article)
+candidates_registered state article whole k d inside =
+    let p = is_candidate state.history article.fields in
+    let entries = all_entries state.segments in
+    let r = get_or (filter p entries) k d in
+    (whole.live_entries r).1 (All-filter p (Contains entries) entries (All-contains_itself entries) k d inside,
+    (and_parts (is_live state.history r.seq) _ (filter_passes p entries k d inside)).0)
