@@ -88,7 +88,11 @@ pub fn match_article(alloc: Global, view: &View, article: &Article) -> Result<Al
 /// The alerts of each article of a batch, in the order of the articles, all at one view.
 ///
 /// `NoMemory` where an allocation failed. Cost: that of `match_article` for each article.
-pub fn match_batch(alloc: Global, view: &View, articles: &[Article]) -> Result<Vec<Alerts>, NoMemory>
+pub fn match_batch(
+    alloc: Global,
+    view: &View,
+    articles: &[Article],
+) -> Result<Vec<Alerts>, NoMemory>
     ensures { IfOk result (λ found. map alerts_value found.items ≡ map (alerts_due view.now) articles.now) }
 {
     let mut found = Vec::new(alloc);
