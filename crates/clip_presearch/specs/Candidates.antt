@@ -1,5 +1,5 @@
 -- The entries that are tried on an article.
-use Rattle.std.specs.Prelude.{◌≡◌, Bool, true, ◌&&◌, List, filter, Contains, Some}
+use Rattle.std.specs.Prelude.{◌≡◌, Bool, true, ◌&&◌, List, filter, Contains, All, Some}
 use Rattle.std.specs.FinMap as finite
 use Rattle.clip_meaning.specs.Article.{ArticleValue, Fields}
 use Rattle.clip_meaning.specs.Meaning.{holds}
@@ -21,3 +21,7 @@ candidates_of state article = filter (is_candidate state.history article.fields)
 abbrev pub MissesNone : RegistryState → ArticleValue → List Registered → Type 0
 MissesNone state article found =
     (r : Registered) → finite.get (replay state.history) r.standing.id ≡ Some r → holds r.standing.tree article.fields ≡ true → Contains found r
+
+-- each is a registered query, as it is registered
+abbrev pub AreRegistered : RegistryState → List Registered → Type 0
+AreRegistered state found = All (λ r. finite.get (replay state.history) r.standing.id ≡ Some r) found

@@ -2,7 +2,7 @@
 ghost use Rattle.std.specs.Prelude.{◌≡◌, ◌++◌, map, IfOk, OnOk};
 ghost use Rattle.clip_extract.specs.Keys.{key_of};
 ghost use Rattle.clip_segment.specs.Segment.{IsRising};
-ghost use Rattle.clip_presearch.specs.Candidates.{candidates_of, MissesNone};
+ghost use Rattle.clip_presearch.specs.Candidates.{candidates_of, MissesNone, AreRegistered};
 ghost use Rattle.clip_presearch.specs.Places.{places_with, live_with};
 
 use crate::article::article_keys;
@@ -61,6 +61,7 @@ pub fn candidates<'a>(
 ) -> Result<Vec<&'a Entry>, NoMemory>
     ensures sharers { IfOk result (λ found. map (λ e. e.now) found.items ≡ candidates_of view.now article.now) }
     ensures misses_none { IfOk result (λ found. MissesNone view.now article.now (map (λ e. e.now) found.items)) }
+    ensures registered { IfOk result (λ found. AreRegistered view.now (map (λ e. e.now) found.items)) }
     ensures rising { IfOk result (λ found. IsRising (map (λ e. e.now) found.items)) }
 {
     let keys = article_keys(alloc, article)?;

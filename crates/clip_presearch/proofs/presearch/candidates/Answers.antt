@@ -5,35 +5,28 @@ use Rattle.clip_extract.specs.Keys.{key_of}
 use Rattle.clip_model.specs.History.{Registered}
 use Rattle.clip_segment.specs.Segment.{IsRising}
 use Rattle.clip_registry.specs.Whole.{all_entries}
-use Rattle.clip_presearch.specs.Candidates.{candidates_of, MissesNone}
+use Rattle.clip_presearch.specs.Candidates.{candidates_of, MissesNone, AreRegistered}
 use Rattle.clip_presearch.specs.Places.{live_with}
-use Rattle.clip_presearch.proofs.Whole.{misses_none, candidates_rise}
+use Rattle.clip_presearch.proofs.Whole.{misses_none, candidates_registered, candidates_rise}
 use Rattle.clip_presearch.proofs.presearch.candidates.Goals as goal
 
-pub returns-clause-misses_none : goal.returns-clause-misses_none
-returns-clause-misses_none c =
+pub returns : goal.returns
+returns c =
     let found = map (λ (e : Bor Registered). e.now) c.loop-segment.found.items in
-    let h = c.args.view.now.history in
-    let ks = map key_of c.in_ok-keys.keys.items in
+    let state = c.args.view.now in
+    let article = c.args.article.now in
+    let keys = map key_of c.in_ok-keys.keys.items in
     let segments = c.segments-segment-items.result.now in
-    let all : found ≡ candidates_of c.args.view.now c.args.article.now =
+    let whole = c.segments-segment-items.ensures.whole in
+    let all : found ≡ candidates_of state article =
     sym (append-nil found)
-    ∙ ap (λ xs. found ++ live_with h ks (all_entries (map arc_value xs))) (sym (drop_all c.loop-segment.segment-index segments c.loop-segment-test.false))
+    ∙ ap (λ xs. found ++ live_with state.history keys (all_entries (map arc_value xs))) (sym (drop_all c.loop-segment.segment-index segments c.loop-segment-test.false))
     ∙ c.loop-segment.invariant
-    ∙ ap (λ xs. live_with h ks (all_entries xs)) c.segments-segment-items.ensures.segments
-    ∙ ap (λ keys. live_with h keys (all_entries c.args.view.now.segments)) c.in_ok-keys.ensures in
-    subst (MissesNone c.args.view.now c.args.article.now) (sym all) (misses_none c.args.view.now c.args.article.now c.segments-segment-items.ensures.whole)
-
-pub returns-clause-rising : goal.returns-clause-rising
-returns-clause-rising c =
-    let found = map (λ (e : Bor Registered). e.now) c.loop-segment.found.items in
-    let h = c.args.view.now.history in
-    let ks = map key_of c.in_ok-keys.keys.items in
-    let segments = c.segments-segment-items.result.now in
-    let all : found ≡ candidates_of c.args.view.now c.args.article.now =
-    sym (append-nil found)
-    ∙ ap (λ xs. found ++ live_with h ks (all_entries (map arc_value xs))) (sym (drop_all c.loop-segment.segment-index segments c.loop-segment-test.false))
-    ∙ c.loop-segment.invariant
-    ∙ ap (λ xs. live_with h ks (all_entries xs)) c.segments-segment-items.ensures.segments
-    ∙ ap (λ keys. live_with h keys (all_entries c.args.view.now.segments)) c.in_ok-keys.ensures in
-    subst IsRising (sym all) (candidates_rise c.args.view.now c.args.article.now c.segments-segment-items.ensures.whole)
+    ∙ ap (λ xs. live_with state.history keys (all_entries xs)) c.segments-segment-items.ensures.segments
+    ∙ ap (λ keys. live_with state.history keys (all_entries state.segments)) c.in_ok-keys.ensures in
+    record {
+      sharers = all;
+      misses_none = subst (MissesNone state article) (sym all) (misses_none state article whole);
+      registered = subst (AreRegistered state) (sym all) (candidates_registered state article whole);
+      rising = subst IsRising (sym all) (candidates_rise state article whole);
+    }

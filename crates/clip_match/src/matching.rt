@@ -1,0 +1,103 @@
+//! The alerts of an article, and of a batch of articles.
+ghost use Rattle.std.specs.Prelude.{◌≡◌, map, filter, IfOk, IsPermutation};
+ghost use Rattle.std.specs.List.Sorted.{IsSortedByKey};
+ghost use Rattle.clip_words.specs.Order.{bytes_cmp};
+ghost use Rattle.clip_meaning.specs.Meaning.{holds};
+ghost use Rattle.clip_match.specs.Alerts.{alert_value, alerts_value, alert_due, alerts_due};
+
+use crate::alert::{Alert, Alerts};
+use clip_meaning::Article;
+use clip_meaning::meaning::holds;
+use clip_presearch::candidates;
+use clip_registry::View;
+use clip_segment::Entry;
+use clip_words::NoMemory;
+use std::alloc::Global;
+use std::cmp::Ordering;
+
+/// Leaves the entries whose query holds of the article.
+fn keep_holding(entries: &mut Vec<&Entry>, article: &Article)
+    ensures { map (λ e. e.now) entries.new.items
+        ≡ filter (λ r. holds r.standing.tree article.now.fields) (map (λ e. e.now) entries.old.items) }
+{
+    entries.retain(|entry| holds(entry.standing().query(), article));
+}
+
+/// Sorts entries by the ids of their queries.
+fn sort_by_id(entries: &mut Vec<&Entry>)
+    ensures moved { IsPermutation (map (λ e. e.now) entries.old.items) (map (λ e. e.now) entries.new.items) }
+    ensures sorted { IsSortedByKey (λ r. r.standing.id) bytes_cmp (map (λ e. e.now) entries.new.items) }
+{
+    entries.sort_unstable_by(
+        |a: &&Entry, b: &&Entry| -> Ordering
+            ensures { result ≡ bytes_cmp a.now.now.standing.id b.now.now.standing.id }
+        { a.standing().id().cmp(b.standing().id()) },
+    );
+}
+
+/// The alert of a query that holds of the article.
+fn alert(entry: &Entry, article: &Article) -> Result<Alert, NoMemory>
+    ensures { IfOk result (λ alert. alert_value alert ≡ alert_due article.now entry.now) }
+{
+    let standing = entry.standing();
+    let listener = match standing.shared_listener() {
+        Some(name) => Some(name.clone()?),
+        None => None,
+    };
+    Ok(Alert {
+        query: standing.shared_id().clone()?,
+        article: article.shared_id().clone()?,
+        listener,
+    })
+}
+
+/// The alerts of queries that hold of the article, in their order.
+fn alerts(alloc: Global, entries: &[&Entry], article: &Article) -> Result<Vec<Alert>, NoMemory>
+    ensures { IfOk result (λ alerts. map alert_value alerts.items
+        ≡ map (alert_due article.now) (map (λ e. e.now) entries.now)) }
+{
+    let mut alerts = Vec::new(alloc);
+    for entry in entries {
+        alerts.push(alert(entry, article)?)?;
+    }
+    Ok(alerts)
+}
+
+/// The alerts of an article at a view: of each registered query that holds of it one, in the byte order of their ids,
+/// and of no other; with the view's place, and how many queries were tried.
+///
+/// Just the article's candidates are tried.
+///
+/// `NoMemory` where an allocation failed. Cost: that of `candidates`, one `holds` for each candidate, and a sort of
+/// those that hold.
+pub fn match_article(alloc: Global, view: &View, article: &Article) -> Result<Alerts, NoMemory>
+    ensures { IfOk result (λ found. alerts_value found ≡ alerts_due view.now article.now) }
+{
+    let mut entries = candidates(alloc, view, article)?;
+    let asked = entries.len() as u64;
+    keep_holding(&mut entries, article);
+    sort_by_id(&mut entries);
+    Ok(Alerts {
+        article: article.shared_id().clone()?,
+        place: view.place(),
+        asked,
+        alerts: alerts(alloc, &entries, article)?,
+    })
+}
+
+/// The alerts of each article of a batch, in the order of the articles, all at one view.
+///
+/// `NoMemory` where an allocation failed. Cost: that of `match_article` for each article.
+pub fn match_batch(
+    alloc: Global,
+    view: &View,
+    articles: &[Article],
+) -> Result<Vec<Alerts>, NoMemory>
+    ensures { IfOk result (λ found. map alerts_value found.items ≡ map (alerts_due view.now) articles.now) }
+{
+    let mut found = Vec::new(alloc);
+    for article in articles {
+        found.push(match_article(alloc, view, article)?)?;
+    }
+    Ok(found)
+}
