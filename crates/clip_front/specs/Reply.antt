@@ -57,8 +57,8 @@ abbrev pub text_or_null : Option (List ℕ) → Data
 text_or_null None = null
 text_or_null (Some text) = string text
 
-abbrev pub alert_value : List ℕ × List (List ℕ) → Data
-alert_value a = object_of ((codes "article", string a.0) ∷ (codes "queries", array_of (map string a.1)) ∷ [])
+abbrev pub alerts_data : List ℕ × List (List ℕ) → Data
+alerts_data a = object_of ((codes "article", string a.0) ∷ (codes "queries", array_of (map string a.1)) ∷ [])
 
 -- the value of a reply to line n; that of no reply is never printed
 unfoldable pub reply_value : ℕ → Reply → Data
@@ -71,7 +71,7 @@ reply_value n (cleared k) = object_of ((codes "cleared", number_of k) ∷ (codes
 reply_value n (counted k) = object_of ((codes "count", number_of k) ∷ (codes "line", number_of n) ∷ [])
 reply_value n (shown text) = object_of ((codes "line", number_of n) ∷ (codes "query", text_or_null text) ∷ [])
 reply_value n (matched found) =
-    object_of ((codes "alerts", array_of (map alert_value found)) ∷ (codes "line", number_of n) ∷ (codes "notes", array_of []) ∷ [])
+    object_of ((codes "alerts", array_of (map alerts_data found)) ∷ (codes "line", number_of n) ∷ (codes "notes", array_of []) ∷ [])
 
 -- the value as compact JSON, and a line feed
 unfoldable pub printed : Data → List ℕ

@@ -5,9 +5,11 @@ ghost use Rattle.std.specs.List.{list_all};
 ghost use Rattle.clip_model.specs.History.{fits};
 ghost use Rattle.clip_registry.specs.Command.{command_of};
 ghost use Rattle.clip_words.specs.Ids.{is_id};
+ghost use Rattle.clip_front.specs.LineMeaning.{showing};
+ghost use Rattle.clip_front.specs.Reply.{answer_to};
 ghost use Rattle.clip_front.specs.Steps.Answers.{Answers, Judges, ReadsList, Responds};
 ghost use Rattle.clip_front.specs.Steps.Outline.{is_within, registers};
-ghost use Rattle.clip_front.specs.Steps.Views.{line_view, listing_view, reply_view};
+ghost use Rattle.clip_front.specs.Steps.Views.{applied_view, line_view, listing_view, reply_view};
 
 use crate::line::Line;
 use crate::refusal::Refusal;
@@ -61,15 +63,18 @@ fn standings_of(alloc: Global, listings: &[Listing]) -> Result<Vec<Arc<Standing>
     for (k, listing) in listings.iter().enumerate() {
         match Standing::read(alloc, listing.id.as_str(), listing.query.as_str(), None) {
             Ok(standing) => all.push(Arc::new(alloc, standing)?)?,
+            Err(StandingFault::Query(_)) => return Err(ListFault::Query(k as u64)),
             Err(StandingFault::NoMemory) => return Err(ListFault::NoMemory),
-            Err(_) => return Err(ListFault::Query(k as u64)),
+            Err(StandingFault::Id) => unreachable!(),
         }
     }
     Ok(all)
 }
 
 /// The reply to a command that was accepted.
-fn accepted(applied: Applied) -> Reply {
+fn accepted(applied: Applied) -> Reply
+    ensures { reply_view result ≡ applied_view applied }
+{
     match applied {
         Applied::Registered(count) => Reply::Registered(count),
         Applied::Deleted(count) => Reply::Deleted(count),
@@ -104,4 +109,49 @@ fn register(
         Err(ListFault::Query(place)) => Ok(Reply::RefusedAt(Refusal::Query, place)),
         Err(ListFault::NoMemory) => Err(NoMemory),
     }
+}
+
+/// The text of the query under an id, if one is registered under it.
+fn show(alloc: Global, view: &View, id: &str) -> Result<Reply, NoMemory>
+    ensures { IfOk result (λ reply. reply_view reply ≡ answer_to view.now.history (showing id.now)) }
+{
+    match view.text_of(id) {
+        Some(text) => Ok(Reply::Shown(Some(String::from_str(alloc, text)?))),
+        None => Ok(Reply::Shown(None)),
+    }
+}
+
+/// Answers a line: changes apply to the registrar, and all else is answered by its view.
+fn respond(alloc: Global, registrar: &mut Registrar, line: Line) -> Result<Reply, NoMemory>
+    requires { is_within (line_view line) ≡ true }
+    ensures { IfOk result (λ reply. Responds registrar.old registrar.new (line_view line) (reply_view reply)) }
+{
+    match line {
+        Line::Blank => Ok(Reply::Nothing),
+        Line::Refused(reason) => Ok(Reply::Refused(reason)),
+        Line::Register(listings) => register(alloc, registrar, &listings),
+        Line::Delete(ids) => apply(registrar, Command::Delete(ids)),
+        Line::Clear => apply(registrar, Command::Clear),
+        Line::Count => Ok(Reply::Counted(registrar.view()?.count())),
+        Line::Show(id) => show(alloc, &registrar.view()?, id.as_str()),
+        Line::Match(articles) => {
+            Ok(Reply::Matched(match_batch(alloc, &registrar.view()?, &articles)?))
+        }
+    }
+}
+
+/// The reply to the line of this number, with its line feed, or nothing for a blank line.
+///
+/// `NoMemory` where an allocation failed. A change costs that of `Registrar::apply` after the reading of its queries; a
+/// match costs that of `match_batch`; a count takes constant time, and a show one look-up by id.
+pub fn answer(
+    alloc: Global,
+    registrar: &mut Registrar,
+    number: u64,
+    bytes: &[u8],
+) -> Result<Vec<u8>, NoMemory>
+    ensures { IfOk result (λ text. Answers registrar.old registrar.new number bytes.now text.items) }
+{
+    let line = Line::of_bytes(alloc, bytes)?;
+    respond(alloc, registrar, line)?.text(alloc, number)
 }

@@ -1,11 +1,11 @@
 //! Replies, and their text.
-ghost use Rattle.std.specs.Prelude.{◌≡◌, false, IfOk, map};
-ghost use Rattle.std.specs.Arc.{arc_str_bytes};
+ghost use Rattle.std.specs.Prelude.{◌≡◌, ℕ, false, IfOk, Some, None, map, string_bytes};
 ghost use Rattle.serde_json.specs.Data.{string};
-ghost use Rattle.serde_json.specs.View.{view, items_view, items_of};
+ghost use Rattle.serde_json.specs.View.{view};
 ghost use Rattle.serde_json.specs.Written.{has_float};
-ghost use Rattle.clip_match.specs.Alerts.{alerts_value};
-ghost use Rattle.clip_front.specs.Reply.{printed as printed_text, alert_value};
+ghost use Rattle.clip_match.specs.Alerts.{alert_value, alerts_value};
+ghost use Rattle.clip_front.specs.Reply as reply;
+ghost use Rattle.clip_front.specs.Reply.{printed as printed_text, alerts_data, reply_value};
 ghost use Rattle.clip_front.specs.Steps.Views.{alerts_ids};
 
 use crate::refusal::Refusal;
@@ -50,8 +50,8 @@ fn printed(alloc: Global, value: &Value) -> Result<Vec<u8>, NoMemory>
 
 /// The ids of the queries, as JSON.
 fn query_ids(alloc: Global, alerts: &[Alert]) -> Result<Vec<Value>, NoMemory>
-    ensures { IfOk result (λ ids. items_view ids.items
-        ≡ items_of (map (λ a. string (arc_str_bytes a.query)) alerts.now)) }
+    ensures { IfOk result (λ ids. map view ids.items
+        ≡ map string (map (λ a. a.query) (map alert_value alerts.now))) }
 {
     let mut ids = Vec::with_capacity(alloc, alerts.len())?;
     for alert in alerts {
@@ -62,7 +62,7 @@ fn query_ids(alloc: Global, alerts: &[Alert]) -> Result<Vec<Value>, NoMemory>
 
 /// An article's alerts, as JSON.
 fn alerts_json(alloc: Global, found: &Alerts) -> Result<Value, NoMemory>
-    ensures { IfOk result (λ v. view v ≡ alert_value (alerts_ids (alerts_value found.now))) }
+    ensures { IfOk result (λ v. view v ≡ alerts_data (alerts_ids (alerts_value found.now))) }
 {
     let queries = query_ids(alloc, &found.alerts)?;
     Ok(json!(in alloc; {"article": found.article.as_str(), "queries": queries})?)
@@ -70,14 +70,101 @@ fn alerts_json(alloc: Global, found: &Alerts) -> Result<Value, NoMemory>
 
 /// The alerts of each article, as JSON.
 fn all_alerts_json(alloc: Global, found: &[Alerts]) -> Result<Vec<Value>, NoMemory>
-    ensures { IfOk result (λ all. items_view all.items
-        ≡ items_of (map (λ a. alert_value (alerts_ids (alerts_value a))) found.now)) }
+    ensures { IfOk result (λ all. map view all.items
+        ≡ map alerts_data (map alerts_ids (map alerts_value found.now))) }
 {
     let mut all = Vec::with_capacity(alloc, found.len())?;
     for alerts in found {
         all.push(alerts_json(alloc, alerts)?)?;
     }
     Ok(all)
+}
+
+/// The value that stands for no reply, and is never printed.
+#[tactic(auto, unfolding(crate::specs::Reply::reply_value))]
+fn nothing_json() -> Value
+    ensures { (n : ℕ) → view result ≡ reply_value n reply.nothing }
+{
+    Value::Null
+}
+
+/// The reply to a line that is refused.
+#[tactic(auto, unfolding(crate::specs::Reply::reply_value))]
+fn refused_json(alloc: Global, number: u64, reason: Refusal) -> Result<Value, NoMemory>
+    ensures { IfOk result (λ v. view v ≡ reply_value number (reply.refused reason)) }
+{
+    Ok(json!(in alloc; {"line": number, "refused": reason.word()})?)
+}
+
+/// The reply to a line that is refused for what its list has at a place.
+#[tactic(auto, unfolding(crate::specs::Reply::reply_value))]
+fn refused_at_json(
+    alloc: Global,
+    number: u64,
+    reason: Refusal,
+    place: u64,
+) -> Result<Value, NoMemory>
+    ensures { IfOk result (λ v. view v ≡ reply_value number (reply.refused_at reason place)) }
+{
+    Ok(json!(in alloc; {"line": number, "refused": reason.word(), "which": place})?)
+}
+
+/// The reply to a register.
+#[tactic(auto, unfolding(crate::specs::Reply::reply_value))]
+fn registered_json(alloc: Global, number: u64, count: u64) -> Result<Value, NoMemory>
+    ensures { IfOk result (λ v. view v ≡ reply_value number (reply.registered count)) }
+{
+    Ok(json!(in alloc; {"line": number, "registered": count})?)
+}
+
+/// The reply to a delete.
+#[tactic(auto, unfolding(crate::specs::Reply::reply_value))]
+fn deleted_json(alloc: Global, number: u64, count: u64) -> Result<Value, NoMemory>
+    ensures { IfOk result (λ v. view v ≡ reply_value number (reply.deleted count)) }
+{
+    Ok(json!(in alloc; {"deleted": count, "line": number})?)
+}
+
+/// The reply to a clear.
+#[tactic(auto, unfolding(crate::specs::Reply::reply_value))]
+fn cleared_json(alloc: Global, number: u64, count: u64) -> Result<Value, NoMemory>
+    ensures { IfOk result (λ v. view v ≡ reply_value number (reply.cleared count)) }
+{
+    Ok(json!(in alloc; {"cleared": count, "line": number})?)
+}
+
+/// The reply to a count.
+#[tactic(auto, unfolding(crate::specs::Reply::reply_value))]
+fn counted_json(alloc: Global, number: u64, count: u64) -> Result<Value, NoMemory>
+    ensures { IfOk result (λ v. view v ≡ reply_value number (reply.counted count)) }
+{
+    Ok(json!(in alloc; {"count": count, "line": number})?)
+}
+
+/// The reply to a show that found a query.
+#[tactic(auto, unfolding(crate::specs::Reply::reply_value))]
+fn shown_json(alloc: Global, number: u64, text: String) -> Result<Value, NoMemory>
+    ensures { IfOk result (λ v. view v ≡ reply_value number (reply.shown (Some (string_bytes text)))) }
+{
+    Ok(json!(in alloc; {"line": number, "query": text})?)
+}
+
+/// The reply to a show that found none.
+#[tactic(auto, unfolding(crate::specs::Reply::reply_value))]
+fn not_shown_json(alloc: Global, number: u64) -> Result<Value, NoMemory>
+    ensures { IfOk result (λ v. view v ≡ reply_value number (reply.shown None)) }
+{
+    Ok(json!(in alloc; {"line": number, "query": null})?)
+}
+
+/// The reply to a match.
+#[tactic(auto, unfolding(crate::specs::Reply::reply_value))]
+fn matched_json(alloc: Global, number: u64, found: &[Alerts]) -> Result<Value, NoMemory>
+    ensures { IfOk result (λ v. view v
+        ≡ reply_value number (reply.matched (map alerts_ids (map alerts_value found.now)))) }
+{
+    let alerts = all_alerts_json(alloc, found)?;
+    Ok(json!(in alloc; {"alerts": alerts, "line": number, "notes": []})?)
 }
 
 impl Reply {
@@ -87,28 +174,21 @@ impl Reply {
     ghost use Rattle.clip_front.specs.Steps.Views.{reply_view};
 
     /// The JSON value of the reply to the line of this number.
-    #[tactic(auto, unfolding(crate::specs::Reply::reply_value))]
     fn value(self, alloc: Global, number: u64) -> Result<Value, NoMemory>
         ensures { IfOk result (λ v. view v ≡ reply_value number (reply_view self)) }
     {
-        let value = match self {
-            Reply::Nothing => Value::Null,
-            Reply::Refused(reason) => json!(in alloc; {"line": number, "refused": reason.word()})?,
-            Reply::RefusedAt(reason, place) => {
-                json!(in alloc; {"line": number, "refused": reason.word(), "which": place})?
-            }
-            Reply::Registered(count) => json!(in alloc; {"line": number, "registered": count})?,
-            Reply::Deleted(count) => json!(in alloc; {"deleted": count, "line": number})?,
-            Reply::Cleared(count) => json!(in alloc; {"cleared": count, "line": number})?,
-            Reply::Counted(count) => json!(in alloc; {"count": count, "line": number})?,
-            Reply::Shown(Some(text)) => json!(in alloc; {"line": number, "query": text})?,
-            Reply::Shown(None) => json!(in alloc; {"line": number, "query": null})?,
-            Reply::Matched(found) => {
-                let alerts = all_alerts_json(alloc, &found)?;
-                json!(in alloc; {"alerts": alerts, "line": number, "notes": []})?
-            }
-        };
-        Ok(value)
+        match self {
+            Reply::Nothing => Ok(nothing_json()),
+            Reply::Refused(reason) => refused_json(alloc, number, reason),
+            Reply::RefusedAt(reason, place) => refused_at_json(alloc, number, reason, place),
+            Reply::Registered(count) => registered_json(alloc, number, count),
+            Reply::Deleted(count) => deleted_json(alloc, number, count),
+            Reply::Cleared(count) => cleared_json(alloc, number, count),
+            Reply::Counted(count) => counted_json(alloc, number, count),
+            Reply::Shown(Some(text)) => shown_json(alloc, number, text),
+            Reply::Shown(None) => not_shown_json(alloc, number),
+            Reply::Matched(found) => matched_json(alloc, number, &found),
+        }
     }
 
     /// The text of the reply to the line of this number: compact JSON and a line feed, or nothing.

@@ -1,6 +1,8 @@
 -- What contracts see of requests, lines and replies.
 use Rattle.std.specs.Prelude.{ℕ, List, map, String, string_bytes, option_map}
 use Rattle.std.specs.declared.alloc.Global.{Global}
+use Rattle.clip_registry.specs.declared.command.Applied.{Applied}
+use Rattle.clip_registry.specs.declared.command.Applied.TheVariants as applied
 use Rattle.clip_match.specs.Alerts.{AlertsValue, alerts_value}
 use Rattle.clip_front.specs.Request as request
 use Rattle.clip_front.specs.Reply as reply
@@ -57,4 +59,10 @@ reply_view (answered.Deleted count) = reply.deleted count
 reply_view (answered.Cleared count) = reply.cleared count
 reply_view (answered.Counted count) = reply.counted count
 reply_view (answered.Shown text) = reply.shown (option_map string_bytes text)
-reply_view (answered.Matched found) = reply.matched (map (λ a. alerts_ids (alerts_value a)) found.items)
+reply_view (answered.Matched found) = reply.matched (map alerts_ids (map alerts_value found.items))
+
+-- the reply to a command that was accepted
+abbrev pub applied_view : Applied → reply.Reply
+applied_view (applied.Registered count) = reply.registered count
+applied_view (applied.Deleted count) = reply.deleted count
+applied_view (applied.Cleared count) = reply.cleared count

@@ -1,0 +1,29 @@
+-- Lists of texts that were read as queries.
+use Rattle.std.proofs.Common.{◌≡◌, ◌≢◌, ℕ, suc, List, [], ◌∷◌, length, Bool, true, false, ◌&&◌, refl, sym, ap, true≢false}
+use Rattle.clip_grammar.specs.Reading.{IsFault}
+use Rattle.clip_grammar.specs.Tree.{Tree}
+use Rattle.clip_grammar.specs.declared.fault.QueryFault.{QueryFault}
+use Rattle.clip_grammar.specs.declared.fault.QueryFault.TheVariants.{NoMemory}
+use Rattle.clip_model.specs.Standing.{Standing}
+use Rattle.clip_front.specs.Request.{Listing}
+use Rattle.clip_front.specs.LineMeaning.{IsQuery, AreReadAs}
+
+pub length-AreReadAs : (ls : List Listing) (ss : List Standing) → AreReadAs ls ss → length ss ≡ length ls
+length-AreReadAs [] [] r = refl
+length-AreReadAs [] (s ∷ ss) r = absurd r
+length-AreReadAs (l ∷ ls) [] r = absurd r
+length-AreReadAs (l ∷ ls) (s ∷ ss) r = ap suc (length-AreReadAs ls ss r.1)
+
+-- a text with a fault is no query
+pub no_query : (text : List ℕ) (f : QueryFault) → f ≢ NoMemory → IsFault text f → (tree : Tree) → ¬ (IsQuery text tree)
+no_query text f other fault tree q = q.kept f other fault
+
+-- ---- what two tests say together
+
+pub first_of : (a b : Bool) → (a && b) ≡ true → a ≡ true
+first_of true b e = refl
+first_of false b e = e
+
+pub second_of : (a b : Bool) → (a && b) ≡ true → b ≡ true
+second_of true b e = e
+second_of false b e = absurd (true≢false (sym e))
