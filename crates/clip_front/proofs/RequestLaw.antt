@@ -47,7 +47,7 @@ request_of-value_of (match drafts) = ap (option_map match) (all_of-map draft_val
 
 -- ---- what is read as a request is its value
 
-none_is_some : {A : Type 0} (x : A) → None ≡ Some x → ⊥
+pub none_is_some : {A : Type 0} (x : A) → None ≡ Some x → ⊥
 none_is_some x e = cc
 
 -- an option that leads on to something has something

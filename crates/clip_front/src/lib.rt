@@ -8,3 +8,7 @@ mod members;
 mod refusal;
 mod reply;
 mod request;
+mod session;
+
+pub use limits::MOST_ARTICLES;
+pub use session::{Ended, one_text, run};

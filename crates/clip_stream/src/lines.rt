@@ -126,7 +126,8 @@ impl LineReader {
             ((self.new.pending ≡ []) × (self.new.is_at_end ≡ true) × (self.new.reads_left ≤ self.old.reads_left))) }
         ensures failed { OnOk result (R.has_failed reader.new ≡ R.has_failed reader.old) }
         ensures fault { OnErr result (result ≡ Err RunFault.Read) }
-        ensures same_end { OnOk result (self.new.is_at_end ≡ false → R.met_end reader.new ≡ R.met_end reader.old) }
+        ensures same_end { OnOk result (self.new.is_at_end ≡ false
+            → (self.old.is_at_end ≡ false) × (R.met_end reader.new ≡ R.met_end reader.old)) }
         ensures read { result ≡ Err RunFault.Read → (R.has_failed reader.new ≡ true)
             ⊎ IsExhausted self.old (R.reads reader.new) (R.met_end reader.old) (R.met_end reader.new) }
     {
@@ -177,7 +178,8 @@ impl LineReader {
         ensures fuel { IfOk result (λ found. found ≡ true → fuel self.new < fuel self.old) }
         ensures failed { OnOk result (R.has_failed reader.new ≡ R.has_failed reader.old) }
         ensures fault { IfErr result (λ e. e ≢ RunFault.Write) }
-        ensures same_end { OnOk result (self.new.is_at_end ≡ false → R.met_end reader.new ≡ R.met_end reader.old) }
+        ensures same_end { OnOk result (self.new.is_at_end ≡ false
+            → (self.old.is_at_end ≡ false) × (R.met_end reader.new ≡ R.met_end reader.old)) }
         ensures read { result ≡ Err RunFault.Read → (R.has_failed reader.new ≡ true)
             ⊎ IsExhausted self.old (R.reads reader.new) (R.met_end reader.old) (R.met_end reader.new) }
     {

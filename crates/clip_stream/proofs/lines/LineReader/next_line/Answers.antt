@@ -1,4 +1,4 @@
-use Rattle.std.proofs.Common.{◌≡◌, ◌<◌, length, sym, ap, ◌∙◌, arith, not, ◌==◌, refl, false, true≢false}
+use Rattle.std.proofs.Common.{◌≡◌, ◌<◌, length, sym, ap, ◌∙◌, arith, not, ◌==◌, refl, true≢false}
 use Rattle.std.proofs.lemmas.Bool.Decides.{nat_tests}
 use Rattle.std.specs.Io.KnownBytes.{prepend_known}
 use Rattle.clip_stream.proofs.Bytes.{cut_short}
@@ -44,8 +44,7 @@ pieces-init g c = record {
   gathers = gathers_nothing _ c.clear.new.self.items c.clear.ensures.items;
   fuel_left = omega (arith, ap length c.clear.ensures.items);
   untouched = λ e. e;
-  same_end = λ e. refl;
-  still_open = λ e. e;
+  same_end = λ e. (e, refl);
   failed = refl;
 }
 
@@ -53,7 +52,7 @@ pub pieces-preserved : goal.pieces-preserved
 pieces-preserved g c =
     let m = rw c.if-not-branch.false at c.in_ok-refill.ensures.fuel in
     let none = sym c.in_ok-take_front.ensures.found ∙ c.if-branch.false in
-    let was_open : c.pieces.self.is_at_end ≡ false = sym c.in_ok-take_front.ensures.end ∙ m.3 in
+    let before = c.pieces.invariant.same_end (sym c.in_ok-take_front.ensures.end ∙ m.3) in
     record {
       budget = c.in_ok-refill.ensures.budget;
       ended = c.in_ok-refill.ensures.ended;
@@ -63,7 +62,6 @@ pieces-preserved g c =
       fuel_left = fuel_more c.args.self.now c.pieces.self c.take_front.new.self c.refill.new.self (length c.pieces.line.items) (length c.take_front.new.line.items) c.pieces.invariant.fuel_left c.in_ok-take_front.ensures.reads
           c.in_ok-take_front.ensures.end m.0 m.1 m.2 m.3 (some_before c.pieces.line.items c.take_front.new.line.items c.pieces.self.pending c.in_ok-take_front.ensures.line none);
       untouched = λ e. absurd (true≢false (sym (c.pieces.invariant.untouched e) ∙ none));
-      same_end = λ e. c.in_ok-refill.ensures.same_end e ∙ c.pieces.invariant.same_end was_open;
-      still_open = λ _. c.pieces.invariant.still_open was_open;
+      same_end = λ e. (before.0, (c.in_ok-refill.ensures.same_end e).1 ∙ before.1);
       failed = c.in_ok-refill.ensures.failed ∙ c.pieces.invariant.failed;
     }

@@ -12,8 +12,7 @@ invariant-pieces g l = record {
   gathers : Gathers (prepend_known l.initial.self.pending (g.R.Source.left l.initial.reader)) l.line.items (prepend_known l.self.pending (g.R.Source.left l.reader));
   fuel_left : fuel l.self + min 1 (length l.line.items) ≤ fuel l.initial.self;
   untouched : has_feed l.initial.self.pending ≡ true → has_feed l.self.pending ≡ true;
-  same_end : l.self.is_at_end ≡ false → g.R.Source.met_end l.reader ≡ g.R.Source.met_end l.initial.reader;
-  still_open : l.self.is_at_end ≡ false → l.initial.self.is_at_end ≡ false;
+  same_end : l.self.is_at_end ≡ false → (l.initial.self.is_at_end ≡ false) × (g.R.Source.met_end l.reader ≡ g.R.Source.met_end l.initial.reader);
   failed : g.R.Source.has_failed l.reader ≡ g.R.Source.has_failed l.initial.reader;
 }
 

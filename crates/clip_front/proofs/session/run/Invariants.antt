@@ -1,0 +1,20 @@
+use Rattle.std.proofs.Common.{◌≡◌, ◌+◌, ◌≤◌, true, false}
+use Rattle.std.specs.Io.KnownBytes.{prepend_known, IsAtEnd}
+use Rattle.clip_stream.specs.Steps.Reading.{fuel}
+use Rattle.clip_stream.specs.declared.limits.TheConstants.{MOST_READS}
+use Rattle.clip_front.proofs.Progress.{Progress}
+use Rattle.clip_front.proofs.session.run.Given as goal
+
+abbrev pub invariant-lines : goal.invariant-lines
+invariant-lines g l = record {
+  budget : g.R.Source.reads l.reader + l.lines.reads_left ≡ MOST_READS;
+  ended : l.lines.is_at_end ≡ true → IsAtEnd (g.R.Source.left l.reader);
+  same_end : l.lines.is_at_end ≡ false → g.R.Source.met_end l.reader ≡ g.R.Source.met_end l.fn.reader;
+  reader_well : g.R.Source.has_failed l.reader ≡ false;
+  writer_well : g.W.Sink.has_failed l.writer ≡ false;
+  fuel_left : l.count + fuel l.lines ≤ 72057594037927937;
+  progress : Progress (g.R.Source.left l.fn.reader) (prepend_known l.lines.pending (g.R.Source.left l.reader)) (g.W.Sink.taken l.fn.writer) (g.W.Sink.taken l.writer) l.outbox l.count l.registrar;
+}
+
+abbrev pub decreases-lines : goal.decreases-lines
+decreases-lines g l = fuel l.lines
