@@ -1,20 +1,21 @@
 //! `pressclip run`: requests on standard input, replies on standard output.
 #![tactic(auto)]
 
-mod kinds;
-mod words;
+mod command_line;
+mod mode;
 
-use clip_front::{RunFault, StdSink, StdSource, run};
-use kinds::Mode;
+use clip_front::run;
+use clip_stream::{RunFault, StdSink, StdSource};
+use command_line::ending;
+use mode::Mode;
 use std::io::ErrorKind;
 use std::process::ExitCode;
 use std::rt::Env;
 use std::{env, io};
-use words::{ending, mode};
 
 const USAGE: &str = "usage: pressclip run";
 
-// The words after the program's name.
+/// The words after the program's name.
 fn words_of<R: Env + AllocGlobal>(rt: &R) -> io::Result<Vec<String>> {
     let mut words = Vec::new(rt.alloc());
     for word in env::args(rt)?.skip(1) {
@@ -23,7 +24,7 @@ fn words_of<R: Env + AllocGlobal>(rt: &R) -> io::Result<Vec<String>> {
     Ok(words)
 }
 
-// Says the text on standard error, if there is one, and gives the status.
+/// Says the text on standard error, if there is one, and gives the status.
 fn end_with<R: Eprint>(rt: &R, status: u8, text: &str) -> ExitCode {
     if !text.is_empty() {
         let _ = rt.eprintln(text);
@@ -31,7 +32,7 @@ fn end_with<R: Eprint>(rt: &R, status: u8, text: &str) -> ExitCode {
     ExitCode::from(status)
 }
 
-// Runs over the standard streams.
+/// Runs over the standard streams.
 fn serve<R: Input + Print + Eprint + AllocGlobal>(rt: &R) -> ExitCode {
     let mut source = StdSource::new(rt.reader());
     let mut sink = StdSink::new(io::writer(rt));
@@ -41,7 +42,7 @@ fn serve<R: Input + Print + Eprint + AllocGlobal>(rt: &R) -> ExitCode {
 
 fn main(rt: HostRuntime) -> ExitCode {
     match words_of(&rt) {
-        Ok(words) => match mode(&words) {
+        Ok(words) => match command_line::mode(&words) {
             Some(Mode::Run) => serve(&rt),
             None => end_with(&rt, 2, USAGE),
         },

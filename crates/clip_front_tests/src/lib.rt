@@ -1,0 +1,13 @@
+//! Tests of the front, by whole runs.
+#![tactic(auto)]
+
+#[cfg(test)]
+mod devices;
+#[cfg(test)]
+mod failing_devices;
+#[cfg(test)]
+mod lines;
+#[cfg(test)]
+mod replies_on_a_pipe;
+#[cfg(test)]
+mod runs;

@@ -1,0 +1,53 @@
+//! Whole runs over devices in memory.
+use crate::devices::{Failing, MANY, blank_tape, script_of};
+use clip_front::run;
+use std::alloc::Global;
+use std::process::Abort;
+use std::test::Fail;
+
+/// The text of these lines.
+pub fn text_of(alloc: Global, lines: &[&str]) -> Result<String, Fail> {
+    let mut text = String::new(alloc);
+    for line in lines {
+        text.push_str(line)?;
+        text.push('\n')?;
+    }
+    Ok(text)
+}
+
+/// The bytes are answered by these replies, in `count` lines.
+pub fn is_answered<R: Abort + AllocGlobal>(
+    rt: &R,
+    input: &[u8],
+    count: u64,
+    replies: &[&str],
+) -> Result<(), Fail> {
+    let mut source = script_of(input, 1000, MANY);
+    let mut sink = blank_tape(rt.alloc(), 1000, Failing::Write, MANY);
+    let ended = run(rt.alloc(), &mut source, &mut sink)?;
+    assert_eq!(rt; ended.lines, count);
+    let wanted = text_of(rt.alloc(), replies)?;
+    assert_eq!(rt; sink.taken.as_slice(), wanted.as_bytes(), "wanted {wanted}");
+    Ok(())
+}
+
+pub fn are_answered<R: Abort + AllocGlobal>(
+    rt: &R,
+    lines: &[&str],
+    replies: &[&str],
+) -> Result<(), Fail> {
+    let input = text_of(rt.alloc(), lines)?;
+    is_answered(rt, input.as_bytes(), lines.len() as u64, replies)
+}
+
+/// A query and an article that it holds of.
+pub const PRESS: [&str; 2] = [
+    r#"{"op":"register","queries":[{"id":"q1","query":"press"}]}"#,
+    r#"{"op":"match","articles":[{"id":"a1","fields":{"text":"The PRESS office"}}]}"#,
+];
+
+/// The replies to them.
+pub const PRESSED: [&str; 2] = [
+    r#"{"line":1,"registered":1}"#,
+    r#"{"alerts":[{"article":"a1","queries":["q1"]}],"line":2,"notes":[]}"#,
+];
