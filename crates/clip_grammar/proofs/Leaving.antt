@@ -5,15 +5,16 @@ use mathlib.Core.List.{reverse_aux}
 use Rattle.clip_grammar.specs.Tokens as token
 use Rattle.clip_grammar.specs.Tokens.{Token}
 use Rattle.clip_grammar.specs.Reading.{begins_colon_star, IsLeftOut}
-use Rattle.clip_grammar.specs.LeftOut.{is_star, is_colon, begins_left_out, leaves_out}
-use Rattle.clip_grammar.proofs.Pieces.{both, and_true}
+use Rattle.clip_grammar.specs.Steps.LeftOut.{is_star, is_colon, begins_left_out, leaves_out}
+use Rattle.std.proofs.lemmas.Bool.{and_parts, and_from, or_left, or_right}
+use Rattle.clip_grammar.proofs.Booleans.{either}
 
--- the tokens behind, last first, begin with a star
+-- the tokens before, last first, begin with a star
 abbrev begins_star : List Token → Bool
 begins_star [] = false
 begins_star (t ∷ ts) = is_star t
 
--- a star that is no half of `*:*`, with these tokens behind, last first
+-- a star that is no half of `*:*`, with these tokens before, last first
 record LoneAfter (behind ts : List Token) : Type 0 where
   pub before : List Token
   pub after : List Token
@@ -29,24 +30,12 @@ colon_then_star token.Colon (token.Star ∷ behind) = refl
 colon_then_star token.Colon behind = refl
 colon_then_star t behind = refl
 
-either : {A : Type 0} (a b : Bool) → (a || b) ≡ true → (a ≡ true → A) → (b ≡ true → A) → A
-either true b h f g = f refl
-either false b h f g = g h
-
-or_left : (a b : Bool) → a ≡ true → (a || b) ≡ true
-or_left true b h = refl
-or_left false b h = cc
-
-or_right : (a b : Bool) → b ≡ true → (a || b) ≡ true
-or_right true b h = refl
-or_right false b h = h
-
 -- ---- what is found is left out
 
 now : (t : Token) (ts behind : List Token) (b : Bool) → b ≡ begins_colon_star behind → begins_left_out b t ts ≡ true → LeftAfter behind (t ∷ ts)
 now token.Other ts behind b e h = inl (0, omega arith, refl)
 now token.Star ts behind b e h =
-    let parts = both (not b) (not (begins_colon_star ts)) h in
+    let parts = and_parts (not b) (not (begins_colon_star ts)) h in
     inr (record { before = []; after = ts; parts = refl; not_first = parts.1; not_last = ap not (sym e) ∙ parts.0 })
 now _ ts behind b e h = cc
 
@@ -68,7 +57,7 @@ first_other : (t : Token) (ts : List Token) (b : Bool) → t ≡ token.Other →
 first_other t ts b e = ap (λ x. begins_left_out b x ts) e
 
 first_star : (t : Token) (ts : List Token) (b : Bool) → t ≡ token.Star → not b ≡ true → not (begins_colon_star ts) ≡ true → begins_left_out b t ts ≡ true
-first_star t ts b e h k = ap (λ x. begins_left_out b x ts) e ∙ and_true (not b) (not (begins_colon_star ts)) h k
+first_star t ts b e h k = ap (λ x. begins_left_out b x ts) e ∙ and_from (not b) (not (begins_colon_star ts)) h k
 
 -- the first token is left out, or one of the others, which gives the second fact
 at_place : (t : Token) (ts behind : List Token) (b r : Bool) → b ≡ begins_colon_star behind → (LeftAfter (t ∷ behind) ts → r ≡ true) → LeftAfter behind (t ∷ ts) → (begins_left_out b t ts || r) ≡ true

@@ -13,8 +13,7 @@ mod lexer;
 mod parser;
 mod reader;
 mod size;
-#[cfg(test)]
-mod tests;
+mod token;
 mod words;
 
 pub use clip_grammar::fault::QueryFault;

@@ -3,26 +3,16 @@ ghost use Rattle.std.specs.Prelude.{◌≡◌, map, not, is_some, IfOk, IfSome};
 ghost use Rattle.std.specs.Option.{option_map};
 ghost use Rattle.std.specs.Arc.{arc_str_bytes};
 ghost use Rattle.clip_words.specs.Words.{words_of};
-ghost use Rattle.clip_grammar.specs.Parser.{begins_colon};
+ghost use Rattle.clip_grammar.specs.Steps.Parser.{begins_colon};
 ghost use Rattle.clip_grammar.specs.Shape as shape;
 ghost use Rattle.clip_grammar.specs.Shape.{Written, lacks_words};
-ghost use Rattle.clip_syntax.specs.Items.{item_text, items_words};
-ghost use Rattle.clip_syntax.specs.TokenOf.{token_of};
+ghost use Rattle.clip_syntax.specs.Steps.Items.{item_text, items_words};
+ghost use Rattle.clip_syntax.specs.Steps.TokenOf.{token_of};
 
-use crate::lexer::Token;
+use crate::token::{Token, begins_colon};
 use clip_words::{NoMemory, shared_words};
 use std::alloc::Global;
 use std::sync::ArcStr;
-
-/// Whether a colon comes first.
-pub fn begins_colon(tokens: &[Token]) -> bool
-    ensures { result ≡ begins_colon (map token_of tokens.now) }
-{
-    match tokens.split_first() {
-        Some((Token::Colon, _)) => true,
-        _ => false,
-    }
-}
 
 /// The text of a plain or quoted item. A word before a colon is a field.
 fn item_text(token: &Token, before_colon: bool) -> Option<&str>

@@ -2,4 +2,6 @@
 #![tactic(auto)]
 
 #[cfg(test)]
+mod syntax;
+#[cfg(test)]
 mod words;

@@ -1,7 +1,7 @@
 use Rattle.std.proofs.Common.{◌≡◌, ◌++◌, map, length}
 use Rattle.std.specs.Arc.{arc_str_bytes}
-use Rattle.clip_syntax.specs.Items.{items_words}
-use Rattle.clip_syntax.specs.TokenOf.{token_of}
+use Rattle.clip_syntax.specs.Steps.Items.{items_words}
+use Rattle.clip_syntax.specs.Steps.TokenOf.{token_of}
 use Rattle.clip_syntax.proofs.Wording.{lacks}
 use Rattle.clip_syntax.proofs.words.item_words.Given as goal
 

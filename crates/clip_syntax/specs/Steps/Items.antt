@@ -3,7 +3,7 @@ use Rattle.std.specs.Prelude.{ℕ, Bool, false, List, [], ◌∷◌, ◌++◌, m
 use Rattle.clip_words.specs.Words.{words_of}
 use Rattle.clip_grammar.specs.Tokens as token
 use Rattle.clip_grammar.specs.Tokens.{Token}
-use Rattle.clip_grammar.specs.Parser.{begins_colon}
+use Rattle.clip_grammar.specs.Steps.Parser.{begins_colon}
 
 -- the text of a plain or quoted item; a word before a colon is a field
 abbrev pub item_text : Token → (before_colon : Bool) → Option (List ℕ)
