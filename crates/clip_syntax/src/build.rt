@@ -5,8 +5,8 @@ ghost use Rattle.clip_grammar.specs.Shape as shape;
 ghost use Rattle.clip_grammar.specs.Shape.{Written, written_tree, words_tree, fold_end};
 ghost use Rattle.clip_grammar.specs.Tree.{tree_of, end_of};
 ghost use Rattle.clip_syntax.specs.Steps.Building.{fresh, item_field, add, add_prefix, add_span, add_words, open_group, close, read, group_of, state_of};
-ghost use Rattle.clip_syntax.specs.Steps.Items.{items_words};
-ghost use Rattle.clip_syntax.specs.Steps.TokenOf.{token_of};
+ghost use Rattle.clip_syntax.specs.Steps.Items.{items_words, words_of_items};
+ghost use Rattle.clip_syntax.specs.Steps.TokenOf.{token_of, IfWritten};
 
 use crate::token::{Token, begins_colon};
 use clip_grammar::query::{Bound, Occur, Query};
@@ -177,8 +177,8 @@ impl Builder {
 /// The cost is linear in the tokens and the bytes of their texts: no word is copied, and a field is shared.
 #[tactic(auto, unfolding(crate::specs::Steps::Building::read_all))]
 pub fn build(alloc: Global, tokens: &[Token], words: Vec<Vec<ArcStr>>) -> Result<Query, NoMemory>
-    requires { map (λ words. map arc_str_bytes words.items) words.items ≡ items_words (map token_of tokens.now) }
-    ensures { IfOk result (λ query. (written : Written) → shape.tokens written ≡ map token_of tokens.now → tree_of query ≡ written_tree written) }
+    requires { words_of_items words.items ≡ items_words (map token_of tokens.now) }
+    ensures { IfOk result (λ query. IfWritten tokens.now (λ written. tree_of query ≡ written_tree written)) }
 {
     let field = ArcStr::from_str(alloc, "text")?;
     let mut builder = Builder {

@@ -20,7 +20,7 @@ use clip_words::NoMemory;
 use std::alloc::Global;
 
 /// Where a character stands, which decides whether it needs a backslash.
-#[derive(Clone, Copy, Debug, PartialEq, Eq)]
+#[derive(Clone, Copy)]
 pub enum Place {
     /// First in a word.
     WordStart,

@@ -43,7 +43,7 @@ pub fn has_left_out(tokens: &[Token]) -> bool
 }
 
 /// How far the clauses have been read.
-#[derive(Clone, Copy, Debug, PartialEq, Eq)]
+#[derive(Clone, Copy)]
 pub struct Progress {
     /// How many parentheses are open.
     depth: usize,

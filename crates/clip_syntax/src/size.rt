@@ -6,7 +6,7 @@ ghost use Rattle.clip_grammar.specs.Shape.{Written, written_tree};
 ghost use Rattle.clip_grammar.specs.Reading.{IsTooBig};
 ghost use Rattle.clip_grammar.specs.Steps.LeftOut.{is_colon};
 ghost use Rattle.clip_syntax.specs.Steps.Sizes.{is_node, open_after, most_open};
-ghost use Rattle.clip_syntax.specs.Steps.TokenOf.{token_of};
+ghost use Rattle.clip_syntax.specs.Steps.TokenOf.{token_of, IfWritten};
 
 use crate::token::Token;
 use clip_grammar::limits::{MOST_NODES, MOST_OPEN};
@@ -73,7 +73,7 @@ fn most_open(tokens: &[Token]) -> usize
 ///
 /// The cost is linear in the tokens, and nothing nests.
 pub fn is_too_big(tokens: &[Token]) -> bool
-    ensures { (written : Written) → shape.tokens written ≡ map token_of tokens.now → (IsTrue result ↔ IsTooBig (written_tree written)) }
+    ensures { IfWritten tokens.now (λ written. IsTrue result ↔ IsTooBig (written_tree written)) }
 {
     node_count(tokens) > MOST_NODES || most_open(tokens) > MOST_OPEN
 }

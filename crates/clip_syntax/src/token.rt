@@ -1,5 +1,5 @@
 //! Tokens: what the lexemes of a query's text say.
-ghost use Rattle.std.specs.Prelude.{◌≡◌, ◌+◌, ◌∷◌, map, length, false, IfSome, MatchOption};
+ghost use Rattle.std.specs.Prelude.{◌≡◌, ◌+◌, ◌∷◌, map, length, false, IfNone, IfSome};
 ghost use Rattle.clip_grammar.specs.Tokens as spec;
 ghost use Rattle.clip_grammar.specs.Steps.Parser.{begins_colon};
 ghost use Rattle.clip_grammar.specs.Reading.{begins_colon_star};
@@ -8,7 +8,7 @@ ghost use Rattle.clip_syntax.specs.Steps.TokenOf.{token_of};
 use clip_grammar::query::Bound;
 
 /// What a lexeme says, however it is spelled. Its texts have no quotes, and each escape stands as its character.
-#[derive(Debug, PartialEq, Eq, Drop)]
+#[derive(Drop)]
 pub enum Token {
     /// The sign `+`.
     Plus,
@@ -50,7 +50,8 @@ pub fn begins_colon(tokens: &[Token]) -> bool
 
 /// What is left after a colon.
 pub fn after_colon(tokens: &[Token]) -> Option<&[Token]>
-    ensures found { MatchOption result (begins_colon (map token_of tokens.now) ≡ false) (λ rest. map token_of tokens.now ≡ spec.Colon ∷ map token_of rest.now) }
+    ensures none { IfNone result (begins_colon (map token_of tokens.now) ≡ false) }
+    ensures some { IfSome result (λ rest. map token_of tokens.now ≡ spec.Colon ∷ map token_of rest.now) }
     ensures shorter { IfSome result (λ rest. length rest.now + 1 ≡ length tokens.now) }
 {
     match tokens.split_first() {
@@ -61,7 +62,8 @@ pub fn after_colon(tokens: &[Token]) -> Option<&[Token]>
 
 /// What is left after a colon and a star.
 pub fn after_colon_star(tokens: &[Token]) -> Option<&[Token]>
-    ensures found { MatchOption result (begins_colon_star (map token_of tokens.now) ≡ false) (λ rest. map token_of tokens.now ≡ spec.Colon ∷ spec.Star ∷ map token_of rest.now) }
+    ensures none { IfNone result (begins_colon_star (map token_of tokens.now) ≡ false) }
+    ensures some { IfSome result (λ rest. map token_of tokens.now ≡ spec.Colon ∷ spec.Star ∷ map token_of rest.now) }
     ensures shorter { IfSome result (λ rest. length rest.now + 2 ≡ length tokens.now) }
 {
     let after = after_colon(tokens)?;

@@ -12,6 +12,7 @@ use Rattle.clip_grammar.specs.Tree.{Tree, clauses_of, tree_of}
 use Rattle.clip_grammar.specs.declared.query.Occur.{Occur}
 use Rattle.clip_grammar.specs.declared.query.Occur.TheVariants.{Must, Should, MustNot}
 use Rattle.clip_grammar.specs.declared.query.Query.{Query}
+use Rattle.clip_syntax.specs.Steps.Items.{words_of_items}
 use Rattle.clip_syntax.specs.declared.build.OpenGroup.{OpenGroup}
 use Rattle.clip_syntax.specs.declared.build.Builder.{Builder}
 
@@ -103,4 +104,4 @@ abbrev pub groups_of : List OpenGroup → List Group
 groups_of gs = reverse (map group_of gs)
 
 abbrev pub state_of : Builder → State
-state_of b = record { around = groups_of b.around.items; group = group_of b.group; words = map (λ words. map arc_str_bytes words.items) (into_iter_items b.words) }
+state_of b = record { around = groups_of b.around.items; group = group_of b.group; words = words_of_items (into_iter_items b.words) }

@@ -1,5 +1,6 @@
 -- A token without where it lies in memory.
-use Rattle.std.specs.Prelude.{string_bytes}
+use Rattle.std.specs.Prelude.{◌≡◌, List, map, string_bytes}
+use Rattle.clip_grammar.specs.Shape.{Written, tokens}
 use Rattle.clip_grammar.specs.Tokens as spec
 use Rattle.clip_grammar.specs.Tree.{end_of}
 use Rattle.clip_syntax.specs.declared.token.Token.{Token}
@@ -19,3 +20,7 @@ token_of (code.Front text) = spec.Front (string_bytes text)
 token_of (code.Phrase text) = spec.Phrase (string_bytes text)
 token_of (code.Range low high) = spec.Range (end_of low) (end_of high)
 token_of code.Other = spec.Other
+
+-- the clauses that the tokens write, if any, have the property
+abbrev pub IfWritten : List Token → (Written → Type 0) → Type 0
+IfWritten ts P = (written : Written) → tokens written ≡ map token_of ts → P written
