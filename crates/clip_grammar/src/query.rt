@@ -26,8 +26,8 @@ pub enum Bound {
 
 /// What is asked of an article. Fields stand as they are written; words, fronts and ends of ranges are folded.
 ///
-/// Texts are shared, but for the ends of ranges. Dropping and comparing recurse along the tree: in a query that was read 66 levels
-/// at most, which are the outermost group, 64 groups in parentheses and a leaf.
+/// Texts are shared, but for the ends of ranges. Dropping and comparing recurse along the tree: in a query that was
+/// read 66 levels at most, which are the outermost group, 64 groups in parentheses and a leaf.
 #[derive(Debug, PartialEq, Eq, Drop)]
 pub enum Query {
     /// The word is among the field's words.

@@ -10,7 +10,7 @@ ghost use Rattle.std.specs.List.{list_any};
 ghost use Rattle.clip_syntax.specs.Steps.Marks.{class_test, and_rest, mark_and_rest, marks_and_rest, marks_after};
 ghost use Rattle.clip_grammar.specs.Tokens.{text_of, is_spelled, is_bare, is_wild, has_operator, ends_in_star, word_token, sign_token};
 ghost use Rattle.clip_syntax.specs.Steps.TokenOf.{token_of};
-ghost use Rattle.clip_syntax.specs.Steps.Ends.{text_and_rest, end_text_and_rest, end_with, quoted_end_of, bare_end_of};
+ghost use Rattle.clip_syntax.specs.Steps.Ends.{text_and_rest, end_text_and_rest, end_with, quoted_end_at, bare_end_at};
 ghost use Rattle.clip_grammar.specs.Tree.{end_of};
 
 use crate::token::Token;
@@ -393,7 +393,7 @@ fn bracket(text: &[char]) -> Option<(char, &[char])>
 
 /// A quoted end of a range, after its opening quote.
 fn quoted_end(alloc: Global, text: &[char]) -> Result<Option<(Option<String>, &[char])>, NoMemory>
-    ensures { IfOk result (λ found. option_map text_and_rest found ≡ quoted_end_of (marks_after [] (pieces_at quotable_char text.now))) }
+    ensures { IfOk result (λ found. option_map text_and_rest found ≡ quoted_end_at text.now) }
 {
     let (marks, rest) = pieces(Vec::new(alloc), text, Place::Quoted)?;
     let Some((close, rest)) = rest.split_first() else {
@@ -407,7 +407,7 @@ fn quoted_end(alloc: Global, text: &[char]) -> Result<Option<(Option<String>, &[
 
 /// A bare end of a range.
 fn bare_end(alloc: Global, text: &[char]) -> Result<Option<(Option<String>, &[char])>, NoMemory>
-    ensures { IfOk result (λ found. option_map text_and_rest found ≡ bare_end_of (marks_after [] (pieces_at end_char text.now))) }
+    ensures { IfOk result (λ found. option_map text_and_rest found ≡ bare_end_at text.now) }
 {
     let (marks, rest) = pieces(Vec::new(alloc), text, Place::End)?;
     if marks.is_empty() || is_spelled(&['T', 'O'], &marks) {

@@ -7,8 +7,8 @@ use std::alloc::{AllocError, Global};
 use std::sync::ArcStr;
 use std::test::Fail;
 
-/// A query as text, for comparison: `field=word`, `field="a phrase"`, `field=front*`, `field=['low' TO 'high'}`, `*:*`, and a
-/// group in parentheses, its clauses with `+` or `-` before them.
+/// A query as text, for comparison: `field=word`, `field="a phrase"`, `field=front*`, `field=['low' TO 'high'}`,
+/// `*:*`, and a group in parentheses, its clauses with `+` or `-` before them.
 fn show(query: &Query, text: &mut String) -> Result<(), AllocError> {
     match query {
         Query::Term { field, word } => write!(text, "{field}={word}"),

@@ -4,9 +4,11 @@ use Rattle.std.specs.Global.{Global}
 use Rattle.std.specs.Borrow.{Bor}
 use Rattle.std.specs.Option.{option_map}
 use Rattle.clip_grammar.specs.Lexemes.{RangeEnd, BareEnd, QuotedEnd}
-use Rattle.clip_grammar.specs.Steps.Lexer.{span_white, gap_at, to_at, bracket_at, ending_at, ◌>>=◌}
+use Rattle.clip_grammar.specs.Characters.{quotable_char, end_char}
+use Rattle.clip_grammar.specs.Steps.Lexer.{pieces_at, span_white, gap_at, to_at, bracket_at, ending_at, ◌>>=◌}
 use Rattle.clip_grammar.specs.Tokens.{Token, Range, End, Free, mark_of, is_spelled, text_of, closing}
 use Rattle.clip_grammar.specs.declared.mark.Mark.{Mark}
+use Rattle.clip_syntax.specs.Steps.Marks.{marks_after}
 
 -- the text of an end, and none for a star as it stands
 abbrev pub free_text : List Mark → Option (List ℕ)
@@ -38,6 +40,13 @@ quoted_end_of (m ∷ ms, c ∷ cs) = if c == 34 then Some (Some (text_of (m ∷ 
 abbrev pub bare_end_of : List Mark × List ℕ → Option (Option (List ℕ) × List ℕ)
 bare_end_of ([], cs) = None
 bare_end_of (m ∷ ms, cs) = if is_spelled (codes "TO") (m ∷ ms) then None else Some (free_text (m ∷ ms), cs)
+
+-- the same, of the text
+abbrev pub quoted_end_at : List ℕ → Option (Option (List ℕ) × List ℕ)
+quoted_end_at cs = quoted_end_of (marks_after [] (pieces_at quotable_char cs))
+
+abbrev pub bare_end_at : List ℕ → Option (Option (List ℕ) × List ℕ)
+bare_end_at cs = bare_end_of (marks_after [] (pieces_at end_char cs))
 
 -- what stands after an opening bracket
 unfoldable pub range_tokens : ℕ → List ℕ → Option (List Token × List ℕ)
