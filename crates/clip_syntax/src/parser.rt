@@ -10,13 +10,13 @@ ghost use Rattle.clip_syntax.specs.Steps.Progress.{accepts_after, next_accepts};
 use crate::token::{Token, after_colon, after_colon_star};
 use clip_grammar::stage::Stage;
 
-/// Whether the first token is left out. `behind` says whether a star and a colon stand before it.
-fn begins_left_out(token: &Token, after: &[Token], behind: bool) -> bool
-    ensures { result ≡ begins_left_out behind (token_of token.now) (map token_of after.now) }
+/// Whether the first token is left out. `after_star_colon` says whether a star and a colon stand before it.
+fn begins_left_out(token: &Token, after: &[Token], after_star_colon: bool) -> bool
+    ensures { result ≡ begins_left_out after_star_colon (token_of token.now) (map token_of after.now) }
 {
     match token {
         Token::Other => true,
-        Token::Star => !behind && after_colon_star(after).is_none(),
+        Token::Star => !after_star_colon && after_colon_star(after).is_none(),
         _ => false,
     }
 }
