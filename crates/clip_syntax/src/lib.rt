@@ -18,5 +18,4 @@ mod token;
 mod words;
 
 pub use clip_grammar::fault::QueryFault;
-pub use clip_grammar::query::{Bound, Occur, Query};
 pub use reader::read_query;
