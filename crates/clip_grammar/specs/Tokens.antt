@@ -22,7 +22,7 @@ pub data Token : Type 0 where
   Close : Token
   Colon : Token
   Star : Token
-  -- a plain Word, a prefix Word, a Quoted, a Range
+  -- of a plain Word, a prefix Word, a Quoted, a Range
   Plain : (text : List ℕ) → Token
   Front : (text : List ℕ) → Token
   Phrase : (text : List ℕ) → Token
@@ -55,6 +55,7 @@ is_spelled [] [] = true
 is_spelled (c ∷ cs) (m ∷ ms) = is_bare c m && is_spelled cs ms
 is_spelled _ _ = false
 
+-- a star or a question mark as it stands
 abbrev pub is_wild : Mark → Bool
 is_wild m = is_bare 42 m || is_bare 63 m
 
@@ -62,13 +63,13 @@ is_wild m = is_bare 42 m || is_bare 63 m
 abbrev pub front_of : List Mark → List Mark
 front_of ms = take (length ms - 1) ms
 
--- a star is last, and no star or question mark is before it
+-- a star (42) is last, and no star or question mark is before it
 abbrev pub ends_in_star : List Mark → Bool
 ends_in_star [] = false
 ends_in_star (m ∷ []) = is_bare 42 m
 ends_in_star (m ∷ n ∷ ms) = not (is_wild m) && ends_in_star (n ∷ ms)
 
--- two ampersands or two bars in a row, as they stand
+-- two ampersands (38) or two bars (124) in a row, as they stand
 abbrev pub has_operator : List Mark → Bool
 has_operator [] = false
 has_operator (m ∷ []) = false
@@ -87,6 +88,7 @@ word_token ms =
     else (if ends_in_star ms then Front (text_of (front_of ms))
     else Other))))
 
+-- what a sign says: + is 43, - is 45, ! is 33, the parentheses are 40 and 41, and else it is a colon
 unfoldable pub sign_token : ℕ → Token
 sign_token c =
     if c == 43 then Plus
@@ -96,10 +98,11 @@ sign_token c =
     else (if c == 41 then Close
     else Colon))))
 
+-- an end with this text, by whether its bracket lets it in
 abbrev pub closing : Bool → List ℕ → End
 closing closed text = if closed then With text else Without text
 
--- an end of a range, by the bracket on its side
+-- an end of a range, by the bracket on its side: [ is 91 and ] is 93
 abbrev pub end_token : Bool → RangeEnd → End
 end_token closed (BareEnd ps) = let ms = map mark_of ps in if is_spelled (codes "*") ms then Free else closing closed (text_of ms)
 end_token closed (QuotedEnd ps) = closing closed (text_of (map mark_of ps))
