@@ -2,7 +2,7 @@
 use Rattle.std.proofs.Common.{◌≡◌, ◌≢◌, ℕ, Bool, true, false, List, ◌∷◌, refl, ap, ◌∙◌}
 use Rattle.clip_grammar.specs.Tokens as token
 use Rattle.clip_grammar.specs.Tokens.{Token}
-use Rattle.clip_grammar.specs.Parser.{accepts, begins_colon}
+use Rattle.clip_grammar.specs.Steps.Parser.{accepts, begins_colon}
 use Rattle.clip_grammar.specs.Reading.{begins_colon_star}
 use Rattle.clip_grammar.specs.declared.stage.Stage.{Stage}
 use Rattle.clip_grammar.specs.declared.stage.Stage.TheVariants.{Fresh, AfterSign, AfterField}

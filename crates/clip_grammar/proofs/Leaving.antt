@@ -5,62 +5,51 @@ use mathlib.Core.List.{reverse_aux}
 use Rattle.clip_grammar.specs.Tokens as token
 use Rattle.clip_grammar.specs.Tokens.{Token}
 use Rattle.clip_grammar.specs.Reading.{begins_colon_star, IsLeftOut}
-use Rattle.clip_grammar.specs.LeftOut.{is_star, is_colon, begins_left_out, leaves_out}
-use Rattle.clip_grammar.proofs.Pieces.{both, and_true}
+use Rattle.clip_grammar.specs.Steps.LeftOut.{is_star, is_colon, begins_left_out, leaves_out}
+use Rattle.std.proofs.lemmas.Bool.{and_parts, and_from, or_left, or_right}
+use Rattle.clip_grammar.proofs.Booleans.{either}
 
--- the tokens behind, last first, begin with a star
+-- the tokens before, last first, begin with a star
 abbrev begins_star : List Token → Bool
 begins_star [] = false
 begins_star (t ∷ ts) = is_star t
 
--- a star that is no half of `*:*`, with these tokens behind, last first
-record LoneAfter (behind ts : List Token) : Type 0 where
+-- a star that is no half of `*:*`, with these tokens before, last first
+record LoneAfter (earlier ts : List Token) : Type 0 where
   pub before : List Token
   pub after : List Token
   pub parts : ts ≡ before ++ token.Star ∷ after
   pub not_first : IsTrue (not (begins_colon_star after))
-  pub not_last : IsTrue (not (begins_colon_star (reverse_aux before behind)))
+  pub not_last : IsTrue (not (begins_colon_star (reverse_aux before earlier)))
 
 abbrev LeftAfter : List Token → List Token → Type 0
-LeftAfter behind ts = Contains ts token.Other ⊎ LoneAfter behind ts
+LeftAfter earlier ts = Contains ts token.Other ⊎ LoneAfter earlier ts
 
-colon_then_star : (t : Token) (behind : List Token) → (is_colon t && begins_star behind) ≡ begins_colon_star (t ∷ behind)
-colon_then_star token.Colon (token.Star ∷ behind) = refl
-colon_then_star token.Colon behind = refl
-colon_then_star t behind = refl
-
-either : {A : Type 0} (a b : Bool) → (a || b) ≡ true → (a ≡ true → A) → (b ≡ true → A) → A
-either true b h f g = f refl
-either false b h f g = g h
-
-or_left : (a b : Bool) → a ≡ true → (a || b) ≡ true
-or_left true b h = refl
-or_left false b h = cc
-
-or_right : (a b : Bool) → b ≡ true → (a || b) ≡ true
-or_right true b h = refl
-or_right false b h = h
+colon_then_star : (t : Token) (earlier : List Token) → (is_colon t && begins_star earlier) ≡ begins_colon_star (t ∷ earlier)
+colon_then_star token.Colon (token.Star ∷ earlier) = refl
+colon_then_star token.Colon earlier = refl
+colon_then_star t earlier = refl
 
 -- ---- what is found is left out
 
-now : (t : Token) (ts behind : List Token) (b : Bool) → b ≡ begins_colon_star behind → begins_left_out b t ts ≡ true → LeftAfter behind (t ∷ ts)
-now token.Other ts behind b e h = inl (0, omega arith, refl)
-now token.Star ts behind b e h =
-    let parts = both (not b) (not (begins_colon_star ts)) h in
+now : (t : Token) (ts earlier : List Token) (b : Bool) → b ≡ begins_colon_star earlier → begins_left_out b t ts ≡ true → LeftAfter earlier (t ∷ ts)
+now token.Other ts earlier b e h = inl (0, omega arith, refl)
+now token.Star ts earlier b e h =
+    let parts = and_parts (not b) (not (begins_colon_star ts)) h in
     inr (record { before = []; after = ts; parts = refl; not_first = parts.1; not_last = ap not (sym e) ∙ parts.0 })
-now _ ts behind b e h = cc
+now _ ts earlier b e h = cc
 
-later : (t : Token) (ts behind : List Token) → LeftAfter (t ∷ behind) ts → LeftAfter behind (t ∷ ts)
-later t ts behind (inl at) = inl (suc at.0, omega (arith, at.1), at.2)
-later t ts behind (inr lone) = inr (record { before = t ∷ lone.before; after = lone.after; parts = ap (λ x. t ∷ x) lone.parts; not_first = lone.not_first; not_last = lone.not_last })
+later : (t : Token) (ts earlier : List Token) → LeftAfter (t ∷ earlier) ts → LeftAfter earlier (t ∷ ts)
+later t ts earlier (inl at) = inl (suc at.0, omega (arith, at.1), at.2)
+later t ts earlier (inr lone) = inr (record { before = t ∷ lone.before; after = lone.after; parts = ap (λ x. t ∷ x) lone.parts; not_first = lone.not_first; not_last = lone.not_last })
 
-found_after : (ts behind : List Token) (s b : Bool) → s ≡ begins_star behind → b ≡ begins_colon_star behind → leaves_out s b ts ≡ true → LeftAfter behind ts
+found_after : (ts earlier : List Token) (s b : Bool) → s ≡ begins_star earlier → b ≡ begins_colon_star earlier → leaves_out s b ts ≡ true → LeftAfter earlier ts
 unfolding leaves_out
-found_after [] behind s b es eb h = cc
-found_after (t ∷ ts) behind s b es eb h =
+found_after [] earlier s b es eb h = cc
+found_after (t ∷ ts) earlier s b es eb h =
     either (begins_left_out b t ts) (leaves_out (is_star t) (is_colon t && s) ts) h
-    (λ k. now t ts behind b eb k)
-    (λ k. later t ts behind (found_after ts (t ∷ behind) (is_star t) (is_colon t && s) refl (ap (λ x. is_colon t && x) es ∙ colon_then_star t behind) k))
+    (λ k. now t ts earlier b eb k)
+    (λ k. later t ts earlier (found_after ts (t ∷ earlier) (is_star t) (is_colon t && s) refl (ap (λ x. is_colon t && x) es ∙ colon_then_star t earlier) k))
 
 -- ---- what is left out is found
 
@@ -68,18 +57,18 @@ first_other : (t : Token) (ts : List Token) (b : Bool) → t ≡ token.Other →
 first_other t ts b e = ap (λ x. begins_left_out b x ts) e
 
 first_star : (t : Token) (ts : List Token) (b : Bool) → t ≡ token.Star → not b ≡ true → not (begins_colon_star ts) ≡ true → begins_left_out b t ts ≡ true
-first_star t ts b e h k = ap (λ x. begins_left_out b x ts) e ∙ and_true (not b) (not (begins_colon_star ts)) h k
+first_star t ts b e h k = ap (λ x. begins_left_out b x ts) e ∙ and_from (not b) (not (begins_colon_star ts)) h k
 
 -- the first token is left out, or one of the others, which gives the second fact
-at_place : (t : Token) (ts behind : List Token) (b r : Bool) → b ≡ begins_colon_star behind → (LeftAfter (t ∷ behind) ts → r ≡ true) → LeftAfter behind (t ∷ ts) → (begins_left_out b t ts || r) ≡ true
-at_place t ts behind b r eb more (inl at) = place at.0 at.1 at.2
+at_place : (t : Token) (ts earlier : List Token) (b r : Bool) → b ≡ begins_colon_star earlier → (LeftAfter (t ∷ earlier) ts → r ≡ true) → LeftAfter earlier (t ∷ ts) → (begins_left_out b t ts || r) ≡ true
+at_place t ts earlier b r eb more (inl at) = place at.0 at.1 at.2
   where
     place : (k : ℕ) → k < length (t ∷ ts) → get_or (t ∷ ts) k token.Other ≡ token.Other → (begins_left_out b t ts || r) ≡ true
     place zero l e = or_left _ _ (first_other t ts b e)
     place (suc k) l e = or_right _ _ (more (inl (k, omega arith, e)))
-at_place t ts behind b r eb more (inr lone) = place lone.before lone.parts lone.not_last
+at_place t ts earlier b r eb more (inr lone) = place lone.before lone.parts lone.not_last
   where
-    place : (before : List Token) → t ∷ ts ≡ before ++ token.Star ∷ lone.after → IsTrue (not (begins_colon_star (reverse_aux before behind))) → (begins_left_out b t ts || r) ≡ true
+    place : (before : List Token) → t ∷ ts ≡ before ++ token.Star ∷ lone.after → IsTrue (not (begins_colon_star (reverse_aux before earlier))) → (begins_left_out b t ts || r) ≡ true
     place [] e k =
         let first : t ≡ token.Star = cc in
         let rest : ts ≡ lone.after = cc in
@@ -87,22 +76,22 @@ at_place t ts behind b r eb more (inr lone) = place lone.before lone.parts lone.
     place (u ∷ before) e k =
         let first : u ≡ t = cc in
         let rest : ts ≡ before ++ token.Star ∷ lone.after = cc in
-        or_right _ _ (more (inr (record { before = before; after = lone.after; parts = rest; not_first = lone.not_first; not_last = subst (λ x. IsTrue (not (begins_colon_star (reverse_aux before (x ∷ behind))))) first k })))
+        or_right _ _ (more (inr (record { before = before; after = lone.after; parts = rest; not_first = lone.not_first; not_last = subst (λ x. IsTrue (not (begins_colon_star (reverse_aux before (x ∷ earlier))))) first k })))
 
-nothing_left : (behind : List Token) → LeftAfter behind [] → ⊥
-nothing_left behind (inl at) = absurd (omega (arith, at.1))
-nothing_left behind (inr lone) = none lone.before lone.parts
+nothing_left : (earlier : List Token) → LeftAfter earlier [] → ⊥
+nothing_left earlier (inl at) = absurd (omega (arith, at.1))
+nothing_left earlier (inr lone) = none lone.before lone.parts
   where
     none : (before : List Token) → [] ≡ before ++ token.Star ∷ lone.after → ⊥
     none [] e = cc
     none (u ∷ before) e = cc
 
-left_after : (ts behind : List Token) (s b : Bool) → s ≡ begins_star behind → b ≡ begins_colon_star behind → LeftAfter behind ts → leaves_out s b ts ≡ true
+left_after : (ts earlier : List Token) (s b : Bool) → s ≡ begins_star earlier → b ≡ begins_colon_star earlier → LeftAfter earlier ts → leaves_out s b ts ≡ true
 unfolding leaves_out
-left_after [] behind s b es eb left = absurd (nothing_left behind left)
-left_after (t ∷ ts) behind s b es eb left =
-    at_place t ts behind b _ eb
-    (λ more. left_after ts (t ∷ behind) (is_star t) (is_colon t && s) refl (ap (λ x. is_colon t && x) es ∙ colon_then_star t behind) more) left
+left_after [] earlier s b es eb left = absurd (nothing_left earlier left)
+left_after (t ∷ ts) earlier s b es eb left =
+    at_place t ts earlier b _ eb
+    (λ more. left_after ts (t ∷ earlier) (is_star t) (is_colon t && s) refl (ap (λ x. is_colon t && x) es ∙ colon_then_star t earlier) more) left
 
 -- ---- both
 

@@ -1,12 +1,14 @@
 -- What the lexer finds is the one list of lexemes, or the longest front that has one.
 use Rattle.std.proofs.Common.{◌≡◌, ℕ, Bool, true, false, not, ◌&&◌, ◌||◌, List, [], ◌∷◌, ◌++◌, length, Some, None, refl, sym, ap, subst, ◌∙◌, encode_utf8_all, arith, append_assoc, append-nil, length-append, codes, flat_map}
-use Rattle.clip_grammar.specs.Lexemes.{Piece, Lexeme, Blank, Word, Quoted, Range, Sign, Foreign, Bare, Escape, Code, is_lexeme, is_word, are_lexemes, continues_word, is_piece, is_one_of, spell, spell_pieces, spell_piece, Lexes, white_chars, is_start}
+use Rattle.clip_grammar.specs.Lexemes.{Piece, Lexeme, Blank, Word, Quoted, Range, Sign, Foreign, Bare, Escape, Code, is_lexeme, is_word, are_lexemes, continues_word, is_piece, spell, spell_pieces, spell_piece, Lexes}
+use Rattle.clip_grammar.specs.Characters.{is_one_of, white_chars, is_start, word_char, first_char}
 use Rattle.std.specs.Str.{chars}
 use Rattle.std.proofs.lemmas.Str.{encodes-append}
 use Rattle.std.proofs.lemmas.List.Concat.{flat_map-append}
 use Rattle.clip_grammar.specs.Reading.{IsStuck}
-use Rattle.clip_grammar.specs.Lexer.{word_char, first_char, piece_at, pieces_at, lexeme_at, Finds}
-use Rattle.clip_grammar.proofs.Pieces.{both, and_true, not_true, if_some_at, piece_again}
+use Rattle.clip_grammar.specs.Steps.Lexer.{piece_at, pieces_at, lexeme_at, Finds}
+use Rattle.std.proofs.lemmas.Bool.{and_parts, and_from, not-true}
+use Rattle.clip_grammar.proofs.Pieces.{if_some_at, piece_again}
 use Rattle.clip_grammar.proofs.Fronts.{among_all, no_backslash, ends_at, LexemeFound, lexeme_found, lexeme_again, word_longer}
 
 some_none : {A : Type 0} {x : A} → Some x ≡ None → ⊥
@@ -17,13 +19,13 @@ some_inj h = cc
 
 -- a lexeme that does not continue a word begins with no piece of one
 no_piece : (l : Lexeme) (ls : List Lexeme) (x : List ℕ) → is_lexeme l ≡ true → continues_word (l ∷ ls) ≡ false → piece_at word_char (spell l ++ x) ≡ None
-no_piece (Blank c) ls x ok h = ends_at word_char c x (no_backslash white_chars c refl ok) (not_true _ (among_all (λ d. not (word_char d)) white_chars c refl ok))
+no_piece (Blank c) ls x ok h = ends_at word_char c x (no_backslash white_chars c refl ok) (not-true _ (among_all (λ d. not (word_char d)) white_chars c refl ok))
 no_piece (Word ps) ls x ok h = cc
 no_piece (Quoted ps) ls x ok h = ends_at word_char 34 _ refl refl
 no_piece (Range left a low b c high d right) ls x ok h =
-    let r7 = both _ (is_one_of "]}" right) ok in
-    let in_left : is_one_of "[{" left ≡ true = (both (is_one_of "[{" left) _ (both _ _ (both _ _ (both _ _ (both _ _ (both _ _ r7.0).0).0).0).0).0).0 in
-    ends_at word_char left _ (no_backslash (codes "[{") left refl in_left) (not_true _ (among_all (λ d. not (word_char d)) (codes "[{") left refl in_left))
+    let r7 = and_parts _ (is_one_of "]}" right) ok in
+    let in_left : is_one_of "[{" left ≡ true = (and_parts (is_one_of "[{" left) _ (and_parts _ _ (and_parts _ _ (and_parts _ _ (and_parts _ _ (and_parts _ _ r7.0).0).0).0).0).0).0 in
+    ends_at word_char left _ (no_backslash (codes "[{") left refl in_left) (not-true _ (among_all (λ d. not (word_char d)) (codes "[{") left refl in_left))
 no_piece (Sign c) ls x ok h = ends_at word_char c x (no_backslash (codes "+-!():") c refl ok) (at (is_one_of "+-" c) refl)
   where
     at : (b : Bool) → is_one_of "+-" c ≡ b → word_char c ≡ false
@@ -35,20 +37,20 @@ no_piece (Sign c) ls x ok h = ends_at word_char c x (no_backslash (codes "+-!():
         neither false k = k
         neither true k = let one : (not (word_char c) || is_one_of "+-" c) ≡ true = among_all (λ d. not (word_char d) || is_one_of "+-" d) (codes "+-!():") c refl ok in
             let bad : false ≡ true = sym (ap (λ v. not v || is_one_of "+-" c) k ∙ e) ∙ one in cc
-no_piece (Foreign c) ls x ok h = ends_at word_char c x (no_backslash (codes "~^/") c refl ok) (not_true _ (among_all (λ d. not (word_char d)) (codes "~^/") c refl ok))
+no_piece (Foreign c) ls x ok h = ends_at word_char c x (no_backslash (codes "~^/") c refl ok) (not-true _ (among_all (λ d. not (word_char d)) (codes "~^/") c refl ok))
 
 -- where the lexemes that follow do not continue a word, neither does their text
 no_text : (ls : List Lexeme) (x : List ℕ) → are_lexemes ls ≡ true → continues_word ls ≡ false → piece_at word_char x ≡ None → piece_at word_char (flat_map spell ls ++ x) ≡ None
 no_text [] x ok h e = e
 no_text (l ∷ ls) x ok h e =
-    let is = (both (is_lexeme l) _ (both _ (are_lexemes ls) ok).0).0 in
+    let is = (and_parts (is_lexeme l) _ (and_parts _ (are_lexemes ls) ok).0).0 in
     ap (piece_at word_char) (append_assoc (spell l) (flat_map spell ls) x) ∙ no_piece l ls (flat_map spell ls ++ x) is h
 
 parts_of : (l : Lexeme) (ls : List Lexeme) → are_lexemes (l ∷ ls) ≡ true → (is_lexeme l ≡ true) × ((is_word l && continues_word ls) ≡ false) × (are_lexemes ls ≡ true)
 parts_of l ls ok =
-    let outer = both (is_lexeme l && not (is_word l && continues_word ls)) (are_lexemes ls) ok in
-    let inner = both (is_lexeme l) (not (is_word l && continues_word ls)) outer.0 in
-    (inner.0, not_true _ inner.1, outer.1)
+    let outer = and_parts (is_lexeme l && not (is_word l && continues_word ls)) (are_lexemes ls) ok in
+    let inner = and_parts (is_lexeme l) (not (is_word l && continues_word ls)) outer.0 in
+    (inner.0, not-true _ inner.1, outer.1)
 
 nil_none : piece_at word_char [] ≡ None
 unfolding piece_at
@@ -109,8 +111,8 @@ unfolding piece_at
 piece_of_word (Blank c) ls x ok h e = cc
 piece_of_word (Word []) ls x ok h e = cc
 piece_of_word (Word (p ∷ ps)) ls x ok h e =
-    let shown = sym (ap (piece_at word_char) (append_assoc (spell_piece p) (spell_pieces ps) x)) ∙ e in
-    some_none (sym (piece_again word_char refl p (spell_pieces ps ++ x) (wider p (both (is_piece first_char p) _ ok).0)) ∙ shown)
+    let token_and_rest = sym (ap (piece_at word_char) (append_assoc (spell_piece p) (spell_pieces ps) x)) ∙ e in
+    some_none (sym (piece_again word_char refl p (spell_pieces ps ++ x) (wider p (and_parts (is_piece first_char p) _ ok).0)) ∙ token_and_rest)
   where
     wider : (p : Piece) → is_piece first_char p ≡ true → is_piece word_char p ≡ true
     wider (Bare c) k = or_wider (is_start c) (is_one_of "*?" c) (is_one_of "*?+-" c) k (among_all (is_one_of "*?+-") (codes "*?") c refl)
@@ -135,7 +137,7 @@ found_lexemes [] cs rest f = refl
 found_lexemes (l ∷ ls) cs rest f =
     let found = if_some_at (LexemeFound cs) f.1 (lexeme_found cs) in
     let others = found_lexemes ls f.0 rest f.2 in
-    and_true _ _ (and_true _ _ found.is (ap not (at (is_word l) (continues_word ls) refl refl found.ends))) others
+    and_from _ _ (and_from _ _ found.is (ap not (at (is_word l) (continues_word ls) refl refl found.ends))) others
   where
     at : (b d : Bool) → is_word l ≡ b → continues_word ls ≡ d → (is_word l ≡ true → piece_at word_char f.0 ≡ None) → (is_word l && continues_word ls) ≡ false
     at false d e k ends = ap (λ v. v && continues_word ls) e

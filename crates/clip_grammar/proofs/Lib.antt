@@ -1,3 +1,6 @@
+pub mod Booleans
+pub mod Orderings
+pub mod Trees
 pub mod Rows
 pub mod Pieces
 pub mod Fronts

@@ -6,7 +6,7 @@ use Rattle.clip_grammar.specs.Tokens as token
 use Rattle.clip_grammar.specs.Tokens.{Token, End}
 use Rattle.clip_grammar.specs.Shape as shape
 use Rattle.clip_grammar.specs.Shape.{Sign, Written, one, more, WrittenClause, item, everything, Item, tokens, clause_tokens, item_tokens, sign_tokens, field_tokens}
-use Rattle.clip_grammar.specs.Parser.{Pending, Nothing, Signed, Fielded, sign_of, field_of, Frame, written_of, ended, with_item, run, parse, accepts}
+use Rattle.clip_grammar.specs.Steps.Parser.{Pending, Nothing, Signed, Fielded, sign_of, field_of, Frame, written_of, ended, with_item, run, parse, accepts}
 use Rattle.clip_grammar.specs.declared.stage.Stage.{Stage}
 use Rattle.clip_grammar.specs.declared.stage.Stage.TheVariants.{Fresh, AfterSign, AfterField}
 
@@ -33,13 +33,13 @@ run_plain text (token.Star ∷ ts) below cs pending h = refl
 run_plain text (token.Plain _ ∷ ts) below cs pending h = refl
 run_plain text (token.Front _ ∷ ts) below cs pending h = refl
 run_plain text (token.Phrase _ ∷ ts) below cs pending h = refl
-run_plain text (token.Between _ _ ∷ ts) below cs pending h = refl
+run_plain text (token.Range _ _ ∷ ts) below cs pending h = refl
 run_plain text (token.Other ∷ ts) below cs pending h = refl
 
 -- the clauses of a list of clauses
-abbrev listed : Written → List WrittenClause
-listed (one c) = c ∷ []
-listed (more c cs) = c ∷ listed cs
+abbrev clause_list : Written → List WrittenClause
+clause_list (one c) = c ∷ []
+clause_list (more c cs) = c ∷ clause_list cs
 
 -- what has been read of a clause, from its sign and its field
 abbrev pending_of : Sign → Option (List ℕ) → Pending
@@ -95,7 +95,7 @@ pub no_colon : (c : WrittenClause) (ts : List Token) → starts_colon (clause_to
 no_colon (item shape.Unsigned None (shape.Plain text)) ts = refl
 no_colon (item shape.Unsigned None (shape.Front text)) ts = refl
 no_colon (item shape.Unsigned None (shape.Phrase text)) ts = refl
-no_colon (item shape.Unsigned None (shape.Between low high)) ts = refl
+no_colon (item shape.Unsigned None (shape.Range low high)) ts = refl
 no_colon (item shape.Unsigned None (shape.Parens cs)) ts = refl
 no_colon (item shape.Unsigned (Some field) i) ts = refl
 no_colon (item shape.Plus field i) ts = refl
@@ -112,14 +112,14 @@ pub no_colons : (cs : Written) (ts : List Token) → starts_colon ts ≡ false �
 no_colons (one c) ts h = no_colon c ts
 no_colons (more c cs) ts h = ap starts_colon (append_assoc (clause_tokens c) (tokens cs) ts) ∙ no_colon c (tokens cs ++ ts)
 
-written_listed : (cs : Written) → (c : WrittenClause) × (ds : List WrittenClause) × (listed cs ≡ c ∷ ds) × (written_of c ds ≡ cs)
+written_listed : (cs : Written) → (c : WrittenClause) × (ds : List WrittenClause) × (clause_list cs ≡ c ∷ ds) × (written_of c ds ≡ cs)
 written_listed (one c) = (c, [], refl, refl)
 written_listed (more c cs) =
     let rest = written_listed cs in
-    (c, listed cs, refl, ap (written_of c) rest.2 ∙ ap (more c) rest.3)
+    (c, clause_list cs, refl, ap (written_of c) rest.2 ∙ ap (more c) rest.3)
 
 abbrev CloseIs : Type 0
-CloseIs = (ts : List Token) (f : Frame) (below : List Frame) (cs : Written) → run (token.Close ∷ ts) (f ∷ below) (listed cs) Nothing ≡ run ts below (with_item f.clauses f.pending (shape.Parens cs)) Nothing
+CloseIs = (ts : List Token) (f : Frame) (below : List Frame) (cs : Written) → run (token.Close ∷ ts) (f ∷ below) (clause_list cs) Nothing ≡ run ts below (with_item f.clauses f.pending (shape.Parens cs)) Nothing
 
 run_close : CloseIs
 unfolding run
@@ -139,18 +139,18 @@ run_phrase : (text : List ℕ) (ts : List Token) (below : List Frame) (cs : List
 unfolding run
 run_phrase text ts below cs pending = refl
 
-run_between : (low high : End) (ts : List Token) (below : List Frame) (cs : List WrittenClause) (pending : Pending) → run (token.Between low high ∷ ts) below cs pending ≡ run ts below (with_item cs pending (shape.Between low high)) Nothing
+run_range : (low high : End) (ts : List Token) (below : List Frame) (cs : List WrittenClause) (pending : Pending) → run (token.Range low high ∷ ts) below cs pending ≡ run ts below (with_item cs pending (shape.Range low high)) Nothing
 unfolding run
-run_between low high ts below cs pending = refl
+run_range low high ts below cs pending = refl
 
 mutual
-  run_written : (w : Written) (ts : List Token) (below : List Frame) (cs : List WrittenClause) → starts_colon ts ≡ false → run (tokens w ++ ts) below cs Nothing ≡ run ts below (cs ++ listed w) Nothing
+  run_written : (w : Written) (ts : List Token) (below : List Frame) (cs : List WrittenClause) → starts_colon ts ≡ false → run (tokens w ++ ts) below cs Nothing ≡ run ts below (cs ++ clause_list w) Nothing
   run_written (one c) ts below cs h = run_clause c ts below cs h
   run_written (more c w) ts below cs h =
       ap (λ x. run x below cs Nothing) (append_assoc (clause_tokens c) (tokens w) ts)
       ∙ run_clause c (tokens w ++ ts) below cs (no_colons w ts h)
       ∙ run_written w ts below (cs ++ c ∷ []) h
-      ∙ ap (λ x. run ts below x Nothing) (append_assoc cs (c ∷ []) (listed w))
+      ∙ ap (λ x. run ts below x Nothing) (append_assoc cs (c ∷ []) (clause_list w))
 
   run_clause : (c : WrittenClause) (ts : List Token) (below : List Frame) (cs : List WrittenClause) → starts_colon ts ≡ false → run (clause_tokens c ++ ts) below cs Nothing ≡ run ts below (cs ++ c ∷ []) Nothing
   run_clause (item sign field i) ts below cs h =
@@ -169,7 +169,7 @@ mutual
   run_item (shape.Plain text) ts below cs pending h = run_plain text ts below cs pending h
   run_item (shape.Front text) ts below cs pending h = run_front text ts below cs pending
   run_item (shape.Phrase text) ts below cs pending h = run_phrase text ts below cs pending
-  run_item (shape.Between low high) ts below cs pending h = run_between low high ts below cs pending
+  run_item (shape.Range low high) ts below cs pending h = run_range low high ts below cs pending
   run_item (shape.Parens w) ts below cs pending h =
       ap (λ x. run (token.Open ∷ x) below cs pending) (append_assoc (tokens w) (token.Close ∷ []) ts)
       ∙ run_open (tokens w ++ token.Close ∷ ts) below cs pending
@@ -252,7 +252,7 @@ run_sound (token.Plain field ∷ token.Colon ∷ ts) below cs (Fielded sign othe
 run_sound (token.Plain text ∷ ts) below cs pending w e = run_sound ts below (with_item cs pending (shape.Plain text)) Nothing w e ∙ push_item (before below) cs pending (shape.Plain text) ts
 run_sound (token.Front text ∷ ts) below cs pending w e = run_sound ts below (with_item cs pending (shape.Front text)) Nothing w e ∙ push_item (before below) cs pending (shape.Front text) ts
 run_sound (token.Phrase text ∷ ts) below cs pending w e = run_sound ts below (with_item cs pending (shape.Phrase text)) Nothing w e ∙ push_item (before below) cs pending (shape.Phrase text) ts
-run_sound (token.Between low high ∷ ts) below cs pending w e = run_sound ts below (with_item cs pending (shape.Between low high)) Nothing w e ∙ push_item (before below) cs pending (shape.Between low high) ts
+run_sound (token.Range low high ∷ ts) below cs pending w e = run_sound ts below (with_item cs pending (shape.Range low high)) Nothing w e ∙ push_item (before below) cs pending (shape.Range low high) ts
 run_sound (token.Star ∷ token.Colon ∷ token.Star ∷ ts) below cs Nothing w e = run_sound ts below (cs ++ everything shape.Unsigned ∷ []) Nothing w e ∙ push_everything (before below) cs shape.Unsigned ts
 run_sound (token.Star ∷ token.Colon ∷ token.Star ∷ ts) below cs (Signed sign) w e = run_sound ts below (cs ++ everything sign ∷ []) Nothing w e ∙ push_everything (before below) cs sign ts
 run_sound (token.Open ∷ ts) below cs pending w e = run_sound ts (record { clauses = cs; pending = pending } ∷ below) [] Nothing w e ∙ push_open (before below) (flat cs) (pending_tokens pending) ts
@@ -299,7 +299,7 @@ run_accepts (token.Plain field ∷ token.Colon ∷ ts) below cs (Fielded sign ot
 run_accepts (token.Plain text ∷ ts) below cs pending = run_accepts ts below (with_item cs pending (shape.Plain text)) Nothing ∙ ap (λ b. accepts ts (length below) b Fresh) (some_push cs (item (sign_of pending) (field_of pending) (shape.Plain text)))
 run_accepts (token.Front text ∷ ts) below cs pending = run_accepts ts below (with_item cs pending (shape.Front text)) Nothing ∙ ap (λ b. accepts ts (length below) b Fresh) (some_push cs (item (sign_of pending) (field_of pending) (shape.Front text)))
 run_accepts (token.Phrase text ∷ ts) below cs pending = run_accepts ts below (with_item cs pending (shape.Phrase text)) Nothing ∙ ap (λ b. accepts ts (length below) b Fresh) (some_push cs (item (sign_of pending) (field_of pending) (shape.Phrase text)))
-run_accepts (token.Between low high ∷ ts) below cs pending = run_accepts ts below (with_item cs pending (shape.Between low high)) Nothing ∙ ap (λ b. accepts ts (length below) b Fresh) (some_push cs (item (sign_of pending) (field_of pending) (shape.Between low high)))
+run_accepts (token.Range low high ∷ ts) below cs pending = run_accepts ts below (with_item cs pending (shape.Range low high)) Nothing ∙ ap (λ b. accepts ts (length below) b Fresh) (some_push cs (item (sign_of pending) (field_of pending) (shape.Range low high)))
 run_accepts (token.Star ∷ token.Colon ∷ token.Star ∷ ts) below cs Nothing = run_accepts ts below (cs ++ everything shape.Unsigned ∷ []) Nothing ∙ ap (λ b. accepts ts (length below) b Fresh) (some_push cs (everything shape.Unsigned))
 run_accepts (token.Star ∷ token.Colon ∷ token.Star ∷ ts) below cs (Signed sign) = run_accepts ts below (cs ++ everything sign ∷ []) Nothing ∙ ap (λ b. accepts ts (length below) b Fresh) (some_push cs (everything sign))
 run_accepts (token.Open ∷ ts) below cs pending = run_accepts ts (record { clauses = cs; pending = pending } ∷ below) [] Nothing

@@ -1,25 +1,14 @@
 -- What `piece_at` and `pieces_at` find is spelled at the front, and what is spelled there is found.
-use Rattle.std.proofs.Common.{◌≡◌, ℕ, zero, suc, ◌<◌, ◌≤◌, Bool, true, false, cond, not, ◌&&◌, eqb, List, [], ◌∷◌, ◌++◌, length, Option, Some, None, refl, sym, ap, subst, ◌∙◌, arith, append_assoc, append-nil, length-append}
+use Rattle.std.proofs.Common.{◌≡◌, ℕ, zero, suc, ◌<◌, ◌≤◌, Bool, true, false, cond, not, eqb, List, [], ◌∷◌, ◌++◌, length, Option, Some, None, refl, sym, ap, subst, ◌∙◌, arith, append_assoc, append-nil, length-append}
 use Rattle.std.specs.Prelude.{IfSome}
 use Rattle.std.specs.List.{list_all}
+use Rattle.std.proofs.lemmas.Bool.{and_from, and_parts, not-true}
 use Rattle.std.proofs.lemmas.Bool.Decides.{nat_tests}
-use Rattle.clip_grammar.specs.Lexemes.{Piece, Bare, Escape, Code, spell_piece, spell_pieces, is_piece, is_code}
-use Rattle.clip_grammar.specs.Lexer.{code_at, escape_at, piece_at, go_on, pieces_within, pieces_at}
+use Rattle.clip_grammar.specs.Lexemes.{Piece, Bare, Escape, Code, spell_piece, spell_pieces, is_piece}
+use Rattle.clip_grammar.specs.Characters.{is_code}
+use Rattle.clip_grammar.specs.Steps.Lexer.{code_at, escape_at, piece_at, go_on, pieces_within, pieces_at}
 
 -- ---- small cases
-
-pub both : (a b : Bool) → (a && b) ≡ true → (a ≡ true) × (b ≡ true)
-both true true h = (refl, refl)
-both true false h = cc
-both false b h = cc
-
-pub and_true : (a b : Bool) → a ≡ true → b ≡ true → (a && b) ≡ true
-and_true true b h k = k
-and_true false b h k = cc
-
-pub not_true : (a : Bool) → not a ≡ true → a ≡ false
-not_true true h = cc
-not_true false h = refl
 
 -- a choice, where the test went this way
 pub chosen_true : {A : Type 0} {b : Bool} (x y : A) → b ≡ true → cond b x y ≡ x
@@ -77,7 +66,7 @@ piece_again test quiet (Bare c) rest ok =
     backslash : (b : Bool) → eqb c 92 ≡ b → b ≡ false
     backslash false e = refl
     backslash true e = let same : c ≡ 92 = grind (arith, nat_tests) in let bad : true ≡ false = sym ok ∙ ap test same ∙ quiet in cc
-piece_again test quiet (Escape c) rest ok = chosen_false _ _ (not_true _ ok)
+piece_again test quiet (Escape c) rest ok = chosen_false _ _ (not-true _ ok)
 piece_again test quiet (Code a b c d) rest ok = chosen_true _ _ ok
 
 pub spelled : (p : Piece) → 0 < length (spell_piece p)
@@ -120,7 +109,7 @@ within_found test (suc n) cs = at (piece_at test cs) (piece_found test cs) (λ r
     at : (r : Option (Piece × List ℕ)) → IfSome r (IsFound test cs) → ((rest : List ℕ) → AreFound test rest (pieces_within test n rest)) → AreFound test cs (go_on (pieces_within test n) cs r)
     at None h more = record { pieces = refl; parts = refl }
     at (Some found) h more = record {
-      pieces = and_true _ _ h.0 (more found.1).pieces;
+      pieces = and_from _ _ h.0 (more found.1).pieces;
       parts = append_assoc (spell_piece found.0) _ _ ∙ ap (λ x. spell_piece found.0 ++ x) (more found.1).parts ∙ h.1;
     }
 
@@ -142,7 +131,7 @@ unfolding pieces_within pieces_at
 within_again test quiet [] rest n ok h = bound_free test n (length rest) rest h (omega arith)
 within_again test quiet (p ∷ ps) rest zero ok h = absurd (let s : 0 < length (spell_piece p) = spelled p in omega (arith, length-append (spell_piece p) (spell_pieces ps), length-append (spell_piece p ++ spell_pieces ps) rest))
 within_again test quiet (p ∷ ps) rest (suc n) ok h =
-    let parts = both (is_piece test p) (list_all (is_piece test) ps) ok in
+    let parts = and_parts (is_piece test p) (list_all (is_piece test) ps) ok in
     let s : 0 < length (spell_piece p) = spelled p in
     let e : (spell_piece p ++ spell_pieces ps) ++ rest ≡ spell_piece p ++ (spell_pieces ps ++ rest) = append_assoc (spell_piece p) (spell_pieces ps) rest in
     let shorter : length (spell_pieces ps ++ rest) ≤ n = omega (arith, ap length e, length-append (spell_piece p) (spell_pieces ps ++ rest)) in

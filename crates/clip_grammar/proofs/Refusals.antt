@@ -6,13 +6,14 @@ use Rattle.std.proofs.lemmas.Str.{encodes-append, encodes-chars, length-le-encod
 use Rattle.std.proofs.lemmas.Bool.{false≢true}
 use Rattle.std.proofs.lemmas.Bool.Decides.{nat_tests}
 use Rattle.clip_grammar.specs.Lexemes.{Lexeme, Blank, Word, Quoted, Range, Sign, Foreign, spell, spell_piece, spell_pieces, is_lexeme}
-use Rattle.clip_grammar.specs.Lexer.{lexeme_at, Finds}
+use Rattle.clip_grammar.specs.Steps.Lexer.{lexeme_at, Finds}
 use Rattle.clip_grammar.specs.Tokens.{Token, tokens_of}
 use Rattle.clip_grammar.specs.Shape.{Written, tokens, written_tree, lacks_words}
-use Rattle.clip_grammar.specs.Parser.{parse, accepts}
-use Rattle.clip_grammar.specs.LeftOut.{leaves_out}
+use Rattle.clip_grammar.specs.Steps.Parser.{parse, accepts}
+use Rattle.clip_grammar.specs.Steps.LeftOut.{leaves_out}
 use Rattle.clip_grammar.specs.Tree.{Tree, nodes, depth}
-use Rattle.clip_grammar.specs.Reading.{IsLeftOut, IsTooBig, IsFault, HasNoFault, Reads, Says, Writes, most_bytes}
+use Rattle.clip_grammar.specs.Reading.{IsLeftOut, IsTooBig, IsFault, HasNoFault, Reads, Says, Writes}
+use Rattle.clip_grammar.specs.declared.limits.TheConstants.{MOST_TEXT_BYTES, MOST_NODES, MOST_OPEN}
 use Rattle.clip_grammar.specs.Laws.{IsRead, IsRefused, ReadsApart, ReadsOrFaults}
 use Rattle.clip_grammar.specs.declared.stage.Stage.TheVariants.{Fresh}
 use Rattle.clip_grammar.specs.declared.fault.QueryFault.TheVariants.{TooLong, Lexical, LeftOut, Structure, NoWords, TooBig, NoMemory}
@@ -36,14 +37,14 @@ pub rest_fits : (text : List ℕ) (ls : List Lexeme) (rest : List ℕ) → IsUtf
 rest_fits text ls rest utf8 finds = omega (arith, whole_bytes text ls rest utf8 finds)
 
 -- the lexer stops before the end
-pub lexical_fault : (text : List ℕ) (ls : List Lexeme) (rest : List ℕ) (at : ℕ) → IsUtf8 text → length text ≤ most_bytes → Finds (chars text) ls rest → lexeme_at rest ≡ None → 0 < length rest → at + length (encode_utf8_all rest) ≡ length text → IsFault text (Lexical at)
+pub lexical_fault : (text : List ℕ) (ls : List Lexeme) (rest : List ℕ) (at : ℕ) → IsUtf8 text → length text ≤ MOST_TEXT_BYTES → Finds (chars text) ls rest → lexeme_at rest ≡ None → 0 < length rest → at + length (encode_utf8_all rest) ≡ length text → IsFault text (Lexical at)
 lexical_fault text ls rest at utf8 short finds end some place =
     let whole = whole_bytes text ls rest utf8 finds in
     let is : at ≡ length (encode_utf8_all (flat_map spell ls)) = omega arith in
     (short, omega (arith, length-le-encodes rest), stuck text ls rest at finds end is)
 
 -- the lexer reaches the end
-pub says_found : (text : List ℕ) (ls : List Lexeme) (rest : List ℕ) → length text ≤ most_bytes → Finds (chars text) ls rest → length rest ≡ 0 → Says text (tokens_of ls)
+pub says_found : (text : List ℕ) (ls : List Lexeme) (rest : List ℕ) → length text ≤ MOST_TEXT_BYTES → Finds (chars text) ls rest → length rest ≡ 0 → Says text (tokens_of ls)
 says_found text ls [] short finds end = record { short = short; lexemes = ls; lexes = lexed (chars text) ls finds; says = refl }
 says_found text ls (c ∷ cs) short finds end = absurd (omega arith)
 
@@ -129,9 +130,9 @@ stops (suc n) cs h = at (lexeme_at cs) refl (λ rest k. stops n rest k)
         record { lexemes = l ∷ others.lexemes; rest = others.rest; finds = (rest, e, others.finds); end = others.end }
 
 too_big : (tree : Tree) → IsTooBig tree ⊎ (¬ (IsTooBig tree))
-too_big tree = at (nat_lt 4096 (nodes tree)) refl (nat_lt 65 (depth tree)) refl
+too_big tree = at (nat_lt MOST_NODES (nodes tree)) refl (nat_lt (MOST_OPEN + 1) (depth tree)) refl
   where
-    at : (a : Bool) → nat_lt 4096 (nodes tree) ≡ a → (b : Bool) → nat_lt 65 (depth tree) ≡ b → IsTooBig tree ⊎ (¬ (IsTooBig tree))
+    at : (a : Bool) → nat_lt MOST_NODES (nodes tree) ≡ a → (b : Bool) → nat_lt (MOST_OPEN + 1) (depth tree) ≡ b → IsTooBig tree ⊎ (¬ (IsTooBig tree))
     at true h b k = inl (inl (grind (arith, nat_tests)))
     at false h true k = inl (inr (grind (arith, nat_tests)))
     at false h false k = inr small
@@ -162,19 +163,19 @@ judged text ts utf8 says = kept (leaves_out false false ts) refl
     kept false h = shaped h (accepts ts zero false Fresh) refl
 
 pub reads_or_faults : ReadsOrFaults
-reads_or_faults text utf8 = short (nat_lt most_bytes (length text)) refl
+reads_or_faults text utf8 = short (nat_lt MOST_TEXT_BYTES (length text)) refl
   where
-    whole : length text ≤ most_bytes → (s : Stops (chars text)) → (rest : List ℕ) → s.rest ≡ rest → IsRead text ⊎ IsRefused text
+    whole : length text ≤ MOST_TEXT_BYTES → (s : Stops (chars text)) → (rest : List ℕ) → s.rest ≡ rest → IsRead text ⊎ IsRefused text
     whole short s [] e = judged text (tokens_of s.lexemes) utf8 (says_found text s.lexemes s.rest short s.finds (ap length e))
     whole short s (c ∷ cs) e =
         let some : 0 < length s.rest = omega (arith, ap length e) in
         let fits = whole_bytes text s.lexemes s.rest utf8 s.finds in
         inr (Lexical (length (encode_utf8_all (flat_map spell s.lexemes))), λ e. cc, lexical_fault text s.lexemes s.rest _ utf8 short s.finds s.end some fits)
 
-    short : (b : Bool) → nat_lt most_bytes (length text) ≡ b → IsRead text ⊎ IsRefused text
-    short true h = let long : most_bytes < length text = grind (arith, nat_tests) in inr (TooLong, λ e. cc, long)
+    short : (b : Bool) → nat_lt MOST_TEXT_BYTES (length text) ≡ b → IsRead text ⊎ IsRefused text
+    short true h = let long : MOST_TEXT_BYTES < length text = grind (arith, nat_tests) in inr (TooLong, λ e. cc, long)
     short false h =
-        let fits : length text ≤ most_bytes = grind (arith, nat_tests) in
+        let fits : length text ≤ MOST_TEXT_BYTES = grind (arith, nat_tests) in
         let s = stops (length (chars text)) (chars text) (omega arith) in
         whole fits s s.rest refl
 

@@ -22,7 +22,7 @@ row_dash = record { lexemes = refl; whole = refl }
 row_range : Lexes (codes "[* TO b}") (Range 91 [] (BareEnd (Bare 42 ∷ [])) (32 ∷ []) (32 ∷ []) (BareEnd (Bare 98 ∷ [])) [] 125 ∷ [])
 row_range = record { lexemes = refl; whole = refl }
 
-row_range_token : tokens_of (Range 91 [] (BareEnd (Bare 42 ∷ [])) (32 ∷ []) (32 ∷ []) (BareEnd (Bare 98 ∷ [])) [] 125 ∷ []) ≡ token.Between token.Free (token.Without (98 ∷ [])) ∷ []
+row_range_token : tokens_of (Range 91 [] (BareEnd (Bare 42 ∷ [])) (32 ∷ []) (32 ∷ []) (BareEnd (Bare 98 ∷ [])) [] 125 ∷ []) ≡ token.Range token.Free (token.Without (98 ∷ [])) ∷ []
 unfolding encode_utf8 word_token sign_token
 row_range_token = refl
 

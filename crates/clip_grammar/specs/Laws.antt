@@ -17,7 +17,9 @@ OneTree = (text : List ℕ) (p q : Tree) → Reads text p → Reads text q → p
 
 -- and at most one fault, want of memory aside
 abbrev pub OneFault : Type 0
-OneFault = (text : List ℕ) (f g : QueryFault) → IsUtf8 text → f ≢ fault.NoMemory → g ≢ fault.NoMemory → IsFault text f → IsFault text g → f ≡ g
+OneFault =
+    (text : List ℕ) (f g : QueryFault) → IsUtf8 text → f ≢ fault.NoMemory → g ≢ fault.NoMemory
+    → IsFault text f → IsFault text g → f ≡ g
 
 -- a text has a tree and no fault
 abbrev pub IsRead : List ℕ → Type 0

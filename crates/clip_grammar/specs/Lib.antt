@@ -1,10 +1,9 @@
+pub mod Characters
 pub mod Laws
-pub mod LeftOut
 pub mod Lexemes
-pub mod Lexer
-pub mod Parser
 pub mod Reading
 pub mod Shape
+pub mod Steps
 pub mod Tokens
 pub mod Tree
 pub mod TreeCode

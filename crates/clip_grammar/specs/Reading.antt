@@ -6,6 +6,7 @@ use Rattle.clip_grammar.specs.Tokens as token
 use Rattle.clip_grammar.specs.Tokens.{Token, tokens_of}
 use Rattle.clip_grammar.specs.Tree.{Tree, nodes, depth}
 use Rattle.clip_grammar.specs.Shape.{Written, tokens, written_tree, lacks_words}
+use Rattle.clip_grammar.specs.declared.limits.TheConstants.{MOST_TEXT_BYTES, MOST_NODES, MOST_OPEN}
 use Rattle.clip_grammar.specs.declared.fault.QueryFault.{QueryFault}
 use Rattle.clip_grammar.specs.declared.fault.QueryFault.TheVariants as fault
 
@@ -43,12 +44,9 @@ pub record HasLoneStar (ts : List Token) : Type 0 where
 abbrev pub IsLeftOut : List Token → Type 0
 IsLeftOut ts = Contains ts token.Other ⊎ HasLoneStar ts
 
-abbrev pub most_bytes : ℕ
-most_bytes = 65536
-
 -- the text is spelled by lexemes that say these tokens
 pub record Says (text : List ℕ) (ts : List Token) : Type 0 where
-  pub short : length text ≤ most_bytes
+  pub short : length text ≤ MOST_TEXT_BYTES
   pub lexemes : List Lexeme
   pub lexes : Lexes (chars text) lexemes
   pub says : ts ≡ tokens_of lexemes
@@ -58,13 +56,14 @@ pub record Writes (text : List ℕ) (written : Written) : Type 0 where
   pub says : Says text (tokens written)
   pub kept : ¬ (IsLeftOut (tokens written))
 
+-- over the most nodes, or more groups in each other than the parentheses that may be open and the outermost group
 abbrev pub IsTooBig : Tree → Type 0
-IsTooBig tree = (4096 < nodes tree) ⊎ (64 + 1 < depth tree)
+IsTooBig tree = (MOST_NODES < nodes tree) ⊎ (MOST_OPEN + 1 < depth tree)
 
 -- The first refusal that holds of the text is this one.
 abbrev pub IsFault : List ℕ → QueryFault → Type 0
-IsFault text fault.TooLong = most_bytes < length text
-IsFault text (fault.Lexical at) = (length text ≤ most_bytes) × (at < length text) × IsStuck text at
+IsFault text fault.TooLong = MOST_TEXT_BYTES < length text
+IsFault text (fault.Lexical at) = (length text ≤ MOST_TEXT_BYTES) × (at < length text) × IsStuck text at
 IsFault text fault.LeftOut = (ts : List Token) × Says text ts × IsLeftOut ts
 IsFault text fault.Structure = (ts : List Token) × Says text ts × ¬ (IsLeftOut ts) × ((written : Written) → ¬ (tokens written ≡ ts))
 IsFault text fault.NoWords = (written : Written) × Writes text written × IsTrue (lacks_words written)

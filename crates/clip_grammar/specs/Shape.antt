@@ -29,7 +29,7 @@ mutual
     Plain : (text : List ℕ) → Item
     Front : (text : List ℕ) → Item
     Phrase : (text : List ℕ) → Item
-    Between : (low high : End) → Item
+    Range : (low high : End) → Item
     Parens : Written → Item
 
 abbrev pub sign_tokens : Sign → List Token
@@ -57,7 +57,7 @@ abbrev mutual
   item_tokens (Plain text) = token.Plain text ∷ []
   item_tokens (Front text) = token.Front text ∷ []
   item_tokens (Phrase text) = token.Phrase text ∷ []
-  item_tokens (Between low high) = token.Between low high ∷ []
+  item_tokens (Range low high) = token.Range low high ∷ []
   item_tokens (Parens cs) = token.Open ∷ tokens cs ++ token.Close ∷ []
 
 abbrev pub occur_of : Sign → Occur
@@ -91,7 +91,7 @@ abbrev mutual
   item_tree (Plain text) field = words_tree field (words_of text)
   item_tree (Front text) field = Tree.Prefix field (fold_of text)
   item_tree (Phrase text) field = words_tree field (words_of text)
-  item_tree (Between low high) field = Tree.Span field (fold_end low) (fold_end high)
+  item_tree (Range low high) field = Tree.Span field (fold_end low) (fold_end high)
   item_tree (Parens cs) field = Tree.Group (clauses_in cs field)
 
   pub clause_occur : WrittenClause → Occur

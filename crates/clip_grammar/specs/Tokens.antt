@@ -1,8 +1,9 @@
 -- What a lexeme says, however it is spelled. A text is here its bytes.
-use Rattle.std.specs.Prelude.{ℕ, Bool, true, false, not, ◌&&◌, ◌||◌, ◌==◌, List, [], ◌∷◌, map, flat_map, length, take, ◌-◌, encode_utf8_all, if◌then◌else◌}
+use Rattle.std.specs.Prelude.{ℕ, Bool, true, false, not, ◌&&◌, ◌||◌, ◌==◌, List, [], ◌∷◌, map, flat_map, length, take, ◌-◌, encode_utf8_all, codes, if◌then◌else◌}
 use Rattle.std.specs.List.{list_any}
 use Rattle.clip_grammar.specs.Lexemes as lexeme
-use Rattle.clip_grammar.specs.Lexemes.{Piece, Ending, BareEnd, QuotedEnd, Lexeme, Blank, Word, Quoted, Range, Sign, Foreign, code_value}
+use Rattle.clip_grammar.specs.Lexemes.{Piece, RangeEnd, BareEnd, QuotedEnd, Lexeme, Blank, Word, Quoted, Sign, Foreign}
+use Rattle.clip_grammar.specs.Characters.{code_value}
 use Rattle.clip_grammar.specs.declared.mark.Mark.{Mark}
 use Rattle.clip_grammar.specs.declared.mark.Mark.TheVariants.{Bare, Escaped}
 
@@ -21,15 +22,15 @@ pub data Token : Type 0 where
   Close : Token
   Colon : Token
   Star : Token
-  -- a plain Word, a prefix Word, a Quoted, a Range
+  -- of a plain Word, a prefix Word, a Quoted, a Range
   Plain : (text : List ℕ) → Token
   Front : (text : List ℕ) → Token
   Phrase : (text : List ℕ) → Token
-  Between : (low high : End) → Token
+  Range : (low high : End) → Token
   -- what is left out: an operator, a wild card inside a word, a form of another syntax
   Other : Token
 
--- a character of a text, and whether it stands behind a backslash
+-- a character of a text, and whether it stands after a backslash
 abbrev pub mark_of : Piece → Mark
 mark_of (lexeme.Bare c) = Bare c
 mark_of (lexeme.Escape c) = Escaped c
@@ -54,6 +55,7 @@ is_spelled [] [] = true
 is_spelled (c ∷ cs) (m ∷ ms) = is_bare c m && is_spelled cs ms
 is_spelled _ _ = false
 
+-- a star or a question mark as it stands
 abbrev pub is_wild : Mark → Bool
 is_wild m = is_bare 42 m || is_bare 63 m
 
@@ -61,31 +63,32 @@ is_wild m = is_bare 42 m || is_bare 63 m
 abbrev pub front_of : List Mark → List Mark
 front_of ms = take (length ms - 1) ms
 
--- a star is last, and no star or question mark is before it
+-- a star (42) is last, and no star or question mark is before it
 abbrev pub ends_in_star : List Mark → Bool
 ends_in_star [] = false
 ends_in_star (m ∷ []) = is_bare 42 m
 ends_in_star (m ∷ n ∷ ms) = not (is_wild m) && ends_in_star (n ∷ ms)
 
--- two ampersands or two bars in a row, as they stand
+-- two ampersands (38) or two bars (124) in a row, as they stand
 abbrev pub has_operator : List Mark → Bool
 has_operator [] = false
 has_operator (m ∷ []) = false
 has_operator (m ∷ n ∷ ms) = (is_bare 38 m && is_bare 38 n) || (is_bare 124 m && is_bare 124 n) || has_operator (n ∷ ms)
 
 abbrev pub is_operator : List Mark → Bool
-is_operator ms = is_spelled (65 ∷ 78 ∷ 68 ∷ []) ms || is_spelled (79 ∷ 82 ∷ []) ms || has_operator ms
+is_operator ms = is_spelled (codes "AND") ms || is_spelled (codes "OR") ms || has_operator ms
 
 -- what a Word says
 unfoldable pub word_token : List Mark → Token
 word_token ms =
-    if is_spelled (42 ∷ []) ms then Star
+    if is_spelled (codes "*") ms then Star
     else (if is_operator ms then Other
-    else (if is_spelled (78 ∷ 79 ∷ 84 ∷ []) ms then Not
+    else (if is_spelled (codes "NOT") ms then Not
     else (if not (list_any is_wild ms) then Plain (text_of ms)
     else (if ends_in_star ms then Front (text_of (front_of ms))
     else Other))))
 
+-- what a sign says: + is 43, - is 45, ! is 33, the parentheses are 40 and 41, and else it is a colon
 unfoldable pub sign_token : ℕ → Token
 sign_token c =
     if c == 43 then Plus
@@ -95,12 +98,13 @@ sign_token c =
     else (if c == 41 then Close
     else Colon))))
 
+-- an end with this text, by whether its bracket lets it in
 abbrev pub closing : Bool → List ℕ → End
 closing closed text = if closed then With text else Without text
 
--- an end of a range, by the bracket on its side
-abbrev pub end_token : Bool → Ending → End
-end_token closed (BareEnd ps) = let ms = map mark_of ps in if is_spelled (42 ∷ []) ms then Free else closing closed (text_of ms)
+-- an end of a range, by the bracket on its side: [ is 91 and ] is 93
+abbrev pub end_token : Bool → RangeEnd → End
+end_token closed (BareEnd ps) = let ms = map mark_of ps in if is_spelled (codes "*") ms then Free else closing closed (text_of ms)
 end_token closed (QuotedEnd ps) = closing closed (text_of (map mark_of ps))
 
 -- a blank says nothing
@@ -108,7 +112,7 @@ abbrev pub tokens_of_lexeme : Lexeme → List Token
 tokens_of_lexeme (Blank _) = []
 tokens_of_lexeme (Word ps) = word_token (map mark_of ps) ∷ []
 tokens_of_lexeme (Quoted ps) = Phrase (text_of (map mark_of ps)) ∷ []
-tokens_of_lexeme (Range left _ low _ _ high _ right) = Between (end_token (left == 91) low) (end_token (right == 93) high) ∷ []
+tokens_of_lexeme (lexeme.Range left _ low _ _ high _ right) = Range (end_token (left == 91) low) (end_token (right == 93) high) ∷ []
 tokens_of_lexeme (Sign c) = sign_token c ∷ []
 tokens_of_lexeme (Foreign _) = Other ∷ []
 

@@ -25,8 +25,9 @@ pub enum Bound {
 }
 
 /// What is asked of an article. Fields stand as they are written; words, fronts and ends of ranges are folded.
-/// Texts are shared, but for the ends of ranges. Dropping and comparing recurse as deep as groups nest, which is at most 65 in a
-/// query that was read.
+///
+/// Texts are shared, but for the ends of ranges. Dropping and comparing recurse along the tree: in a query that was
+/// read 66 levels at most, which are the outermost group, 64 groups in parentheses and a leaf.
 #[derive(Debug, PartialEq, Eq, Drop)]
 pub enum Query {
     /// The word is among the field's words.

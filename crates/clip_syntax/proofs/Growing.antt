@@ -1,24 +1,19 @@
 -- The tree that is built of the tokens of what is written.
-use Rattle.std.proofs.Common.{◌≡◌, ℕ, false, List, [], ◌∷◌, ◌++◌, map, Option, Some, None, refl, sym, ap, ◌∙◌, append_assoc, append-nil, codes, Vec, Global, length, arith}
+use Rattle.std.proofs.Common.{◌≡◌, ℕ, false, List, [], ◌∷◌, ◌++◌, map, Option, Some, None, refl, sym, ap, ◌∙◌, append_assoc, append-nil, codes, length, arith}
 use Rattle.std.specs.Option.{option_to_list}
 use Rattle.clip_words.specs.Words.{words_of}
 use Rattle.clip_grammar.specs.Tokens as token
 use Rattle.clip_grammar.specs.Tokens.{Token}
-use Rattle.clip_grammar.specs.Tree.{Tree, clause, clauses_of, tree_of, tree_step}
+use Rattle.clip_grammar.specs.Tree.{Tree, clause, clauses_of}
 use Rattle.clip_grammar.specs.declared.query.Occur.{Occur}
-use Rattle.clip_grammar.specs.declared.query.Query.{Query}
-use Rattle.clip_grammar.specs.declared.query.Query.TheOpen as layer
-use Rattle.clip_grammar.specs.declared.query.Query.TheViews.{Group as the_group, roll-Query}
-use Rattle.clip_grammar.specs.declared.query.Query.TheVariants.{rolls-Group}
-use Rattle.clip_grammar.specs.declared.query.Query.TheFolds.{fold-roll-Query}
-use Rattle.clip_grammar.specs.Parser.{begins_colon}
+use Rattle.clip_grammar.specs.Steps.Parser.{begins_colon}
 use Rattle.clip_grammar.specs.Shape as shape
 use Rattle.clip_grammar.specs.Shape.{Sign, Written, one, more, WrittenClause, item, everything, Item, tokens, clause_tokens, item_tokens, sign_tokens, field_tokens, occur_of, clauses_in, clause_tree, clause_occur, item_tree, written_tree}
 use Rattle.clip_grammar.proofs.Parsing.{no_colons}
-use Rattle.clip_syntax.specs.TokenOf.{token_of}
-use Rattle.clip_syntax.specs.declared.lexer.Token as code
-use Rattle.clip_syntax.specs.Items.{item_text, item_texts, items_words}
-use Rattle.clip_syntax.specs.Building.{Group, State, fresh, item_field, add, read, read_all, start, listed}
+use Rattle.clip_syntax.specs.Steps.TokenOf.{token_of}
+use Rattle.clip_syntax.specs.declared.token.Token as code
+use Rattle.clip_syntax.specs.Steps.Items.{item_text, item_texts, items_words}
+use Rattle.clip_syntax.specs.Steps.Building.{Group, State, fresh, item_field, add, read, read_all, start}
 
 -- the clauses of a group, in its field
 abbrev pairs : Written → List ℕ → List (Occur × Tree)
@@ -66,9 +61,9 @@ reading_front : (text : List ℕ) (ts : List Token) (around : List Group) (g : G
 unfolding read_all
 reading_front text ts around g = refl
 
-reading_between : (low high : token.End) (ts : List Token) (around : List Group) (g : Group) → reading (token.Between low high ∷ ts) around g ≡ reading ts around (add g (item_tree (shape.Between low high) (item_field g)))
+reading_range : (low high : token.End) (ts : List Token) (around : List Group) (g : Group) → reading (token.Range low high ∷ ts) around g ≡ reading ts around (add g (item_tree (shape.Range low high) (item_field g)))
 unfolding read_all
-reading_between low high ts around g = refl
+reading_range low high ts around g = refl
 
 reading_open : (ts : List Token) (around : List Group) (g : Group) → reading (token.Open ∷ ts) around g ≡ reading ts (g ∷ around) (fresh [] (item_field g))
 unfolding read_all
@@ -103,7 +98,7 @@ mutual
   reading_item (shape.Plain text) ts around g h = reading_plain text ts around g h
   reading_item (shape.Front text) ts around g h = reading_front text ts around g
   reading_item (shape.Phrase text) ts around g h = reading_phrase text ts around g
-  reading_item (shape.Between low high) ts around g h = reading_between low high ts around g
+  reading_item (shape.Range low high) ts around g h = reading_range low high ts around g
   reading_item (shape.Parens w) ts around g h =
       ap (λ us. reading (token.Open ∷ us) around g) (append_assoc (tokens w) (token.Close ∷ []) ts)
       ∙ reading_open (tokens w ++ token.Close ∷ ts) around g
@@ -118,13 +113,6 @@ grown w ts e =
     ap (λ us. Tree.Group (clauses_of (read_all us (start (items_words us))).group.clauses)) (sym e ∙ sym (append-nil (tokens w)))
     ∙ ap (λ (s : State). Tree.Group (clauses_of s.group.clauses)) (reading_from w [] [] [] (codes "text") refl)
     ∙ ap Tree.Group (pairs_are w (codes "text"))
-
--- the tree of a group
-group_rolled : (v : Vec (Occur × Query) Global) → tree_of (roll-Query (layer.Group v)) ≡ Tree.Group (clauses_of (listed v.items))
-group_rolled v = fold-roll-Query Tree tree_step (layer.Group v)
-
-pub tree_of_group : (v : Vec (Occur × Query) Global) → tree_of (the_group v) ≡ Tree.Group (clauses_of (listed v.items))
-tree_of_group v = ap tree_of (sym (rolls-Group v)) ∙ group_rolled v
 
 pub read_end : (ts : List code.Token) (s : State) → length ts ≡ 0 → read_all (map token_of ts) s ≡ s
 unfolding read_all

@@ -1,9 +1,10 @@
 -- The marks of pieces, step by step.
 use Rattle.std.proofs.Common.{◌≡◌, ℕ, Bool, true, false, cond, List, [], ◌∷◌, ◌++◌, map, Option, Some, None, refl, sym, ap, ◌∙◌, append_assoc, append-nil}
 use Rattle.std.specs.Option.{option_map}
-use Rattle.clip_grammar.specs.Lexemes.{Code, is_code, code_value}
-use Rattle.clip_grammar.specs.Lexer.{piece_at, pieces_at, code_at}
-use Rattle.clip_syntax.specs.Marks.{marked, marked_after}
+use Rattle.clip_grammar.specs.Lexemes.{Code}
+use Rattle.clip_grammar.specs.Characters.{is_code, code_value}
+use Rattle.clip_grammar.specs.Steps.Lexer.{piece_at, pieces_at, code_at}
+use Rattle.clip_syntax.specs.Steps.Marks.{mark_and_rest, marks_after}
 use Rattle.clip_grammar.specs.Tokens.{mark_of}
 use Rattle.clip_grammar.specs.declared.mark.Mark.{Mark}
 use Rattle.clip_grammar.specs.declared.mark.Mark.TheVariants.{Escaped}
@@ -18,32 +19,32 @@ mapped_none f None e = refl
 mapped_none f (Some x) e = cc
 
 -- a mark more
-pub marked_step : (test : ℕ → Bool) (ms : List Mark) (cs : List ℕ) (m : Mark) (rest : List ℕ) → option_map marked (piece_at test cs) ≡ Some (m, rest)
-    → marked_after (ms ++ m ∷ []) (pieces_at test rest) ≡ marked_after ms (pieces_at test cs)
+pub marked_step : (test : ℕ → Bool) (ms : List Mark) (cs : List ℕ) (m : Mark) (rest : List ℕ) → option_map mark_and_rest (piece_at test cs) ≡ Some (m, rest)
+    → marks_after (ms ++ m ∷ []) (pieces_at test rest) ≡ marks_after ms (pieces_at test cs)
 marked_step test ms cs m rest e =
-    let found = mapped_some marked (piece_at test cs) (m, rest) e in
+    let found = mapped_some mark_and_rest (piece_at test cs) (m, rest) e in
     let mark : mark_of found.0.0 ≡ m = ap (λ (v : Mark × List ℕ). v.0) found.2 in
     let left : found.0.1 ≡ rest = ap (λ (v : Mark × List ℕ). v.1) found.2 in
     let step = pieces_step test cs found.0.0 found.0.1 found.1 in
-    ap (λ x. marked_after (ms ++ m ∷ []) (pieces_at test x)) (sym left)
+    ap (λ x. marks_after (ms ++ m ∷ []) (pieces_at test x)) (sym left)
     ∙ ap (λ x. (x, (pieces_at test found.0.1).1)) (append_assoc ms (m ∷ []) (map mark_of (pieces_at test found.0.1).0) ∙ ap (λ x. ms ++ x ∷ map mark_of (pieces_at test found.0.1).0) (sym mark))
-    ∙ ap (marked_after ms) (sym step)
+    ∙ ap (marks_after ms) (sym step)
 
-pub marked_end : (test : ℕ → Bool) (ms : List Mark) (cs : List ℕ) → option_map marked (piece_at test cs) ≡ None → (ms, cs) ≡ marked_after ms (pieces_at test cs)
+pub marked_end : (test : ℕ → Bool) (ms : List Mark) (cs : List ℕ) → option_map mark_and_rest (piece_at test cs) ≡ None → (ms, cs) ≡ marks_after ms (pieces_at test cs)
 marked_end test ms cs e =
-    ap (λ x. (x, cs)) (sym (append-nil ms)) ∙ ap (marked_after ms) (sym (pieces_none test cs (mapped_none marked (piece_at test cs) e)))
+    ap (λ x. (x, cs)) (sym (append-nil ms)) ∙ ap (marks_after ms) (sym (pieces_none test cs (mapped_none mark_and_rest (piece_at test cs) e)))
 
 -- four digits that name a character, and others
-pub code_some : (cs : List ℕ) (a b c d : ℕ) (rest : List ℕ) (v : ℕ) → cs ≡ a ∷ b ∷ c ∷ d ∷ rest → Some v ≡ cond (is_code a b c d) (Some (code_value a b c d)) None → Some (Escaped v, rest) ≡ option_map marked (code_at cs)
-code_some cs a b c d rest v e h = at (is_code a b c d) h ∙ ap (λ x. option_map marked (code_at x)) (sym e)
+pub code_some : (cs : List ℕ) (a b c d : ℕ) (rest : List ℕ) (v : ℕ) → cs ≡ a ∷ b ∷ c ∷ d ∷ rest → Some v ≡ cond (is_code a b c d) (Some (code_value a b c d)) None → Some (Escaped v, rest) ≡ option_map mark_and_rest (code_at cs)
+code_some cs a b c d rest v e h = at (is_code a b c d) h ∙ ap (λ x. option_map mark_and_rest (code_at x)) (sym e)
   where
-    at : (t : Bool) → Some v ≡ cond t (Some (code_value a b c d)) None → Some (Escaped v, rest) ≡ option_map marked (cond t (Some (Code a b c d, rest)) None)
+    at : (t : Bool) → Some v ≡ cond t (Some (code_value a b c d)) None → Some (Escaped v, rest) ≡ option_map mark_and_rest (cond t (Some (Code a b c d, rest)) None)
     at true h = ap (option_map (λ x. (Escaped x, rest))) h
     at false h = cc
 
-pub code_none : (cs : List ℕ) (a b c d : ℕ) (rest : List ℕ) → cs ≡ a ∷ b ∷ c ∷ d ∷ rest → None ≡ cond (is_code a b c d) (Some (code_value a b c d)) None → None ≡ option_map marked (code_at cs)
-code_none cs a b c d rest e h = at (is_code a b c d) h ∙ ap (λ x. option_map marked (code_at x)) (sym e)
+pub code_none : (cs : List ℕ) (a b c d : ℕ) (rest : List ℕ) → cs ≡ a ∷ b ∷ c ∷ d ∷ rest → None ≡ cond (is_code a b c d) (Some (code_value a b c d)) None → None ≡ option_map mark_and_rest (code_at cs)
+code_none cs a b c d rest e h = at (is_code a b c d) h ∙ ap (λ x. option_map mark_and_rest (code_at x)) (sym e)
   where
-    at : (t : Bool) → None ≡ cond t (Some (code_value a b c d)) None → None ≡ option_map marked (cond t (Some (Code a b c d, rest)) None)
+    at : (t : Bool) → None ≡ cond t (Some (code_value a b c d)) None → None ≡ option_map mark_and_rest (cond t (Some (Code a b c d, rest)) None)
     at true h = cc
     at false h = refl

@@ -3,17 +3,17 @@ use Rattle.std.proofs.Common.{◌≡◌, ℕ, ◌<◌, List, [], ◌∷◌, ◌+
 use Rattle.std.specs.Option.{option_map}
 use Rattle.std.proofs.lemmas.List.{flat_map_more}
 use Rattle.clip_grammar.specs.Lexemes.{Lexeme}
-use Rattle.clip_grammar.specs.Lexer.{lexeme_at}
-use Rattle.clip_syntax.specs.Said.{said, IsLexing}
+use Rattle.clip_grammar.specs.Steps.Lexer.{lexeme_at}
+use Rattle.clip_syntax.specs.Steps.Lexing.{with_tokens, IsLexing}
 use Rattle.clip_grammar.specs.Tokens.{Token, tokens_of, tokens_of_lexeme}
 use Rattle.clip_syntax.proofs.Marking.{mapped_some}
 use Rattle.clip_grammar.proofs.Lexing.{finds_more}
 use Rattle.clip_grammar.proofs.Refusals.{lexeme_shorter}
 
 -- one more lexeme
-pub lexing_more : (text : List ℕ) (ts : List Token) (mid : List ℕ) (us : List Token) (rest : List ℕ) → IsLexing text ts mid → option_map said (lexeme_at mid) ≡ Some (us, rest) → IsLexing text (ts ++ us) rest
+pub lexing_more : (text : List ℕ) (ts : List Token) (mid : List ℕ) (us : List Token) (rest : List ℕ) → IsLexing text ts mid → option_map with_tokens (lexeme_at mid) ≡ Some (us, rest) → IsLexing text (ts ++ us) rest
 lexing_more text ts mid us rest before e =
-    let found = mapped_some said (lexeme_at mid) (us, rest) e in
+    let found = mapped_some with_tokens (lexeme_at mid) (us, rest) e in
     let says : tokens_of_lexeme found.0.0 ≡ us = ap (λ (v : List Token × List ℕ). v.0) found.2 in
     let left : found.0.1 ≡ rest = ap (λ (v : List Token × List ℕ). v.1) found.2 in
     record {
@@ -26,8 +26,8 @@ lexing_more text ts mid us rest before e =
     flat_map_more_nil f ls l = flat_map_more f [] ls l
 
 -- what is left is shorter
-pub said_shorter : (cs : List ℕ) (us : List Token) (rest : List ℕ) → option_map said (lexeme_at cs) ≡ Some (us, rest) → length rest < length cs
-said_shorter cs us rest e =
-    let found = mapped_some said (lexeme_at cs) (us, rest) e in
+pub tokens_shorter : (cs : List ℕ) (us : List Token) (rest : List ℕ) → option_map with_tokens (lexeme_at cs) ≡ Some (us, rest) → length rest < length cs
+tokens_shorter cs us rest e =
+    let found = mapped_some with_tokens (lexeme_at cs) (us, rest) e in
     let left : found.0.1 ≡ rest = ap (λ (v : List Token × List ℕ). v.1) found.2 in
     subst (λ x. length x < length cs) left (lexeme_shorter cs found.0.0 found.0.1 (found.1 ∙ refl))

@@ -9,8 +9,8 @@ use Rattle.clip_grammar.specs.Tokens.{Token}
 use Rattle.clip_grammar.specs.Tree.{nodes, clause_nodes, depth, clause_depth}
 use Rattle.clip_grammar.specs.Shape as shape
 use Rattle.clip_grammar.specs.Shape.{Sign, Written, one, more, WrittenClause, item, everything, Item, tokens, clause_tokens, item_tokens, sign_tokens, field_tokens, words_tree, clauses_in, clause_tree, item_tree, written_tree}
-use Rattle.clip_grammar.specs.LeftOut.{is_colon}
-use Rattle.clip_syntax.specs.Sizes.{is_node, open_after, most_open}
+use Rattle.clip_grammar.specs.Steps.LeftOut.{is_colon}
+use Rattle.clip_syntax.specs.Steps.Sizes.{is_node, open_after, most_open}
 
 count-append : (p : Token → Bool) (ts us : List Token) → count_by p (ts ++ us) ≡ count_by p ts + count_by p us
 count-append p ts us = sum_by-append (λ t. cond (p t) 1 0) ts us
@@ -77,7 +77,7 @@ mutual
   nodes_item (shape.Plain text) field = omega (arith, words_nodes field (words_of text))
   nodes_item (shape.Front text) field = refl
   nodes_item (shape.Phrase text) field = omega (arith, words_nodes field (words_of text))
-  nodes_item (shape.Between low high) field = refl
+  nodes_item (shape.Range low high) field = refl
   nodes_item (shape.Parens w) field =
       omega (
         arith,
@@ -141,7 +141,7 @@ mutual
   depth_item (shape.Plain text) field ts n = omega (arith, words_depth field (words_of text))
   depth_item (shape.Front text) field ts n = omega arith
   depth_item (shape.Phrase text) field ts n = omega (arith, words_depth field (words_of text))
-  depth_item (shape.Between low high) field ts n = omega arith
+  depth_item (shape.Range low high) field ts n = omega arith
   depth_item (shape.Parens w) field ts n =
       ap (λ us. max n (most_open us (n + 1))) (append_assoc (tokens w) (token.Close ∷ []) ts)
       ∙ ap (max n) (depth_from w field (token.Close ∷ ts) (n + 1))

@@ -5,13 +5,13 @@ use Rattle.std.specs.List.{list_any}
 use Rattle.clip_words.specs.Words.{words_of}
 use Rattle.clip_grammar.specs.Tokens as token
 use Rattle.clip_grammar.specs.Tokens.{Token}
-use Rattle.clip_grammar.specs.Parser.{begins_colon}
+use Rattle.clip_grammar.specs.Steps.Parser.{begins_colon}
 use Rattle.clip_grammar.specs.Shape as shape
 use Rattle.clip_grammar.specs.Shape.{Sign, Written, one, more, WrittenClause, item, everything, Item, tokens, clause_tokens, item_tokens, sign_tokens, field_tokens, is_empty, lacks_words, clause_lacks_words, item_lacks_words}
 use Rattle.clip_grammar.proofs.Parsing.{no_colons}
-use Rattle.clip_syntax.specs.TokenOf.{token_of}
-use Rattle.clip_syntax.specs.declared.lexer.Token as code
-use Rattle.clip_syntax.specs.Items.{item_text, item_texts, items_words}
+use Rattle.clip_syntax.specs.Steps.TokenOf.{token_of}
+use Rattle.clip_syntax.specs.declared.token.Token as code
+use Rattle.clip_syntax.specs.Steps.Items.{item_text, item_texts, items_words}
 
 -- some item of the tokens has no words
 abbrev pub lacks : List Token → Bool
@@ -59,7 +59,7 @@ mutual
   lacks_item (shape.Plain text) ts h = ap (λ b. list_any is_empty (map words_of (option_to_list (item_text (token.Plain text) b) ++ item_texts ts))) h
   lacks_item (shape.Front text) ts h = refl
   lacks_item (shape.Phrase text) ts h = refl
-  lacks_item (shape.Between low high) ts h = refl
+  lacks_item (shape.Range low high) ts h = refl
   lacks_item (shape.Parens w) ts h =
       ap lacks (append_assoc (tokens w) (token.Close ∷ []) ts) ∙ lacks_from w (token.Close ∷ ts) refl
 

@@ -4,12 +4,11 @@ ghost use Rattle.std.specs.Arc.{arc_str_bytes};
 ghost use Rattle.clip_grammar.specs.Shape as shape;
 ghost use Rattle.clip_grammar.specs.Shape.{Written, written_tree, words_tree, fold_end};
 ghost use Rattle.clip_grammar.specs.Tree.{tree_of, end_of};
-ghost use Rattle.clip_syntax.specs.Building.{fresh, item_field, add, add_item, add_words, open_group, close, read, group_of, state_of};
-ghost use Rattle.clip_syntax.specs.Items.{items_words};
-ghost use Rattle.clip_syntax.specs.TokenOf.{token_of};
+ghost use Rattle.clip_syntax.specs.Steps.Building.{fresh, item_field, add, add_prefix, add_span, add_words, open_group, close, read, group_of, state_of};
+ghost use Rattle.clip_syntax.specs.Steps.Items.{items_words, words_of_items};
+ghost use Rattle.clip_syntax.specs.Steps.TokenOf.{token_of, IfWritten};
 
-use crate::lexer::Token;
-use crate::words::begins_colon;
+use crate::token::{Token, begins_colon};
 use clip_grammar::query::{Bound, Occur, Query};
 use clip_words::{NoMemory, fold};
 use std::alloc::Global;
@@ -30,6 +29,7 @@ pub struct OpenGroup {
 }
 
 impl OpenGroup {
+    /// A group with no clause yet, whose items are in this field.
     fn new(alloc: Global, field: ArcStr) -> OpenGroup
         ensures { group_of result ≡ fresh [] (arc_str_bytes field) }
     {
@@ -59,6 +59,25 @@ impl OpenGroup {
         self.occur = Occur::Should;
         self.nearer = None;
         Ok(())
+    }
+
+    /// Adds a prefix, folded.
+    fn add_prefix(&mut self, alloc: Global, front: &str) -> Result<(), NoMemory>
+        ensures { IfOk result (λ _. group_of self.new ≡ add_prefix (group_of self.old) front.now) }
+    {
+        let field = self.item_field()?;
+        let front = ArcStr::from_string(fold(alloc, front)?)?;
+        self.add(Query::Prefix { field, front })
+    }
+
+    /// Adds a range, its ends folded.
+    fn add_span(&mut self, alloc: Global, low: &Bound, high: &Bound) -> Result<(), NoMemory>
+        ensures { IfOk result (λ _. group_of self.new ≡ add_span (group_of self.old) (end_of low.now) (end_of high.now)) }
+    {
+        let field = self.item_field()?;
+        let low = fold_bound(alloc, low)?;
+        let high = fold_bound(alloc, high)?;
+        self.add(Query::Span { field, low, high })
     }
 }
 
@@ -141,25 +160,12 @@ impl Builder {
                 self.group.nearer = Some(field);
             }
             Token::Plain(_) | Token::Phrase(_) => self.add_words()?,
-            Token::Front(text) => {
-                let field = self.group.item_field()?;
-                let front = ArcStr::from_string(fold(alloc, text)?)?;
-                self.group.add(Query::Prefix { field, front })?;
-            }
-            Token::Between(low, high) => {
-                let field = self.group.item_field()?;
-                let low = fold_bound(alloc, low)?;
-                let high = fold_bound(alloc, high)?;
-                self.group.add(Query::Span { field, low, high })?;
-            }
-            Token::Star => {
-                if before_colon {
-                    self.group.add(Query::All)?;
-                }
-            }
+            Token::Front(text) => self.group.add_prefix(alloc, text)?,
+            Token::Range(low, high) => self.group.add_span(alloc, low, high)?,
+            Token::Star if before_colon => self.group.add(Query::All)?,
             Token::Open => self.open(alloc)?,
             Token::Close => self.close()?,
-            Token::Colon | Token::Other => {}
+            Token::Star | Token::Colon | Token::Other => {}
         }
         Ok(())
     }
@@ -169,10 +175,10 @@ impl Builder {
 ///
 /// `words` has the words of each plain or quoted item in order, as `item_words` gives them.
 /// The cost is linear in the tokens and the bytes of their texts: no word is copied, and a field is shared.
-#[tactic(auto, unfolding(crate::specs::Building::read_all))]
+#[tactic(auto, unfolding(crate::specs::Steps::Building::read_all))]
 pub fn build(alloc: Global, tokens: &[Token], words: Vec<Vec<ArcStr>>) -> Result<Query, NoMemory>
-    requires { map (λ words. map arc_str_bytes words.items) words.items ≡ items_words (map token_of tokens.now) }
-    ensures { IfOk result (λ query. (written : Written) → shape.tokens written ≡ map token_of tokens.now → tree_of query ≡ written_tree written) }
+    requires { words_of_items words.items ≡ items_words (map token_of tokens.now) }
+    ensures { IfOk result (λ query. IfWritten tokens.now (λ written. tree_of query ≡ written_tree written)) }
 {
     let field = ArcStr::from_str(alloc, "text")?;
     let mut builder = Builder {

@@ -3,54 +3,24 @@
 //! A text is here the slice of its characters, and what is left of it a later part of that slice.
 ghost use Rattle.std.specs.Prelude.{◌≡◌, [], ◌<◌, length, map, IfOk, IfSome, IsTrue, if◌then◌else◌, string_bytes};
 ghost use Rattle.std.specs.Option.{option_map};
-ghost use Rattle.clip_grammar.specs.Lexemes.{is_white, is_start, is_one_of, is_hex, hex_value, is_code, code_value};
-ghost use Rattle.clip_grammar.specs.Lexer.{quotable_char, end_char, ending_at, piece_at, code_at, escape_at, pieces_at, quoted_at, word_at, range_at, lexeme_at, span_white, gap_at, to_at, bracket_at};
-ghost use Rattle.clip_syntax.specs.Said.{said, shown, shown_all, IsLexed};
+ghost use Rattle.clip_grammar.specs.Characters.{is_white, is_start, is_one_of, is_hex, hex_value, is_code, code_value, quotable_char, end_char};
+ghost use Rattle.clip_grammar.specs.Steps.Lexer.{ending_at, piece_at, code_at, escape_at, pieces_at, quoted_at, word_at, range_at, lexeme_at, span_white, gap_at, to_at, bracket_at};
+ghost use Rattle.clip_syntax.specs.Steps.Lexing.{with_tokens, token_and_rest, tokens_and_rest, IsLexed};
 ghost use Rattle.std.specs.List.{list_any};
-ghost use Rattle.clip_syntax.specs.Marks.{class_test, marked, marked_after};
+ghost use Rattle.clip_syntax.specs.Steps.Marks.{class_test, and_rest, mark_and_rest, marks_and_rest, marks_after};
 ghost use Rattle.clip_grammar.specs.Tokens.{text_of, is_spelled, is_bare, is_wild, has_operator, ends_in_star, word_token, sign_token};
-ghost use Rattle.clip_syntax.specs.TokenOf.{token_of};
-ghost use Rattle.clip_syntax.specs.Ends.{end_said, end_with, quoted_end_of, bare_end_of};
+ghost use Rattle.clip_syntax.specs.Steps.TokenOf.{token_of};
+ghost use Rattle.clip_syntax.specs.Steps.Ends.{text_and_rest, end_text_and_rest, end_with, quoted_end_at, bare_end_at};
 ghost use Rattle.clip_grammar.specs.Tree.{end_of};
 
+use crate::token::Token;
 use clip_grammar::mark::Mark;
 use clip_grammar::query::Bound;
 use clip_words::NoMemory;
 use std::alloc::Global;
 
-/// What a lexeme says, however it is spelled. Its texts have no quotes, and each escape stands as its character.
-#[derive(Debug, PartialEq, Eq, Drop)]
-pub enum Token {
-    /// The sign `+`.
-    Plus,
-    /// The sign `-`.
-    Minus,
-    /// The sign `!`.
-    Bang,
-    /// The word `NOT`.
-    Not,
-    /// The sign `(`.
-    Open,
-    /// The sign `)`.
-    Close,
-    /// The sign `:`.
-    Colon,
-    /// A star alone.
-    Star,
-    /// A word without `*` and `?`.
-    Plain(String),
-    /// A word whose last character is its one star, without the star.
-    Front(String),
-    /// A quoted text.
-    Phrase(String),
-    /// A range, its ends not yet folded.
-    Between(Bound, Bound),
-    /// A form that is left out: an operator word, a word with wild cards elsewhere, `~`, `^` or `/`.
-    Other,
-}
-
 /// Where a character stands, which decides whether it needs a backslash.
-#[derive(Clone, Copy, Debug, PartialEq, Eq)]
+#[derive(Clone, Copy)]
 pub enum Place {
     /// First in a word.
     WordStart,
@@ -107,12 +77,14 @@ fn allows(place: Place, c: char) -> bool
     }
 }
 
+/// Whether the character is a hexadecimal digit.
 fn is_hex(c: char) -> bool
     ensures { result ≡ is_hex c }
 {
     matches!(c, '0'..='9' | 'a'..='f' | 'A'..='F')
 }
 
+/// The value of a hexadecimal digit.
 fn hex_value(c: char) -> u32
     requires { IsTrue (is_hex c) }
     ensures value { result ≡ hex_value c }
@@ -139,9 +111,9 @@ fn code_char(a: char, b: char, c: char, d: char) -> Option<char>
     char::from_u32(value)
 }
 
-/// What stands behind `\u`.
+/// What stands after `\u`.
 fn code(text: &[char]) -> Option<(Mark, &[char])>
-    ensures found { option_map (λ found. (found.0, found.1.now)) result ≡ option_map marked (code_at text.now) }
+    ensures found { option_map and_rest result ≡ option_map mark_and_rest (code_at text.now) }
     ensures shorter { IfSome result (λ found. length found.1.now < length text.now) }
 {
     let (a, rest) = text.split_first()?;
@@ -154,10 +126,10 @@ fn code(text: &[char]) -> Option<(Mark, &[char])>
     }
 }
 
-/// What stands behind a backslash.
-#[tactic(auto, unfolding(clip_grammar::specs::Lexer::escape_at))]
+/// What stands after a backslash.
+#[tactic(auto, unfolding(clip_grammar::specs::Steps::Lexer::escape_at))]
 fn escape(text: &[char]) -> Option<(Mark, &[char])>
-    ensures found { option_map (λ found. (found.0, found.1.now)) result ≡ option_map marked (escape_at text.now) }
+    ensures found { option_map and_rest result ≡ option_map mark_and_rest (escape_at text.now) }
     ensures shorter { IfSome result (λ found. length found.1.now < length text.now) }
 {
     let (first, rest) = text.split_first()?;
@@ -168,9 +140,9 @@ fn escape(text: &[char]) -> Option<(Mark, &[char])>
 }
 
 /// One character or escape at the front of the text, and what is left.
-#[tactic(auto, unfolding(clip_grammar::specs::Lexer::piece_at))]
+#[tactic(auto, unfolding(clip_grammar::specs::Steps::Lexer::piece_at))]
 fn piece(text: &[char], place: Place) -> Option<(Mark, &[char])>
-    ensures found { option_map (λ found. (found.0, found.1.now)) result ≡ option_map marked (piece_at (class_test place) text.now) }
+    ensures found { option_map and_rest result ≡ option_map mark_and_rest (piece_at (class_test place) text.now) }
     ensures shorter { IfSome result (λ found. length found.1.now < length text.now) }
 {
     let (first, rest) = text.split_first()?;
@@ -191,7 +163,7 @@ fn pieces(
     text: &[char],
     place: Place,
 ) -> Result<(Vec<Mark>, &[char]), NoMemory>
-    ensures { IfOk result (λ found. (found.0.items, found.1.now) ≡ marked_after marks.items (pieces_at (class_test place) text.now)) }
+    ensures { IfOk result (λ found. marks_and_rest found ≡ marks_after marks.items (pieces_at (class_test place) text.now)) }
 {
     let mut rest = text;
     while let Some((mark, after)) = piece(rest, place) {
@@ -229,6 +201,7 @@ fn is_spelled(chars: &[char], marks: &[Mark]) -> bool
     is_bare(*c, *mark) && is_spelled(chars, marks)
 }
 
+/// Whether the mark is this character as it stands.
 fn is_bare(c: char, mark: Mark) -> bool
     ensures { result ≡ is_bare c mark }
 {
@@ -238,12 +211,14 @@ fn is_bare(c: char, mark: Mark) -> bool
     }
 }
 
+/// Whether the mark is a star or a question mark as it stands.
 fn is_wild(mark: Mark) -> bool
     ensures { result ≡ is_wild mark }
 {
     is_bare('*', mark) || is_bare('?', mark)
 }
 
+/// Whether some mark is a wild card.
 fn has_wild(marks: &[Mark]) -> bool
     ensures { result ≡ list_any is_wild marks.now }
 {
@@ -315,6 +290,7 @@ fn word_token(alloc: Global, marks: &[Mark]) -> Result<Token, NoMemory>
     Ok(Token::Front(text_of(alloc, &marks[..marks.len() - 1])?))
 }
 
+/// What a sign says.
 #[tactic(auto, unfolding(clip_grammar::specs::Tokens::sign_token))]
 fn sign_token(c: char) -> Token
     ensures { token_of result ≡ sign_token c }
@@ -329,10 +305,10 @@ fn sign_token(c: char) -> Token
     }
 }
 
-/// What stands behind an opening quote.
-#[tactic(auto, unfolding(clip_grammar::specs::Lexer::quoted_at))]
+/// What stands after an opening quote.
+#[tactic(auto, unfolding(clip_grammar::specs::Steps::Lexer::quoted_at))]
 fn quoted(alloc: Global, text: &[char]) -> Result<Option<(Token, &[char])>, NoMemory>
-    ensures { IfOk result (λ found. option_map shown found ≡ option_map said (quoted_at text.now)) }
+    ensures { IfOk result (λ found. option_map token_and_rest found ≡ option_map with_tokens (quoted_at text.now)) }
 {
     let (marks, rest) = pieces(Vec::new(alloc), text, Place::Quoted)?;
     let Some((close, rest)) = rest.split_first() else {
@@ -345,9 +321,9 @@ fn quoted(alloc: Global, text: &[char]) -> Result<Option<(Token, &[char])>, NoMe
 }
 
 /// A word at the front of the text, as long as it goes on.
-#[tactic(auto, unfolding(clip_grammar::specs::Lexer::word_at))]
+#[tactic(auto, unfolding(clip_grammar::specs::Steps::Lexer::word_at))]
 fn word(alloc: Global, text: &[char]) -> Result<Option<(Token, &[char])>, NoMemory>
-    ensures { IfOk result (λ found. option_map shown found ≡ option_map said (word_at text.now)) }
+    ensures { IfOk result (λ found. option_map token_and_rest found ≡ option_map with_tokens (word_at text.now)) }
 {
     let Some((first, rest)) = piece(text, Place::WordStart) else {
         return Ok(None);
@@ -358,8 +334,8 @@ fn word(alloc: Global, text: &[char]) -> Result<Option<(Token, &[char])>, NoMemo
     Ok(Some((word_token(alloc, &marks)?, rest)))
 }
 
-/// What is left behind white space.
-#[tactic(auto, unfolding(clip_grammar::specs::Lexer::span_white))]
+/// What is left after white space.
+#[tactic(auto, unfolding(clip_grammar::specs::Steps::Lexer::span_white))]
 fn skip_white(text: &[char]) -> &[char]
     ensures { result.now ≡ (span_white text.now).1 }
 {
@@ -373,7 +349,7 @@ fn skip_white(text: &[char]) -> &[char]
     rest
 }
 
-/// What is left behind white space, of which there is some.
+/// What is left after white space, of which there is some.
 #[tactic(auto, using(crate::proofs::Ranging::gap_some, crate::proofs::Ranging::gap_none, crate::proofs::Ranging::gap_nil))]
 fn gap(text: &[char]) -> Option<&[char]>
     ensures { option_map (λ rest. rest.now) result ≡ option_map (λ found. found.1) (gap_at text.now) }
@@ -388,8 +364,8 @@ fn gap(text: &[char]) -> Option<&[char]>
     }
 }
 
-/// What is left behind `TO`.
-#[tactic(auto, unfolding(clip_grammar::specs::Lexer::to_at))]
+/// What is left after `TO`.
+#[tactic(auto, unfolding(clip_grammar::specs::Steps::Lexer::to_at))]
 fn to(text: &[char]) -> Option<&[char]>
     ensures { option_map (λ rest. rest.now) result ≡ to_at text.now }
 {
@@ -403,9 +379,9 @@ fn to(text: &[char]) -> Option<&[char]>
 }
 
 /// A closing bracket, and what is left.
-#[tactic(auto, unfolding(clip_grammar::specs::Lexer::bracket_at))]
+#[tactic(auto, unfolding(clip_grammar::specs::Steps::Lexer::bracket_at))]
 fn bracket(text: &[char]) -> Option<(char, &[char])>
-    ensures { option_map (λ found. (found.0, found.1.now)) result ≡ bracket_at text.now }
+    ensures { option_map and_rest result ≡ bracket_at text.now }
 {
     let (first, rest) = text.split_first()?;
     if matches!(*first, ']' | '}') {
@@ -415,9 +391,9 @@ fn bracket(text: &[char]) -> Option<(char, &[char])>
     }
 }
 
-/// A quoted end of a range, behind its opening quote.
+/// A quoted end of a range, after its opening quote.
 fn quoted_end(alloc: Global, text: &[char]) -> Result<Option<(Option<String>, &[char])>, NoMemory>
-    ensures { IfOk result (λ found. option_map (λ found. (option_map string_bytes found.0, found.1.now)) found ≡ quoted_end_of (marked_after [] (pieces_at quotable_char text.now))) }
+    ensures { IfOk result (λ found. option_map text_and_rest found ≡ quoted_end_at text.now) }
 {
     let (marks, rest) = pieces(Vec::new(alloc), text, Place::Quoted)?;
     let Some((close, rest)) = rest.split_first() else {
@@ -431,7 +407,7 @@ fn quoted_end(alloc: Global, text: &[char]) -> Result<Option<(Option<String>, &[
 
 /// A bare end of a range.
 fn bare_end(alloc: Global, text: &[char]) -> Result<Option<(Option<String>, &[char])>, NoMemory>
-    ensures { IfOk result (λ found. option_map (λ found. (option_map string_bytes found.0, found.1.now)) found ≡ bare_end_of (marked_after [] (pieces_at end_char text.now))) }
+    ensures { IfOk result (λ found. option_map text_and_rest found ≡ bare_end_at text.now) }
 {
     let (marks, rest) = pieces(Vec::new(alloc), text, Place::End)?;
     if marks.is_empty() || is_spelled(&['T', 'O'], &marks) {
@@ -446,7 +422,7 @@ fn bare_end(alloc: Global, text: &[char]) -> Result<Option<(Option<String>, &[ch
 /// An end of a range: its text, or none for a star alone.
 #[tactic(auto, using(crate::proofs::Ranging::ending_quoted, crate::proofs::Ranging::ending_bare, crate::proofs::Ranging::ending_nil))]
 fn ending(alloc: Global, text: &[char]) -> Result<Option<(Option<String>, &[char])>, NoMemory>
-    ensures { IfOk result (λ found. option_map (λ found. (option_map string_bytes found.0, found.1.now)) found ≡ option_map end_said (ending_at text.now)) }
+    ensures { IfOk result (λ found. option_map text_and_rest found ≡ option_map end_text_and_rest (ending_at text.now)) }
 {
     let Some((first, rest)) = text.split_first() else {
         return Ok(None);
@@ -468,9 +444,9 @@ fn end_with(closed: bool, text: Option<String>) -> Bound
     }
 }
 
-/// What stands behind the opening bracket of a range.
+/// What stands after the opening bracket of a range.
 fn range(alloc: Global, left: char, text: &[char]) -> Result<Option<(Token, &[char])>, NoMemory>
-    ensures { IfOk result (λ found. option_map shown found ≡ option_map said (range_at left text.now)) }
+    ensures { IfOk result (λ found. option_map token_and_rest found ≡ option_map with_tokens (range_at left text.now)) }
 {
     let Some((low, rest)) = ending(alloc, skip_white(text))? else {
         return Ok(None);
@@ -492,13 +468,13 @@ fn range(alloc: Global, left: char, text: &[char]) -> Result<Option<(Token, &[ch
     };
     let low = end_with(left == '[', low);
     let high = end_with(right == ']', high);
-    Ok(Some((Token::Between(low, high), rest)))
+    Ok(Some((Token::Range(low, high), rest)))
 }
 
 /// What the first lexeme says, and what is left.
-#[tactic(auto, unfolding(clip_grammar::specs::Lexer::lexeme_at))]
+#[tactic(auto, unfolding(clip_grammar::specs::Steps::Lexer::lexeme_at))]
 fn lexeme(alloc: Global, text: &[char]) -> Result<Option<(Option<Token>, &[char])>, NoMemory>
-    ensures { IfOk result (λ found. option_map shown_all found ≡ option_map said (lexeme_at text.now)) }
+    ensures { IfOk result (λ found. option_map tokens_and_rest found ≡ option_map with_tokens (lexeme_at text.now)) }
 {
     let Some((first, rest)) = text.split_first() else {
         return Ok(None);
@@ -526,7 +502,7 @@ fn lexeme(alloc: Global, text: &[char]) -> Result<Option<(Option<Token>, &[char]
 /// What the lexemes say, as far as there are any, and what is left: nothing, or a text at which no lexeme begins.
 ///
 /// The cost is linear in the characters.
-#[tactic(auto, using(crate::proofs::Saying::lexing_more, crate::proofs::Saying::said_shorter, crate::proofs::Marking::mapped_none))]
+#[tactic(auto, using(crate::proofs::Saying::lexing_more, crate::proofs::Saying::tokens_shorter, crate::proofs::Marking::mapped_none))]
 pub fn lex(alloc: Global, text: &[char]) -> Result<(Vec<Token>, &[char]), NoMemory>
     ensures { IfOk result (λ found. IsLexed text.now (map token_of found.0.items) found.1.now) }
 {

@@ -1,11 +1,12 @@
 //! Reads the text of a query as its tree, or says why it is none.
 //!
-//! The syntax is Lucene's classic query syntax (`QueryParser`) in part: words, quoted phrases, prefixes (`tea*`), ranges
-//! (`[a TO b}`), fields (`title:tea`), groups, the signs `+`, `-`, `!` and `NOT`, and `*:*`. The operators `AND`, `OR`, `&&` and
-//! `||`, other wild cards, fuzzy words, boosts and regular expressions are refused as `LeftOut`.
+//! The syntax is Lucene's classic query syntax (`QueryParser`) in part: words, quoted phrases, prefixes (`tea*`),
+//! ranges (`[a TO b}`), fields (`title:tea`), groups, the signs `+`, `-`, `!` and `NOT`, and `*:*`. The operators
+//! `AND`, `OR`, `&&` and `||`, other wild cards, fuzzy words, boosts and regular expressions are refused as `LeftOut`.
 //!
-//! A text is judged in passes, along its characters and then its tokens, none of which recurses along the text: length, lexemes,
-//! left-out forms, clauses, words, size. Only then is the tree built, and it is then at most 65 groups deep.
+//! A text is judged in passes, along its characters and then its tokens, none of which recurses along the text:
+//! length, lexemes, left-out forms, clauses, words, size. Only then is the tree built, and it is then at most 65
+//! groups deep.
 #![tactic(auto)]
 
 mod build;
@@ -13,10 +14,8 @@ mod lexer;
 mod parser;
 mod reader;
 mod size;
-#[cfg(test)]
-mod tests;
+mod token;
 mod words;
 
 pub use clip_grammar::fault::QueryFault;
-pub use clip_grammar::query::{Bound, Occur, Query};
 pub use reader::read_query;

@@ -1,44 +1,22 @@
 //! Whether tokens are clauses, judged along the list and without recursion.
-ghost use Rattle.std.specs.Prelude.{◌≡◌, ◌+◌, ◌<◌, ◌≤◌, ◌∷◌, map, length, zero, true, false, IfSome, MatchOption};
+ghost use Rattle.std.specs.Prelude.{◌≡◌, ◌+◌, ◌-◌, ◌<◌, ◌≤◌, ◌∷◌, map, length, zero, true, false, IfSome, MatchOption};
 ghost use Rattle.clip_grammar.specs.Tokens as spec;
-ghost use Rattle.clip_grammar.specs.LeftOut.{begins_left_out, leaves_out};
-ghost use Rattle.clip_grammar.specs.Parser.{accepts, begins_colon};
+ghost use Rattle.clip_grammar.specs.Steps.LeftOut.{begins_left_out, leaves_out};
+ghost use Rattle.clip_grammar.specs.Steps.Parser.{accepts, begins_colon};
 ghost use Rattle.clip_grammar.specs.Reading.{begins_colon_star};
-ghost use Rattle.clip_syntax.specs.TokenOf.{token_of};
+ghost use Rattle.clip_syntax.specs.Steps.TokenOf.{token_of};
+ghost use Rattle.clip_syntax.specs.Steps.Progress.{accepts_after, next_accepts};
 
-use crate::lexer::Token;
+use crate::token::{Token, after_colon, after_colon_star};
 use clip_grammar::stage::Stage;
 
-/// What is left behind a colon.
-fn after_colon(tokens: &[Token]) -> Option<&[Token]>
-    ensures found { MatchOption result (begins_colon (map token_of tokens.now) ≡ false) (λ rest. map token_of tokens.now ≡ spec.Colon ∷ map token_of rest.now) }
-    ensures shorter { IfSome result (λ rest. length rest.now + 1 ≡ length tokens.now) }
-{
-    match tokens.split_first() {
-        Some((Token::Colon, rest)) => Some(rest),
-        _ => None,
-    }
-}
-
-/// What is left behind a colon and a star.
-fn after_colon_star(tokens: &[Token]) -> Option<&[Token]>
-    ensures found { MatchOption result (begins_colon_star (map token_of tokens.now) ≡ false) (λ rest. map token_of tokens.now ≡ spec.Colon ∷ spec.Star ∷ map token_of rest.now) }
-    ensures shorter { IfSome result (λ rest. length rest.now + 2 ≡ length tokens.now) }
-{
-    let after = after_colon(tokens)?;
-    match after.split_first() {
-        Some((Token::Star, rest)) => Some(rest),
-        _ => None,
-    }
-}
-
-/// Whether the first token is left out. `behind` says whether a star and a colon stand before it.
-fn begins_left_out(token: &Token, after: &[Token], behind: bool) -> bool
-    ensures { result ≡ begins_left_out behind (token_of token.now) (map token_of after.now) }
+/// Whether the first token is left out. `after_star_colon` says whether a star and a colon stand before it.
+fn begins_left_out(token: &Token, after: &[Token], after_star_colon: bool) -> bool
+    ensures { result ≡ begins_left_out after_star_colon (token_of token.now) (map token_of after.now) }
 {
     match token {
         Token::Other => true,
-        Token::Star => !behind && after_colon_star(after).is_none(),
+        Token::Star => !after_star_colon && after_colon_star(after).is_none(),
         _ => false,
     }
 }
@@ -46,7 +24,7 @@ fn begins_left_out(token: &Token, after: &[Token], behind: bool) -> bool
 /// Whether some token is left out: one that the syntax does not have, or a star that is no half of `*:*`.
 ///
 /// The cost is linear in the tokens.
-#[tactic(auto, unfolding(clip_grammar::specs::LeftOut::leaves_out))]
+#[tactic(auto, unfolding(clip_grammar::specs::Steps::LeftOut::leaves_out))]
 pub fn has_left_out(tokens: &[Token]) -> bool
     ensures { result ≡ leaves_out false false (map token_of tokens.now) }
 {
@@ -65,7 +43,7 @@ pub fn has_left_out(tokens: &[Token]) -> bool
 }
 
 /// How far the clauses have been read.
-#[derive(Clone, Copy, Debug, PartialEq, Eq)]
+#[derive(Clone, Copy)]
 pub struct Progress {
     /// How many parentheses are open.
     depth: usize,
@@ -76,13 +54,36 @@ pub struct Progress {
 }
 
 impl Progress {
-    /// Behind an item, which ends a clause.
+    /// After an item, which ends a clause.
     fn after_item(self) -> Progress
         ensures { result ≡ record self { any = true; stage = Stage.Fresh } }
     {
         Progress {
             any: true,
             stage: Stage::Fresh,
+            ..self
+        }
+    }
+
+    /// In a group that opens here.
+    fn in_group(self) -> Progress
+        requires { self.depth < usize.MAX }
+        ensures { result ≡ record { depth = self.depth + 1; any = false; stage = Stage.Fresh } }
+    {
+        Progress {
+            depth: self.depth + 1,
+            any: false,
+            stage: Stage::Fresh,
+        }
+    }
+
+    /// After a group that closes here.
+    fn after_group(self) -> Progress
+        requires { 0 < self.depth }
+        ensures { result ≡ record self { depth = self.depth - 1 } }
+    {
+        Progress {
+            depth: self.depth - 1,
             ..self
         }
     }
@@ -94,11 +95,11 @@ impl Progress {
         Progress { stage, ..self }
     }
 
-    /// Behind the first token, and what is left then. `None` where no clauses go on so.
-    #[tactic(auto, unfolding(clip_grammar::specs::Parser::accepts), using(clip_grammar::proofs::Accepting::accepts_plain, clip_grammar::proofs::Accepting::accepts_field, clip_grammar::proofs::Accepting::accepts_all, clip_grammar::proofs::Accepting::lone_star))]
+    /// After the first token, and what is left then. `None` where no clauses go on so.
+    #[tactic(auto, unfolding(clip_grammar::specs::Steps::Parser::accepts), using(clip_grammar::proofs::Accepting::accepts_plain, clip_grammar::proofs::Accepting::accepts_field, clip_grammar::proofs::Accepting::accepts_all, clip_grammar::proofs::Accepting::lone_star))]
     fn read<'a>(self, token: &Token, rest: &'a [Token]) -> Option<(Progress, &'a [Token])>
         requires { self.depth < usize.MAX }
-        ensures accepts { MatchOption result (accepts (token_of token.now ∷ map token_of rest.now) self.depth self.any self.stage ≡ false) (λ next. accepts (token_of token.now ∷ map token_of rest.now) self.depth self.any self.stage ≡ accepts (map token_of next.1.now) next.0.depth next.0.any next.0.stage) }
+        ensures accepts { accepts_after self (token_of token.now ∷ map token_of rest.now) ≡ next_accepts result }
         ensures within { IfSome result (λ next. next.0.depth + length next.1.now ≤ self.depth + 1 + length rest.now) }
         ensures shorter { IfSome result (λ next. length next.1.now ≤ length rest.now) }
     {
@@ -113,28 +114,17 @@ impl Progress {
                 Some(rest) => Some((self.with_stage(Stage::AfterField), rest)),
                 None => Some((self.after_item(), rest)),
             },
-            Token::Front(_) | Token::Phrase(_) | Token::Between(_, _) => {
+            Token::Front(_) | Token::Phrase(_) | Token::Range(_, _) => {
                 Some((self.after_item(), rest))
             }
             Token::Star if !has_field => match after_colon_star(rest) {
                 Some(rest) => Some((self.after_item(), rest)),
                 None => None,
             },
-            Token::Open => Some((
-                Progress {
-                    depth: self.depth + 1,
-                    any: false,
-                    stage: Stage::Fresh,
-                },
-                rest,
-            )),
-            Token::Close if self.depth > 0 && self.any && is_fresh => Some((
-                Progress {
-                    depth: self.depth - 1,
-                    ..self
-                },
-                rest,
-            )),
+            Token::Open => Some((self.in_group(), rest)),
+            Token::Close if self.depth > 0 && self.any && is_fresh => {
+                Some((self.after_group(), rest))
+            }
             _ => None,
         }
     }
@@ -143,7 +133,7 @@ impl Progress {
 /// Whether the tokens are one clause or more, whatever words their texts have.
 ///
 /// The cost is linear in the tokens.
-#[tactic(auto, unfolding(clip_grammar::specs::Parser::accepts))]
+#[tactic(auto, unfolding(clip_grammar::specs::Steps::Parser::accepts))]
 pub fn are_clauses(tokens: &[Token]) -> bool
     ensures { result ≡ accepts (map token_of tokens.now) zero false Stage.Fresh }
 {

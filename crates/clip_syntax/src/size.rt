@@ -4,17 +4,12 @@ ghost use Rattle.std.specs.List.{count_by};
 ghost use Rattle.clip_grammar.specs.Shape as shape;
 ghost use Rattle.clip_grammar.specs.Shape.{Written, written_tree};
 ghost use Rattle.clip_grammar.specs.Reading.{IsTooBig};
-ghost use Rattle.clip_grammar.specs.LeftOut.{is_colon};
-ghost use Rattle.clip_syntax.specs.Sizes.{is_node, open_after, most_open};
-ghost use Rattle.clip_syntax.specs.TokenOf.{token_of};
+ghost use Rattle.clip_grammar.specs.Steps.LeftOut.{is_colon};
+ghost use Rattle.clip_syntax.specs.Steps.Sizes.{is_node, open_after, most_open};
+ghost use Rattle.clip_syntax.specs.Steps.TokenOf.{token_of, IfWritten};
 
-use crate::lexer::Token;
-
-/// The most nodes of a query's tree.
-pub const MOST_NODES: usize = 4096;
-
-/// The most parentheses that may be open at once.
-pub const MOST_OPEN: usize = 64;
+use crate::token::Token;
+use clip_grammar::limits::{MOST_NODES, MOST_OPEN};
 
 /// Whether the token counts as a node.
 fn is_node(token: &Token) -> bool
@@ -25,12 +20,13 @@ fn is_node(token: &Token) -> bool
         Token::Plain(_)
             | Token::Front(_)
             | Token::Phrase(_)
-            | Token::Between(_, _)
+            | Token::Range(_, _)
             | Token::Star
             | Token::Open
     )
 }
 
+/// Whether the token is a colon.
 fn is_colon(token: &Token) -> bool
     ensures { result ≡ is_colon (token_of token.now) }
 {
@@ -48,7 +44,7 @@ fn node_count(tokens: &[Token]) -> usize
     (nodes + 1).saturating_sub(colons)
 }
 
-/// How many parentheses are open behind the token.
+/// How many parentheses are open after the token.
 fn open_after(token: &Token, open_before: usize) -> usize
     requires { open_before < usize.MAX }
     ensures { result ≡ open_after (token_of token.now) open_before }
@@ -77,7 +73,7 @@ fn most_open(tokens: &[Token]) -> usize
 ///
 /// The cost is linear in the tokens, and nothing nests.
 pub fn is_too_big(tokens: &[Token]) -> bool
-    ensures { (written : Written) → shape.tokens written ≡ map token_of tokens.now → (IsTrue result ↔ IsTooBig (written_tree written)) }
+    ensures { IfWritten tokens.now (λ written. IsTrue result ↔ IsTooBig (written_tree written)) }
 {
     node_count(tokens) > MOST_NODES || most_open(tokens) > MOST_OPEN
 }

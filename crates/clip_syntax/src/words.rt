@@ -3,26 +3,16 @@ ghost use Rattle.std.specs.Prelude.{◌≡◌, map, not, is_some, IfOk, IfSome};
 ghost use Rattle.std.specs.Option.{option_map};
 ghost use Rattle.std.specs.Arc.{arc_str_bytes};
 ghost use Rattle.clip_words.specs.Words.{words_of};
-ghost use Rattle.clip_grammar.specs.Parser.{begins_colon};
+ghost use Rattle.clip_grammar.specs.Steps.Parser.{begins_colon};
 ghost use Rattle.clip_grammar.specs.Shape as shape;
 ghost use Rattle.clip_grammar.specs.Shape.{Written, lacks_words};
-ghost use Rattle.clip_syntax.specs.Items.{item_text, items_words};
-ghost use Rattle.clip_syntax.specs.TokenOf.{token_of};
+ghost use Rattle.clip_syntax.specs.Steps.Items.{item_text, items_words, words_of_items};
+ghost use Rattle.clip_syntax.specs.Steps.TokenOf.{token_of, IfWritten};
 
-use crate::lexer::Token;
+use crate::token::{Token, begins_colon};
 use clip_words::{NoMemory, shared_words};
 use std::alloc::Global;
 use std::sync::ArcStr;
-
-/// Whether a colon comes first.
-pub fn begins_colon(tokens: &[Token]) -> bool
-    ensures { result ≡ begins_colon (map token_of tokens.now) }
-{
-    match tokens.split_first() {
-        Some((Token::Colon, _)) => true,
-        _ => false,
-    }
-}
 
 /// The text of a plain or quoted item. A word before a colon is a field.
 fn item_text(token: &Token, before_colon: bool) -> Option<&str>
@@ -40,8 +30,8 @@ fn item_text(token: &Token, before_colon: bool) -> Option<&str>
 /// A plain word before a colon is a field, and no item. Each word is cut and folded once, and is then shared.
 /// `NoMemory` where a growth is refused. The cost is linear in the bytes of the tokens.
 pub fn item_words(alloc: Global, tokens: &[Token]) -> Result<Option<Vec<Vec<ArcStr>>>, NoMemory>
-    ensures words { IfOk result (λ found. IfSome found (λ items. map (λ words. map arc_str_bytes words.items) items.items ≡ items_words (map token_of tokens.now))) }
-    ensures lacking { IfOk result (λ found. (written : Written) → shape.tokens written ≡ map token_of tokens.now → is_some found ≡ not (lacks_words written)) }
+    ensures words { IfOk result (λ found. IfSome found (λ items. words_of_items items.items ≡ items_words (map token_of tokens.now))) }
+    ensures lacking { IfOk result (λ found. IfWritten tokens.now (λ written. is_some found ≡ not (lacks_words written))) }
 {
     let mut items = Vec::new(alloc);
     let mut rest = tokens;

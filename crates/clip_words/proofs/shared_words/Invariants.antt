@@ -1,8 +1,11 @@
-use Rattle.std.proofs.Common.{◌≡◌, ◌++◌, map, string_bytes}
+use Rattle.std.proofs.Common.{◌≡◌, map, ◌++◌}
 use Rattle.std.specs.Arc.{arc_str_bytes}
-use Rattle.std.specs.Vec.Iter.{into_iter_items}
-use Rattle.clip_words.specs.Words.{words_of}
+use Rattle.clip_words.specs.Words.{fold_of, words_of}
+use Rattle.unicode_segmentation.specs.Iter.{unicode_words_left}
 use Rattle.clip_words.proofs.shared_words.Given as goal
 
+-- the words so far and those to come are the words of the text
 abbrev pub invariant-loop-word : goal.invariant-loop-word
-invariant-loop-word l = map arc_str_bytes l.shared.items ++ map string_bytes (into_iter_items l.word-iterator) ≡ words_of l.text
+invariant-loop-word l =
+    (goal.iterator-loop-word).can_next l.word-iterator × (goal.iterator-loop-word).is_finite l.word-iterator
+    × (map arc_str_bytes l.shared.items ++ map fold_of (unicode_words_left l.word-iterator) ≡ words_of l.text)

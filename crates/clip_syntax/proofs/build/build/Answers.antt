@@ -1,8 +1,9 @@
 use Rattle.std.proofs.Common.{map, sym, ap, ◌∙◌}
 use Rattle.clip_grammar.specs.Tree.{Tree, clauses_of}
-use Rattle.clip_syntax.specs.Building.{State, state_of}
-use Rattle.clip_syntax.specs.TokenOf.{token_of}
-use Rattle.clip_syntax.proofs.Growing.{grown, tree_of_group, read_end}
+use Rattle.clip_grammar.proofs.Trees.{tree_of_group}
+use Rattle.clip_syntax.specs.Steps.Building.{State, state_of}
+use Rattle.clip_syntax.specs.Steps.TokenOf.{token_of}
+use Rattle.clip_syntax.proofs.Growing.{grown, read_end}
 use Rattle.clip_syntax.proofs.build.build.Goals as goal
 
 pub returns : goal.returns

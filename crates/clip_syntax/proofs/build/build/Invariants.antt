@@ -1,7 +1,7 @@
 use Rattle.std.proofs.Common.{◌≡◌, map, length}
-use Rattle.clip_syntax.specs.Building.{read_all, start, state_of}
-use Rattle.clip_syntax.specs.Items.{items_words}
-use Rattle.clip_syntax.specs.TokenOf.{token_of}
+use Rattle.clip_syntax.specs.Steps.Building.{read_all, start, state_of}
+use Rattle.clip_syntax.specs.Steps.Items.{items_words}
+use Rattle.clip_syntax.specs.Steps.TokenOf.{token_of}
 use Rattle.clip_syntax.proofs.build.build.Given as goal
 
 abbrev pub invariant-loop-token : goal.invariant-loop-token

@@ -1,5 +1,5 @@
 use Rattle.std.proofs.Common.{◌≡◌, length}
-use Rattle.clip_grammar.specs.Lexer.{span_white}
+use Rattle.clip_grammar.specs.Steps.Lexer.{span_white}
 use Rattle.clip_syntax.proofs.lexer.skip_white.Given as goal
 
 abbrev pub invariant-loop-first : goal.invariant-loop-first

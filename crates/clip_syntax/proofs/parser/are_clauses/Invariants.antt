@@ -1,6 +1,6 @@
 use Rattle.std.proofs.Common.{◌≡◌, ◌+◌, ◌≤◌, map, zero, false, length}
-use Rattle.clip_grammar.specs.Parser.{accepts}
-use Rattle.clip_syntax.specs.TokenOf.{token_of}
+use Rattle.clip_grammar.specs.Steps.Parser.{accepts}
+use Rattle.clip_syntax.specs.Steps.TokenOf.{token_of}
 use Rattle.clip_grammar.specs.declared.stage.Stage.TheVariants.{Fresh}
 use Rattle.clip_syntax.proofs.parser.are_clauses.Given as goal
 

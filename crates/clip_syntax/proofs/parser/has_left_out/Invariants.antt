@@ -1,6 +1,6 @@
 use Rattle.std.proofs.Common.{◌≡◌, false, length, map}
-use Rattle.clip_grammar.specs.LeftOut.{leaves_out}
-use Rattle.clip_syntax.specs.TokenOf.{token_of}
+use Rattle.clip_grammar.specs.Steps.LeftOut.{leaves_out}
+use Rattle.clip_syntax.specs.Steps.TokenOf.{token_of}
 use Rattle.clip_syntax.proofs.parser.has_left_out.Given as goal
 
 abbrev pub invariant-loop-token : goal.invariant-loop-token

@@ -2,7 +2,7 @@ use Rattle.std.proofs.Common.{◌≡◌, ◌∙◌, ◌<◌, length, arith, rule
 use Rattle.std.proofs.lemmas.Bool.Decides.{nat_tests}
 use Rattle.std.proofs.lemmas.Str.{chars_from_encodes}
 use Rattle.std.specs.Str.{chars}
-use Rattle.clip_syntax.specs.TokenOf.{token_of}
+use Rattle.clip_syntax.specs.Steps.TokenOf.{token_of}
 use Rattle.clip_syntax.proofs.Refusing.{rest_fits, lexical_fault, says_lexed}
 use Rattle.clip_syntax.proofs.reader.tokens_of.Goals as goal
 

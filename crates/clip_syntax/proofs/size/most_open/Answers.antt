@@ -1,7 +1,7 @@
 use Rattle.std.proofs.Common.{◌≡◌, ◌+◌, ◌∷◌, map, max, drop, sym, ap, ◌∙◌, arith, rules, tests}
 use Rattle.std.proofs.lemmas.List.{drop_more}
-use Rattle.clip_syntax.specs.Sizes.{most_open}
-use Rattle.clip_syntax.specs.TokenOf.{token_of}
+use Rattle.clip_syntax.specs.Steps.Sizes.{most_open}
+use Rattle.clip_syntax.specs.Steps.TokenOf.{token_of}
 use Rattle.clip_syntax.proofs.Sizing.{open_more, open_bound}
 use Rattle.clip_syntax.proofs.size.most_open.Goals as goal
 

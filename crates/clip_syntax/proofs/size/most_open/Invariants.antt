@@ -1,6 +1,6 @@
 use Rattle.std.proofs.Common.{◌≡◌, ◌≤◌, map, max, drop}
-use Rattle.clip_syntax.specs.Sizes.{most_open}
-use Rattle.clip_syntax.specs.TokenOf.{token_of}
+use Rattle.clip_syntax.specs.Steps.Sizes.{most_open}
+use Rattle.clip_syntax.specs.Steps.TokenOf.{token_of}
 use Rattle.clip_syntax.proofs.size.most_open.Given as goal
 
 abbrev pub invariant-loop-token : goal.invariant-loop-token

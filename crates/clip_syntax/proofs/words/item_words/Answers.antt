@@ -1,8 +1,8 @@
 use Rattle.std.proofs.Common.{◌≡◌, ◌∷◌, true, not, map, Some, length, sym, ap, ◌∙◌, arith}
 use Rattle.std.specs.Arc.{arc_str_bytes}
-use Rattle.clip_grammar.specs.Parser.{begins_colon}
-use Rattle.clip_syntax.specs.Items.{item_text}
-use Rattle.clip_syntax.specs.TokenOf.{token_of}
+use Rattle.clip_grammar.specs.Steps.Parser.{begins_colon}
+use Rattle.clip_syntax.specs.Steps.Items.{item_text}
+use Rattle.clip_syntax.specs.Steps.TokenOf.{token_of}
 use Rattle.clip_syntax.proofs.Wording.{lacks, lacks_written, lacks_here, lacks_none}
 use Rattle.clip_syntax.proofs.words.item_words.Goals as goal
 

@@ -1,13 +1,12 @@
 use Rattle.std.proofs.Common.{◌≡◌, ◌++◌, map, length}
-use Rattle.std.specs.Arc.{arc_str_bytes}
-use Rattle.clip_syntax.specs.Items.{items_words}
-use Rattle.clip_syntax.specs.TokenOf.{token_of}
+use Rattle.clip_syntax.specs.Steps.Items.{items_words, words_of_items}
+use Rattle.clip_syntax.specs.Steps.TokenOf.{token_of}
 use Rattle.clip_syntax.proofs.Wording.{lacks}
 use Rattle.clip_syntax.proofs.words.item_words.Given as goal
 
 abbrev pub invariant-loop-token : goal.invariant-loop-token
 invariant-loop-token l =
-    (map (λ words. map arc_str_bytes words.items) l.items.items ++ items_words (map token_of l.rest) ≡ items_words (map token_of l.tokens))
+    (words_of_items l.items.items ++ items_words (map token_of l.rest) ≡ items_words (map token_of l.tokens))
     × (lacks (map token_of l.rest) ≡ lacks (map token_of l.tokens))
 
 abbrev pub decreases-loop-token : goal.decreases-loop-token

@@ -6,12 +6,13 @@ use Rattle.std.specs.Vec.Iter.{into_iter_items}
 use Rattle.clip_words.specs.Words.{fold_of}
 use Rattle.clip_grammar.specs.Tokens as token
 use Rattle.clip_grammar.specs.Tokens.{Token, End}
-use Rattle.clip_grammar.specs.Parser.{begins_colon}
+use Rattle.clip_grammar.specs.Steps.Parser.{begins_colon}
 use Rattle.clip_grammar.specs.Shape.{words_tree, fold_end}
 use Rattle.clip_grammar.specs.Tree.{Tree, clauses_of, tree_of}
 use Rattle.clip_grammar.specs.declared.query.Occur.{Occur}
 use Rattle.clip_grammar.specs.declared.query.Occur.TheVariants.{Must, Should, MustNot}
 use Rattle.clip_grammar.specs.declared.query.Query.{Query}
+use Rattle.clip_syntax.specs.Steps.Items.{words_of_items}
 use Rattle.clip_syntax.specs.declared.build.OpenGroup.{OpenGroup}
 use Rattle.clip_syntax.specs.declared.build.Builder.{Builder}
 
@@ -39,11 +40,18 @@ item_field g = unwrap_or g.nearer g.field
 abbrev pub add : Group → Tree → Group
 add g tree = fresh (g.clauses ++ (g.occur, tree) ∷ []) g.field
 
+-- a prefix more, and a range more
+abbrev pub add_prefix : Group → (text : List ℕ) → Group
+add_prefix g text = add g (Tree.Prefix (item_field g) (fold_of text))
+
+abbrev pub add_span : Group → (low high : End) → Group
+add_span g low high = add g (Tree.Span (item_field g) (fold_end low) (fold_end high))
+
 abbrev pub with_occur : Occur → State → State
 with_occur occur s = record s { group = record s.group { occur = occur } }
 
-abbrev pub add_item : State → Tree → State
-add_item s tree = record s { group = add s.group tree }
+abbrev pub with_group : State → Group → State
+with_group s group = record s { group = group }
 
 -- an item that has the next words
 abbrev pub add_words : State → List (List (List ℕ)) → State
@@ -66,9 +74,9 @@ read token.Not _ s = with_occur MustNot s
 read (token.Plain field) true s = record s { group = record s.group { nearer = Some field } }
 read (token.Plain _) false s = add_words s s.words
 read (token.Phrase _) _ s = add_words s s.words
-read (token.Front text) _ s = add_item s (Tree.Prefix (item_field s.group) (fold_of text))
-read (token.Between low high) _ s = add_item s (Tree.Span (item_field s.group) (fold_end low) (fold_end high))
-read token.Star true s = add_item s Tree.All
+read (token.Front text) _ s = with_group s (add_prefix s.group text)
+read (token.Range low high) _ s = with_group s (add_span s.group low high)
+read token.Star true s = with_group s (add s.group Tree.All)
 read token.Star false s = s
 read token.Open _ s = open_group s
 read token.Close _ s = close s s.around
@@ -83,16 +91,17 @@ read_all (t ∷ ts) s = read_all ts (read t (begins_colon ts) s)
 abbrev pub start : List (List (List ℕ)) → State
 start words = record { around = []; group = fresh [] (codes "text"); words = words }
 
--- ---- what the code shows
+-- ---- what the code holds
 
-abbrev pub listed : List (Occur × Query) → List (Occur × Tree)
-listed = map (λ c. (c.0, tree_of c.1))
+-- clauses, each query as its tree
+abbrev pub clause_trees : List (Occur × Query) → List (Occur × Tree)
+clause_trees = map (λ c. (c.0, tree_of c.1))
 
 abbrev pub group_of : OpenGroup → Group
-group_of g = record { clauses = listed g.clauses.items; field = arc_str_bytes g.field; occur = g.occur; nearer = option_map arc_str_bytes g.nearer }
+group_of g = record { clauses = clause_trees g.clauses.items; field = arc_str_bytes g.field; occur = g.occur; nearer = option_map arc_str_bytes g.nearer }
 
 abbrev pub groups_of : List OpenGroup → List Group
 groups_of gs = reverse (map group_of gs)
 
 abbrev pub state_of : Builder → State
-state_of b = record { around = groups_of b.around.items; group = group_of b.group; words = map (λ words. map arc_str_bytes words.items) (into_iter_items b.words) }
+state_of b = record { around = groups_of b.around.items; group = group_of b.group; words = words_of_items (into_iter_items b.words) }

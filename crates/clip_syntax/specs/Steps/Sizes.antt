@@ -8,12 +8,12 @@ abbrev pub is_node : Token → Bool
 is_node (token.Plain _) = true
 is_node (token.Front _) = true
 is_node (token.Phrase _) = true
-is_node (token.Between _ _) = true
+is_node (token.Range _ _) = true
 is_node token.Star = true
 is_node token.Open = true
 is_node _ = false
 
--- how many parentheses are open behind a token
+-- how many parentheses are open after a token
 abbrev pub open_after : Token → ℕ → ℕ
 open_after token.Open n = n + 1
 open_after token.Close n = n - 1

@@ -55,7 +55,7 @@ run (token.Plain field ∷ token.Colon ∷ ts) below cs pending = run ts below c
 run (token.Plain text ∷ ts) below cs pending = run ts below (with_item cs pending (shape.Plain text)) Nothing
 run (token.Front text ∷ ts) below cs pending = run ts below (with_item cs pending (shape.Front text)) Nothing
 run (token.Phrase text ∷ ts) below cs pending = run ts below (with_item cs pending (shape.Phrase text)) Nothing
-run (token.Between low high ∷ ts) below cs pending = run ts below (with_item cs pending (shape.Between low high)) Nothing
+run (token.Range low high ∷ ts) below cs pending = run ts below (with_item cs pending (shape.Range low high)) Nothing
 run (token.Star ∷ token.Colon ∷ token.Star ∷ ts) below cs (Fielded sign other) = None
 run (token.Star ∷ token.Colon ∷ token.Star ∷ ts) below cs pending = run ts below (cs ++ everything (sign_of pending) ∷ []) Nothing
 run (token.Open ∷ ts) below cs pending = run ts (record { clauses = cs; pending = pending } ∷ below) [] Nothing
@@ -80,7 +80,7 @@ accepts (token.Plain field ∷ token.Colon ∷ ts) depth any stage = accepts ts 
 accepts (token.Plain text ∷ ts) depth any stage = accepts ts depth true Fresh
 accepts (token.Front text ∷ ts) depth any stage = accepts ts depth true Fresh
 accepts (token.Phrase text ∷ ts) depth any stage = accepts ts depth true Fresh
-accepts (token.Between low high ∷ ts) depth any stage = accepts ts depth true Fresh
+accepts (token.Range low high ∷ ts) depth any stage = accepts ts depth true Fresh
 accepts (token.Star ∷ token.Colon ∷ token.Star ∷ ts) depth any AfterField = false
 accepts (token.Star ∷ token.Colon ∷ token.Star ∷ ts) depth any stage = accepts ts depth true Fresh
 accepts (token.Open ∷ ts) depth any stage = accepts ts (suc depth) false Fresh

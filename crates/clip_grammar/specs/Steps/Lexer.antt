@@ -1,18 +1,7 @@
 -- The front of a text, cut as the lexer cuts it: what is found there, and what is left.
-use Rattle.std.specs.Prelude.{◌≡◌, ℕ, zero, suc, Bool, not, ◌&&◌, ◌||◌, ◌==◌, List, [], ◌∷◌, length, Option, Some, None, if◌then◌else◌}
-use Rattle.clip_grammar.specs.Lexemes.{Piece, Bare, Escape, Code, Ending, BareEnd, QuotedEnd, Lexeme, Blank, Word, Quoted, Range, Sign, Foreign, is_white, is_start, is_one_of, is_code, is_gap, is_end}
-
-abbrev pub word_char : ℕ → Bool
-word_char c = is_start c || is_one_of "*?+-" c
-
-abbrev pub first_char : ℕ → Bool
-first_char c = is_start c || is_one_of "*?" c
-
-abbrev pub quotable_char : ℕ → Bool
-quotable_char c = not (is_one_of "\"\\" c)
-
-abbrev pub end_char : ℕ → Bool
-end_char c = not (is_white c || is_one_of "]}\\" c)
+use Rattle.std.specs.Prelude.{◌≡◌, ℕ, zero, suc, Bool, ◌&&◌, ◌==◌, List, [], ◌∷◌, length, Option, Some, None, if◌then◌else◌}
+use Rattle.clip_grammar.specs.Lexemes.{Piece, Bare, Escape, Code, RangeEnd, BareEnd, QuotedEnd, Lexeme, Blank, Word, Quoted, Range, Sign, Foreign, is_gap, is_end}
+use Rattle.clip_grammar.specs.Characters.{is_white, is_one_of, is_code, first_char, word_char, quotable_char, end_char}
 
 -- one piece, and what is left
 abbrev pub code_at : List ℕ → Option (Piece × List ℕ)
@@ -39,7 +28,7 @@ pieces_within test (suc n) cs = go_on (pieces_within test n) cs (piece_at test c
 unfoldable pub pieces_at : (ℕ → Bool) → List ℕ → List Piece × List ℕ
 pieces_at test cs = pieces_within test (length cs) cs
 
--- behind an opening quote
+-- after an opening quote
 abbrev pub close_quote : List Piece × List ℕ → Option (Lexeme × List ℕ)
 close_quote (ps, []) = None
 close_quote (ps, c ∷ cs) = if c == 34 then Some (Quoted ps, cs) else None
@@ -66,14 +55,14 @@ bracket_at [] = None
 bracket_at (c ∷ cs) = if is_one_of "]}" c then Some (c, cs) else None
 
 -- an end of a range
-abbrev pub close_end : List Piece × List ℕ → Option (Ending × List ℕ)
+abbrev pub close_end : List Piece × List ℕ → Option (RangeEnd × List ℕ)
 close_end (ps, []) = None
 close_end (ps, c ∷ cs) = if c == 34 && is_end (QuotedEnd ps) then Some (QuotedEnd ps, cs) else None
 
-abbrev pub bare_end : List Piece × List ℕ → Option (Ending × List ℕ)
+abbrev pub bare_end : List Piece × List ℕ → Option (RangeEnd × List ℕ)
 bare_end (ps, cs) = if is_end (BareEnd ps) then Some (BareEnd ps, cs) else None
 
-unfoldable pub ending_at : List ℕ → Option (Ending × List ℕ)
+unfoldable pub ending_at : List ℕ → Option (RangeEnd × List ℕ)
 ending_at [] = None
 ending_at (c ∷ cs) = if c == 34 then close_end (pieces_at quotable_char cs) else bare_end (pieces_at end_char (c ∷ cs))
 
@@ -82,7 +71,7 @@ abbrev pub ◌>>=◌ : {A B : Type 0} → Option A → (A → Option B) → Opti
 None >>= f = None
 (Some x) >>= f = f x
 
--- behind an opening bracket
+-- after an opening bracket
 unfoldable pub range_at : ℕ → List ℕ → Option (Lexeme × List ℕ)
 range_at left cs = do
   low ← ending_at (span_white cs).1

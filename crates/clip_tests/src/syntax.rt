@@ -1,11 +1,14 @@
-//! Texts with their trees, or their faults, worked out by hand.
-use crate::{Bound, Occur, Query, QueryFault, read_query};
+//! Query texts with their trees, or their faults, worked out by hand.
+use clip_grammar::fault::QueryFault;
+use clip_grammar::query::{Bound, Occur, Query};
+use clip_syntax::read_query;
+use clip_words::NoMemory;
 use std::alloc::{AllocError, Global};
 use std::sync::ArcStr;
 use std::test::Fail;
 
-/// A query as text, for comparison: `field=word`, `field="a phrase"`, `field=front*`, `field=['low' TO 'high'}`, `*:*`, and a
-/// group in parentheses, its clauses with `+` or `-` before them.
+/// A query as text, for comparison: `field=word`, `field="a phrase"`, `field=front*`, `field=['low' TO 'high'}`,
+/// `*:*`, and a group in parentheses, its clauses with `+` or `-` before them.
 fn show(query: &Query, text: &mut String) -> Result<(), AllocError> {
     match query {
         Query::Term { field, word } => write!(text, "{field}={word}"),
@@ -66,7 +69,7 @@ fn show_span(low: &Bound, high: &Bound, text: &mut String) -> Result<(), AllocEr
 }
 
 /// The tree of the text, or its fault.
-fn shown(alloc: Global, text: &str) -> Result<String, Fail> {
+fn tree_or_fault(alloc: Global, text: &str) -> Result<String, Fail> {
     match read_query(alloc, text) {
         Ok(query) => {
             let mut found = String::new(alloc);
@@ -265,9 +268,13 @@ static ROWS: [(&str, &str); 164] = [
 ];
 
 #[test]
-fn texts_and_their_trees(rt: HostRuntime) -> Result<(), Fail> {
+fn each_text_has_its_tree_or_its_fault(rt: HostRuntime) -> Result<(), Fail> {
     for (text, wanted) in &ROWS {
-        assert_eq!(rt; shown(rt.alloc(), text)?.as_str(), *wanted, "{text}");
+        assert_eq!(rt;
+            tree_or_fault(rt.alloc(), text)?.as_str(),
+            *wanted,
+            "{text}"
+        );
     }
     Ok(())
 }
@@ -290,13 +297,13 @@ fn nested(alloc: Global, opening: usize, closing: usize) -> Result<String, Alloc
 }
 
 #[test]
-fn longest_text(rt: HostRuntime) -> Result<(), Fail> {
+fn a_text_of_65_536_bytes_is_read_and_no_longer_one(rt: HostRuntime) -> Result<(), Fail> {
     let alloc = rt.alloc();
     let word = repeated(alloc, "a", 65_536)?;
     let mut wanted = String::from_str(alloc, "(text=")?;
     wanted.push_str(&word)?;
     wanted.push(')')?;
-    assert!(rt; shown(alloc, &word)? == wanted);
+    assert!(rt; tree_or_fault(alloc, &word)? == wanted);
     assert_eq!(rt;
         read_query(alloc, &repeated(alloc, "a", 65_537)?),
         Err(QueryFault::TooLong)
@@ -309,7 +316,7 @@ fn longest_text(rt: HostRuntime) -> Result<(), Fail> {
 }
 
 #[test]
-fn largest_tree(rt: HostRuntime) -> Result<(), Fail> {
+fn a_tree_of_4_096_nodes_is_read_and_no_larger_one(rt: HostRuntime) -> Result<(), Fail> {
     let alloc = rt.alloc();
     let query = read_query(alloc, &repeated(alloc, "a ", 4_095)?)?;
     let Query::Group(clauses) = &query else {
@@ -328,13 +335,13 @@ fn largest_tree(rt: HostRuntime) -> Result<(), Fail> {
 }
 
 #[test]
-fn deepest_tree(rt: HostRuntime) -> Result<(), Fail> {
+fn sixty_four_open_parentheses_are_read_and_no_more(rt: HostRuntime) -> Result<(), Fail> {
     let alloc = rt.alloc();
     let mut wanted = repeated(alloc, "(", 65)?;
     wanted.push_str("text=a")?;
     wanted.push_str(&repeated(alloc, ")", 65)?)?;
     assert_eq!(rt;
-        shown(alloc, &nested(alloc, 64, 64)?)?.as_str(),
+        tree_or_fault(alloc, &nested(alloc, 64, 64)?)?.as_str(),
         wanted.as_str()
     );
     assert_eq!(rt;
@@ -353,5 +360,16 @@ fn deepest_tree(rt: HostRuntime) -> Result<(), Fail> {
         read_query(alloc, &repeated(alloc, "(", 65_536)?),
         Err(QueryFault::Structure)
     );
+    Ok(())
+}
+
+#[test]
+fn a_fault_says_in_words_what_is_wrong(rt: HostRuntime) -> Result<(), Fail> {
+    let told = QueryFault::Lexical(2).to_string(rt.alloc())?;
+    assert_eq!(rt; told.as_str(), "no lexeme begins at byte 2");
+    let told = QueryFault::LeftOut.to_string(rt.alloc())?;
+    assert_eq!(rt; told.as_str(), "a form that is left out");
+    assert_eq!(rt; QueryFault::from(NoMemory), QueryFault::NoMemory);
+    assert_eq!(rt; QueryFault::from(AllocError), QueryFault::NoMemory);
     Ok(())
 }

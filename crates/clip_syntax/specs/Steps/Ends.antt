@@ -1,0 +1,60 @@
+-- Ranges, as the lexer reads them: what it keeps of each part.
+use Rattle.std.specs.Prelude.{ℕ, Bool, List, [], ◌∷◌, map, Option, Some, None, ◌==◌, if◌then◌else◌, codes, String, string_bytes}
+use Rattle.std.specs.Global.{Global}
+use Rattle.std.specs.Borrow.{Bor}
+use Rattle.std.specs.Option.{option_map}
+use Rattle.clip_grammar.specs.Lexemes.{RangeEnd, BareEnd, QuotedEnd}
+use Rattle.clip_grammar.specs.Characters.{quotable_char, end_char}
+use Rattle.clip_grammar.specs.Steps.Lexer.{pieces_at, span_white, gap_at, to_at, bracket_at, ending_at, ◌>>=◌}
+use Rattle.clip_grammar.specs.Tokens.{Token, Range, End, Free, mark_of, is_spelled, text_of, closing}
+use Rattle.clip_grammar.specs.declared.mark.Mark.{Mark}
+use Rattle.clip_syntax.specs.Steps.Marks.{marks_after}
+
+-- the text of an end, and none for a star as it stands
+abbrev pub free_text : List Mark → Option (List ℕ)
+free_text ms = if is_spelled (codes "*") ms then None else Some (text_of ms)
+
+abbrev pub end_text : RangeEnd → Option (List ℕ)
+end_text (BareEnd ps) = free_text (map mark_of ps)
+end_text (QuotedEnd ps) = Some (text_of (map mark_of ps))
+
+-- the same of the code's text
+abbrev pub text_and_rest : Option (String Global) × Bor (List ℕ) → Option (List ℕ) × List ℕ
+text_and_rest found = (option_map string_bytes found.0, found.1.now)
+
+abbrev pub end_text_and_rest : RangeEnd × List ℕ → Option (List ℕ) × List ℕ
+end_text_and_rest found = (end_text found.0, found.1)
+
+-- an end with this text, by whether its bracket lets it in
+abbrev pub end_with : Bool → Option (List ℕ) → End
+end_with closed None = Free
+end_with closed (Some text) = closing closed text
+
+-- a quoted end, of the marks after its opening quote and what is left
+abbrev pub quoted_end_of : List Mark × List ℕ → Option (Option (List ℕ) × List ℕ)
+quoted_end_of (ms, []) = None
+quoted_end_of ([], c ∷ cs) = None
+quoted_end_of (m ∷ ms, c ∷ cs) = if c == 34 then Some (Some (text_of (m ∷ ms)), cs) else None
+
+-- a bare end, of its marks and what is left
+abbrev pub bare_end_of : List Mark × List ℕ → Option (Option (List ℕ) × List ℕ)
+bare_end_of ([], cs) = None
+bare_end_of (m ∷ ms, cs) = if is_spelled (codes "TO") (m ∷ ms) then None else Some (free_text (m ∷ ms), cs)
+
+-- the same, of the text
+abbrev pub quoted_end_at : List ℕ → Option (Option (List ℕ) × List ℕ)
+quoted_end_at cs = quoted_end_of (marks_after [] (pieces_at quotable_char cs))
+
+abbrev pub bare_end_at : List ℕ → Option (Option (List ℕ) × List ℕ)
+bare_end_at cs = bare_end_of (marks_after [] (pieces_at end_char cs))
+
+-- what stands after an opening bracket
+unfoldable pub range_tokens : ℕ → List ℕ → Option (List Token × List ℕ)
+range_tokens left cs = do
+  low ← option_map end_text_and_rest (ending_at (span_white cs).1)
+  b ← option_map (λ (gap : List ℕ × List ℕ). gap.1) (gap_at low.1)
+  to ← to_at b
+  c ← option_map (λ (gap : List ℕ × List ℕ). gap.1) (gap_at to)
+  high ← option_map end_text_and_rest (ending_at c)
+  right ← bracket_at (span_white high.1).1
+  Some (Range (end_with (left == 91) low.0) (end_with (right.0 == 93) high.0) ∷ [], right.1)

@@ -1,0 +1,31 @@
+-- What the lexer keeps of what it finds.
+use Rattle.std.specs.Prelude.{ℕ, Bool, List, map, ◌++◌, Vec}
+use Rattle.std.specs.Global.{Global}
+use Rattle.std.specs.Borrow.{Bor}
+use Rattle.clip_grammar.specs.Lexemes.{Piece}
+use Rattle.clip_grammar.specs.Characters.{word_char, first_char, quotable_char, end_char}
+use Rattle.clip_grammar.specs.Tokens.{mark_of}
+use Rattle.clip_grammar.specs.declared.mark.Mark.{Mark}
+use Rattle.clip_syntax.specs.declared.lexer.Place.{Place}
+use Rattle.clip_syntax.specs.declared.lexer.Place.TheVariants as place
+
+-- the characters that may stand there with no backslash
+abbrev pub class_test : Place → ℕ → Bool
+class_test place.WordStart = first_char
+class_test place.Word = word_char
+class_test place.Quoted = quotable_char
+class_test place.End = end_char
+
+-- a value of the code, and the text that is left
+abbrev pub and_rest : {A : Type 0} → A × Bor (List ℕ) → A × List ℕ
+and_rest found = (found.0, found.1.now)
+
+abbrev pub marks_and_rest : Vec Mark Global × Bor (List ℕ) → List Mark × List ℕ
+marks_and_rest found = (found.0.items, found.1.now)
+
+abbrev pub mark_and_rest : Piece × List ℕ → Mark × List ℕ
+mark_and_rest found = (mark_of found.0, found.1)
+
+-- these marks, and then those of the pieces
+abbrev pub marks_after : List Mark → List Piece × List ℕ → List Mark × List ℕ
+marks_after ms found = (ms ++ map mark_of found.0, found.1)
