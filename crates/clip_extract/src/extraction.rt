@@ -9,7 +9,7 @@ ghost use Rattle.clip_extract.specs.Extraction.{Extracted, heaviest, word_extrac
 ghost use Rattle.clip_extract.specs.Groups.{group_from, next_found, counts, outweighs, kept, word_found};
 
 use crate::key::{Key, sorted};
-use clip_syntax::{Occur, Query};
+use clip_grammar::query::{Occur, Query};
 use clip_words::NoMemory;
 use std::alloc::Global;
 use std::sync::ArcStr;

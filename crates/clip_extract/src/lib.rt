@@ -10,5 +10,3 @@ pub mod laws;
 pub use extraction::{keys, weight};
 pub use key::Key;
 
-#[cfg(test)]
-mod tests;

@@ -11,7 +11,7 @@ ghost use Rattle.clip_meaning.specs.Index.{numbered, stands_at};
 ghost use Rattle.clip_meaning.specs.Meaning.{above, below, begins_with, has_run, is_nonempty};
 
 use crate::index::{Posting, WordIndex};
-use clip_syntax::Bound;
+use clip_grammar::query::Bound;
 use clip_words::{NoMemory, shared_words};
 use std::alloc::Global;
 use std::marker::Model;

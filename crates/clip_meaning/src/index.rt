@@ -11,7 +11,7 @@ ghost use Rattle.clip_grammar.specs.Tree.{end_of};
 ghost use Rattle.clip_meaning.specs.Index.{numbered, from_low};
 ghost use Rattle.clip_meaning.specs.Meaning.{above, below, begins_with};
 
-use clip_syntax::Bound;
+use clip_grammar::query::Bound;
 use clip_words::NoMemory;
 use std::alloc::Global;
 use std::cmp::Ordering;

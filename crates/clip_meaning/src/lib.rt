@@ -12,8 +12,6 @@ pub mod field;
 mod field_map;
 pub mod index;
 pub mod meaning;
-#[cfg(test)]
-mod tests;
 
 pub use article::Article;
 pub use fault::ArticleFault;

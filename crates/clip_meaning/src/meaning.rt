@@ -10,7 +10,7 @@ ghost use Rattle.clip_meaning.specs.Meaning.{holds, above, below, begins_with, h
 ghost use Rattle.clip_meaning.specs.Tally.{group_with};
 
 use crate::article::Article;
-use clip_syntax::{Bound, Occur, Query};
+use clip_grammar::query::{Bound, Occur, Query};
 use std::sync::ArcStr;
 
 fn has_word(article: &Article, field: &str, word: &str) -> bool

@@ -6,8 +6,6 @@ ghost use Rattle.std.specs.Prelude.{◌≡◌};
 pub mod entry;
 pub mod segment;
 pub mod standing;
-#[cfg(test)]
-mod tests;
 
 pub use entry::Entry;
 pub use segment::Segment;

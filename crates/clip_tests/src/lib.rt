@@ -1,2 +1,9 @@
 //! Tests of the crates below the front, by their public calls: worked examples, limits, and each call that takes memory once.
 #![tactic(auto)]
+
+#[cfg(test)]
+mod extract;
+#[cfg(test)]
+mod meaning;
+#[cfg(test)]
+mod segment;
