@@ -10,7 +10,7 @@ use Rattle.clip_grammar.specs.declared.query.Query.TheViews.{Group, roll-Query}
 use Rattle.clip_grammar.specs.declared.query.Query.TheVariants.{rolls-Group}
 use Rattle.clip_grammar.specs.declared.query.Query.TheFolds.{fold-roll-Query}
 use Rattle.std.proofs.Common.{Vec, Global}
-use Rattle.clip_meaning.specs.Tally.{group_with}
+use Rattle.clip_meaning.specs.Steps.Tally.{group_with}
 use Rattle.clip_grammar.specs.Tree.{Tree, clauses_of, tree_of, tree_step}
 use Rattle.clip_meaning.specs.Article.{Fields}
 use Rattle.clip_meaning.specs.Meaning.{holds, verdicts, group_holds, meets_must, is_must, meets_should}

@@ -3,4 +3,4 @@ mod Groups
 mod Numbered
 mod Pairs
 mod Postings
-pub mod Refusals
+pub mod Tests

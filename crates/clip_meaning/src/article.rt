@@ -39,7 +39,8 @@ impl Article {
     ///
     /// # Errors
     ///
-    /// The first refusal of `ArticleFault` that holds, judged before any memory is taken; `NoMemory` only where there is none.
+    /// The first refusal of `ArticleFault` that holds, judged before any memory is taken; `NoMemory` where an allocation
+    /// failed, only where none of the others holds.
     pub fn read(
         alloc: Global,
         id: &str,
@@ -74,7 +75,8 @@ impl Article {
         &self.id
     }
 
-    /// The words of a field in the order of its text, none where the field is not there. Searches among at most 16 names.
+    /// The words of a field in the order of its text, none where the field is not there. Searches among at most 16
+    /// names.
     pub fn field(&self, name: &str) -> &[ArcStr]
         ensures { map arc_str_bytes result.now ≡ words_in self.now.fields name.now }
     {

@@ -1,15 +1,16 @@
 //! The words of a field in byte order, each with its position.
-ghost use Rattle.std.specs.Prelude.{◌≡◌, ◌&&◌, map, filter, not, IfOk, IsPermutation};
+ghost use Rattle.std.specs.Prelude.{◌≡◌, map, filter, not, IfOk, IsPermutation};
 ghost use Rattle.std.specs.Arc.{arc_str_bytes};
 ghost use Rattle.std.specs.List.{list_any};
-ghost use Rattle.std.specs.List.Sorted.{IsSortedByKey};
+ghost use Rattle.std.specs.List.Sorted.{IsSorted, IsSortedByKey};
 ghost use Rattle.std.specs.Str.{bytes_eq};
 ghost use Rattle.std.specs.Ordering.{is_gt, is_lt};
 ghost use Rattle.clip_words.specs.Order.{bytes_cmp};
 ghost use Rattle.clip_grammar.specs.Tokens.{End};
 ghost use Rattle.clip_grammar.specs.Tree.{end_of};
-ghost use Rattle.clip_meaning.specs.Index.{numbered, from_low};
-ghost use Rattle.clip_meaning.specs.Meaning.{above, below, begins_with};
+ghost use Rattle.clip_meaning.specs.Index.{numbered, posting_cmp};
+ghost use Rattle.clip_meaning.specs.Steps.Searches.{from_low};
+ghost use Rattle.clip_meaning.specs.Meaning.{below, begins_with, is_between};
 
 use clip_grammar::query::Bound;
 use clip_words::NoMemory;
@@ -58,21 +59,21 @@ pub(crate) struct WordIndex {
 
 impl Model for WordIndex {
     ghost use Rattle.std.specs.Prelude.{ℕ, List};
-    ghost use Rattle.std.specs.List.Sorted.{IsSortedByKey};
-    ghost use Rattle.clip_words.specs.Order.{bytes_cmp};
+    ghost use Rattle.std.specs.List.Sorted.{IsSorted};
+    ghost use Rattle.clip_meaning.specs.Index.{posting_cmp};
 
     ghost Value = { List (List ℕ × ℕ) };
 
     ghost view = { λ index. index.postings.items };
 
-    ghost invariant = { λ index. IsSortedByKey (λ p. p.0) bytes_cmp index.postings.items };
+    ghost invariant = { λ index. IsSorted posting_cmp index.postings.items };
 }
 
 /// The words in order, each with its position.
 fn postings_of(alloc: Global, words: &[ArcStr]) -> Result<Vec<Posting>, NoMemory>
     ensures { IfOk result (λ postings. postings.items ≡ numbered 0 (map arc_str_bytes words.now)) }
 {
-    let mut postings = Vec::new(alloc);
+    let mut postings = Vec::with_capacity(alloc, words.len())?;
     for word in words {
         let posting = Posting {
             word: word.clone()?,
@@ -89,11 +90,11 @@ impl WordIndex {
         ensures { IfOk result (λ index. IsPermutation (numbered 0 (map arc_str_bytes words.now)) index) }
     {
         let mut postings = postings_of(alloc, words)?;
-        postings.sort_by(
+        postings.sort_unstable_by(
             |a: &Posting, b: &Posting| -> Ordering
-                ensures { result ≡ bytes_cmp a.now.0 b.now.0 }
-            { a.word().cmp(b.word()) },
-        )?;
+                ensures { result ≡ posting_cmp a.now b.now }
+            { a.word().cmp(b.word()).then(a.position().cmp(&b.position())) },
+        );
         Ok(WordIndex { postings })
     }
 
@@ -101,6 +102,7 @@ impl WordIndex {
     pub(crate) fn postings(&self) -> &[Posting]
         ensures value { result.now ≡ self.now }
         ensures sorted { IsSortedByKey (λ p. p.0) bytes_cmp self.now }
+        ensures in_order { IsSorted posting_cmp self.now }
     {
         &self.postings
     }
@@ -180,7 +182,7 @@ impl WordIndex {
 
     /// Whether a word lies between the bounds.
     pub(crate) fn has_between(&self, low: &Bound, high: &Bound) -> bool
-        ensures { result ≡ list_any (λ p. above (end_of low.now) p.0 && below (end_of high.now) p.0) self.now }
+        ensures { result ≡ list_any (λ p. is_between (end_of low.now) (end_of high.now) p.0) self.now }
     {
         match self.from_low(low).first() {
             Some(posting) => is_below(high, posting.word()),
