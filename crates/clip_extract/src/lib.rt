@@ -5,8 +5,8 @@ ghost use Rattle.std.specs.Prelude.{◌≡◌};
 
 mod extraction;
 pub mod key;
-pub mod laws;
+mod laws;
 
 pub use extraction::{keys, weight};
 pub use key::Key;
-
+pub use laws::covering_law;

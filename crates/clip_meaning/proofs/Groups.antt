@@ -62,23 +62,6 @@ pub group_start : (cs : List (Occur × Query)) (a : Fields) → group_with false
 unfolding group_with group_holds
 group_start cs a = ap group_holds (sym (verdicts_map cs a))
 
--- the next clause's verdict comes first
-pub next_verdict : (a : Fields) (cs : List (Occur × Query)) (i : ℕ) (c : Occur × Query) (o : Occur) (h : Bool) → i < length cs → c ≡ get_or cs i c → c.0 ≡ o → h ≡ holds (tree_of c.1) a
-    → verdicts_of a (drop i cs) ≡ (o, h) ∷ verdicts_of a (drop (i + 1) cs)
-next_verdict a cs i c o h lt is occur held =
-    ap (verdicts_of a) (drop-cons cs i c lt)
-    ∙ ap (λ x. (x.0, holds (tree_of x.1) a) ∷ verdicts_of a (drop (suc i) cs)) (sym is)
-    ∙ ap (λ x. (x, holds (tree_of c.1) a) ∷ verdicts_of a (drop (suc i) cs)) occur
-    ∙ ap (λ x. (o, x) ∷ verdicts_of a (drop (suc i) cs)) (sym held)
-    ∙ ap (λ j. (o, h) ∷ verdicts_of a (drop j cs)) (sym (add-one i))
-
 -- all clauses are read
 pub all_read : (m s : Bool) (a : Fields) (cs : List (Occur × Query)) (i : ℕ) (h : Bool) → length cs ≤ i → group_with m s (verdicts_of a (drop i cs)) ≡ h → (m || s) ≡ h
 all_read m s a cs i h le e = sym (group_end m s) ∙ ap (λ x. group_with m s (verdicts_of a x)) (sym (drop_all i cs le)) ∙ e
-
--- the tree of a group
-group_rolled : (v : Vec (Occur × Query) Global) → tree_of (roll-Query (layer.Group v)) ≡ Tree.Group (clauses_of (map (λ c. (c.0, tree_of c.1)) v.items))
-group_rolled v = fold-roll-Query Tree tree_step (layer.Group v)
-
-pub tree_of_group : (v : Vec (Occur × Query) Global) → tree_of (Group v) ≡ Tree.Group (clauses_of (map (λ c. (c.0, tree_of c.1)) v.items))
-tree_of_group v = ap tree_of (sym (rolls-Group v)) ∙ group_rolled v

@@ -4,3 +4,4 @@ mod Numbered
 mod Pairs
 mod Postings
 pub mod Tests
+pub mod Trees

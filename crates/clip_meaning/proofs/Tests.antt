@@ -1,6 +1,10 @@
 -- What it says that a test is passed.
 use Rattle.std.proofs.Common.{◌≡◌, Bool, true, false, ◌&&◌, T, is_lt, is_gt, Ordering, Less, Equal, Greater, refl, sym, true≢false}
 
+pub truth : (b : Bool) → T b → b ≡ true
+truth true t = refl
+truth false t = absurd t
+
 pub first : (a b : Bool) → T (a && b) → T a
 first true b p = tt
 first false b p = p
