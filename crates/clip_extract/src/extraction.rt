@@ -6,7 +6,7 @@ ghost use Rattle.clip_grammar.specs.Tree.{tree_of};
 ghost use Rattle.clip_grammar.specs.declared.query.Occur.{Occur};
 ghost use Rattle.clip_extract.specs.Keys.{KeyValue, key_of};
 ghost use Rattle.clip_extract.specs.Extraction.{Extracted, heaviest, word_extract, unnarrowed, extract, query_keys, query_weight};
-ghost use Rattle.clip_extract.specs.Steps.Groups.{group_from, next_found, counts, outweighs, kept};
+ghost use Rattle.clip_extract.specs.Steps.Groups.{group_from, next_found, counts, outweighs, kept_from};
 ghost use Rattle.clip_extract.specs.Steps.Leaves.{Adds, IsNoGroup, word_found, leaf_found};
 
 use crate::key::{Key, sorted};
@@ -33,7 +33,8 @@ fn characters(word: &str) -> u64
 
 /// The heaviest word, the first on a tie, and its weight.
 fn heaviest_word(words: &[ArcStr]) -> Option<(&ArcStr, u64)>
-    ensures { (field : List ℕ) → heaviest (map (word_extract field) (map arc_str_bytes words.now)) ≡ option_map (λ r. word_found field (arc_str_bytes r.0.now) r.1) result }
+    ensures { (field : List ℕ) → heaviest (map (word_extract field) (map arc_str_bytes words.now))
+        ≡ option_map (λ r. word_found field (arc_str_bytes r.0.now) r.1) result }
 {
     let (first, others) = words.split_first()?;
     let mut best = first;
@@ -86,7 +87,8 @@ fn weight_found(found: Found) -> u64
 /// The word by which a query that is no group is found: its field, the word and its weight. `None` where nothing narrows
 /// the articles down.
 fn deciding_word(query: &Query) -> Option<(&ArcStr, &ArcStr, u64)>
-    ensures { IsNoGroup query.now → leaf_found (option_map (λ r. (r.0.now, (r.1.now, r.2))) result) ≡ extract (tree_of query.now) }
+    ensures { IsNoGroup query.now → leaf_found (option_map (λ r. (r.0.now, (r.1.now, r.2))) result)
+        ≡ extract (tree_of query.now) }
 {
     match query {
         Query::Term { field, word } => Some((field, word, characters(word))),
@@ -155,7 +157,8 @@ fn keep(found: Found, occur: Occur, weight: u64, keys: &mut Vec<Key>, start: usi
     requires high { middle ≤ vec_len keys.old }
     ensures front { take start (map key_of keys.new.items) ≡ take start (map key_of keys.old.items) }
     ensures long { start ≤ vec_len keys.new }
-    ensures kept { drop start (map key_of keys.new.items) ≡ kept found occur weight (drop start (take middle (map key_of keys.old.items))) (drop middle (map key_of keys.old.items)) }
+    ensures kept { drop start (map key_of keys.new.items)
+        ≡ kept_from found occur weight start middle (map key_of keys.old.items) }
 {
     match occur {
         Occur::Must if outweighs(found, weight) => remove(keys, start, middle),

@@ -1,17 +1,12 @@
 -- A group's meaning, clause by clause.
 use Rattle.std.proofs.lemmas.List.{drop_all}
-use Rattle.std.proofs.Common.{◌≡◌, ℕ, suc, ◌+◌, ◌<◌, ◌≤◌, add-one, drop-cons, Bool, true, false, ◌&&◌, ◌||◌, List, [], ◌∷◌, map, length, drop, get_or, refl, sym, ap, ◌∙◌}
+use Rattle.std.proofs.Common.{◌≡◌, ℕ, ◌≤◌, Bool, true, false, ◌&&◌, ◌||◌, List, [], ◌∷◌, map, length, drop, refl, sym, ap, ◌∙◌}
 use Rattle.std.specs.List.{list_any, list_all}
 use Rattle.clip_grammar.specs.declared.query.Occur.{Occur}
 use Rattle.clip_grammar.specs.declared.query.Occur.TheVariants.{Must, Should, MustNot}
 use Rattle.clip_grammar.specs.declared.query.Query.{Query}
-use Rattle.clip_grammar.specs.declared.query.Query.TheOpen as layer
-use Rattle.clip_grammar.specs.declared.query.Query.TheViews.{Group, roll-Query}
-use Rattle.clip_grammar.specs.declared.query.Query.TheVariants.{rolls-Group}
-use Rattle.clip_grammar.specs.declared.query.Query.TheFolds.{fold-roll-Query}
-use Rattle.std.proofs.Common.{Vec, Global}
 use Rattle.clip_meaning.specs.Steps.Tally.{group_with}
-use Rattle.clip_grammar.specs.Tree.{Tree, clauses_of, tree_of, tree_step}
+use Rattle.clip_grammar.specs.Tree.{clauses_of, tree_of}
 use Rattle.clip_meaning.specs.Article.{Fields}
 use Rattle.clip_meaning.specs.Meaning.{holds, verdicts, group_holds, meets_must, is_must, meets_should}
 

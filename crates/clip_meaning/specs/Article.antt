@@ -12,7 +12,7 @@ use Rattle.clip_words.specs.Words.{words_of}
 use Rattle.clip_grammar.specs.TreeCode.{bytes_code}
 use Rattle.clip_meaning.specs.declared.fault.TheConstants.{MOST_FIELDS, MOST_NAME_BYTES}
 use Rattle.clip_meaning.specs.declared.fault.ArticleFault.{ArticleFault}
-use Rattle.clip_meaning.specs.declared.fault.ArticleFault.TheVariants.{Id, TooMany, Field, Twice}
+use Rattle.clip_meaning.specs.declared.fault.ArticleFault.TheVariants.{Id, TooMany, Field, Twice, NoMemory}
 
 -- ---- what an article is
 
@@ -68,6 +68,10 @@ fault_of id pairs =
     else (if nat_lt MOST_FIELDS (length pairs) then Some TooMany
     else (if not (list_all is_field_name (names pairs)) then Some Field
     else (if has_twice (names pairs) then Some Twice else None)))
+
+-- why there is no article: the first refusal that holds, and where none does, that an allocation failed
+abbrev pub refusal_of : List ℕ → List (List ℕ × List ℕ) → ArticleFault
+refusal_of id pairs = unwrap_or (fault_of id pairs) NoMemory
 
 -- an article may have this id and these fields
 abbrev pub may_be : List ℕ → List (List ℕ × List ℕ) → Bool

@@ -1,8 +1,8 @@
 //! Articles: an id, and words by field.
-ghost use Rattle.std.specs.Prelude.{◌≡◌, map, None, IfOk, IfErr, option_map, unwrap_or};
+ghost use Rattle.std.specs.Prelude.{◌≡◌, map, None, IfOk, IfErr, option_map};
 ghost use Rattle.std.specs.Arc.{arc_str_bytes};
 ghost use Rattle.std.specs.FinMap as finite;
-ghost use Rattle.clip_meaning.specs.Article.{words_in, fault_of, article_value, pairs_of};
+ghost use Rattle.clip_meaning.specs.Article.{words_in, fault_of, refusal_of, article_value, pairs_of};
 
 use crate::fault::{ArticleFault, fault_of};
 use crate::field::Field;
@@ -48,7 +48,7 @@ impl Article {
     ) -> Result<Article, ArticleFault>
         ensures read { IfOk result (λ article. article ≡ article_value id.now (pairs_of fields.now)) }
         ensures kept { IfOk result (λ _. fault_of id.now (pairs_of fields.now) ≡ None) }
-        ensures refused { IfErr result (λ fault. fault ≡ unwrap_or (fault_of id.now (pairs_of fields.now)) ArticleFault.NoMemory) }
+        ensures refused { IfErr result (λ fault. fault ≡ refusal_of id.now (pairs_of fields.now)) }
     {
         if let Some(fault) = fault_of(id, fields) {
             return Err(fault);

@@ -1,5 +1,5 @@
 -- What is extracted of a group while its clauses are read.
-use Rattle.std.specs.Prelude.{ℕ, Bool, true, false, min, max, nat_lt, List, ◌++◌, fold, Option, Some, None, unwrap_or, if◌then◌else◌}
+use Rattle.std.specs.Prelude.{ℕ, Bool, true, false, min, max, nat_lt, List, ◌++◌, fold, take, drop, Option, Some, None, unwrap_or, if◌then◌else◌}
 use Rattle.clip_grammar.specs.declared.query.Occur.{Occur}
 use Rattle.clip_grammar.specs.declared.query.Occur.TheVariants.{Must, Should, MustNot}
 use Rattle.clip_extract.specs.Keys.{KeyValue}
@@ -53,3 +53,7 @@ abbrev pub kept : Found → Occur → ℕ → (before more : List KeyValue) → 
 kept found Must weight before more = if outweighs found weight then more else before
 kept found Should weight before more = before ++ more
 kept found MustNot weight before more = before ++ more
+
+-- the same of the keys from `start` on, where those of the clause begin at `middle`
+abbrev pub kept_from : Found → Occur → ℕ → (start middle : ℕ) → List KeyValue → List KeyValue
+kept_from found occur weight start middle keys = kept found occur weight (drop start (take middle keys)) (drop middle keys)
