@@ -1,4 +1,5 @@
 mod Fields
+mod Fronts
 mod Groups
 mod Numbered
 mod Pairs
