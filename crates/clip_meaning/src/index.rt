@@ -44,14 +44,14 @@ impl Model for Posting {
 }
 
 impl Posting {
-    /// The word, folded. A `clone` of it shares the text.
+    /// The word, folded. A `clone` of it shares the text. Takes constant time.
     pub fn word(&self) -> &ArcStr
         ensures { arc_str_bytes result.now ≡ self.now.0 }
     {
         &self.word
     }
 
-    /// The word's position among the words of its field, counted from 0.
+    /// The word's position among the words of its field, counted from 0. Takes constant time.
     pub fn position(&self) -> usize
         ensures { result ≡ self.now.1 }
     {
@@ -59,7 +59,8 @@ impl Posting {
     }
 }
 
-/// Compares postings by their words, and those of one word by their positions.
+/// Compares postings by their words, and those of one word by their positions. Looks at the texts only where the words
+/// begin with the same eight bytes.
 fn order(a: &Posting, b: &Posting) -> Ordering
     ensures { result ≡ posting_cmp a.now b.now }
 {

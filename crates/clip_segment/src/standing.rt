@@ -132,7 +132,7 @@ impl Standing {
         self.id.as_str()
     }
 
-    /// The id, to be shared by a clone.
+    /// The id, as a text that a `clone` shares.
     pub fn shared_id(&self) -> &ArcStr
         ensures { arc_str_bytes result.now ≡ self.now.id }
     {
@@ -164,7 +164,7 @@ impl Standing {
         }
     }
 
-    /// The name of the listener, if there is one, to be shared by a clone.
+    /// The name of the listener, if there is one, as a text that a `clone` shares.
     pub fn shared_listener(&self) -> Option<&ArcStr>
         ensures { option_map arc_str_bytes (option_copied result) ≡ self.now.listener }
     {
