@@ -1,21 +1,17 @@
 -- A group's keys and weight, clause by clause.
 use Rattle.std.proofs.Common.{◌≡◌, ℕ, suc, ◌+◌, ◌<◌, ◌≤◌, add-one, drop-cons, Bool, true, false, cond, ltb, min, max, List, [], ◌∷◌, ◌++◌, map, length, drop, take, get_or, fold, Option, Some, None, unwrap_or, Vec, Global, refl, sym, ap, ◌∙◌, arith}
 use Rattle.std.proofs.lemmas.List.{drop_all, take_at, drop_at}
-use Rattle.std.specs.Arc.{arc_str_bytes}
-use Rattle.std.specs.declared.sync.ArcStr.{ArcStr}
 use Rattle.std.proofs.lemmas.List.Folds.{fold_along}
 use Rattle.std.proofs.lemmas.Bool.{false≢true, ltb-true, ltb-false}
 use Rattle.clip_grammar.specs.declared.query.Occur.{Occur}
 use Rattle.clip_grammar.specs.declared.query.Occur.TheVariants.{Must, Should, MustNot}
 use Rattle.clip_grammar.specs.declared.query.Query.{Query}
-use Rattle.clip_grammar.specs.declared.query.Query.TheOpen as layer
-use Rattle.clip_grammar.specs.declared.query.Query.TheViews.{Group, roll-Query}
-use Rattle.clip_grammar.specs.declared.query.Query.TheVariants.{Term, Phrase, rolls-Group, rolls-Term, rolls-Phrase}
-use Rattle.clip_grammar.specs.declared.query.Query.TheFolds.{fold-roll-Query}
-use Rattle.clip_grammar.specs.Tree.{Tree, clauses_of, tree_of, tree_step}
+use Rattle.clip_grammar.specs.declared.query.Query.TheViews.{Group}
+use Rattle.clip_grammar.specs.Tree.{clauses_of, tree_of}
+use Rattle.clip_meaning.proofs.Trees.{tree_of_group}
 use Rattle.clip_extract.specs.Keys.{KeyValue}
-use Rattle.clip_extract.specs.Extraction.{Extracted, unnarrowed, word_extract, heavier, together, heaviest, musts, shoulds, group_extract, extract, extracts}
-use Rattle.clip_extract.specs.Groups.{group_with, group_from, next_found, counts, kept}
+use Rattle.clip_extract.specs.Extraction.{Extracted, unnarrowed, heavier, together, heaviest, musts, shoulds, group_extract, extract, extracts}
+use Rattle.clip_extract.specs.Steps.Groups.{group_with, group_from, next_found, counts, kept}
 use Rattle.clip_extract.specs.declared.extraction.Found.{Found}
 use Rattle.clip_extract.specs.declared.extraction.Found.TheVariants.{Nothing, Optional, Required}
 
@@ -112,13 +108,6 @@ extracts_map : (cs : List (Occur × Query)) → extracts (clauses_of (map (λ c.
 extracts_map [] = refl
 extracts_map (c ∷ cs) = ap (λ es. (c.0, extract (tree_of c.1)) ∷ es) (extracts_map cs)
 
--- the tree of a group
-group_rolled : (v : Vec (Occur × Query) Global) → tree_of (roll-Query (layer.Group v)) ≡ Tree.Group (clauses_of (map (λ c. (c.0, tree_of c.1)) v.items))
-group_rolled v = fold-roll-Query Tree tree_step (layer.Group v)
-
-tree_of_group : (v : Vec (Occur × Query) Global) → tree_of (Group v) ≡ Tree.Group (clauses_of (map (λ c. (c.0, tree_of c.1)) v.items))
-tree_of_group v = ap tree_of (sym (rolls-Group v)) ∙ group_rolled v
-
 pub extract_group : (v : Vec (Occur × Query) Global) → extract (tree_of (Group v)) ≡ group_extract (extracts_of v.items)
 extract_group v = ap extract (tree_of_group v) ∙ ap group_extract (extracts_map v.items)
 
@@ -155,11 +144,3 @@ unfolding group_with
 keys_found Nothing ks some = absurd (some refl)
 keys_found (Optional w) ks some = refl
 keys_found (Required w) ks some = refl
-
--- ---- words
-
-pub extract_term : (field word : ArcStr Global) → extract (tree_of (Term field word)) ≡ word_extract (arc_str_bytes field) (arc_str_bytes word)
-extract_term field word = ap (λ q. extract (tree_of q)) (sym (rolls-Term field word)) ∙ ap extract (fold-roll-Query Tree tree_step (layer.Term field word))
-
-pub extract_phrase : (field : ArcStr Global) (words : Vec (ArcStr Global) Global) → extract (tree_of (Phrase field words)) ≡ unwrap_or (heaviest (map (word_extract (arc_str_bytes field)) (map arc_str_bytes words.items))) unnarrowed
-extract_phrase field words = ap (λ q. extract (tree_of q)) (sym (rolls-Phrase field words)) ∙ ap extract (fold-roll-Query Tree tree_step (layer.Phrase field words))

@@ -1,4 +1,4 @@
 pub mod Keys
 pub mod Extraction
-pub mod Groups
 pub mod Covering
+pub mod Steps

@@ -6,15 +6,17 @@ ghost use Rattle.clip_grammar.specs.Tree.{tree_of};
 ghost use Rattle.clip_grammar.specs.declared.query.Occur.{Occur};
 ghost use Rattle.clip_extract.specs.Keys.{KeyValue, key_of};
 ghost use Rattle.clip_extract.specs.Extraction.{Extracted, heaviest, word_extract, unnarrowed, extract, query_keys, query_weight};
-ghost use Rattle.clip_extract.specs.Groups.{group_from, next_found, counts, outweighs, kept, word_found};
+ghost use Rattle.clip_extract.specs.Steps.Groups.{group_from, next_found, counts, outweighs, kept_from};
+ghost use Rattle.clip_extract.specs.Steps.Leaves.{Adds, IsNoGroup, word_found, leaf_found};
 
 use crate::key::{Key, sorted};
-use clip_syntax::{Occur, Query};
+use clip_grammar::query::{Occur, Query};
 use clip_words::NoMemory;
 use std::alloc::Global;
 use std::sync::ArcStr;
 
-/// What stands among a group's clauses so far: nothing, Should children with their least weight, or a Must child with its weight.
+/// What stands among a group's clauses so far: nothing, Should children with their least weight, or a Must child with
+/// its weight.
 #[derive(Clone, Copy)]
 enum Found {
     Nothing,
@@ -31,7 +33,8 @@ fn characters(word: &str) -> u64
 
 /// The heaviest word, the first on a tie, and its weight.
 fn heaviest_word(words: &[ArcStr]) -> Option<(&ArcStr, u64)>
-    ensures { (field : List ℕ) → heaviest (map (word_extract field) (map arc_str_bytes words.now)) ≡ option_map (λ r. word_found field (arc_str_bytes r.0.now) r.1) result }
+    ensures { (field : List ℕ) → heaviest (map (word_extract field) (map arc_str_bytes words.now))
+        ≡ option_map (λ r. word_found field (arc_str_bytes r.0.now) r.1) result }
 {
     let (first, others) = words.split_first()?;
     let mut best = first;
@@ -70,14 +73,37 @@ fn next_found(found: Found, occur: Occur, weight: u64) -> Found
     }
 }
 
-#[tactic(auto, unfolding(crate::specs::Groups::group_with))]
 /// The weight of what stands.
+#[tactic(auto, unfolding(crate::specs::Steps::Groups::group_with))]
 fn weight_found(found: Found) -> u64
     ensures { (keys : List KeyValue) → (group_from found keys []).weight ≡ result }
 {
     match found {
         Found::Nothing => 0,
         Found::Optional(weight) | Found::Required(weight) => weight,
+    }
+}
+
+/// The word by which a query that is no group is found: its field, the word and its weight. `None` where nothing narrows
+/// the articles down.
+fn deciding_word(query: &Query) -> Option<(&ArcStr, &ArcStr, u64)>
+    ensures { IsNoGroup query.now → leaf_found (option_map (λ r. (r.0.now, (r.1.now, r.2))) result)
+        ≡ extract (tree_of query.now) }
+{
+    match query {
+        Query::Term { field, word } => Some((field, word, characters(word))),
+        Query::Phrase { field, words } => match heaviest_word(words) {
+            Some((word, weight)) => Some((field, word, weight)),
+            None => None,
+        },
+        Query::Prefix { field: _, front: _ } => None,
+        Query::Span {
+            field: _,
+            low: _,
+            high: _,
+        } => None,
+        Query::All => None,
+        Query::Group(_) => None,
     }
 }
 
@@ -88,18 +114,6 @@ pub fn weight(query: &Query) -> u64
     ensures { result ≡ query_weight (tree_of query.now) }
 {
     match query {
-        Query::Term { field: _, word } => characters(word),
-        Query::Phrase { field: _, words } => match heaviest_word(words) {
-            Some((_, weight)) => weight,
-            None => 0,
-        },
-        Query::Prefix { field: _, front: _ } => 0,
-        Query::Span {
-            field: _,
-            low: _,
-            high: _,
-        } => 0,
-        Query::All => 0,
         Query::Group(clauses) => {
             let mut found = Found::Nothing;
             for (occur, child) in clauses {
@@ -110,6 +124,10 @@ pub fn weight(query: &Query) -> u64
             }
             weight_found(found)
         }
+        _ => match deciding_word(query) {
+            Some((_, _, weight)) => weight,
+            None => 0,
+        },
     }
 }
 
@@ -132,13 +150,15 @@ fn outweighs(found: Found, weight: u64) -> bool
     }
 }
 
-/// Keeps of a group's keys, which begin at `start`, those that count with one clause more, whose child's begin at `middle`.
+/// Keeps of a group's keys, which begin at `start`, those that count with one clause more, whose child's begin at
+/// `middle`.
 fn keep(found: Found, occur: Occur, weight: u64, keys: &mut Vec<Key>, start: usize, middle: usize)
     requires low { start ≤ middle }
     requires high { middle ≤ vec_len keys.old }
     ensures front { take start (map key_of keys.new.items) ≡ take start (map key_of keys.old.items) }
     ensures long { start ≤ vec_len keys.new }
-    ensures kept { drop start (map key_of keys.new.items) ≡ kept found occur weight (drop start (take middle (map key_of keys.old.items))) (drop middle (map key_of keys.old.items)) }
+    ensures kept { drop start (map key_of keys.new.items)
+        ≡ kept_from found occur weight start middle (map key_of keys.old.items) }
 {
     match occur {
         Occur::Must if outweighs(found, weight) => remove(keys, start, middle),
@@ -149,37 +169,34 @@ fn keep(found: Found, occur: Occur, weight: u64, keys: &mut Vec<Key>, start: usi
 
 /// Adds the key that every article has.
 fn push_any(keys: &mut Vec<Key>) -> Result<u64, NoMemory>
-    ensures added { IfOk result (λ weight. map key_of keys.new.items ≡ map key_of keys.old.items ++ unnarrowed.keys) }
+    ensures added { IfOk result (λ _. Adds unnarrowed keys.old.items keys.new.items) }
     ensures weight { IfOk result (λ weight. weight ≡ 0) }
 {
     keys.push(Key::Any)?;
     Ok(0)
 }
 
+/// Adds the key of a query that is no group, and gives its weight.
+fn add_leaf_key(query: &Query, keys: &mut Vec<Key>) -> Result<u64, NoMemory>
+    requires { IsNoGroup query.now }
+    ensures added { IfOk result (λ _. Adds (extract (tree_of query.now)) keys.old.items keys.new.items) }
+    ensures weight { IfOk result (λ weight. weight ≡ query_weight (tree_of query.now)) }
+{
+    match deciding_word(query) {
+        Some((field, word, weight)) => {
+            keys.push(Key::Word(field.clone()?, word.clone()?))?;
+            Ok(weight)
+        }
+        None => push_any(keys),
+    }
+}
+
 /// Adds a query's keys, and gives its weight.
 fn add_keys(query: &Query, keys: &mut Vec<Key>) -> Result<u64, NoMemory>
-    ensures added { IfOk result (λ weight. map key_of keys.new.items ≡ map key_of keys.old.items ++ (extract (tree_of query.now)).keys) }
+    ensures added { IfOk result (λ _. Adds (extract (tree_of query.now)) keys.old.items keys.new.items) }
     ensures weight { IfOk result (λ weight. weight ≡ query_weight (tree_of query.now)) }
 {
     match query {
-        Query::Term { field, word } => {
-            keys.push(Key::Word(field.clone()?, word.clone()?))?;
-            Ok(characters(word))
-        }
-        Query::Phrase { field, words } => match heaviest_word(words) {
-            Some((word, weight)) => {
-                keys.push(Key::Word(field.clone()?, word.clone()?))?;
-                Ok(weight)
-            }
-            None => push_any(keys),
-        },
-        Query::Prefix { field: _, front: _ } => push_any(keys),
-        Query::Span {
-            field: _,
-            low: _,
-            high: _,
-        } => push_any(keys),
-        Query::All => push_any(keys),
         Query::Group(clauses) => {
             let start = keys.len();
             let mut found = Found::Nothing;
@@ -197,6 +214,7 @@ fn add_keys(query: &Query, keys: &mut Vec<Key>) -> Result<u64, NoMemory>
                 _ => Ok(weight_found(found)),
             }
         }
+        _ => add_leaf_key(query, keys),
     }
 }
 
@@ -206,7 +224,7 @@ fn add_keys(query: &Query, keys: &mut Vec<Key>) -> Result<u64, NoMemory>
 /// group those of its heaviest Must child or, without one, of all its Should children; Any for what nothing narrows. A
 /// word weighs as many as it has characters, and the first stands on a tie. Texts are shared with the query.
 ///
-/// `NoMemory` where a growth was refused. Cost: one walk over the query, which moves the keys that are kept at most once
+/// `NoMemory` where an allocation failed. Cost: one walk over the query, which moves the keys that are kept at most once
 /// for each group around them, and a sort of the keys.
 pub fn keys(alloc: Global, query: &Query) -> Result<Vec<Key>, NoMemory>
     ensures { IfOk result (λ found. map key_of found.items ≡ query_keys (tree_of query.now)) }

@@ -18,7 +18,7 @@ pub enum Key {
 
 /// Sorts keys, and leaves each once.
 ///
-/// `NoMemory` where the sort's buffer was refused. Cost: n log n comparisons of n keys.
+/// `NoMemory` where an allocation failed. Cost: n log n comparisons of n keys.
 pub fn sorted(mut keys: Vec<Key>) -> Result<Vec<Key>, NoMemory>
     ensures { IfOk result (λ sorted. map key_of sorted.items ≡ in_order (map key_of keys.items)) }
 {

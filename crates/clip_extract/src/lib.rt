@@ -5,10 +5,8 @@ ghost use Rattle.std.specs.Prelude.{◌≡◌};
 
 mod extraction;
 pub mod key;
-pub mod laws;
+mod laws;
 
 pub use extraction::{keys, weight};
 pub use key::Key;
-
-#[cfg(test)]
-mod tests;
+pub use laws::covering_law;

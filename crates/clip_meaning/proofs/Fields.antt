@@ -1,5 +1,5 @@
 -- Lists of entries whose keys rise: where a search ends, what it finds there, and what an insertion there makes.
-use Rattle.std.proofs.Common.{◌≡◌, ◌≢◌, ℕ, zero, suc, ◌+◌, ◌<◌, ◌≤◌, Bool, true, false, cond, ◌&&◌, T, List, [], ◌∷◌, length, get_or, Some, None, Option, is_some, is_lt, is_eq, is_gt, Ordering, Less, Equal, Greater, insert, refl, sym, ap, subst, ◌∙◌, arith, true≢false}
+use Rattle.std.proofs.Common.{◌≡◌, ◌≢◌, ℕ, zero, suc, ◌+◌, ◌<◌, ◌≤◌, Bool, true, false, cond, T, List, [], ◌∷◌, length, get_or, Some, None, Option, is_some, is_lt, is_eq, is_gt, Ordering, Less, Equal, Greater, insert, refl, sym, ap, subst, ◌∙◌, arith, true≢false}
 use Rattle.std.specs.List.{prefix_len}
 use Rattle.std.specs.List.Sorted.{IsPartitionedBy, IsPartitionPoint}
 use Rattle.std.specs.Ordering.{ordering_reverse}
@@ -13,32 +13,11 @@ use Rattle.std.proofs.lemmas.List.Sums.{prefix_len_is, prefix_len-le-length}
 use Rattle.std.specs.Cmp.Lexicographic.{nat_list_cmp_total}
 use Rattle.clip_words.specs.Order.{bytes_cmp}
 use Rattle.clip_meaning.specs.Article.{Fields}
+use Rattle.clip_meaning.proofs.Tests.{first, second, both, less, greater}
 
 -- where the elements that pass a test end
 pub prefix_from_point : {X : Type 0} (p : X → Bool) (xs : List X) (i : ℕ) (d : X) → i ≤ length xs → IsPartitionPoint (λ y. p y ≡ true) (λ y. p y ≡ false) xs i → i ≡ prefix_len p xs
 prefix_from_point p xs i d bound point = sym (prefix_len_is p xs i d bound (λ k l. point.0 k d (omega arith) l) (λ l. point.1 i d (omega arith) l))
-
-first : (a b : Bool) → T (a && b) → T a
-first true b p = tt
-first false b p = p
-
-second : (a b : Bool) → T (a && b) → T b
-second true b p = p
-second false b p = absurd p
-
-less : (o : Ordering) → T (is_lt o) → o ≡ Less
-less Less p = refl
-less Equal p = absurd p
-less Greater p = absurd p
-
-both : (a b : Bool) → T a → T b → T (a && b)
-both true b p q = q
-both false b p q = p
-
-greater : (o : Ordering) → is_gt o ≡ true → o ≡ Greater
-greater Less e = absurd (true≢false (sym e))
-greater Equal e = absurd (true≢false (sym e))
-greater Greater e = refl
 
 -- what is above y is above what is below y
 pub above_lower : {K : Type 0} (R : K → K → Ordering) (o : IsTotalOrder R) (q x y : K) → is_gt (R q y) ≡ true → R x y ≡ Less → is_gt (R q x) ≡ true

@@ -1,17 +1,12 @@
 -- A group's meaning, clause by clause.
 use Rattle.std.proofs.lemmas.List.{drop_all}
-use Rattle.std.proofs.Common.{◌≡◌, ℕ, suc, ◌+◌, ◌<◌, ◌≤◌, add-one, drop-cons, Bool, true, false, ◌&&◌, ◌||◌, List, [], ◌∷◌, map, length, drop, get_or, refl, sym, ap, ◌∙◌}
+use Rattle.std.proofs.Common.{◌≡◌, ℕ, ◌≤◌, Bool, true, false, ◌&&◌, ◌||◌, List, [], ◌∷◌, map, length, drop, refl, sym, ap, ◌∙◌}
 use Rattle.std.specs.List.{list_any, list_all}
 use Rattle.clip_grammar.specs.declared.query.Occur.{Occur}
 use Rattle.clip_grammar.specs.declared.query.Occur.TheVariants.{Must, Should, MustNot}
 use Rattle.clip_grammar.specs.declared.query.Query.{Query}
-use Rattle.clip_grammar.specs.declared.query.Query.TheOpen as layer
-use Rattle.clip_grammar.specs.declared.query.Query.TheViews.{Group, roll-Query}
-use Rattle.clip_grammar.specs.declared.query.Query.TheVariants.{rolls-Group}
-use Rattle.clip_grammar.specs.declared.query.Query.TheFolds.{fold-roll-Query}
-use Rattle.std.proofs.Common.{Vec, Global}
-use Rattle.clip_meaning.specs.Tally.{group_with}
-use Rattle.clip_grammar.specs.Tree.{Tree, clauses_of, tree_of, tree_step}
+use Rattle.clip_meaning.specs.Steps.Tally.{group_with}
+use Rattle.clip_grammar.specs.Tree.{clauses_of, tree_of}
 use Rattle.clip_meaning.specs.Article.{Fields}
 use Rattle.clip_meaning.specs.Meaning.{holds, verdicts, group_holds, meets_must, is_must, meets_should}
 
@@ -62,23 +57,6 @@ pub group_start : (cs : List (Occur × Query)) (a : Fields) → group_with false
 unfolding group_with group_holds
 group_start cs a = ap group_holds (sym (verdicts_map cs a))
 
--- the next clause's verdict comes first
-pub next_verdict : (a : Fields) (cs : List (Occur × Query)) (i : ℕ) (c : Occur × Query) (o : Occur) (h : Bool) → i < length cs → c ≡ get_or cs i c → c.0 ≡ o → h ≡ holds (tree_of c.1) a
-    → verdicts_of a (drop i cs) ≡ (o, h) ∷ verdicts_of a (drop (i + 1) cs)
-next_verdict a cs i c o h lt is occur held =
-    ap (verdicts_of a) (drop-cons cs i c lt)
-    ∙ ap (λ x. (x.0, holds (tree_of x.1) a) ∷ verdicts_of a (drop (suc i) cs)) (sym is)
-    ∙ ap (λ x. (x, holds (tree_of c.1) a) ∷ verdicts_of a (drop (suc i) cs)) occur
-    ∙ ap (λ x. (o, x) ∷ verdicts_of a (drop (suc i) cs)) (sym held)
-    ∙ ap (λ j. (o, h) ∷ verdicts_of a (drop j cs)) (sym (add-one i))
-
 -- all clauses are read
 pub all_read : (m s : Bool) (a : Fields) (cs : List (Occur × Query)) (i : ℕ) (h : Bool) → length cs ≤ i → group_with m s (verdicts_of a (drop i cs)) ≡ h → (m || s) ≡ h
 all_read m s a cs i h le e = sym (group_end m s) ∙ ap (λ x. group_with m s (verdicts_of a x)) (sym (drop_all i cs le)) ∙ e
-
--- the tree of a group
-group_rolled : (v : Vec (Occur × Query) Global) → tree_of (roll-Query (layer.Group v)) ≡ Tree.Group (clauses_of (map (λ c. (c.0, tree_of c.1)) v.items))
-group_rolled v = fold-roll-Query Tree tree_step (layer.Group v)
-
-pub tree_of_group : (v : Vec (Occur × Query) Global) → tree_of (Group v) ≡ Tree.Group (clauses_of (map (λ c. (c.0, tree_of c.1)) v.items))
-tree_of_group v = ap tree_of (sym (rolls-Group v)) ∙ group_rolled v

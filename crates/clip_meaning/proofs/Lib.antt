@@ -1,6 +1,8 @@
 mod Fields
+mod Fronts
 mod Groups
 mod Numbered
 mod Pairs
 mod Postings
-pub mod Refusals
+pub mod Tests
+pub mod Trees

@@ -4,7 +4,8 @@ use Rattle.std.specs.List.{list_any, starts_with}
 use Rattle.std.specs.Cmp.Lexicographic.{nat_list_eq_equiv}
 use Rattle.std.proofs.lemmas.List.Sorted.{list_any-IsPermutation}
 use Rattle.std.proofs.lemmas.List.{drop-drop}
-use Rattle.clip_meaning.specs.Index.{numbered, stands_at}
+use Rattle.clip_meaning.specs.Index.{numbered}
+use Rattle.clip_meaning.specs.Steps.Searches.{stands_at}
 use Rattle.clip_meaning.specs.Meaning.{has_run, is_nonempty}
 use Rattle.clip_meaning.proofs.Postings.{Place}
 

@@ -3,9 +3,12 @@ use Rattle.std.proofs.Common.{◌≡◌, ℕ, zero, suc, ◌+◌, ◌<◌, ◌�
 use Rattle.std.proofs.lemmas.List.{get_or-drop}
 use Rattle.std.proofs.lemmas.List.Sums.{prefix_len_stops}
 use Rattle.std.specs.List.{prefix_len, list_any}
-use Rattle.std.specs.List.Sorted.{IsSortedByKey, IsPartitionedBy, IsPartitionPoint}
+use Rattle.std.specs.List.Sorted.{IsSorted, IsSortedByKey, IsPartitionedBy, IsPartitionPoint}
 use Rattle.std.specs.Ordering.{ordering_reverse, ordering_then}
+use Rattle.std.specs.Cmp.{IsTotalOrder, on_total, then_total, nat_cmp_total}
 use Rattle.std.specs.Cmp.Lexicographic.{nat_list_cmp_total}
+use Rattle.std.proofs.Math.Bool.{and-false, not-not}
+use Rattle.std.proofs.lemmas.Bool.{not-true, not-false}
 use Rattle.std.proofs.lemmas.Cmp.{alike_right, upto}
 use Rattle.std.proofs.lemmas.List.Sorted.{sorted_far, ranks_by}
 use Rattle.std.proofs.lemmas.Map.Text.{is_eq-slice_cmp}
@@ -13,30 +16,15 @@ use borrow.Author.Tests.{eqb-true}
 use Rattle.clip_words.specs.Order.{bytes_cmp}
 use Rattle.clip_grammar.specs.Tokens.{End}
 use Rattle.clip_meaning.proofs.Fields.{prefix_from_point}
-use Rattle.clip_meaning.specs.Index.{from_low}
+use Rattle.clip_meaning.proofs.Tests.{greater}
+use Rattle.clip_meaning.specs.Index.{posting_cmp}
+use Rattle.clip_meaning.specs.Steps.Searches.{from_low}
 use Rattle.clip_meaning.specs.Meaning.{above, below, begins_with}
 
 abbrev pub Place : Type 0
 Place = List ℕ × ℕ
 
 -- ---- the order of texts
-
-greater : (o : Ordering) → is_gt o ≡ true → o ≡ Greater
-greater Less e = absurd (true≢false (sym e))
-greater Equal e = absurd (true≢false (sym e))
-greater Greater e = refl
-
-not_true : (b : Bool) → not b ≡ false → b ≡ true
-not_true true e = refl
-not_true false e = absurd (true≢false e)
-
-not_false : (b : Bool) → not b ≡ true → b ≡ false
-not_false true e = absurd (true≢false (sym e))
-not_false false e = refl
-
-not_not : (b : Bool) → not (not b) ≡ b
-not_not true = refl
-not_not false = refl
 
 -- at least, told from the other side
 turned : (x y : List ℕ) → is_lt (bytes_cmp y x) ≡ false → is_gt (bytes_cmp x y) ≡ false
@@ -69,6 +57,21 @@ upto_below x y z le less = by_order (bytes_cmp x y) refl
 
 abbrev pub Sorted : List Place → Type 0
 Sorted ps = IsSortedByKey (λ (p : Place). p.0) bytes_cmp ps
+
+abbrev pub InOrder : List Place → Type 0
+InOrder ps = IsSorted posting_cmp ps
+
+pub posting_cmp_total : IsTotalOrder posting_cmp
+posting_cmp_total = then_total (on_total (λ (p : Place). p.0) nat_list_cmp_total) (on_total (λ (p : Place). p.1) nat_cmp_total)
+
+-- postings in order are in the order of their words
+pub by_words : (ps : List Place) → InOrder ps → Sorted ps
+by_words ps s k d low high = first _ _ (s k d low high)
+  where
+    first : (o u : Ordering) → is_lt (ordering_then o u) ≡ false → is_lt o ≡ false
+    first Less u e = e
+    first Equal u e = refl
+    first Greater u e = refl
 
 -- no word is below one before it
 abbrev pub Rises : List Place → Type 0
@@ -112,7 +115,7 @@ reached t u same ps all back n is bound point e =
     e ∙ ap (λ m. drop m ps) (prefix_from_point t ps n ([], 0) bound point) ∙ (λ i. drop (prefix_len (λ p. same p i) (is i)) (is i))
 
 pub from_word : (word : List ℕ) (ps all back : List Place) (n : ℕ) → ps ≡ all → n ≤ length ps → IsPartitionPoint (λ p. is_gt (bytes_cmp word p.0) ≡ true) (λ p. is_gt (bytes_cmp word p.0) ≡ false) ps n → back ≡ drop n ps → back ≡ from_low (End.With word) all
-from_word word = reached (λ p. is_gt (bytes_cmp word p.0)) (λ p. not (above (End.With word) p.0)) (λ p. sym (not_not (is_gt (bytes_cmp word p.0))))
+from_word word = reached (λ p. is_gt (bytes_cmp word p.0)) (λ p. not (above (End.With word) p.0)) (λ p. sym (not-not (is_gt (bytes_cmp word p.0))))
 
 pub past_word : (word : List ℕ) (ps all back : List Place) (n : ℕ) → ps ≡ all → n ≤ length ps → IsPartitionPoint (λ p. not (is_lt (bytes_cmp word p.0)) ≡ true) (λ p. not (is_lt (bytes_cmp word p.0)) ≡ false) ps n → back ≡ drop n ps → back ≡ from_low (End.Without word) all
 past_word word = reached (λ p. not (is_lt (bytes_cmp word p.0))) (λ p. not (above (End.Without word) p.0)) (λ p. refl)
@@ -185,7 +188,7 @@ pub word_settles : (word : List ℕ) (ps : List Place) → Rises ps → list_any
 word_settles word ps r = first_settles (End.With word) (λ (p : Place). bytes_eq p.0 word) (λ p e. outside p.0 e) (λ p q here le e. stops p.0 q.0 here le e) ps r
   where
     outside : (w : List ℕ) → not (is_gt (bytes_cmp word w)) ≡ false → bytes_eq w word ≡ false
-    outside w e = sym (is_eq-slice_cmp w word) ∙ ap is_eq (nat_list_cmp_total.antisymm w word ∙ ap ordering_reverse (greater _ (not_true _ e)))
+    outside w e = sym (is_eq-slice_cmp w word) ∙ ap is_eq (nat_list_cmp_total.antisymm w word ∙ ap ordering_reverse (greater _ (not-false _ e)))
 
     stops : (w v : List ℕ) → not (is_gt (bytes_cmp word w)) ≡ true → is_lt (bytes_cmp v w) ≡ false → bytes_eq w word ≡ false → bytes_eq v word ≡ false
     stops w v here le e = by_order (bytes_cmp word w) refl
@@ -197,17 +200,13 @@ word_settles word ps r = first_settles (End.With word) (λ (p : Place). bytes_eq
 
 -- words that begin with a front
 pub front_settles : (front : List ℕ) (ps : List Place) → Rises ps → list_any (λ (p : Place). begins_with front p.0) ps ≡ first_passes (λ (p : Place). begins_with front p.0) (from_low (End.With front) ps)
-front_settles front ps r = first_settles (End.With front) (λ (p : Place). begins_with front p.0) (λ p e. not_below front p.0 (not_true _ e)) (λ p q here le e. no_later front p.0 q.0 (not_false _ here) le e) ps r
-
-and_false : (b : Bool) → (b && false) ≡ false
-and_false true = refl
-and_false false = refl
+front_settles front ps r = first_settles (End.With front) (λ (p : Place). begins_with front p.0) (λ p e. not_below front p.0 (not-false _ e)) (λ p q here le e. no_later front p.0 q.0 (not-true _ here) le e) ps r
 
 -- above the high end, and so is what follows
 stays_above : (high : End) (w v : List ℕ) → is_lt (bytes_cmp v w) ≡ false → below high w ≡ false → below high v ≡ false
 stays_above End.Free w v le e = absurd (true≢false e)
 stays_above (End.With h) w v le e =
-    let less : bytes_cmp h w ≡ Less = nat_list_cmp_total.antisymm h w ∙ ap ordering_reverse (greater _ (not_true _ e)) in
+    let less : bytes_cmp h w ≡ Less = nat_list_cmp_total.antisymm h w ∙ ap ordering_reverse (greater _ (not-false _ e)) in
     ap (λ o. not (is_gt o)) (nat_list_cmp_total.antisymm v h ∙ ap ordering_reverse (below_upto h w v less le))
 stays_above (End.Without h) w v le e = by_order (bytes_cmp v h) refl
   where
@@ -218,7 +217,7 @@ stays_above (End.Without h) w v le e = by_order (bytes_cmp v h) refl
 
 -- words between two ends
 pub range_settles : (low high : End) (ps : List Place) → Rises ps → list_any (λ (p : Place). above low p.0 && below high p.0) ps ≡ first_passes (λ (p : Place). above low p.0 && below high p.0) (from_low low ps)
-range_settles low high ps r = first_settles low (λ (p : Place). above low p.0 && below high p.0) (λ p e. ap (λ b. b && below high p.0) e) (λ p q here le e. ap (λ b. above low q.0 && b) (stays_above high p.0 q.0 le (sym (ap (λ b. b && below high p.0) here) ∙ e)) ∙ and_false (above low q.0)) ps r
+range_settles low high ps r = first_settles low (λ (p : Place). above low p.0 && below high p.0) (λ p e. ap (λ b. b && below high p.0) e) (λ p q here le e. ap (λ b. above low q.0 && b) (stays_above high p.0 q.0 le (sym (ap (λ b. b && below high p.0) here) ∙ e)) ∙ and-false (above low q.0)) ps r
 
 -- ---- a first word that was read
 
@@ -237,7 +236,7 @@ first_above low ps all p same lt is =
     let n = prefix_len outside all in
     let gone : length ps ≡ length all - n = ap length same ∙ length-drop n all in
     let there : p ≡ get_or all n p = is ∙ ap (λ xs. get_or xs 0 p) same ∙ get_or-drop n all 0 p ∙ ap (λ i. get_or all i p) (add-zero n) in
-    not_true _ (ap outside there ∙ prefix_len_stops outside all p (omega arith))
+    not-false _ (ap outside there ∙ prefix_len_stops outside all p (omega arith))
 
 -- ---- the postings of one word
 

@@ -10,8 +10,9 @@ use Rattle.clip_words.specs.Ids.{is_id}
 use Rattle.clip_words.specs.Order.{bytes_cmp}
 use Rattle.clip_words.specs.Words.{words_of}
 use Rattle.clip_grammar.specs.TreeCode.{bytes_code}
+use Rattle.clip_meaning.specs.declared.fault.TheConstants.{MOST_FIELDS, MOST_NAME_BYTES}
 use Rattle.clip_meaning.specs.declared.fault.ArticleFault.{ArticleFault}
-use Rattle.clip_meaning.specs.declared.fault.ArticleFault.TheVariants.{Id, TooMany, Field, Twice}
+use Rattle.clip_meaning.specs.declared.fault.ArticleFault.TheVariants.{Id, TooMany, Field, Twice, NoMemory}
 
 -- ---- what an article is
 
@@ -47,9 +48,9 @@ abbrev pub begins_with_digit : List ℕ → Bool
 begins_with_digit [] = false
 begins_with_digit (first ∷ _) = is_ascii_digit first
 
--- 1 to 64 ASCII letters, digits and `_`, no digit first
+-- 1 to `MOST_NAME_BYTES` ASCII letters, digits and `_`, no digit first
 unfoldable pub is_field_name : List ℕ → Bool
-is_field_name name = nat_lt 0 (length name) && nat_le (length name) 64 && list_all is_name_byte name && not (begins_with_digit name)
+is_field_name name = nat_lt 0 (length name) && nat_le (length name) MOST_NAME_BYTES && list_all is_name_byte name && not (begins_with_digit name)
 
 -- some name stands twice
 abbrev pub has_twice : List (List ℕ) → Bool
@@ -64,9 +65,13 @@ names pairs = map (λ p. p.0) pairs
 unfoldable pub fault_of : List ℕ → List (List ℕ × List ℕ) → Option ArticleFault
 fault_of id pairs =
     if not (is_id id) then Some Id
-    else (if nat_lt 16 (length pairs) then Some TooMany
+    else (if nat_lt MOST_FIELDS (length pairs) then Some TooMany
     else (if not (list_all is_field_name (names pairs)) then Some Field
     else (if has_twice (names pairs) then Some Twice else None)))
+
+-- why there is no article: the first refusal that holds, and where none does, that an allocation failed
+abbrev pub refusal_of : List ℕ → List (List ℕ × List ℕ) → ArticleFault
+refusal_of id pairs = unwrap_or (fault_of id pairs) NoMemory
 
 -- an article may have this id and these fields
 abbrev pub may_be : List ℕ → List (List ℕ × List ℕ) → Bool

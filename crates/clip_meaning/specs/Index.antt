@@ -1,19 +1,14 @@
--- The words of a field with their positions.
-use Rattle.std.specs.Prelude.{ℕ, ◌+◌, Bool, not, List, [], ◌∷◌, drop}
-use Rattle.std.specs.List.{prefix_len, starts_with}
-use Rattle.std.specs.Str.{bytes_eq}
-use Rattle.clip_grammar.specs.Tokens.{End}
-use Rattle.clip_meaning.specs.Meaning.{above}
+-- The postings of a field: its words with their positions, and their order.
+use Rattle.std.specs.Prelude.{ℕ, ◌+◌, List, [], ◌∷◌}
+use Rattle.std.specs.Ordering.{nat_cmp, then_cmp, on}
+use Rattle.std.specs.declared.cmp.Ordering.{Ordering}
+use Rattle.clip_words.specs.Order.{bytes_cmp}
 
 -- the words in order, each with its position, of which the first is `start`
 abbrev pub numbered : ℕ → List (List ℕ) → List (List ℕ × ℕ)
 numbered start [] = []
 numbered start (word ∷ words) = (word, start) ∷ numbered (start + 1) words
 
--- without the words at the front that are below the low end of a range
-abbrev pub from_low : End → List (List ℕ × ℕ) → List (List ℕ × ℕ)
-from_low low postings = drop (prefix_len (λ p. not (above low p.0)) postings) postings
-
--- a phrase stands at a posting of the words
-abbrev pub stands_at : List (List ℕ) → List (List ℕ) → List ℕ × ℕ → Bool
-stands_at words phrase p = starts_with bytes_eq (drop p.1 words) phrase
+-- by word, and of one word by position
+abbrev pub posting_cmp : List ℕ × ℕ → List ℕ × ℕ → Ordering
+posting_cmp = then_cmp (on (λ p. p.0) bytes_cmp) (on (λ p. p.1) nat_cmp)

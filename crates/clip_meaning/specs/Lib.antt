@@ -1,4 +1,4 @@
 pub mod Article
 pub mod Index
 pub mod Meaning
-pub mod Tally
+pub mod Steps

@@ -22,6 +22,10 @@ abbrev pub is_nonempty : List (List ℕ) → Bool
 is_nonempty [] = false
 is_nonempty (w ∷ ws) = true
 
+-- the phrase has a word, and its words stand somewhere next to each other, in order
+abbrev pub has_phrase : List (List ℕ) → List (List ℕ) → Bool
+has_phrase words phrase = is_nonempty phrase && has_run words phrase
+
 -- the word begins with the front
 abbrev pub begins_with : List ℕ → List ℕ → Bool
 begins_with front word = starts_with (λ b c. b == c) word front
@@ -37,6 +41,10 @@ abbrev pub below : End → List ℕ → Bool
 below End.Free word = true
 below (End.With high) word = not (is_gt (bytes_cmp word high))
 below (End.Without high) word = is_lt (bytes_cmp word high)
+
+-- the word lies in the range
+abbrev pub is_between : End → End → List ℕ → Bool
+is_between low high word = above low word && below high word
 
 -- ---- groups
 
@@ -68,9 +76,9 @@ abbrev mutual
   -- the query holds of these fields
   pub holds : Tree → Fields → Bool
   holds (Tree.Term field word) fields = list_any (λ w. bytes_eq w word) (words_in fields field)
-  holds (Tree.Phrase field words) fields = is_nonempty words && has_run (words_in fields field) words
+  holds (Tree.Phrase field words) fields = has_phrase (words_in fields field) words
   holds (Tree.Prefix field front) fields = list_any (begins_with front) (words_in fields field)
-  holds (Tree.Span field low high) fields = list_any (λ w. above low w && below high w) (words_in fields field)
+  holds (Tree.Span field low high) fields = list_any (is_between low high) (words_in fields field)
   holds Tree.All fields = true
   holds (Tree.Group clauses) fields = group_holds (verdicts clauses fields)
 

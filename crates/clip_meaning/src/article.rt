@@ -1,8 +1,8 @@
 //! Articles: an id, and words by field.
-ghost use Rattle.std.specs.Prelude.{◌≡◌, map, None, IfOk, IfErr, option_map, unwrap_or};
+ghost use Rattle.std.specs.Prelude.{◌≡◌, map, None, IfOk, IfErr, option_map};
 ghost use Rattle.std.specs.Arc.{arc_str_bytes};
 ghost use Rattle.std.specs.FinMap as finite;
-ghost use Rattle.clip_meaning.specs.Article.{words_in, fault_of, article_value, pairs_of};
+ghost use Rattle.clip_meaning.specs.Article.{words_in, fault_of, refusal_of, article_value, pairs_of};
 
 use crate::fault::{ArticleFault, fault_of};
 use crate::field::Field;
@@ -39,7 +39,8 @@ impl Article {
     ///
     /// # Errors
     ///
-    /// The first refusal of `ArticleFault` that holds, judged before any memory is taken; `NoMemory` only where there is none.
+    /// The first refusal of `ArticleFault` that holds, judged before any memory is taken; `NoMemory` where an allocation
+    /// failed, only where none of the others holds.
     pub fn read(
         alloc: Global,
         id: &str,
@@ -47,7 +48,7 @@ impl Article {
     ) -> Result<Article, ArticleFault>
         ensures read { IfOk result (λ article. article ≡ article_value id.now (pairs_of fields.now)) }
         ensures kept { IfOk result (λ _. fault_of id.now (pairs_of fields.now) ≡ None) }
-        ensures refused { IfErr result (λ fault. fault ≡ unwrap_or (fault_of id.now (pairs_of fields.now)) ArticleFault.NoMemory) }
+        ensures refused { IfErr result (λ fault. fault ≡ refusal_of id.now (pairs_of fields.now)) }
     {
         if let Some(fault) = fault_of(id, fields) {
             return Err(fault);
@@ -74,7 +75,8 @@ impl Article {
         &self.id
     }
 
-    /// The words of a field in the order of its text, none where the field is not there. Searches among at most 16 names.
+    /// The words of a field in the order of its text, none where the field is not there. Searches among at most 16
+    /// names.
     pub fn field(&self, name: &str) -> &[ArcStr]
         ensures { map arc_str_bytes result.now ≡ words_in self.now.fields name.now }
     {

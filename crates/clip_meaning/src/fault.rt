@@ -14,22 +14,23 @@ pub const MOST_FIELDS: usize = 16;
 /// The most bytes of a field's name.
 pub const MOST_NAME_BYTES: usize = 64;
 
-/// Why an article is refused. The refusals but `NoMemory` are judged in this order, and the first that holds is answered.
+/// Why an article is refused. The refusals but `NoMemory` are judged in this order, and the first that holds is
+/// answered.
 #[derive(Clone, Copy, Debug, PartialEq, Eq, Error)]
 pub enum ArticleFault {
     /// The id has not 1 to 256 bytes.
     #[error("an article's id has 1 to 256 bytes")]
     Id,
-    /// There are more than 16 fields.
+    /// There are more than 16 fields, `MOST_FIELDS`.
     #[error("an article has at most 16 fields")]
     TooMany,
-    /// Some field's name is not 1 to 64 ASCII letters, digits and `_`, or begins with a digit.
+    /// Some field's name is not 1 to 64 (`MOST_NAME_BYTES`) ASCII letters, digits and `_`, or begins with a digit.
     #[error("a field's name is 1 to 64 ASCII letters, digits and `_`, and begins with no digit")]
     Field,
     /// Two fields have one name.
     #[error("a field stands twice")]
     Twice,
-    /// A growth was refused.
+    /// An allocation failed.
     #[error("no memory")]
     NoMemory,
 }
@@ -54,12 +55,14 @@ impl From<AllocError> for ArticleFault {
     }
 }
 
+/// Whether a byte is an ASCII letter, a digit or `_`.
 fn is_name_byte(byte: u8) -> bool
     ensures { result ≡ is_name_byte byte }
 {
     byte.is_ascii_alphanumeric() || byte == b'_'
 }
 
+/// Whether each byte may stand in a name.
 fn are_name_bytes(bytes: &[u8]) -> bool
     ensures { result ≡ list_all is_name_byte bytes.now }
 {
@@ -71,6 +74,7 @@ fn are_name_bytes(bytes: &[u8]) -> bool
     true
 }
 
+/// Whether the first byte is an ASCII digit.
 fn begins_with_digit(bytes: &[u8]) -> bool
     ensures { result ≡ begins_with_digit bytes.now }
 {
@@ -80,6 +84,7 @@ fn begins_with_digit(bytes: &[u8]) -> bool
     }
 }
 
+/// Whether a text may be the name of a field.
 #[tactic(auto, unfolding(crate::specs::Article::is_field_name))]
 fn is_field_name(name: &str) -> bool
     ensures { result ≡ is_field_name name.now }
@@ -91,6 +96,7 @@ fn is_field_name(name: &str) -> bool
         && !begins_with_digit(bytes)
 }
 
+/// Whether each field's name may be one.
 fn are_field_names(fields: &[(String, String)]) -> bool
     ensures { result ≡ list_all is_field_name (names (pairs_of fields.now)) }
 {
@@ -102,6 +108,7 @@ fn are_field_names(fields: &[(String, String)]) -> bool
     true
 }
 
+/// Whether some field has this name.
 fn has_name(fields: &[(String, String)], name: &str) -> bool
     ensures { result ≡ list_any (bytes_eq name.now) (names (pairs_of fields.now)) }
 {
@@ -113,6 +120,7 @@ fn has_name(fields: &[(String, String)], name: &str) -> bool
     false
 }
 
+/// Whether two fields have one name.
 fn has_twice(fields: &[(String, String)]) -> bool
     ensures { result ≡ has_twice (names (pairs_of fields.now)) }
 {

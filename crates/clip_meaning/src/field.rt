@@ -1,17 +1,18 @@
 //! The words of one field of an article.
-ghost use Rattle.std.specs.Prelude.{◌≡◌, ◌&&◌, map, drop, IfOk, IsPermutation};
+ghost use Rattle.std.specs.Prelude.{◌≡◌, map, drop, IfOk, IsPermutation};
 ghost use Rattle.std.specs.Arc.{arc_str_bytes};
 ghost use Rattle.std.specs.List.{list_any, starts_with};
-ghost use Rattle.std.specs.List.Sorted.{IsSortedByKey};
+ghost use Rattle.std.specs.List.Sorted.{IsSorted, IsSortedByKey};
 ghost use Rattle.std.specs.Str.{bytes_eq};
 ghost use Rattle.clip_words.specs.Order.{bytes_cmp};
 ghost use Rattle.clip_words.specs.Words.{words_of};
 ghost use Rattle.clip_grammar.specs.Tree.{end_of};
-ghost use Rattle.clip_meaning.specs.Index.{numbered, stands_at};
-ghost use Rattle.clip_meaning.specs.Meaning.{above, below, begins_with, has_run, is_nonempty};
+ghost use Rattle.clip_meaning.specs.Index.{numbered, posting_cmp};
+ghost use Rattle.clip_meaning.specs.Steps.Searches.{stands_at};
+ghost use Rattle.clip_meaning.specs.Meaning.{begins_with, has_phrase, is_between};
 
 use crate::index::{Posting, WordIndex};
-use clip_syntax::Bound;
+use clip_grammar::query::Bound;
 use clip_words::{NoMemory, shared_words};
 use std::alloc::Global;
 use std::marker::Model;
@@ -30,7 +31,8 @@ pub struct Field {
 impl Model for Field {
     ghost use Rattle.std.specs.Prelude.{ℕ, List, map, IsPermutation};
     ghost use Rattle.std.specs.Arc.{arc_str_bytes};
-    ghost use Rattle.clip_meaning.specs.Index.{numbered, stands_at};
+    ghost use Rattle.clip_meaning.specs.Index.{numbered, posting_cmp};
+    ghost use Rattle.clip_meaning.specs.Steps.Searches.{stands_at};
 
     ghost Value = { List ℕ × List (List ℕ) };
 
@@ -67,10 +69,12 @@ impl Field {
         &self.words
     }
 
-    /// Each of the field's words with its position, in the byte order of the words. Takes constant time.
+    /// Each of the field's words with its position: by the bytes of the words, and equal words by their positions. Takes
+    /// constant time.
     pub fn postings(&self) -> &[Posting]
         ensures words { IsPermutation (numbered 0 self.now.1) result.now }
         ensures sorted { IsSortedByKey (λ p. p.0) bytes_cmp result.now }
+        ensures in_order { IsSorted posting_cmp result.now }
     {
         self.index.postings()
     }
@@ -83,10 +87,10 @@ impl Field {
     }
 
     /// Whether the words of a phrase stand next to each other in order, as in Lucene's PhraseQuery with no slop; an
-    /// empty phrase never does. Looks only where the phrase's first word
-    /// stands: at worst these places times the words of the phrase.
+    /// empty phrase never does. Looks only where the phrase's first word stands: at worst these places times the words
+    /// of the phrase.
     pub(crate) fn has_phrase(&self, phrase: &[ArcStr]) -> bool
-        ensures { result ≡ (is_nonempty (map arc_str_bytes phrase.now) && has_run self.now.1 (map arc_str_bytes phrase.now)) }
+        ensures { result ≡ has_phrase self.now.1 (map arc_str_bytes phrase.now) }
     {
         let Some(first) = phrase.first() else {
             return false;
@@ -94,7 +98,8 @@ impl Field {
         stands_at_any(&self.words, self.index.occurrences(first), phrase)
     }
 
-    /// Whether a word begins with the front, as in Lucene's PrefixQuery. Compares about the logarithm of the number of words.
+    /// Whether a word begins with the front, as in Lucene's PrefixQuery. Compares about the logarithm of the number of
+    /// words.
     pub(crate) fn has_front(&self, front: &str) -> bool
         ensures { result ≡ list_any (begins_with front.now) self.now.1 }
     {
@@ -104,7 +109,7 @@ impl Field {
     /// Whether a word lies between the bounds by bytes, as in Lucene's TermRangeQuery. Compares about the logarithm of
     /// the number of words.
     pub(crate) fn has_between(&self, low: &Bound, high: &Bound) -> bool
-        ensures { result ≡ list_any (λ w. above (end_of low.now) w && below (end_of high.now) w) self.now.1 }
+        ensures { result ≡ list_any (is_between (end_of low.now) (end_of high.now)) self.now.1 }
     {
         self.index.has_between(low, high)
     }

@@ -71,7 +71,7 @@ impl FieldMap {
         }
     }
 
-    /// Adds a field whose name is new; on a refusal of memory nothing changes.
+    /// Adds a field whose name is new; where an allocation failed, nothing changes.
     pub(crate) fn insert(&mut self, field: Field) -> Result<(), NoMemory>
         requires { finite.contains_key self.old field.0 ≡ false }
         ensures ok { OnOk result (self.new ≡ finite.insert self.old field.0 field.1) }

@@ -1,17 +1,19 @@
 //! The words of a field in byte order, each with its position.
-ghost use Rattle.std.specs.Prelude.{◌≡◌, ◌&&◌, map, filter, not, IfOk, IsPermutation};
+ghost use Rattle.std.specs.Prelude.{◌≡◌, map, slice_index, filter, not, IfOk, IsPermutation};
 ghost use Rattle.std.specs.Arc.{arc_str_bytes};
 ghost use Rattle.std.specs.List.{list_any};
-ghost use Rattle.std.specs.List.Sorted.{IsSortedByKey};
+ghost use Rattle.std.specs.List.Sorted.{IsSorted, IsSortedByKey};
 ghost use Rattle.std.specs.Str.{bytes_eq};
 ghost use Rattle.std.specs.Ordering.{is_gt, is_lt};
 ghost use Rattle.clip_words.specs.Order.{bytes_cmp};
 ghost use Rattle.clip_grammar.specs.Tokens.{End};
 ghost use Rattle.clip_grammar.specs.Tree.{end_of};
-ghost use Rattle.clip_meaning.specs.Index.{numbered, from_low};
-ghost use Rattle.clip_meaning.specs.Meaning.{above, below, begins_with};
+ghost use Rattle.clip_meaning.specs.Index.{numbered, posting_cmp};
+ghost use Rattle.clip_meaning.specs.Steps.Fronts.{HasItsFront};
+ghost use Rattle.clip_meaning.specs.Steps.Searches.{from_low};
+ghost use Rattle.clip_meaning.specs.Meaning.{below, begins_with, is_between};
 
-use clip_syntax::Bound;
+use clip_grammar::query::Bound;
 use clip_words::NoMemory;
 use std::alloc::Global;
 use std::cmp::Ordering;
@@ -19,8 +21,11 @@ use std::marker::Model;
 use std::sync::ArcStr;
 
 /// A word of a field and its position among the field's words, counted from 0. Contracts see the pair of both.
+///
+/// The word's first bytes stand beside it as a number, by which most words are told apart without a look at their texts.
 #[derive(Debug, Drop)]
 pub struct Posting {
+    front: u64,
     word: ArcStr,
     position: usize,
 }
@@ -32,22 +37,56 @@ impl Model for Posting {
     ghost Value = { List ℕ × ℕ };
 
     ghost view = { λ p. (arc_str_bytes p.word, p.position) };
+
+    ghost use Rattle.clip_meaning.specs.Steps.Fronts.{HasItsFront};
+
+    ghost invariant = { λ p. HasItsFront (arc_str_bytes p.word) p.front };
 }
 
 impl Posting {
-    /// The word, folded. A `clone` of it shares the text.
+    /// The word, folded. A `clone` of it shares the text. Takes constant time.
     pub fn word(&self) -> &ArcStr
         ensures { arc_str_bytes result.now ≡ self.now.0 }
     {
         &self.word
     }
 
-    /// The word's position among the words of its field, counted from 0.
+    /// The word's position among the words of its field, counted from 0. Takes constant time.
     pub fn position(&self) -> usize
         ensures { result ≡ self.now.1 }
     {
         self.position
     }
+}
+
+/// Compares postings by their words, and those of one word by their positions. Looks at the texts only where the words
+/// begin with the same eight bytes.
+fn order(a: &Posting, b: &Posting) -> Ordering
+    ensures { result ≡ posting_cmp a.now b.now }
+{
+    if a.front != b.front {
+        return a.front.cmp(&b.front);
+    }
+    a.word.cmp(&b.word).then(a.position.cmp(&b.position))
+}
+
+/// A byte of a text, 0 past its end.
+fn byte_at(bytes: &[u8], i: usize) -> u8
+    ensures { result ≡ slice_index bytes.now i }
+{
+    if i < bytes.len() { bytes[i] } else { 0 }
+}
+
+/// The first eight bytes of a word as a number, the first as the greatest digit.
+fn front_of(word: &str) -> u64
+    ensures { HasItsFront word.now result }
+{
+    let bytes = word.as_bytes();
+    let mut front = 0;
+    for i in 0..8 {
+        front = front * 256 + byte_at(bytes, i) as u64;
+    }
+    front
 }
 
 /// The postings of a field, in the byte order of their words.
@@ -58,23 +97,24 @@ pub(crate) struct WordIndex {
 
 impl Model for WordIndex {
     ghost use Rattle.std.specs.Prelude.{ℕ, List};
-    ghost use Rattle.std.specs.List.Sorted.{IsSortedByKey};
-    ghost use Rattle.clip_words.specs.Order.{bytes_cmp};
+    ghost use Rattle.std.specs.List.Sorted.{IsSorted};
+    ghost use Rattle.clip_meaning.specs.Index.{posting_cmp};
 
     ghost Value = { List (List ℕ × ℕ) };
 
     ghost view = { λ index. index.postings.items };
 
-    ghost invariant = { λ index. IsSortedByKey (λ p. p.0) bytes_cmp index.postings.items };
+    ghost invariant = { λ index. IsSorted posting_cmp index.postings.items };
 }
 
 /// The words in order, each with its position.
 fn postings_of(alloc: Global, words: &[ArcStr]) -> Result<Vec<Posting>, NoMemory>
     ensures { IfOk result (λ postings. postings.items ≡ numbered 0 (map arc_str_bytes words.now)) }
 {
-    let mut postings = Vec::new(alloc);
+    let mut postings = Vec::with_capacity(alloc, words.len())?;
     for word in words {
         let posting = Posting {
+            front: front_of(word),
             word: word.clone()?,
             position: postings.len(),
         };
@@ -89,11 +129,11 @@ impl WordIndex {
         ensures { IfOk result (λ index. IsPermutation (numbered 0 (map arc_str_bytes words.now)) index) }
     {
         let mut postings = postings_of(alloc, words)?;
-        postings.sort_by(
+        postings.sort_unstable_by(
             |a: &Posting, b: &Posting| -> Ordering
-                ensures { result ≡ bytes_cmp a.now.0 b.now.0 }
-            { a.word().cmp(b.word()) },
-        )?;
+                ensures { result ≡ posting_cmp a.now b.now }
+            { order(a, b) },
+        );
         Ok(WordIndex { postings })
     }
 
@@ -101,6 +141,7 @@ impl WordIndex {
     pub(crate) fn postings(&self) -> &[Posting]
         ensures value { result.now ≡ self.now }
         ensures sorted { IsSortedByKey (λ p. p.0) bytes_cmp self.now }
+        ensures in_order { IsSorted posting_cmp self.now }
     {
         &self.postings
     }
@@ -180,7 +221,7 @@ impl WordIndex {
 
     /// Whether a word lies between the bounds.
     pub(crate) fn has_between(&self, low: &Bound, high: &Bound) -> bool
-        ensures { result ≡ list_any (λ p. above (end_of low.now) p.0 && below (end_of high.now) p.0) self.now }
+        ensures { result ≡ list_any (λ p. is_between (end_of low.now) (end_of high.now) p.0) self.now }
     {
         match self.from_low(low).first() {
             Some(posting) => is_below(high, posting.word()),

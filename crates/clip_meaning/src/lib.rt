@@ -6,17 +6,15 @@
 
 ghost use Rattle.std.specs.Prelude.{◌≡◌};
 
-pub mod article;
-pub mod fault;
-pub mod field;
+mod article;
+mod fault;
+mod field;
 mod field_map;
-pub mod index;
-pub mod meaning;
-#[cfg(test)]
-mod tests;
+mod index;
+mod meaning;
 
 pub use article::Article;
-pub use fault::ArticleFault;
+pub use fault::{ArticleFault, MOST_FIELDS, MOST_NAME_BYTES};
 pub use field::Field;
 pub use index::Posting;
 pub use meaning::holds;

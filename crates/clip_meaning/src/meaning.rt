@@ -1,18 +1,19 @@
 //! When a query holds of an article.
-ghost use Rattle.std.specs.Prelude.{◌≡◌, ◌&&◌, false, List, ◌∷◌, MatchOption, Bool, map};
+ghost use Rattle.std.specs.Prelude.{◌≡◌, false, List, ◌∷◌, MatchOption, Bool, map};
 ghost use Rattle.std.specs.Arc.{arc_str_bytes};
 ghost use Rattle.std.specs.List.{list_any};
 ghost use Rattle.std.specs.Str.{bytes_eq};
 ghost use Rattle.clip_grammar.specs.Tree.{tree_of, end_of};
 ghost use Rattle.clip_grammar.specs.declared.query.Occur.{Occur};
 ghost use Rattle.clip_meaning.specs.Article.{words_in};
-ghost use Rattle.clip_meaning.specs.Meaning.{holds, above, below, begins_with, has_run, is_nonempty};
-ghost use Rattle.clip_meaning.specs.Tally.{group_with};
+ghost use Rattle.clip_meaning.specs.Meaning.{holds, begins_with, has_phrase, is_between};
+ghost use Rattle.clip_meaning.specs.Steps.Tally.{group_with};
 
 use crate::article::Article;
-use clip_syntax::{Bound, Occur, Query};
+use clip_grammar::query::{Bound, Occur, Query};
 use std::sync::ArcStr;
 
+/// Whether a word is among those of an article's field.
 fn has_word(article: &Article, field: &str, word: &str) -> bool
     ensures { result ≡ list_any (λ w. bytes_eq w word.now) (words_in article.now.fields field.now) }
 {
@@ -22,8 +23,9 @@ fn has_word(article: &Article, field: &str, word: &str) -> bool
     }
 }
 
+/// Whether a phrase stands in an article's field.
 fn has_phrase(article: &Article, field: &str, phrase: &[ArcStr]) -> bool
-    ensures { result ≡ (is_nonempty (map arc_str_bytes phrase.now) && has_run (words_in article.now.fields field.now) (map arc_str_bytes phrase.now)) }
+    ensures { result ≡ has_phrase (words_in article.now.fields field.now) (map arc_str_bytes phrase.now) }
 {
     match article.named(field) {
         Some(field) => field.has_phrase(phrase),
@@ -31,6 +33,7 @@ fn has_phrase(article: &Article, field: &str, phrase: &[ArcStr]) -> bool
     }
 }
 
+/// Whether a word of an article's field begins with the front.
 fn has_front(article: &Article, field: &str, front: &str) -> bool
     ensures { result ≡ list_any (begins_with front.now) (words_in article.now.fields field.now) }
 {
@@ -40,8 +43,9 @@ fn has_front(article: &Article, field: &str, front: &str) -> bool
     }
 }
 
+/// Whether a word of an article's field lies between the bounds.
 fn has_between(article: &Article, field: &str, low: &Bound, high: &Bound) -> bool
-    ensures { result ≡ list_any (λ w. above (end_of low.now) w && below (end_of high.now) w) (words_in article.now.fields field.now) }
+    ensures { result ≡ list_any (is_between (end_of low.now) (end_of high.now)) (words_in article.now.fields field.now) }
 {
     match article.named(field) {
         Some(field) => field.has_between(low, high),
@@ -56,8 +60,8 @@ struct Tally {
     has_should: bool,
 }
 
-#[tactic(auto, using(crate::proofs::Groups::must_true, crate::proofs::Groups::must_false, crate::proofs::Groups::must_not_true, crate::proofs::Groups::must_not_false, crate::proofs::Groups::should))]
 /// The tally with one more clause, whose child holds or does not; `None` where the group does not hold.
+#[tactic(auto, using(crate::proofs::Groups::must_true, crate::proofs::Groups::must_false, crate::proofs::Groups::must_not_true, crate::proofs::Groups::must_not_false, crate::proofs::Groups::should))]
 fn counted(tally: Tally, occur: Occur, held: bool) -> Option<Tally>
     ensures { (others : List (Occur × Bool)) → MatchOption result
         (group_with tally.has_must tally.has_should ((occur, held) ∷ others) ≡ false)
@@ -78,7 +82,6 @@ fn counted(tally: Tally, occur: Occur, held: bool) -> Option<Tally>
     }
 }
 
-#[tactic(auto, using(crate::proofs::Groups::group_end))]
 /// Whether a query holds of an article.
 ///
 /// - `Term`: the word is among the field's words.
@@ -95,6 +98,7 @@ fn counted(tally: Tally, occur: Occur, held: bool) -> Option<Tally>
 /// place of its first word, at worst these places times the words of the phrase. A group asks its children in order, up
 /// to the first Must child that does not hold or MustNot child that does. Recurses as deep as groups nest, which is at
 /// most 65 in a query that was read.
+#[tactic(auto, using(crate::proofs::Groups::group_end))]
 pub fn holds(query: &Query, article: &Article) -> bool
     ensures { result ≡ holds (tree_of query.now) article.now.fields }
 {

@@ -1,6 +1,7 @@
 -- Keys as code compares them and as contracts do.
-use Rattle.std.proofs.Common.{◌≡◌, ℕ, zero, suc, ◌<◌, Bool, true, false, ◌&&◌, ◌||◌, List, [], ◌∷◌, length, map, take, get_or, refl, sym, ◌∙◌, ap, arith}
+use Rattle.std.proofs.Common.{◌≡◌, ℕ, zero, suc, ◌<◌, true, false, ◌&&◌, ◌||◌, List, [], ◌∷◌, length, map, take, get_or, refl, sym, ◌∙◌, ap, arith}
 use Rattle.std.proofs.lemmas.List.{length-map}
+use Rattle.std.proofs.Math.Bool.{and-true}
 use Rattle.std.proofs.Math.Dec.{T}
 use Rattle.std.proofs.lemmas.Bool.{false≢true}
 use Rattle.std.specs.Ordering.{is_eq, is_lt, ordering_reverse}
@@ -13,22 +14,19 @@ use Rattle.std.specs.Cmp.Lexicographic.{pointwise, lists_ties, texts_ties}
 use Rattle.std.specs.List.{list_any}
 use Rattle.std.specs.FinMap as finite
 use Rattle.clip_words.specs.Order.{bytes_cmp}
+use Rattle.clip_meaning.proofs.Tests.{truth, first, second}
 use Rattle.clip_extract.proofs.Order.{key_cmp_total, marked, same_key}
 use Rattle.clip_extract.specs.Keys.{KeyValue, key_of, key_cmp, is_same, in_order}
 use Rattle.clip_extract.specs.declared.key.Key.{Key}
 use Rattle.clip_extract.specs.declared.key.Key.TheVariants as variant
-use Rattle.clip_segment.specs.Positions.{same_keys}
-
-and_true : (b : Bool) → (b && true) ≡ b
-and_true true = refl
-and_true false = refl
+use Rattle.clip_segment.specs.Steps.Positions.{same_keys}
 
 pub same_keys_is : (k q : Key) → same_keys k q ≡ is_same (key_of k) (key_of q)
 same_keys_is variant.Any variant.Any = refl
 same_keys_is variant.Any (variant.Word field word) = refl
 same_keys_is (variant.Word field word) variant.Any = refl
 same_keys_is (variant.Word field word) (variant.Word other_field other_word) =
-    ap (λ b. pointwise nat_eq (arc_str_bytes field) (arc_str_bytes other_field) && b) (sym (and_true _))
+    ap (λ b. pointwise nat_eq (arc_str_bytes field) (arc_str_bytes other_field) && b) (sym (and-true _))
     ∙ lists_ties bytes_cmp texts_ties (arc_str_bytes field ∷ arc_str_bytes word ∷ []) (arc_str_bytes other_field ∷ arc_str_bytes other_word ∷ [])
 
 -- two keys that are the same compare alike
@@ -36,18 +34,6 @@ pub same_keys_alike : (k q : Key) → is_same (key_of k) (key_of q) ≡ true →
 same_keys_alike k q same x = same_keys_is k x ∙ ap (λ v. is_same v (key_of x)) (same_key _ _ same) ∙ sym (same_keys_is q x)
 
 -- ---- each key of a list in order stands there once
-
-truth : (b : Bool) → T b → b ≡ true
-truth true t = refl
-truth false t = absurd t
-
-both_left : (a b : Bool) → T (a && b) → T a
-both_left true b t = tt
-both_left false b t = t
-
-both_right : (a b : Bool) → T (a && b) → T b
-both_right true b t = t
-both_right false b t = absurd t
 
 -- a key is not the same as one below it
 above_apart : (k q : KeyValue) → is_lt (key_cmp k q) ≡ true → is_same q k ≡ false
@@ -59,15 +45,15 @@ above_apart k q lower = ap is_eq (key_cmp_total.antisymm q k) ∙ reversed (key_
 
 below_at : (k : KeyValue) (es : List (KeyValue × Unit {0})) (j : ℕ) (d : KeyValue) → T (below_all key_cmp k es) → j < length es → is_same (get_or (map (λ e. e.0) es) j d) k ≡ false
 below_at k [] j d below inside = absurd (omega arith)
-below_at k (e ∷ es) zero d below inside = above_apart k e.0 (truth _ (both_left _ (below_all key_cmp k es) below))
-below_at k (e ∷ es) (suc j) d below inside = below_at k es j d (both_right (is_lt (key_cmp k e.0)) _ below) (omega arith)
+below_at k (e ∷ es) zero d below inside = above_apart k e.0 (truth _ (first _ (below_all key_cmp k es) below))
+below_at k (e ∷ es) (suc j) d below inside = below_at k es j d (second (is_lt (key_cmp k e.0)) _ below) (omega arith)
 
 once_in : (es : List (KeyValue × Unit {0})) (j : ℕ) (d : KeyValue) → T (finite.is_sorted key_cmp es) → j < length es → list_any (is_same (get_or (map (λ e. e.0) es) j d)) (take j (map (λ e. e.0) es)) ≡ false
 once_in [] j d sorted inside = absurd (omega arith)
 once_in (e ∷ es) zero d sorted inside = refl
 once_in (e ∷ es) (suc j) d sorted inside =
-    ap (λ b. b || list_any (is_same (get_or (map (λ e. e.0) es) j d)) (take j (map (λ e. e.0) es))) (below_at e.0 es j d (both_left _ (finite.is_sorted key_cmp es) sorted) (omega arith))
-    ∙ once_in es j d (both_right (below_all key_cmp e.0 es) _ sorted) (omega arith)
+    ap (λ b. b || list_any (is_same (get_or (map (λ e. e.0) es) j d)) (take j (map (λ e. e.0) es))) (below_at e.0 es j d (first _ (finite.is_sorted key_cmp es) sorted) (omega arith))
+    ∙ once_in es j d (second (below_all key_cmp e.0 es) _ sorted) (omega arith)
 
 pub once : (ks : List KeyValue) (j : ℕ) (d : KeyValue) → j < length (in_order ks) → list_any (is_same (get_or (in_order ks) j d)) (take j (in_order ks)) ≡ false
 once ks j d inside =

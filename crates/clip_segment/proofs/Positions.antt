@@ -1,5 +1,6 @@
 -- The positions under a key, after one more.
 use Rattle.std.proofs.Common.{◌≡◌, ℕ, suc, ◌+◌, ◌<◌, Bool, true, false, cond, ◌||◌, List, [], ◌∷◌, ◌++◌, length, map, take, get_or, refl, sym, ◌∙◌, ap, Option, Some, None, append-nil, subst, vec_len, arith, length-take-le}
+use Rattle.std.proofs.Math.Bool.{or-false}
 use Rattle.std.proofs.lemmas.Bool.{false≢true}
 use Rattle.std.proofs.lemmas.List.{length-map, get_or-map, take_more, map-append}
 use Rattle.std.proofs.lemmas.List.Elements.{filter-append}
@@ -13,7 +14,7 @@ use Rattle.std.specs.declared.vec.Vec.{Vec}
 use Rattle.clip_extract.proofs.Order.{same_key}
 use Rattle.clip_extract.specs.Keys.{KeyValue, key_of, in_order, is_same}
 use Rattle.clip_extract.specs.declared.key.Key.{Key}
-use Rattle.clip_segment.specs.Positions.{same_keys, positions_under}
+use Rattle.clip_segment.specs.Steps.Positions.{same_keys, positions_under}
 use Rattle.clip_segment.specs.Segment.{holds_key, positions_with}
 use Rattle.clip_model.specs.History.{Registered}
 use Rattle.clip_segment.proofs.Keys.{same_keys_is, same_keys_alike, once, flipped}
@@ -61,10 +62,7 @@ any_more p ks j d inside =
     ap (λ xs. list_any p (map key_of xs)) (take_more ks j d inside)
     ∙ ap (list_any p) (map-append key_of (take j ks) (get_or ks j d ∷ []))
     ∙ list_any-append p (map key_of (take j ks)) (key_of (get_or ks j d) ∷ [])
-    ∙ ap (λ b. list_any p (map key_of (take j ks)) || b) (or_false _) where
-      or_false : (b : Bool) → (b || false) ≡ b
-      or_false true = refl
-      or_false false = refl
+    ∙ ap (λ b. list_any p (map key_of (take j ks)) || b) (or-false _)
 
 -- where the keys are in order, each once, a key that comes is not among those before it
 not_before : (ks : List Key) (all : List KeyValue) (j : ℕ) (d : Key) (o : KeyValue) → map key_of ks ≡ in_order all → j < length ks → is_same (key_of (get_or ks j d)) o ≡ true → list_any (is_same o) (map key_of (take j ks)) ≡ false

@@ -1,6 +1,3 @@
-pub mod EntryView
-pub mod Positions
 pub mod Segment
-pub mod SegmentView
 pub mod Standing
-pub mod StandingView
+pub mod Steps

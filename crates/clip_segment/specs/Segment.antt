@@ -13,9 +13,6 @@ holds_key key entry = list_any (is_same key) (query_keys entry.standing.tree)
 abbrev pub positions_with : KeyValue → List Registered → List ℕ
 positions_with key entries = map (λ e. e.0) (filter (λ e. holds_key key e.1) (enumerate_from 0 entries))
 
-abbrev pub most_positions : ℕ
-most_positions = 4294967295
-
 -- each seq is above those before it
 pub record IsRising (entries : List Registered) : Type 0 where
   pub rises : AllPairs (λ e f. e.seq < f.seq) entries

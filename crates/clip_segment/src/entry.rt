@@ -27,7 +27,7 @@ impl Model for Entry {
 
     ghost coded = { registered_code };
 
-    ghost use Rattle.clip_segment.specs.EntryView.{registered_of, HasItsKeys};
+    ghost use Rattle.clip_segment.specs.Steps.EntryView.{registered_of, HasItsKeys};
 
     ghost view = { registered_of };
 
@@ -37,7 +37,7 @@ impl Model for Entry {
 impl Entry {
     /// The entry of a standing query, which it shares, under the number `seq`.
     ///
-    /// `NoMemory` where a growth was refused. Cost: one extraction of the query's keys.
+    /// `NoMemory` where an allocation failed. Cost: one extraction of the query's keys.
     pub fn new(alloc: Global, seq: u64, standing: Arc<Standing>) -> Result<Entry, NoMemory>
         ensures { IfOk result (λ entry. entry ≡ record { standing = standing.value; seq = seq }) }
     {

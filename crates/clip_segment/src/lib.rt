@@ -3,12 +3,10 @@
 
 ghost use Rattle.std.specs.Prelude.{◌≡◌};
 
-pub mod entry;
-pub mod segment;
-pub mod standing;
-#[cfg(test)]
-mod tests;
+mod entry;
+mod segment;
+mod standing;
 
 pub use entry::Entry;
-pub use segment::Segment;
+pub use segment::{MOST_POSITIONS, Segment};
 pub use standing::{Standing, StandingFault};

@@ -5,8 +5,9 @@ ghost use Rattle.std.specs.List.{All, AllPairs, slice_get};
 ghost use Rattle.std.specs.Option.{option_copied};
 ghost use Rattle.clip_extract.specs.declared.key.Key.{Key};
 ghost use Rattle.clip_extract.specs.Keys.{is_same, key_of};
-ghost use Rattle.clip_segment.specs.Positions.{positions_under};
-ghost use Rattle.clip_segment.specs.Segment.{IsRising, holds_key, most_positions, positions_with};
+ghost use Rattle.clip_segment.specs.Steps.Positions.{positions_under};
+ghost use Rattle.clip_segment.specs.Segment.{IsRising, holds_key, positions_with};
+ghost use Rattle.clip_segment.specs.declared.segment.TheConstants.{MOST_POSITIONS};
 
 use crate::entry::Entry;
 use clip_extract::Key;
@@ -15,6 +16,9 @@ use std::alloc::Global;
 use std::collections::HashMap;
 use std::marker::Model;
 use std::sync::Arc;
+
+/// The most entries of a segment, so that each position fits in 32 bits.
+pub const MOST_POSITIONS: usize = 4_294_967_295;
 
 /// Entries in the order of their seqs, with an index from each key to the positions of those that hold it.
 #[derive(Debug, Drop)]
@@ -32,7 +36,7 @@ impl Model for Segment {
 
     ghost coded = { coded_list registered_code };
 
-    ghost use Rattle.clip_segment.specs.SegmentView.{entries_of, IsSegment};
+    ghost use Rattle.clip_segment.specs.Steps.SegmentView.{entries_of, IsSegment};
 
     ghost view = { entries_of };
 
@@ -75,11 +79,11 @@ fn add_entry(
 }
 
 impl Segment {
-    /// The segment of these entries, which it shares. Their seqs rise, and there are at most 4,294,967,295.
+    /// The segment of these entries, which it shares. Their seqs rise, and there are at most `MOST_POSITIONS`.
     ///
-    /// `NoMemory` where a growth was refused. Cost: one look-up for each key of each entry; no text is copied.
+    /// `NoMemory` where an allocation failed. Cost: one look-up for each key of each entry; no text is copied.
     pub fn build(alloc: Global, entries: Vec<Arc<Entry>>) -> Result<Segment, NoMemory>
-        requires short { length entries.items ≤ most_positions }
+        requires short { length entries.items ≤ MOST_POSITIONS }
         requires rising { IsRising (map arc_value entries.items) }
         ensures { IfOk result (λ segment. segment ≡ map arc_value entries.items) }
     {
@@ -92,8 +96,8 @@ impl Segment {
         Ok(Segment { entries, positions })
     }
 
-    #[tactic(auto, using(crate::proofs::Holding::positions_within, crate::proofs::Holding::positions_rise))]
     /// The positions, from 0 and rising, of just the entries that hold the key. Takes no memory. Cost: one look-up.
+    #[tactic(auto, using(crate::proofs::Holding::positions_within, crate::proofs::Holding::positions_rise))]
     pub fn with_key(&self, key: &Key) -> &[u32]
         ensures holders { result.now ≡ positions_with (key_of key.now) self.now }
         ensures within { All (λ position. position < length self.now) result.now }
@@ -115,7 +119,7 @@ impl Segment {
     /// The entries, in the order of their seqs. Constant time.
     pub fn entries(&self) -> &[Arc<Entry>]
         ensures value { map arc_value result.now ≡ self.now }
-        ensures short { length self.now ≤ most_positions }
+        ensures short { length self.now ≤ MOST_POSITIONS }
         ensures rising { IsRising self.now }
     {
         &self.entries

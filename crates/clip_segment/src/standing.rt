@@ -14,7 +14,7 @@ use std::marker::Model;
 use std::sync::ArcStr;
 use thiserror::Error;
 
-/// Why a standing query isn't one, the first that holds in this order; `NoMemory` comes wherever it stands.
+/// Why a standing query is refused, the first that holds in this order; `NoMemory` comes wherever an allocation failed.
 #[derive(Clone, Copy, Debug, PartialEq, Eq, Error)]
 pub enum StandingFault {
     /// The id has not 1 to 256 bytes.
@@ -23,7 +23,7 @@ pub enum StandingFault {
     /// The text is refused by `read_query`, with its fault.
     #[error("{0}")]
     Query(QueryFault),
-    /// A growth was refused.
+    /// An allocation failed.
     #[error("no memory")]
     NoMemory,
 }
@@ -63,7 +63,8 @@ impl From<QueryFault> for StandingFault {
 
 /// A standing query: a query under an id, with the name of a listener or none.
 ///
-/// Its query is the reading of its text, which is kept beside it. Its texts are shared by clones. No reader takes memory, and each takes constant time.
+/// Its query is the reading of its text, which is kept beside it. Its texts are shared by clones. No reader takes memory,
+/// and each takes constant time.
 #[derive(Debug, Drop)]
 pub struct Standing {
     id: ArcStr,
@@ -80,7 +81,7 @@ impl Model for Standing {
     ghost coded = { value.standing_code };
 
     ghost use Rattle.clip_segment.specs.Standing.{IsStanding};
-    ghost use Rattle.clip_segment.specs.StandingView.{standing_of};
+    ghost use Rattle.clip_segment.specs.Steps.StandingView.{standing_of};
 
     ghost view = { standing_of };
 
@@ -90,7 +91,12 @@ impl Model for Standing {
 impl Standing {
     /// Reads the text as a query, which stands under the id, with the name of a listener or none.
     ///
-    /// Refusals, the first that holds: `Id` where the id is not 1 to 256 bytes long; `Query` where the text is no query, with `read_query`'s fault. `NoMemory` where a growth was refused. Cost: the reading of the text, and one copy of the id and of the text.
+    /// Cost: the reading of the text, and one copy of the id and of the text.
+    ///
+    /// # Errors
+    ///
+    /// The first refusal that holds: `Id` where the id is not 1 to 256 bytes long; `Query` where the text is no query,
+    /// with `read_query`'s fault. `NoMemory` where an allocation failed.
     pub fn read(
         alloc: Global,
         id: &str,
@@ -126,7 +132,7 @@ impl Standing {
         self.id.as_str()
     }
 
-    /// The id, to be shared by a clone.
+    /// The id, as a text that a `clone` shares.
     pub fn shared_id(&self) -> &ArcStr
         ensures { arc_str_bytes result.now ≡ self.now.id }
     {
@@ -158,7 +164,7 @@ impl Standing {
         }
     }
 
-    /// The name of the listener, if there is one, to be shared by a clone.
+    /// The name of the listener, if there is one, as a text that a `clone` shares.
     pub fn shared_listener(&self) -> Option<&ArcStr>
         ensures { option_map arc_str_bytes (option_copied result) ≡ self.now.listener }
     {

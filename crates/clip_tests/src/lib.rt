@@ -2,6 +2,12 @@
 #![tactic(auto)]
 
 #[cfg(test)]
+mod extract;
+#[cfg(test)]
+mod meaning;
+#[cfg(test)]
+mod segment;
+#[cfg(test)]
 mod syntax;
 #[cfg(test)]
 mod words;

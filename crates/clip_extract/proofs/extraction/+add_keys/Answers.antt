@@ -1,12 +1,11 @@
-use Rattle.std.proofs.Common.{◌≡◌, ◌+◌, ◌≤◌, List, [], ◌∷◌, ◌++◌, map, length, take, drop, IfOk, unwrap_or, sym, ap, subst, ◌∙◌, arith}
-use Rattle.std.proofs.lemmas.List.{length-map, take_all, take-append-le, map-append, take-append-drop}
-use Rattle.std.specs.Arc.{arc_str_bytes}
+use Rattle.std.proofs.Common.{◌≡◌, ◌+◌, ◌≤◌, List, [], ◌++◌, map, length, take, drop, IfOk, sym, ap, subst, ◌∙◌, arith}
+use Rattle.std.proofs.lemmas.List.{length-map, take_all, take-append-le, take-append-drop}
 use Rattle.clip_grammar.specs.Tree.{tree_of}
-use Rattle.clip_extract.specs.Keys.{KeyValue, Word, key_of}
-use Rattle.clip_extract.specs.Extraction.{Extracted, heaviest, word_extract, extract, unnarrowed}
-use Rattle.clip_extract.specs.Groups.{group_from}
+use Rattle.clip_extract.specs.Keys.{KeyValue, key_of}
+use Rattle.clip_extract.specs.Extraction.{Extracted, extract, unnarrowed}
+use Rattle.clip_extract.specs.Steps.Groups.{group_from}
 use Rattle.clip_extract.specs.declared.extraction.Found.TheVariants.{Nothing}
-use Rattle.clip_extract.proofs.Groups.{extracts_of, group_start, skipped, turn, something, next_extract, extract_group, group_end, nothing_found, keys_found, extract_term, extract_phrase}
+use Rattle.clip_extract.proofs.Groups.{extracts_of, group_start, skipped, turn, something, next_extract, extract_group, group_end, nothing_found, keys_found}
 use Rattle.clip_extract.proofs.extraction.+add_keys.Goals as goal
 
 pub loop-occur-init : goal.loop-occur-init
@@ -67,37 +66,18 @@ loop-occur-preserved t c =
           ∙ c.loop-occur.invariant.group;
     }
 
-pub returns-in_ok-push-in-Term-clause-added : goal.returns-in_ok-push-in-Term-clause-added
-returns-in_ok-push-in-Term-clause-added t c =
-    let old = c.args.keys.now.items in
-    ap (map key_of) c.in_ok-push-in-Term.ensures.items ∙ map-append key_of old _
-    ∙ ap (λ f. map key_of old ++ Word f (arc_str_bytes c.in_ok-clone-in-Term-2.field-0) ∷ []) c.in_ok-clone-in-Term.ensures.cases
-    ∙ ap (λ w. map key_of old ++ Word (arc_str_bytes c.in-Term.field) w ∷ []) c.in_ok-clone-in-Term-2.ensures.cases
-    ∙ ap (λ (e : Extracted). map key_of old ++ e.keys) (sym (extract_term c.in-Term.field c.in-Term.word) ∙ ap (λ q. extract (tree_of q)) (sym c.in-Term.is))
-
-pub returns-in_ok-push-in-Some-clause-added : goal.returns-in_ok-push-in-Some-clause-added
-returns-in_ok-push-in-Some-clause-added t c =
-    let old = c.args.keys.now.items in
-    let field = arc_str_bytes c.in-Phrase.field in
-    ap (map key_of) c.in_ok-push-in-Some.ensures.items ∙ map-append key_of old _
-    ∙ ap (λ f. map key_of old ++ Word f (arc_str_bytes c.in_ok-clone-in-Some-2.field-0) ∷ []) c.in_ok-clone-in-Some.ensures.cases
-    ∙ ap (λ w. map key_of old ++ Word field w ∷ []) c.in_ok-clone-in-Some-2.ensures.cases
-    ∙ ap (λ (e : Extracted). map key_of old ++ e.keys)
-    (ap (λ o. unwrap_or o unnarrowed) (sym (c.in-Some.ensures field) ∙ ap (λ ws. heaviest (map (word_extract field) (map arc_str_bytes ws))) c.deref-in-Phrase.ensures.value)
-    ∙ sym (extract_phrase c.in-Phrase.field c.in-Phrase.words) ∙ ap (λ q. extract (tree_of q)) (sym c.in-Phrase.is))
-
 pub returns-in-Nothing-clause-added : goal.returns-in-Nothing-clause-added
 returns-in-Nothing-clause-added t c =
     let xs = map key_of c.loop-occur.keys.items in
     let old = map key_of c.args.keys.now.items in
-    let new = map key_of c.push_any-in-Nothing.new.keys.items in
+    let new = map key_of c.push_any.new.keys.items in
     let all : length xs ≤ c.len-start.result = omega (arith, length-map c.loop-occur.keys.items key_of, c.loop-occur.keys.ok, c.loop-occur.invariant.empty c.in-Nothing.is) in
     let same : xs ≡ old = sym (take_all c.len-start.result xs all) ∙ c.loop-occur.invariant.front in
     let end : extract (tree_of c.args.query.now) ≡ unnarrowed =
     group_end c.loop-occur.found (drop c.len-start.result xs) c.deref-occur-items.result.now c.loop-occur.occur-index _ c.loop-occur-test.false c.loop-occur.invariant.group
     ∙ ap (λ f. group_from f (drop c.len-start.result xs) []) c.in-Nothing.is ∙ nothing_found (drop c.len-start.result xs) in
-    subst (λ (ks : List KeyValue). IfOk c.push_any-in-Nothing.result (λ _. new ≡ ks ++ (extract (tree_of c.args.query.now)).keys)) same
-    (subst (λ (e : Extracted). IfOk c.push_any-in-Nothing.result (λ _. new ≡ xs ++ e.keys)) (sym end) c.push_any-in-Nothing.ensures.added)
+    subst (λ (ks : List KeyValue). IfOk c.push_any.result (λ _. new ≡ ks ++ (extract (tree_of c.args.query.now)).keys)) same
+    (subst (λ (e : Extracted). IfOk c.push_any.result (λ _. new ≡ xs ++ e.keys)) (sym end) c.push_any.ensures.added)
 
 pub returns-in-Nothing-clause-weight : goal.returns-in-Nothing-clause-weight
 returns-in-Nothing-clause-weight t c =
@@ -105,17 +85,17 @@ returns-in-Nothing-clause-weight t c =
     let end : extract (tree_of c.args.query.now) ≡ unnarrowed =
     group_end c.loop-occur.found (drop c.len-start.result xs) c.deref-occur-items.result.now c.loop-occur.occur-index _ c.loop-occur-test.false c.loop-occur.invariant.group
     ∙ ap (λ f. group_from f (drop c.len-start.result xs) []) c.in-Nothing.is ∙ nothing_found (drop c.len-start.result xs) in
-    subst (λ (e : Extracted). IfOk c.push_any-in-Nothing.result (λ w. w ≡ e.weight)) (sym end) c.push_any-in-Nothing.ensures.weight
+    subst (λ (e : Extracted). IfOk c.push_any.result (λ w. w ≡ e.weight)) (sym end) c.push_any.ensures.weight
 
-pub returns-in_default-clause-added : goal.returns-in_default-clause-added
-returns-in_default-clause-added t c =
+pub returns-in_default-found-clause-added : goal.returns-in_default-found-clause-added
+returns-in_default-found-clause-added t c =
     let xs = map key_of c.loop-occur.keys.items in
     let ks = drop c.len-start.result xs in
     let end = group_end c.loop-occur.found ks c.deref-occur-items.result.now c.loop-occur.occur-index _ c.loop-occur-test.false c.loop-occur.invariant.group in
     sym (take-append-drop c.len-start.result xs) ∙ ap (λ front. front ++ ks) c.loop-occur.invariant.front
-    ∙ ap (λ rest. map key_of c.args.keys.now.items ++ rest) (sym (ap (λ (e : Extracted). e.keys) end ∙ keys_found c.loop-occur.found ks c.in_default.not-Nothing))
+    ∙ ap (λ rest. map key_of c.args.keys.now.items ++ rest) (sym (ap (λ (e : Extracted). e.keys) end ∙ keys_found c.loop-occur.found ks c.in_default-found.not-Nothing))
 
-pub returns-in_default-clause-weight : goal.returns-in_default-clause-weight
-returns-in_default-clause-weight t c =
+pub returns-in_default-found-clause-weight : goal.returns-in_default-found-clause-weight
+returns-in_default-found-clause-weight t c =
     let ks = drop c.len-start.result (map key_of c.loop-occur.keys.items) in
     sym (ap (λ (e : Extracted). e.weight) (group_end c.loop-occur.found ks c.deref-occur-items.result.now c.loop-occur.occur-index _ c.loop-occur-test.false c.loop-occur.invariant.group) ∙ c.weight_found.ensures ks)

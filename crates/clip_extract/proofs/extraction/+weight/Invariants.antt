@@ -1,7 +1,7 @@
 use Rattle.std.proofs.Common.{◌≡◌, [], drop}
 use Rattle.clip_grammar.specs.Tree.{tree_of}
 use Rattle.clip_extract.specs.Extraction.{query_weight}
-use Rattle.clip_extract.specs.Groups.{group_from}
+use Rattle.clip_extract.specs.Steps.Groups.{group_from}
 use Rattle.clip_extract.proofs.Groups.{extracts_of}
 use Rattle.clip_extract.proofs.extraction.+weight.Given as goal
 

@@ -1,7 +1,7 @@
 use Rattle.std.proofs.Common.{map, take, drop, cond, sym, ap, ◌∙◌, arith, refl, ⊎_elim}
 use Rattle.std.proofs.lemmas.List.{length-map}
 use Rattle.clip_extract.specs.Keys.{key_of}
-use Rattle.clip_extract.specs.Groups.{kept}
+use Rattle.clip_extract.specs.Steps.Groups.{kept}
 use Rattle.clip_extract.proofs.Cuts.{front_removed, rest_removed, front_cut, rest_cut, parts}
 use Rattle.clip_extract.proofs.extraction.keep.Goals as goal
 

@@ -1,7 +1,7 @@
 use Rattle.std.proofs.Common.{◌≡◌, map, drop}
 use Rattle.std.specs.Arc.{arc_str_bytes}
 use Rattle.std.specs.List.{list_any}
-use Rattle.clip_meaning.specs.Index.{stands_at}
+use Rattle.clip_meaning.specs.Steps.Searches.{stands_at}
 use Rattle.clip_meaning.proofs.field.stands_at_any.Given as goal
 
 abbrev pub invariant-loop-posting : goal.invariant-loop-posting

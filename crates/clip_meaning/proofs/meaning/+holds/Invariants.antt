@@ -1,5 +1,5 @@
 use Rattle.std.proofs.Common.{◌≡◌, drop}
-use Rattle.clip_meaning.specs.Tally.{group_with}
+use Rattle.clip_meaning.specs.Steps.Tally.{group_with}
 use Rattle.clip_grammar.specs.Tree.{tree_of}
 use Rattle.clip_meaning.specs.Meaning.{holds}
 use Rattle.clip_meaning.proofs.Groups.{verdicts_of}

@@ -1,7 +1,7 @@
 use Rattle.std.proofs.Common.{◌∙◌, ◌++◌, ◌∷◌, [], cond, map, take, ap}
 use Rattle.std.specs.List.{list_any}
 use Rattle.clip_extract.specs.Keys.{is_same, key_of}
-use Rattle.clip_segment.specs.Positions.{positions_under}
+use Rattle.clip_segment.specs.Steps.Positions.{positions_under}
 use Rattle.clip_segment.proofs.Positions.{key_added}
 use Rattle.clip_segment.proofs.segment.add_entry.Goals as goal
 

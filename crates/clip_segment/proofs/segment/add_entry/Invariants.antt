@@ -2,7 +2,7 @@ use Rattle.std.proofs.Common.{◌≡◌, ◌++◌, ◌∷◌, [], cond, map, tak
 use Rattle.std.specs.List.{list_any}
 use Rattle.clip_extract.specs.Keys.{is_same, key_of}
 use Rattle.clip_extract.specs.declared.key.Key.{Key}
-use Rattle.clip_segment.specs.Positions.{positions_under}
+use Rattle.clip_segment.specs.Steps.Positions.{positions_under}
 use Rattle.clip_segment.proofs.segment.add_entry.Given as goal
 
 abbrev pub invariant-loop-key : goal.invariant-loop-key

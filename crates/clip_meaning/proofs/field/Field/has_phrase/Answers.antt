@@ -1,7 +1,7 @@
 use Rattle.std.proofs.Common.{◌≡◌, ◌∙◌, ◌&&◌, ap, map, filter, bytes_eq, List, ℕ}
 use Rattle.std.specs.Arc.{arc_str_bytes}
 use Rattle.std.specs.List.{list_any}
-use Rattle.clip_meaning.specs.Index.{stands_at}
+use Rattle.clip_meaning.specs.Steps.Searches.{stands_at}
 use Rattle.clip_meaning.specs.Meaning.{is_nonempty, has_run}
 use Rattle.clip_meaning.proofs.Fields.{Entry}
 use Rattle.clip_meaning.proofs.Numbered.{run_at_posting}

@@ -1,5 +1,5 @@
 use Rattle.std.proofs.Common.{sym, subst, rules, of_calls, is_lt, not}
-use Rattle.std.proofs.lemmas.Fn.{always_returns_same}
+use Rattle.std.proofs.lemmas.List.Sorted.{IsPartitionPoint-from_clause}
 use Rattle.clip_words.specs.Order.{bytes_cmp}
 use Rattle.clip_grammar.specs.Tokens.{End}
 use Rattle.clip_meaning.proofs.Postings.{Rises, rises, rises_from, upto_first, occurrences_read}
@@ -12,5 +12,5 @@ returns c =
     let xs = c.not_below-postings.result.now in
     let r = rises ps c.not_below-postings.ensures.sorted in
     let part : Rises xs = subst Rises (sym c.not_below-postings.ensures.value) (rises_from (End.With word) ps r) in
-    let point = c.partition_point-place.ensures.partitioned (λ p. not (is_lt (bytes_cmp word p.0))) (always_returns_same _ _ _ (λ a r f k. search (rules, of_calls))) (upto_first word xs part) in
+    let point = IsPartitionPoint-from_clause (λ p. not (is_lt (bytes_cmp word p.0))) xs c.partition_point-place.result c.partition_point-place.ensures.partitioned (upto_first word xs part) (λ a r f k. search (rules, of_calls)) in
     occurrences_read word ps xs c.split_at.result.0.now c.partition_point-place.result r c.not_below-postings.ensures.value c.partition_point-place.ensures.bound point c.split_at.ensures.front

@@ -2,7 +2,7 @@ use Rattle.std.proofs.Common.{◌≡◌, map, take}
 use Rattle.std.specs.Arc.{arc_value}
 use Rattle.clip_extract.specs.Keys.{key_of}
 use Rattle.clip_extract.specs.declared.key.Key.{Key}
-use Rattle.clip_segment.specs.Positions.{positions_under}
+use Rattle.clip_segment.specs.Steps.Positions.{positions_under}
 use Rattle.clip_segment.specs.Segment.{positions_with}
 use Rattle.clip_segment.proofs.segment.Segment.build.Given as goal
 

@@ -1,10 +1,11 @@
-//! Worked examples of articles and of what holds of them.
-use crate::{Article, ArticleFault, holds};
-use clip_syntax::{Bound, Occur, Query};
+//! Articles, and what holds of them: worked examples.
+use clip_grammar::query::{Bound, Occur, Query};
+use clip_meaning::{Article, ArticleFault, holds};
 use std::alloc::Global;
 use std::sync::ArcStr;
 use std::test::Fail;
 
+/// Pairs of a field's name and its text.
 fn pairs(alloc: Global, fields: &[(&str, &str)]) -> Result<Vec<(String, String)>, Fail> {
     let mut pairs = Vec::new(alloc);
     for (name, text) in fields {
@@ -14,14 +15,17 @@ fn pairs(alloc: Global, fields: &[(&str, &str)]) -> Result<Vec<(String, String)>
     Ok(pairs)
 }
 
+/// The article of these fields.
 fn read(alloc: Global, fields: &[(&str, &str)]) -> Result<Article, Fail> {
     Ok(Article::read(alloc, "a1", &pairs(alloc, fields)?)?)
 }
 
+/// The article of one field `text`.
 fn read_text(alloc: Global, text: &str) -> Result<Article, Fail> {
     read(alloc, &[("text", text)])
 }
 
+/// A word of a field.
 fn term(alloc: Global, field: &str, word: &str) -> Result<Query, Fail> {
     Ok(Query::Term {
         field: ArcStr::from_str(alloc, field)?,
@@ -29,6 +33,7 @@ fn term(alloc: Global, field: &str, word: &str) -> Result<Query, Fail> {
     })
 }
 
+/// A phrase of a field.
 fn phrase(alloc: Global, field: &str, words: &[&str]) -> Result<Query, Fail> {
     let mut shared = Vec::new(alloc);
     for word in words {
@@ -40,6 +45,7 @@ fn phrase(alloc: Global, field: &str, words: &[&str]) -> Result<Query, Fail> {
     })
 }
 
+/// A prefix in the field `text`.
 fn prefix(alloc: Global, front: &str) -> Result<Query, Fail> {
     Ok(Query::Prefix {
         field: ArcStr::from_str(alloc, "text")?,
@@ -47,6 +53,7 @@ fn prefix(alloc: Global, front: &str) -> Result<Query, Fail> {
     })
 }
 
+/// A range in the field `text`.
 fn span(alloc: Global, low: Bound, high: Bound) -> Result<Query, Fail> {
     Ok(Query::Span {
         field: ArcStr::from_str(alloc, "text")?,
@@ -55,20 +62,24 @@ fn span(alloc: Global, low: Bound, high: Bound) -> Result<Query, Fail> {
     })
 }
 
+/// An end of a range that is let in.
 fn with(alloc: Global, text: &str) -> Result<Bound, Fail> {
     Ok(Bound::With(String::from_str(alloc, text)?))
 }
 
+/// An end of a range that is left out.
 fn without(alloc: Global, text: &str) -> Result<Bound, Fail> {
     Ok(Bound::Without(String::from_str(alloc, text)?))
 }
 
+/// A group of one clause.
 fn one(alloc: Global, occur: Occur, child: Query) -> Result<Query, Fail> {
     let mut clauses = Vec::new(alloc);
     clauses.push((occur, child))?;
     Ok(Query::Group(clauses))
 }
 
+/// A group of two clauses.
 fn two(alloc: Global, first: (Occur, Query), second: (Occur, Query)) -> Result<Query, Fail> {
     let mut clauses = Vec::new(alloc);
     clauses.push(first)?;
@@ -86,7 +97,7 @@ fn everything_holds_of_no_words(rt: HostRuntime) -> Result<(), Fail> {
 }
 
 #[test]
-fn either_word_holds(rt: HostRuntime) -> Result<(), Fail> {
+fn either_word_of_a_disjunction_is_enough(rt: HostRuntime) -> Result<(), Fail> {
     let alloc = rt.alloc();
     let tea = (Occur::Should, term(alloc, "text", "tea")?);
     let coffee = (Occur::Should, term(alloc, "text", "coffee")?);
@@ -99,7 +110,7 @@ fn either_word_holds(rt: HostRuntime) -> Result<(), Fail> {
 }
 
 #[test]
-fn prefix_of_a_folded_word(rt: HostRuntime) -> Result<(), Fail> {
+fn a_prefix_is_compared_with_folded_words(rt: HostRuntime) -> Result<(), Fail> {
     let alloc = rt.alloc();
     let query = prefix(alloc, "strass")?;
     assert!(rt; holds(&query, &read_text(alloc, "Straße")?));
@@ -109,7 +120,7 @@ fn prefix_of_a_folded_word(rt: HostRuntime) -> Result<(), Fail> {
 }
 
 #[test]
-fn range_from_past_m_to_p(rt: HostRuntime) -> Result<(), Fail> {
+fn a_range_takes_in_its_closed_ends_alone(rt: HostRuntime) -> Result<(), Fail> {
     let alloc = rt.alloc();
     let query = span(alloc, without(alloc, "m")?, with(alloc, "p")?)?;
     for (text, wanted) in [("m", false), ("n", true), ("p", true), ("é", false)] {
@@ -140,7 +151,7 @@ fn only_what_is_excluded_never_holds(rt: HostRuntime) -> Result<(), Fail> {
 }
 
 #[test]
-fn phrase_stands_in_order_without_gaps(rt: HostRuntime) -> Result<(), Fail> {
+fn a_phrase_stands_in_order_without_gaps(rt: HostRuntime) -> Result<(), Fail> {
     let alloc = rt.alloc();
     let query = phrase(alloc, "text", &["wi", "fi"])?;
     assert!(rt; holds(&query, &read_text(alloc, "Wi-Fi")?));
@@ -152,7 +163,7 @@ fn phrase_stands_in_order_without_gaps(rt: HostRuntime) -> Result<(), Fail> {
 }
 
 #[test]
-fn title_without_a_phrase_or_a_text(rt: HostRuntime) -> Result<(), Fail> {
+fn a_nested_group_counts_as_one_clause(rt: HostRuntime) -> Result<(), Fail> {
     let alloc = rt.alloc();
     let tea = (Occur::Must, term(alloc, "title", "tea")?);
     let green = (Occur::MustNot, phrase(alloc, "title", &["green", "tea"])?);
@@ -171,7 +182,7 @@ fn title_without_a_phrase_or_a_text(rt: HostRuntime) -> Result<(), Fail> {
 }
 
 #[test]
-fn both_a_prefix_and_a_range(rt: HostRuntime) -> Result<(), Fail> {
+fn two_words_may_meet_a_prefix_and_a_range(rt: HostRuntime) -> Result<(), Fail> {
     let alloc = rt.alloc();
     let front = (Occur::Must, prefix(alloc, "extraordinarily")?);
     let range = (
@@ -185,7 +196,7 @@ fn both_a_prefix_and_a_range(rt: HostRuntime) -> Result<(), Fail> {
 }
 
 #[test]
-fn reads_an_article(rt: HostRuntime) -> Result<(), Fail> {
+fn an_article_keeps_the_words_of_each_field(rt: HostRuntime) -> Result<(), Fail> {
     let alloc = rt.alloc();
     let article = read(
         alloc,
@@ -204,15 +215,35 @@ fn reads_an_article(rt: HostRuntime) -> Result<(), Fail> {
     let title = fields[1].words();
     assert_eq!(rt; title.len(), 2);
     assert_eq!(rt; title[0].as_str(), "green");
-    let sorted = [("and", 2), ("milk", 3), ("tea", 0), ("tea", 1)];
-    assert_eq!(rt; fields[0].postings().len(), sorted.len());
-    for (posting, (word, position)) in fields[0].postings().iter().zip(sorted) {
+    Ok(())
+}
+
+#[test]
+fn postings_stand_by_word_and_then_by_position(rt: HostRuntime) -> Result<(), Fail> {
+    let alloc = rt.alloc();
+    let article = read_text(alloc, "tea, TEA and milk; tea, and a teapot")?;
+    let wanted = [
+        ("a", 6),
+        ("and", 2),
+        ("and", 5),
+        ("milk", 3),
+        ("tea", 0),
+        ("tea", 1),
+        ("tea", 4),
+        ("teapot", 7),
+    ];
+    let fields = article.fields();
+    assert_eq!(rt; fields.len(), 1);
+    let postings = fields[0].postings();
+    assert_eq!(rt; postings.len(), wanted.len());
+    for (posting, (word, position)) in postings.iter().zip(wanted) {
         assert_eq!(rt; posting.word().as_str(), word);
         assert_eq!(rt; posting.position(), position);
     }
     Ok(())
 }
 
+/// Why an article of this id and these fields is refused, if it is.
 fn fault_of(
     alloc: Global,
     id: &str,
@@ -224,6 +255,7 @@ fn fault_of(
     }
 }
 
+/// A text of so many letters.
 fn repeated(alloc: Global, count: usize) -> Result<String, Fail> {
     let mut text = String::new(alloc);
     for _ in 0..count {
@@ -233,7 +265,7 @@ fn repeated(alloc: Global, count: usize) -> Result<String, Fail> {
 }
 
 #[test]
-fn id_of_1_to_256_bytes(rt: HostRuntime) -> Result<(), Fail> {
+fn an_id_has_1_to_256_bytes(rt: HostRuntime) -> Result<(), Fail> {
     let alloc = rt.alloc();
     assert_eq!(rt; fault_of(alloc, "", &[])?, Some(ArticleFault::Id));
     assert_eq!(rt; fault_of(alloc, repeated(alloc, 256)?.as_str(), &[])?, None);
@@ -245,7 +277,7 @@ fn id_of_1_to_256_bytes(rt: HostRuntime) -> Result<(), Fail> {
 }
 
 #[test]
-fn names_of_fields(rt: HostRuntime) -> Result<(), Fail> {
+fn a_field_has_a_name_of_letters_digits_and_underscores(rt: HostRuntime) -> Result<(), Fail> {
     let alloc = rt.alloc();
     for name in ["9a", "", "a-b", "a b", "é"] {
         assert_eq!(rt;
@@ -266,6 +298,7 @@ fn names_of_fields(rt: HostRuntime) -> Result<(), Fail> {
     Ok(())
 }
 
+/// Fields of these names, each with a text.
 fn teas<'a>(alloc: Global, names: &[&'a str]) -> Result<Vec<(&'a str, &'a str)>, Fail> {
     let mut fields = Vec::new(alloc);
     for name in names {
@@ -275,7 +308,7 @@ fn teas<'a>(alloc: Global, names: &[&'a str]) -> Result<Vec<(&'a str, &'a str)>,
 }
 
 #[test]
-fn sixteen_fields_of_distinct_names(rt: HostRuntime) -> Result<(), Fail> {
+fn an_article_has_at_most_16_fields_of_distinct_names(rt: HostRuntime) -> Result<(), Fail> {
     let alloc = rt.alloc();
     let names = [
         "a", "b", "c", "d", "e", "f", "g", "h", "i", "j", "k", "l", "m", "n", "o", "p", "9",

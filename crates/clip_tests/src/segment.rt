@@ -1,16 +1,15 @@
-//! Worked examples and limits.
-ghost use Rattle.std.specs.Prelude.{◌≡◌, ◌≤◌, IfOk, length, map};
-ghost use Rattle.std.specs.Arc.{arc_value};
-ghost use Rattle.clip_segment.specs.Segment.{IsRising, most_positions};
+//! Standing queries, entries and segments: worked examples and limits.
+ghost use Rattle.std.specs.Prelude.{◌≡◌, IfOk};
 
-use crate::{Entry, Segment, Standing, StandingFault};
 use clip_extract::Key;
 use clip_grammar::fault::QueryFault;
 use clip_grammar::query::{Occur, Query};
+use clip_segment::{Entry, Segment, Standing, StandingFault};
 use std::alloc::Global;
 use std::sync::{Arc, ArcStr};
 use std::test::Fail;
 
+/// A word of the field `text` as a key.
 fn word_key(alloc: Global, word: &str) -> Result<Key, Fail> {
     Ok(Key::Word(
         ArcStr::from_str(alloc, "text")?,
@@ -18,6 +17,7 @@ fn word_key(alloc: Global, word: &str) -> Result<Key, Fail> {
     ))
 }
 
+/// The entry of a query's text under a number.
 fn entry(alloc: Global, seq: u64, text: &str) -> Result<Arc<Entry>, Fail>
     ensures { IfOk result (λ entry. entry.value.seq ≡ seq) }
 {
@@ -26,18 +26,17 @@ fn entry(alloc: Global, seq: u64, text: &str) -> Result<Arc<Entry>, Fail>
     Ok(Arc::new(alloc, Entry::new(alloc, seq, standing)?)?)
 }
 
-/// The entries of two texts.
-fn pair(alloc: Global, first: &str, second: &str) -> Result<Vec<Arc<Entry>>, Fail>
-    ensures short { IfOk result (λ entries. length entries.items ≤ most_positions) }
-    ensures rising { IfOk result (λ entries. IsRising (map arc_value entries.items)) }
-{
-    let first = entry(alloc, 1, first)?;
-    let second = entry(alloc, 2, second)?;
-    Ok(vec![in alloc; first, second]?)
+/// The query of one word that must be there.
+fn must(alloc: Global, word: &str) -> Result<Query, Fail> {
+    let term = Query::Term {
+        field: ArcStr::from_str(alloc, "text")?,
+        word: ArcStr::from_str(alloc, word)?,
+    };
+    Ok(Query::Group(vec![in alloc; (Occur::Must, term)]?))
 }
 
 #[test]
-fn reads_a_standing_query(rt: HostRuntime) -> Result<(), Fail> {
+fn a_standing_query_keeps_its_id_text_query_and_listener(rt: HostRuntime) -> Result<(), Fail> {
     let alloc = rt.alloc();
     let listener = String::from_str(alloc, "desk")?;
     let standing = Standing::read(alloc, "q1", "+Tea", Some(listener))?;
@@ -45,16 +44,7 @@ fn reads_a_standing_query(rt: HostRuntime) -> Result<(), Fail> {
     assert_eq!(rt; standing.shared_id().as_str(), "q1");
     assert_eq!(rt; standing.text(), "+Tea");
     assert_eq!(rt; standing.listener(), Some("desk"));
-    match standing.query() {
-        Query::Group(clauses) => match clauses.as_slice() {
-            [(Occur::Must, Query::Term { field, word })] => {
-                assert_eq!(rt; field.as_str(), "text");
-                assert_eq!(rt; word.as_str(), "tea");
-            }
-            _ => assert!(rt; false),
-        },
-        _ => assert!(rt; false),
-    }
+    assert_eq!(rt; standing.query(), &must(alloc, "tea")?);
     let unheard = Standing::read(alloc, "q2", "tea", None)?;
     assert_eq!(rt; unheard.listener(), None);
     assert!(rt; unheard.shared_listener().is_none());
@@ -62,7 +52,7 @@ fn reads_a_standing_query(rt: HostRuntime) -> Result<(), Fail> {
 }
 
 #[test]
-fn refuses_in_order(rt: HostRuntime) -> Result<(), Fail> {
+fn the_first_refusal_is_answered(rt: HostRuntime) -> Result<(), Fail> {
     let alloc = rt.alloc();
     let mut id = String::new(alloc);
     for _ in 0..256 {
@@ -86,7 +76,7 @@ fn refuses_in_order(rt: HostRuntime) -> Result<(), Fail> {
 }
 
 #[test]
-fn finds_the_holders_of_a_key(rt: HostRuntime) -> Result<(), Fail> {
+fn a_segment_finds_the_holders_of_a_key(rt: HostRuntime) -> Result<(), Fail> {
     let alloc = rt.alloc();
     let entries = vec![in alloc;
         entry(alloc, 1, "tea coffee")?,

@@ -1,8 +1,10 @@
-//! Keys and weights of read queries.
-use crate::{Key, keys, weight};
+//! Keys: their order, and the keys and weights of read queries.
+use clip_extract::key::sorted;
+use clip_extract::{Key, keys, weight};
 use clip_syntax::read_query;
 use std::alloc::{AllocError, Global};
 use std::process::Abort;
+use std::sync::ArcStr;
 use std::test::Fail;
 
 /// Keys as one text: `*` for Any, `field:word` for a word.
@@ -24,6 +26,7 @@ fn shown(alloc: Global, keys: &[Key]) -> Result<String, AllocError> {
     Ok(text)
 }
 
+/// Checks the keys and the weight of a query's text.
 fn expect(
     rt: &impl Abort,
     alloc: Global,
@@ -40,7 +43,7 @@ fn expect(
 }
 
 #[test]
-fn extracts_by_the_table(rt: HostRuntime) -> Result<(), Fail> {
+fn a_query_has_the_keys_and_the_weight_of_the_table(rt: HostRuntime) -> Result<(), Fail> {
     let table = [
         ("+tea +coffee", "text:coffee", 6),
         ("tea coffee", "text:coffee text:tea", 3),
@@ -59,7 +62,9 @@ fn extracts_by_the_table(rt: HostRuntime) -> Result<(), Fail> {
 }
 
 #[test]
-fn keys_cover_groups(rt: HostRuntime) -> Result<(), Fail> {
+fn a_group_has_the_keys_of_its_required_or_of_all_its_optional_clauses(
+    rt: HostRuntime,
+) -> Result<(), Fail> {
     let table = [
         // a required group that nothing narrows, alone and beside one that is narrowed
         ("+([a TO b] tea)", "* text:tea", 0),
@@ -88,5 +93,33 @@ fn keys_cover_groups(rt: HostRuntime) -> Result<(), Fail> {
     for (text, wanted, heavy) in table {
         expect(&rt, rt.alloc(), text, wanted, heavy)?;
     }
+    Ok(())
+}
+
+/// A word of a field as a key.
+fn word_key(alloc: Global, field: &str, word: &str) -> Result<Key, Fail> {
+    Ok(Key::Word(
+        ArcStr::from_str(alloc, field)?,
+        ArcStr::from_str(alloc, word)?,
+    ))
+}
+
+#[test]
+fn sorted_keys_stand_by_field_and_then_by_word_each_once(rt: HostRuntime) -> Result<(), Fail> {
+    let alloc = rt.alloc();
+    let mut found = Vec::new(alloc);
+    for (field, word) in [
+        ("title", "a"),
+        ("text", "tea"),
+        ("text", "é"),
+        ("text", "tea"),
+    ] {
+        found.push(word_key(alloc, field, word)?)?;
+        found.push(Key::Any)?;
+    }
+    found.push(word_key(alloc, "text", "te")?)?;
+    let in_order = sorted(found)?;
+    let shown = shown(alloc, &in_order)?;
+    assert_eq!(rt; shown.as_str(), "* text:te text:tea text:é title:a");
     Ok(())
 }

@@ -1,8 +1,8 @@
 -- What is extracted of a group while its clauses are read.
-use Rattle.std.specs.Prelude.{ℕ, Bool, true, false, min, max, nat_lt, List, [], ◌∷◌, ◌++◌, fold, Option, Some, None, unwrap_or, if◌then◌else◌}
+use Rattle.std.specs.Prelude.{ℕ, Bool, true, false, min, max, nat_lt, List, ◌++◌, fold, take, drop, Option, Some, None, unwrap_or, if◌then◌else◌}
 use Rattle.clip_grammar.specs.declared.query.Occur.{Occur}
 use Rattle.clip_grammar.specs.declared.query.Occur.TheVariants.{Must, Should, MustNot}
-use Rattle.clip_extract.specs.Keys.{KeyValue, Word}
+use Rattle.clip_extract.specs.Keys.{KeyValue}
 use Rattle.clip_extract.specs.Extraction.{Extracted, unnarrowed, heavier, together, heaviest, union, musts, shoulds}
 use Rattle.clip_extract.specs.declared.extraction.Found.{Found}
 use Rattle.clip_extract.specs.declared.extraction.Found.TheVariants.{Nothing, Optional, Required}
@@ -54,6 +54,6 @@ kept found Must weight before more = if outweighs found weight then more else be
 kept found Should weight before more = before ++ more
 kept found MustNot weight before more = before ++ more
 
--- what a word that was found with its weight gives
-abbrev pub word_found : (field word : List ℕ) → ℕ → Extracted
-word_found field word weight = record { keys = Word field word ∷ []; weight = weight }
+-- the same of the keys from `start` on, where those of the clause begin at `middle`
+abbrev pub kept_from : Found → Occur → ℕ → (start middle : ℕ) → List KeyValue → List KeyValue
+kept_from found occur weight start middle keys = kept found occur weight (drop start (take middle keys)) (drop middle keys)

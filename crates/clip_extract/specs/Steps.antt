@@ -1,0 +1,3 @@
+-- What the proofs of this crate go through; no public clause cites it.
+pub mod Groups
+pub mod Leaves
