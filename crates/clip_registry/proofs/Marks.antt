@@ -8,11 +8,14 @@ use Rattle.std.specs.FinMap as finite
 use Rattle.std.specs.Ordering.{eq_by_cmp}
 use Rattle.clip_words.specs.Order.{bytes_cmp}
 use Rattle.clip_model.specs.History.{Registered, Registry, is_live_in}
-use Rattle.clip_registry.specs.Flags.{flag_at, marked, IsMarked}
-use Rattle.clip_registry.specs.Roster.{IsNumbered, IsAbove, insert_one, restored}
-use Rattle.clip_registry.proofs.Live.{false_true, given_live, inserted_at, inserted_else, removed_at, removed_else}
+use Rattle.clip_registry.specs.Steps.Flags.{flag_at, flags_with, IsMarked}
+use Rattle.clip_model.specs.Steps.Numbered.{IsNumbered}
+use Rattle.clip_registry.specs.Steps.Roster.{IsAbove, insert_one, with_or_without}
+use Rattle.clip_model.proofs.ById.{false_true}
+use Rattle.clip_model.proofs.Live.{given_live, inserted_at, inserted_else, removed_at, removed_else}
 use Rattle.clip_model.proofs.ById.{bytes_same, same, swapped}
-use Rattle.clip_registry.proofs.Numbering.{numbered_insert, numbered_remove, has_seq, live_insert, live_remove, live_within}
+use Rattle.clip_model.proofs.Numbering.{numbered_insert, numbered_remove}
+use Rattle.clip_registry.proofs.Numbering.{has_seq, live_insert, live_remove, live_within}
 
 pub flag_at-nil : (base seq : ℕ) → flag_at base [] seq ≡ false
 flag_at-nil base seq = elim (nat_lt base seq) as (λ b. (b && false) ≡ false) [ true ↦ refl | false ↦ refl ]
@@ -64,11 +67,11 @@ flag_at-push base flags live seq =
       | inr below ↦ flag_below base (flags ++ live ∷ []) seq below ∙ sym (choose (new == seq) false live (flag_at base flags seq) (is_more new seq (omega arith)) ∙ flag_below base flags seq below)
     ]
 
-marked_above : (base : ℕ) (flags : List Bool) (at : ℕ) (live : Bool) → base < at → marked base flags at live ≡ set flags (at - suc base) live
+marked_above : (base : ℕ) (flags : List Bool) (at : ℕ) (live : Bool) → base < at → flags_with base flags at live ≡ set flags (at - suc base) live
 marked_above base flags at live h = ap (λ b. cond b (set flags (at - suc base) live) flags) (is_lt base at h)
 
 -- one flag changed
-pub flag_at-marked : (base : ℕ) (flags : List Bool) (at : ℕ) (live : Bool) (seq : ℕ) → IsPlaced base flags at → flag_at base (marked base flags at live) seq ≡ cond (at == seq) live (flag_at base flags seq)
+pub flag_at-marked : (base : ℕ) (flags : List Bool) (at : ℕ) (live : Bool) (seq : ℕ) → IsPlaced base flags at → flag_at base (flags_with base flags at live) seq ≡ cond (at == seq) live (flag_at base flags seq)
 flag_at-marked base flags at live seq placed =
     let above = placed.above in
     let within = placed.within in
@@ -95,7 +98,7 @@ placed_from_flag base flags seq h =
       | inr below ↦ absurd (false_true (sym (flag_below base flags seq below) ∙ h))
     ]
 
-pub length-marked : (base : ℕ) (flags : List Bool) (at : ℕ) (live : Bool) → length (marked base flags at live) ≡ length flags
+pub length-marked : (base : ℕ) (flags : List Bool) (at : ℕ) (live : Bool) → length (flags_with base flags at live) ≡ length flags
 length-marked base flags at live = elim (nat_lt base at) as (λ b. length (cond b (set flags (at - suc base) live) flags) ≡ length flags) [ true ↦ length-set flags (at - suc base) live | false ↦ refl ]
 
 -- ---- changes of a roster
@@ -128,7 +131,7 @@ marked_new base flags m r is e none = record {
 }
 
 pub marked_again : (base : ℕ) (flags : List Bool) (m : Registry) (r t : Registered) → IsMarked base flags m → r.seq ≡ suc (base + length flags) → finite.get m r.standing.id ≡ Some t
-    → IsMarked base (marked base (flags ++ true ∷ []) t.seq false) (insert_one m r)
+    → IsMarked base (flags_with base (flags ++ true ∷ []) t.seq false) (insert_one m r)
 marked_again base flags m r t is e found =
     let more = flags ++ true ∷ [] in
     let at = placed_more base flags true t.seq (placed_live base flags m r.standing.id t is found) in
@@ -142,7 +145,7 @@ marked_again base flags m r t is e found =
           ∙ sym (live_insert (base + length flags) m r seq e is.numbered ∙ ap (λ (o : Option Registered). cond (suc (base + length flags) == seq) true (cond (has_seq o seq) false (is_live_in m seq))) found);
     }
 
-pub marked_gone : (base : ℕ) (flags : List Bool) (m : Registry) (id : List ℕ) (t : Registered) → IsMarked base flags m → finite.get m id ≡ Some t → IsMarked base (marked base flags t.seq false) (finite.remove m id)
+pub marked_gone : (base : ℕ) (flags : List Bool) (m : Registry) (id : List ℕ) (t : Registered) → IsMarked base flags m → finite.get m id ≡ Some t → IsMarked base (flags_with base flags t.seq false) (finite.remove m id)
 marked_gone base flags m id t is found = record {
   numbered = subst (λ k. IsNumbered (base + k) (finite.remove m id)) (sym (length-marked base flags t.seq false)) (numbered_remove (base + length flags) m id is.numbered);
   flagged = λ seq.
@@ -157,10 +160,10 @@ marked_same base flags m id is none = record {
   flagged = λ seq. is.flagged seq ∙ sym (live_remove (base + length flags) m id seq is.numbered ∙ ap (λ (o : Option Registered). cond (has_seq o seq) false (is_live_in m seq)) none);
 }
 
--- ---- an insert undone
+-- ---- an insert without_last
 
 -- what was replaced, put back, gives the registry before
-pub restored_before : (before : Registry) (entry : Registered) (id : List ℕ) (found : Option Registered) → entry.standing.id ≡ id → finite.get before id ≡ found → restored (insert_one before entry) id found ≡ before
+pub restored_before : (before : Registry) (entry : Registered) (id : List ℕ) (found : Option Registered) → entry.standing.id ≡ id → finite.get before id ≡ found → with_or_without (insert_one before entry) id found ≡ before
 restored_before before entry id None key was = same _ _ (λ q.
     elim (eq_by_cmp bytes_cmp q id) as (λ b. eq_by_cmp bytes_cmp q id ≡ b → finite.get (finite.remove (insert_one before entry) id) q ≡ finite.get before q) [
       | true ↦ λ e. ap (finite.get (finite.remove (insert_one before entry) id)) (bytes_same q id e) ∙ removed_at (insert_one before entry) id ∙ sym was ∙ ap (finite.get before) (sym (bytes_same q id e))
@@ -214,7 +217,7 @@ pub marked_back_none : (base : ℕ) (rest : List Bool) (n : ℕ) (before : Regis
 marked_back_none base rest n before numbered are = record { numbered = subst (λ k. IsNumbered k before) (sym are.len) numbered; flagged = are.flags }
 
 pub marked_back : (base : ℕ) (rest : List Bool) (n : ℕ) (before : Registry) (id : List ℕ) (t : Registered) → IsNumbered n before → base < t.seq → finite.get before id ≡ Some t → AreFewer base rest n (Some t) before
-    → IsMarked base (marked base rest t.seq true) before
+    → IsMarked base (flags_with base rest t.seq true) before
 marked_back base rest n before id t numbered above was are =
     let low = (numbered.within id t was).1 in
     let len = are.len in

@@ -56,6 +56,6 @@ state_after state caller command = record {
 }
 
 -- the registry of a state that is there from the first command on
-abbrev pub kept_state : Option (Arc RegistryState Global) → RegistryState
-kept_state None = beginning
-kept_state (Some state) = arc_value state
+abbrev pub state_or_beginning : Option (Arc RegistryState Global) → RegistryState
+state_or_beginning None = beginning
+state_or_beginning (Some state) = arc_value state

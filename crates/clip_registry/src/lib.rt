@@ -9,8 +9,6 @@ pub mod command;
 pub mod registrar;
 mod roster;
 mod state;
-#[cfg(test)]
-mod tests;
 pub mod view;
 
 pub use command::{Applied, Command, HistoryEntry, Refused};

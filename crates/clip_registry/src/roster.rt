@@ -3,8 +3,9 @@ ghost use Rattle.std.specs.Prelude.{◌≡◌, ◌+◌, ◌<◌, ◌≤◌, ◌^
 ghost use Rattle.std.specs.Arc.{arc_value};
 ghost use Rattle.std.specs.FinMap as finite;
 ghost use Rattle.clip_model.specs.History.{is_live_in};
-ghost use Rattle.clip_registry.specs.Flags.{marked};
-ghost use Rattle.clip_registry.specs.Roster.{IsNumbered, IsAbove, IsUndoable, SeqsFollow, insert_all, roster_with, roster_with_all, roster_without, undone};
+ghost use Rattle.clip_registry.specs.Steps.Flags.{flags_with};
+ghost use Rattle.clip_model.specs.Steps.Numbered.{IsNumbered};
+ghost use Rattle.clip_registry.specs.Steps.Roster.{IsAbove, IsUndoable, SeqsFollow, insert_all, roster_with, roster_with_all, roster_without, without_last};
 ghost use Rattle.clip_registry.specs.declared.command.Refused.TheVariants as refused;
 
 use crate::by_id::ById;
@@ -24,13 +25,13 @@ pub struct Roster {
 }
 
 impl Model for Roster {
-    ghost use Rattle.clip_registry.specs.Roster as value;
+    ghost use Rattle.clip_registry.specs.Steps.Roster as value;
 
     ghost Value = { value.Roster };
 
     ghost coded = { value.roster_code };
 
-    ghost use Rattle.clip_registry.specs.RosterKept.{roster_of, IsRoster};
+    ghost use Rattle.clip_registry.specs.Steps.RosterInside.{roster_of, IsRoster};
 
     ghost view = { roster_of };
 
@@ -51,7 +52,7 @@ impl Clone for Roster {
 
 /// Sets the flag of a seq above the base, if it has a place.
 fn mark(flags: &mut [bool], base: u64, seq: u64, live: bool)
-    ensures { flags.new ≡ marked base flags.old seq live }
+    ensures { flags.new ≡ flags_with base flags.old seq live }
 {
     if base < seq {
         let place = (seq - base - 1) as usize;
@@ -134,7 +135,7 @@ impl Roster {
     /// Takes the last entry out again, and puts the one that it replaced back. It takes no memory.
     fn undo(&mut self, id: &str, replaced: Option<Arc<Entry>>)
         requires { IsUndoable self.old id.now (option_map arc_value replaced) }
-        ensures { self.new ≡ undone self.old id.now (option_map arc_value replaced) }
+        ensures { self.new ≡ without_last self.old id.now (option_map arc_value replaced) }
     {
         let _ = self.live.pop();
         match replaced {

@@ -4,8 +4,8 @@ use Rattle.std.specs.Arc.{arc_value}
 use Rattle.std.specs.FinMap as finite
 use Rattle.std.proofs.lemmas.List.{with_items_is}
 use Rattle.clip_model.specs.History.{Registered}
-use Rattle.clip_registry.specs.Roster.{Roster, IsAbove}
-use Rattle.clip_registry.specs.Flags.{IsMarked, marked}
+use Rattle.clip_registry.specs.Steps.Roster.{Roster, IsAbove}
+use Rattle.clip_registry.specs.Steps.Flags.{IsMarked, flags_with}
 use Rattle.clip_registry.proofs.Marks.{marked_new, marked_again, length-marked, above_base}
 use Rattle.clip_registry.proofs.roster.Roster.insert.Goals as goal
 
@@ -21,10 +21,10 @@ invariant_of-self-in-Some c =
     let is = marked_again base flags c.self.inside.by_id r old c.self.invariant next found in
     let seq : c.seq.result ≡ old.seq = c.seq.ensures ∙ ap (λ (r : Registered). r.seq) c.deref.ensures in
     let pushed : c.deref_mut.result.now ≡ flags ++ true ∷ [] = c.deref_mut.ensures.value ∙ c.in-Ok.ensures.items ∙ ap (λ (fs : List Bool). fs ++ true ∷ []) c.in_ok-reserve.ensures.items in
-    let new : c.mark.new.flags ≡ marked base (flags ++ true ∷ []) old.seq false =
-    c.mark.ensures ∙ ap (λ fs. marked base fs c.seq.result false) pushed ∙ ap (λ s. marked base (flags ++ true ∷ []) s false) seq in
+    let new : c.mark.new.flags ≡ flags_with base (flags ++ true ∷ []) old.seq false =
+    c.mark.ensures ∙ ap (λ fs. flags_with base fs c.seq.result false) pushed ∙ ap (λ s. flags_with base (flags ++ true ∷ []) s false) seq in
     let len : length c.mark.new.flags ≡ c.push.new.self.len = ap length c.mark.ensures ∙ length-marked base c.deref_mut.result.now c.seq.result false ∙ c.deref_mut.ensures.len in
-    subst (λ fs. IsMarked base fs c.insert.new.self) (sym (with_items_is c.push.new.self c.mark.new.flags len ∙ new)) (subst (IsMarked base (marked base (flags ++ true ∷ []) old.seq false)) (sym c.in_ok-replaced.ensures.inserted) is)
+    subst (λ fs. IsMarked base fs c.insert.new.self) (sym (with_items_is c.push.new.self c.mark.new.flags len ∙ new)) (subst (IsMarked base (flags_with base (flags ++ true ∷ []) old.seq false)) (sym c.in_ok-replaced.ensures.inserted) is)
 
 pub invariant_of-self-in_default-replaced : goal.invariant_of-self-in_default-replaced
 invariant_of-self-in_default-replaced c =

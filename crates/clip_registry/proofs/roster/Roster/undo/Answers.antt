@@ -4,9 +4,9 @@ use Rattle.std.specs.Arc.{arc_value}
 use Rattle.std.specs.FinMap as finite
 use Rattle.std.proofs.lemmas.List.{with_items_is}
 use Rattle.clip_model.specs.History.{Registered, Registry}
-use Rattle.clip_registry.specs.Roster.{Roster, IsAbove, insert_one}
-use Rattle.clip_registry.specs.Flags.{IsMarked, marked}
-use Rattle.clip_registry.proofs.Live.{inserted_at}
+use Rattle.clip_registry.specs.Steps.Roster.{Roster, IsAbove, insert_one}
+use Rattle.clip_registry.specs.Steps.Flags.{IsMarked, flags_with}
+use Rattle.clip_model.proofs.Live.{inserted_at}
 use Rattle.clip_registry.proofs.Marks.{AreFewer, popped_flags, marked_back, marked_back_none, restored_before, length-marked}
 use Rattle.clip_registry.proofs.roster.Roster.undo.Goals as goal
 
@@ -36,9 +36,9 @@ invariant_of-self c =
     let is = marked_back base rest u.n u.before c.args.id.now t u.numbered above was (subst (λ o. AreFewer base rest u.n o u.before) one fewer) in
     let reg : c.put_back.new.self ≡ u.before = c.put_back.ensures ∙ ap (λ m. finite.insert m c.args.id.now t) same ∙ restored_before u.before u.entry c.args.id.now (Some t) u.key was in
     let seq : c.seq.result ≡ t.seq = c.seq.ensures ∙ ap (λ (r : Registered). r.seq) c.deref.ensures in
-    let new : c.mark.new.flags ≡ marked base rest t.seq true = c.mark.ensures ∙ ap (λ fs. marked base fs c.seq.result true) c.deref_mut.ensures.value ∙ ap (λ s. marked base rest s true) seq in
+    let new : c.mark.new.flags ≡ flags_with base rest t.seq true = c.mark.ensures ∙ ap (λ fs. flags_with base fs c.seq.result true) c.deref_mut.ensures.value ∙ ap (λ s. flags_with base rest s true) seq in
     let len : length c.mark.new.flags ≡ c.pop.new.self.len = ap length c.mark.ensures ∙ length-marked base c.deref_mut.result.now c.seq.result true ∙ c.deref_mut.ensures.len in
-    subst (λ fs. IsMarked base fs c.put_back.new.self) (sym (with_items_is c.pop.new.self c.mark.new.flags len ∙ new)) (subst (IsMarked base (marked base rest t.seq true)) (sym reg) is)
+    subst (λ fs. IsMarked base fs c.put_back.new.self) (sym (with_items_is c.pop.new.self c.mark.new.flags len ∙ new)) (subst (IsMarked base (flags_with base rest t.seq true)) (sym reg) is)
 
 pub invariant_of-self-in-None : goal.invariant_of-self-in-None
 invariant_of-self-in-None c =

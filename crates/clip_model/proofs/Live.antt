@@ -18,9 +18,6 @@ same_Some h = cc
 pub none_some : {A : Type 0} {x : A} → None ≡ Some x → ⊥
 none_some h = cc
 
-pub false_true : false ≡ true → ⊥
-false_true h = cc
-
 -- two tests that follow from each other are the same
 pub same_bool : (a b : Bool) → (a ≡ true → b ≡ true) → (b ≡ true → a ≡ true) → a ≡ b
 same_bool true b f g = sym (f refl)
@@ -40,7 +37,7 @@ removed_at m id = get-remove nat_list_cmp_total m id id ∙ ap (λ b. cond b Non
 pub removed_else : (m : Registry) (id : List ℕ) (q : List ℕ) → eq_by_cmp bytes_cmp q id ≡ false → finite.get (finite.remove m id) q ≡ finite.get m q
 removed_else m id q e = get-remove nat_list_cmp_total m id q ∙ ap (λ b. cond b None (finite.get m q)) e
 
--- what is found behind an insert is the new query, or was there under another id
+-- what is found after an insert is the new query, or was there under another id
 pub data AfterInsert (m : Registry) (id : List ℕ) (r : Registered) (q : List ℕ) (s : Registered) : Type 0 where
   new : q ≡ id → s ≡ r → AfterInsert m id r q s
   old : eq_by_cmp bytes_cmp q id ≡ false → finite.get m q ≡ Some s → AfterInsert m id r q s

@@ -1,7 +1,7 @@
 -- How a roster is kept.
 use Rattle.std.specs.Prelude.{◌+◌, length}
-use Rattle.clip_registry.specs.Flags.{IsMarked}
-use Rattle.clip_registry.specs.Roster.{Roster}
+use Rattle.clip_registry.specs.Steps.Flags.{IsMarked}
+use Rattle.clip_registry.specs.Steps.Roster.{Roster}
 use Rattle.clip_registry.specs.declared.roster.Roster.TheInside.{Inside}
 
 abbrev pub roster_of : Inside → Roster

@@ -1,9 +1,10 @@
 -- How a registrar and a view keep the registry.
 use Rattle.std.specs.Prelude.{◌≡◌, ℕ, ◌-◌, ◌<◌, ◌≤◌, List, map, length, slice_index}
 use Rattle.std.specs.Arc.{arc_value}
+use Rattle.clip_model.specs.declared.limits.TheConstants.{MOST_CALLERS}
 use Rattle.clip_model.specs.History.{IsLegal, replay, listed, own}
 use Rattle.clip_registry.specs.Command.{shared_entry}
-use Rattle.clip_registry.specs.Roster.{Roster}
+use Rattle.clip_registry.specs.Steps.Roster.{Roster}
 use Rattle.clip_registry.specs.Whole.{RegistryState, IsWhole}
 use Rattle.clip_registry.specs.declared.state.State.TheInside.{Inside}
 
@@ -11,13 +12,13 @@ abbrev pub state_of : Inside → RegistryState
 state_of s = record { segments = map arc_value s.segments.items; history = map shared_entry s.history.items }
 
 -- The registry is whole over a legal history, the roster is what the history replays to, and each caller's commands are counted.
-pub record AreKept (state : RegistryState) (roster : Roster) (counts : List ℕ) : Type 0 where
+pub record IsConsistent (state : RegistryState) (roster : Roster) (counts : List ℕ) : Type 0 where
   pub whole : IsWhole state
   pub legal : IsLegal state.history
   pub registry : roster.registry ≡ replay state.history
   pub listed : roster.listed ≡ listed state.history
-  pub callers : length counts ≡ 64
-  pub numbers : (caller : ℕ) → 0 < caller → caller ≤ 64 → slice_index counts (caller - 1) ≡ length (own state.history caller)
+  pub callers : length counts ≡ MOST_CALLERS
+  pub numbers : (caller : ℕ) → 0 < caller → caller ≤ MOST_CALLERS → slice_index counts (caller - 1) ≡ length (own state.history caller)
 
-abbrev pub IsKept : Inside → Type 0
-IsKept s = AreKept (state_of s) s.roster s.counts.items
+abbrev pub IsConsistentInside : Inside → Type 0
+IsConsistentInside s = IsConsistent (state_of s) s.roster s.counts.items
