@@ -1,11 +1,12 @@
 //! What commands do to the segments and the roster.
-ghost use Rattle.std.specs.Prelude.{◌≡◌, ◌+◌, ◌<◌, ◌≤◌, ◌^◌, map, filter, length, IfOk, IfErr, IsTrue};
+ghost use Rattle.std.specs.Prelude.{◌≡◌, ◌+◌, ◌<◌, ◌≤◌, ◌^◌, map, length, IfOk, IfErr, IsTrue};
 ghost use Rattle.std.specs.Arc.{arc_value};
 ghost use Rattle.std.specs.FinMap as finite;
 ghost use Rattle.clip_model.specs.History as model;
-ghost use Rattle.clip_model.specs.History.{fits, is_live_in};
+ghost use Rattle.clip_model.specs.History.{fits};
 ghost use Rattle.clip_registry.specs.Command.{command_of};
 ghost use Rattle.clip_registry.specs.Steps.Change.{content, IsChanged, IsUnchanged};
+ghost use Rattle.clip_registry.specs.Steps.Roster.{live_in};
 ghost use Rattle.clip_registry.specs.Whole.{numbered};
 
 use crate::command::{Applied, Command, Refused};
@@ -41,7 +42,7 @@ fn live_entries(
     roster: &Roster,
     entries: &[Arc<Entry>],
 ) -> Result<Vec<Arc<Entry>>, NoMemory>
-    ensures { IfOk result (λ live. map arc_value live.items ≡ filter (λ r. is_live_in roster.now.registry r.seq) (map arc_value entries.now)) }
+    ensures { IfOk result (λ live. map arc_value live.items ≡ live_in roster.now.registry (map arc_value entries.now)) }
 {
     let mut live = Vec::new(alloc);
     for entry in entries {
@@ -52,8 +53,8 @@ fn live_entries(
     Ok(live)
 }
 
-/// Registers queries: they take the places of those with their ids, and a segment with those that stand goes to the end. The
-/// last of a repeated id stands, by a roster of this list alone.
+/// Registers queries: they take the places of those with their ids, and a segment with those that stand goes to the
+/// end. The last of a repeated id stands, by a roster of this list alone.
 fn register(
     alloc: Global,
     segments: &mut Vec<Arc<Segment>>,

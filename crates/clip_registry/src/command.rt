@@ -84,8 +84,8 @@ fn are_ids(ids: &[String]) -> bool
 }
 
 impl Command {
-    /// Whether a registrar takes the command: it lists at most `MOST_LISTED` queries or ids, and each id to delete is an id, of
-    /// 1 to 256 bytes. It costs a step for each id to delete, and else constant time.
+    /// Whether a registrar takes the command: it lists at most `MOST_LISTED` queries or ids, and each id to delete is
+    /// an id, of 1 to 256 bytes. It costs a step for each id to delete, and else constant time.
     pub fn fits(&self) -> bool
         ensures { result ≡ fits (command_of self.now) }
     {
@@ -96,7 +96,8 @@ impl Command {
         }
     }
 
-    /// A command with the same content, whose queries are shared and whose ids are copied, or `NoMemory` where an allocation failed.
+    /// A command with the same content, whose queries are shared and whose ids are copied, or `NoMemory` where an
+    /// allocation failed.
     pub(crate) fn copy(&self) -> Result<Command, NoMemory>
         ensures { IfOk result (λ copy. command_of copy ≡ command_of self.now) }
     {

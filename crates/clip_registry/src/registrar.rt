@@ -14,7 +14,8 @@ use std::alloc::Global;
 use std::marker::Model;
 use std::sync::Arc;
 
-/// The registry that commands change, seen as its list of segments and its history. Until the first command it has no state.
+/// The registry that commands change, seen as its list of segments and its history. Until the first command it has no
+/// state.
 #[derive(Drop)]
 pub struct Registrar {
     alloc: Global,
@@ -46,15 +47,17 @@ impl Registrar {
         Registrar { alloc, state: None }
     }
 
-    /// Accepts a caller's next command, or refuses it and hands it back with nothing changed: `Full` where more than `MOST_LIVE`
-    /// queries would then be registered or `MOST_ENTRIES` commands were accepted, and `NoMemory` where an allocation failed.
+    /// Accepts a caller's next command, or refuses it and hands it back with nothing changed: `Full` where more than
+    /// `MOST_LIVE` queries would then be registered or `MOST_ENTRIES` commands were accepted, and `NoMemory` where an
+    /// allocation failed.
     ///
-    /// A register costs the extraction of the keys of each listed query, and for each a search among the ids of its list and one
-    /// among the registered ids; a delete costs such a search for each listed id; a clear costs the dropping of all entries.
+    /// A register costs the extraction of the keys of each listed query, and for each a search among the ids of its
+    /// list and one among the registered ids; a delete costs such a search for each listed id; a clear costs the
+    /// dropping of all entries.
     ///
-    /// While a view of the registry as it stands is held, a command also costs a copy of the registry's lists and maps: a step
-    /// for each history entry, each segment, each registered query (whose id is copied, and no other text) and each query listed
-    /// since the last clear.
+    /// While a view of the registry as it stands is held, a command also costs a copy of the registry's lists and
+    /// maps: a step for each history entry, each segment, each registered query (whose id is copied, and no other
+    /// text) and each query listed since the last clear.
     pub fn apply(&mut self, caller: u32, command: Command) -> Result<Applied, (Command, Refused)>
         requires fits { IsTrue (fits (command_of command)) }
         requires caller_from { 0 < caller }

@@ -87,8 +87,8 @@ impl State {
         )?)
     }
 
-    /// Accepts a caller's next command, or refuses it with nothing changed: `Full` where it has no room, and `NoMemory` where an
-    /// allocation failed.
+    /// Accepts a caller's next command, or refuses it with nothing changed: `Full` where it has no room, and
+    /// `NoMemory` where an allocation failed.
     pub fn accept(
         &mut self,
         alloc: Global,

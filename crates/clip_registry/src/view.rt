@@ -10,7 +10,8 @@ use clip_segment::{Entry, Segment};
 use std::marker::Model;
 use std::sync::Arc;
 
-/// The registry as it was when the view was taken, seen as its list of segments and its history. Later commands don't change it.
+/// The registry as it was when the view was taken, seen as its list of segments and its history. Later commands don't
+/// change it.
 #[derive(Drop)]
 pub struct View {
     pub(crate) state: Option<Arc<State>>,

@@ -1,8 +1,8 @@
 -- The registered queries, and how many were ever listed.
-use Rattle.std.specs.Prelude.{◌≡◌, ℕ, suc, ◌+◌, ◌-◌, ◌<◌, ◌≤◌, List, [], ◌∷◌, length, Option, Some, None, refl}
+use Rattle.std.specs.Prelude.{◌≡◌, ℕ, suc, ◌+◌, ◌-◌, ◌<◌, ◌≤◌, List, [], ◌∷◌, length, filter, Option, Some, None, IsSomeAnd, refl}
 use Rattle.std.specs.FinMap as finite
 use Rattle.std.specs.Coded.{Coded, code_by, coded×, coded_ℕ}
-use Rattle.clip_model.specs.History.{Registered, Registry, registry_code, remove_all}
+use Rattle.clip_model.specs.History.{Registered, Registry, registry_code, remove_all, is_live_in}
 use Rattle.clip_model.specs.Steps.Numbered.{IsNumbered}
 
 -- the registered queries, how many were listed, and a seq up to which none is live
@@ -35,6 +35,14 @@ roster_with roster r = record { registry = insert_one roster.registry r; listed 
 -- the roster with these queries more, in order
 abbrev pub roster_with_all : Roster → List Registered → Roster
 roster_with_all roster rs = record { registry = insert_all roster.registry rs; listed = roster.listed + length rs; base = roster.base }
+
+-- of the entries, those that are live
+abbrev pub live_in : Registry → List Registered → List Registered
+live_in registry rs = filter (λ r. is_live_in registry r.seq) rs
+
+-- There is a most, and the registry holds more.
+abbrev pub IsOver : Option ℕ → Registry → Type 0
+IsOver most registry = IsSomeAnd most (λ n. n < finite.len registry)
 
 -- The query, if there is one, has a seq above the base.
 abbrev pub IsAbove : ℕ → Option Registered → Type 0
