@@ -80,9 +80,6 @@ room_from h command small short = both _ _ (small_test _ small) (short_test _ sh
     short_test : (n : ℕ) → n < MOST_ENTRIES → nat_lt n MOST_ENTRIES ≡ true
     short_test n h = grind (arith, nat_tests)
 
--- where too many queries would be live, or the history is at its longest, there is no room
+-- where too many queries would be live, there is no room
 pub no_room_live : (h : History) (command : Command) → MOST_LIVE < finite.len (after_command (listed h) command (replay h)) → IsFalse (has_room h command)
 no_room_live h command many = grind (arith, nat_tests)
-
-pub no_room_long : (h : History) (command : Command) → MOST_ENTRIES ≤ length h → IsFalse (has_room h command)
-no_room_long h command long = grind (arith, nat_tests)

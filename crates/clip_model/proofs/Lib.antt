@@ -1,3 +1,4 @@
+pub mod Numbers
 pub mod Replay
 pub mod Splits
 pub mod Legal

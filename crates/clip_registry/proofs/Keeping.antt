@@ -1,6 +1,5 @@
 -- A registry is kept through commands.
-use Rattle.std.proofs.Common.{◌≡◌, ℕ, suc, ◌+◌, ◌-◌, ◌<◌, ◌≤◌, true, false, cond, List, length, get_or, set, sym, ap, subst, ◌∙◌, inl, inr, arith, IsTrue, ◌==◌}
-use Rattle.std.proofs.lemmas.Bool.Decides.{nat_tests}
+use Rattle.std.proofs.Common.{◌≡◌, ℕ, suc, ◌+◌, ◌-◌, ◌<◌, ◌≤◌, cond, List, length, get_or, set, sym, ap, subst, ◌∙◌, inl, inr, arith, IsTrue}
 use Rattle.std.proofs.lemmas.Bool.{cases_order}
 use Rattle.std.proofs.lemmas.List.{get_or_default, get_or-set_same, get_or-set_other}
 use Rattle.std.proofs.Math.ListN.{length-set}
@@ -17,6 +16,7 @@ use Rattle.clip_registry.specs.Steps.Roster.{Roster}
 use Rattle.clip_registry.specs.Whole.{RegistryState, segments_after, beginning}
 use Rattle.clip_model.proofs.Counting.{own_more}
 use Rattle.clip_registry.proofs.Whole.{whole_after, whole_beginning}
+use Rattle.clip_model.proofs.Numbers.{numbers_same, number_less, number_more}
 
 pub consistent_beginning : (counts : List ℕ) (roster : Roster) → roster.registry ≡ finite.empty → roster.listed ≡ 0 → length counts ≡ MOST_CALLERS → ((k : ℕ) → k < MOST_CALLERS → get_or counts k 0 ≡ 0) → IsConsistent beginning roster counts
 consistent_beginning counts roster registry listed callers zeros = record {
@@ -32,15 +32,6 @@ consistent_beginning counts roster registry listed callers zeros = record {
 pub counted : (counts : List ℕ) (k x n : ℕ) → k < length counts → x ≡ get_or counts k x → get_or counts k 0 ≡ n → x ≡ n
 counted counts k x n lt at is = at ∙ get_or_default counts k x 0 lt ∙ is
 
-same_caller : (a b : ℕ) → a ≡ b → (a == b) ≡ true
-same_caller a b h = grind (arith, nat_tests)
-
-lower_caller : (a b : ℕ) → a < b → (a == b) ≡ false
-lower_caller a b h = grind (arith, nat_tests)
-
-higher_caller : (a b : ℕ) → b < a → (a == b) ≡ false
-higher_caller a b h = grind (arith, nat_tests)
-
 counts_after : (h : History) (counts : List ℕ) (caller : ℕ) (command : Command) (x : ℕ) → length counts ≡ MOST_CALLERS → 0 < caller → caller ≤ MOST_CALLERS → x ≡ length (own h caller)
     → ((c : ℕ) → 0 < c → c ≤ MOST_CALLERS → get_or counts (c - 1) 0 ≡ length (own h c))
     → (c : ℕ) → 0 < c → c ≤ MOST_CALLERS → get_or (set counts (caller - 1) (x + 1)) (c - 1) 0 ≡ length (own (with_command h caller command) c)
@@ -50,11 +41,11 @@ counts_after h counts caller command x callers low high is before c above below 
       | inl same ↦
           ap (λ k. get_or (set counts (caller - 1) (x + 1)) (k - 1) 0) (sym same) ∙ get_or-set_same counts (caller - 1) (x + 1) 0 (omega arith)
           ∙ (let n : x + 1 ≡ suc (length (own h c)) = let k = ap (λ c. length (own h c)) same in omega arith in n)
-          ∙ sym (own_more h e c ∙ ap (λ b. cond b (suc (length (own h c))) (length (own h c))) (same_caller caller c same))
+          ∙ sym (own_more h e c ∙ ap (λ b. cond b (suc (length (own h c))) (length (own h c))) (numbers_same caller c same))
       | inr (inl less) ↦ get_or-set_other counts (caller - 1) (c - 1) (x + 1) 0 (λ k. omega arith) ∙ before c above below
-          ∙ sym (own_more h e c ∙ ap (λ b. cond b (suc (length (own h c))) (length (own h c))) (lower_caller caller c less))
+          ∙ sym (own_more h e c ∙ ap (λ b. cond b (suc (length (own h c))) (length (own h c))) (number_less caller c less))
       | inr (inr more) ↦ get_or-set_other counts (caller - 1) (c - 1) (x + 1) 0 (λ k. omega arith) ∙ before c above below
-          ∙ sym (own_more h e c ∙ ap (λ b. cond b (suc (length (own h c))) (length (own h c))) (higher_caller caller c more))
+          ∙ sym (own_more h e c ∙ ap (λ b. cond b (suc (length (own h c))) (length (own h c))) (number_more caller c more))
     ]
 
 -- ---- after a command

@@ -16,6 +16,7 @@ use Rattle.clip_model.proofs.Live.{given_live, inserted_at, inserted_else, remov
 use Rattle.clip_model.proofs.ById.{bytes_same, same, swapped}
 use Rattle.clip_model.proofs.Numbering.{numbered_insert, numbered_remove}
 use Rattle.clip_registry.proofs.Numbering.{has_seq, live_insert, live_remove, live_within}
+use Rattle.clip_model.proofs.Numbers.{same_numbers, numbers_same, number_less, number_more}
 
 pub flag_at-nil : (base seq : ℕ) → flag_at base [] seq ≡ false
 flag_at-nil base seq = elim (nat_lt base seq) as (λ b. (b && false) ≡ false) [ true ↦ refl | false ↦ refl ]
@@ -25,9 +26,6 @@ is_lt a b h = grind (arith, nat_tests)
 
 not_lt : (a b : ℕ) → b ≤ a → nat_lt a b ≡ false
 not_lt a b h = grind (arith, nat_tests)
-
-same_seq : (a b : ℕ) → (a == b) ≡ true → a ≡ b
-same_seq a b h = grind (arith, nat_tests)
 
 -- where a flag is set, the seq is above the base and has a place
 pub record IsPlaced (base : ℕ) (flags : List Bool) (seq : ℕ) : Type 0 where
@@ -40,15 +38,6 @@ flag_above base flags seq h = ap (λ b. b && get_or flags (seq - suc base) false
 flag_below : (base : ℕ) (flags : List Bool) (seq : ℕ) → seq ≤ base → flag_at base flags seq ≡ false
 flag_below base flags seq h = ap (λ b. b && get_or flags (seq - suc base) false) (not_lt base seq h)
 
-is_same : (a b : ℕ) → a ≡ b → (a == b) ≡ true
-is_same a b h = grind (arith, nat_tests)
-
-is_less : (a b : ℕ) → a < b → (a == b) ≡ false
-is_less a b h = grind (arith, nat_tests)
-
-is_more : (a b : ℕ) → b < a → (a == b) ≡ false
-is_more a b h = grind (arith, nat_tests)
-
 choose : (b c : Bool) (x y : Bool) → b ≡ c → cond b x y ≡ cond c x y
 choose b c x y e = ap (λ d. cond d x y) e
 
@@ -58,13 +47,13 @@ flag_at-push base flags live seq =
     let new = suc (base + length flags) in
     elim (cases_lt base seq) [
       | inl above ↦ flag_above base (flags ++ live ∷ []) seq above ∙ elim (cases_order (seq - suc base) (length flags)) [
-        | inl same ↦ get_or_push flags live false (seq - suc base) (sym same) ∙ sym (choose (new == seq) true live (flag_at base flags seq) (is_same new seq (omega arith)))
-        | inr (inl less) ↦ get_or_append_left flags (live ∷ []) false (seq - suc base) less ∙ sym (choose (new == seq) false live (flag_at base flags seq) (is_more new seq (omega arith)) ∙ flag_above base flags seq above)
+        | inl same ↦ get_or_push flags live false (seq - suc base) (sym same) ∙ sym (choose (new == seq) true live (flag_at base flags seq) (numbers_same new seq (omega arith)))
+        | inr (inl less) ↦ get_or_append_left flags (live ∷ []) false (seq - suc base) less ∙ sym (choose (new == seq) false live (flag_at base flags seq) (number_more new seq (omega arith)) ∙ flag_above base flags seq above)
         | inr (inr more) ↦
             get_or_past (flags ++ live ∷ []) (seq - suc base) false (omega (arith, length-append flags (live ∷ [])))
-            ∙ sym (choose (new == seq) false live (flag_at base flags seq) (is_less new seq (omega arith)) ∙ flag_above base flags seq above ∙ get_or_past flags (seq - suc base) false (omega arith))
+            ∙ sym (choose (new == seq) false live (flag_at base flags seq) (number_less new seq (omega arith)) ∙ flag_above base flags seq above ∙ get_or_past flags (seq - suc base) false (omega arith))
       ]
-      | inr below ↦ flag_below base (flags ++ live ∷ []) seq below ∙ sym (choose (new == seq) false live (flag_at base flags seq) (is_more new seq (omega arith)) ∙ flag_below base flags seq below)
+      | inr below ↦ flag_below base (flags ++ live ∷ []) seq below ∙ sym (choose (new == seq) false live (flag_at base flags seq) (number_more new seq (omega arith)) ∙ flag_below base flags seq below)
     ]
 
 marked_above : (base : ℕ) (flags : List Bool) (at : ℕ) (live : Bool) → base < at → flags_with base flags at live ≡ set flags (at - suc base) live
@@ -78,11 +67,11 @@ flag_at-marked base flags at live seq placed =
     ap (λ fs. flag_at base fs seq) (marked_above base flags at live above) ∙
     elim (cases_lt base seq) [
       | inl high ↦ flag_above base (set flags (at - suc base) live) seq high ∙ elim (cases_order at seq) [
-        | inl same ↦ ap (λ k. get_or (set flags (at - suc base) live) (k - suc base) false) (sym same) ∙ get_or-set_same flags (at - suc base) live false within ∙ sym (choose (at == seq) true live (flag_at base flags seq) (is_same at seq same))
-        | inr (inl less) ↦ get_or-set_other flags (at - suc base) (seq - suc base) live false (λ e. omega arith) ∙ sym (choose (at == seq) false live (flag_at base flags seq) (is_less at seq less) ∙ flag_above base flags seq high)
-        | inr (inr more) ↦ get_or-set_other flags (at - suc base) (seq - suc base) live false (λ e. omega arith) ∙ sym (choose (at == seq) false live (flag_at base flags seq) (is_more at seq more) ∙ flag_above base flags seq high)
+        | inl same ↦ ap (λ k. get_or (set flags (at - suc base) live) (k - suc base) false) (sym same) ∙ get_or-set_same flags (at - suc base) live false within ∙ sym (choose (at == seq) true live (flag_at base flags seq) (numbers_same at seq same))
+        | inr (inl less) ↦ get_or-set_other flags (at - suc base) (seq - suc base) live false (λ e. omega arith) ∙ sym (choose (at == seq) false live (flag_at base flags seq) (number_less at seq less) ∙ flag_above base flags seq high)
+        | inr (inr more) ↦ get_or-set_other flags (at - suc base) (seq - suc base) live false (λ e. omega arith) ∙ sym (choose (at == seq) false live (flag_at base flags seq) (number_more at seq more) ∙ flag_above base flags seq high)
       ]
-      | inr low ↦ flag_below base (set flags (at - suc base) live) seq low ∙ sym (choose (at == seq) false live (flag_at base flags seq) (is_more at seq (omega arith)) ∙ flag_below base flags seq low)
+      | inr low ↦ flag_below base (set flags (at - suc base) live) seq low ∙ sym (choose (at == seq) false live (flag_at base flags seq) (number_more at seq (omega arith)) ∙ flag_below base flags seq low)
     ]
 
 pub placed_from_flag : (base : ℕ) (flags : List Bool) (seq : ℕ) → flag_at base flags seq ≡ true → IsPlaced base flags seq
@@ -141,7 +130,7 @@ marked_again base flags m r t is e found =
       flagged = λ seq.
           flag_at-marked base more t.seq false seq at
           ∙ ap (cond (t.seq == seq) false) (more_flagged base flags m seq is)
-          ∙ swapped (suc (base + length flags) == seq) (t.seq == seq) false true (is_live_in m seq) (λ h. let same = same_seq (suc (base + length flags)) seq h in is_less t.seq seq (omega arith))
+          ∙ swapped (suc (base + length flags) == seq) (t.seq == seq) false true (is_live_in m seq) (λ h. let same = same_numbers (suc (base + length flags)) seq h in number_less t.seq seq (omega arith))
           ∙ sym (live_insert (base + length flags) m r seq e is.numbered ∙ ap (λ (o : Option Registered). cond (suc (base + length flags) == seq) true (cond (has_seq o seq) false (is_live_in m seq))) found);
     }
 
@@ -186,7 +175,7 @@ fewer_flagged base flags last n before entry id found seq numbered e key was len
     ap (λ k. cond (suc k == seq) last (flag_at base flags seq)) (sym len) ∙ sym (flag_at-push base flags last seq) ∙ is.flagged seq ∙ live in
     elim (suc n == seq) as (λ b. (suc n == seq) ≡ b → cond b last (flag_at base flags seq) ≡ cond b true (cond (has_seq found seq) false (is_live_in before seq)) → flag_at base flags seq ≡ cond (has_seq found seq) false (is_live_in before seq)) [
       | true ↦ λ b _.
-          let at = same_seq (suc n) seq b in
+          let at = same_numbers (suc n) seq b in
           past_flag base flags seq (omega arith) ∙ sym (none_past n before seq (has_seq found seq) numbered (omega arith))
       | false ↦ λ b h. h
     ] refl flag
@@ -226,7 +215,7 @@ marked_back base rest n before id t numbered above was are =
       numbered = subst (λ k. IsNumbered (base + k) before) (sym (length-marked base rest t.seq true)) (subst (λ k. IsNumbered k before) (sym len) numbered);
       flagged = λ seq. flag_at-marked base rest t.seq true seq at ∙ ap (cond (t.seq == seq) true) (are.flags seq)
           ∙ elim (t.seq == seq) as (λ b. (t.seq == seq) ≡ b → cond b true (cond b false (is_live_in before seq)) ≡ is_live_in before seq) [
-            | true ↦ λ e. sym (ap (is_live_in before) (sym (same_seq t.seq seq e)) ∙ given_live before id t was)
+            | true ↦ λ e. sym (ap (is_live_in before) (sym (same_numbers t.seq seq e)) ∙ given_live before id t was)
             | false ↦ λ e. refl
           ] refl;
     }

@@ -1,6 +1,5 @@
 -- Numbered registries, after each change.
-use Rattle.std.proofs.Common.{◌≡◌, ℕ, suc, ◌<◌, ◌≤◌, Bool, true, false, cond, List, refl, sym, ap, subst, ◌∙◌, arith, Option, Some, None, ◌==◌}
-use Rattle.std.proofs.lemmas.Bool.Decides.{nat_tests}
+use Rattle.std.proofs.Common.{◌≡◌, ℕ, suc, ◌<◌, ◌≤◌, Bool, true, false, cond, List, refl, sym, ap, subst, ◌∙◌, Option, Some, None, ◌==◌}
 use Rattle.std.specs.Ordering.{eq_by_cmp}
 use Rattle.std.specs.FinMap as finite
 use Rattle.std.specs.FinMap.{get-empty}
@@ -10,6 +9,7 @@ use Rattle.clip_model.specs.Steps.Numbered.{IsNumbered}
 use Rattle.clip_model.proofs.ById.{bytes_itself, bytes_same}
 use Rattle.clip_model.proofs.ById.{false_true}
 use Rattle.clip_model.proofs.Live.{new, old, after_insert, after_remove, none_some, same_bool, inserted_at, inserted_else, removed_else, given_live, HasSeq, live_given}
+use Rattle.clip_model.proofs.Numbers.{same_numbers, numbers_same}
 
 -- ---- live seqs
 
@@ -17,12 +17,6 @@ use Rattle.clip_model.proofs.Live.{new, old, after_insert, after_remove, none_so
 abbrev pub has_seq : Option Registered → ℕ → Bool
 has_seq None seq = false
 has_seq (Some r) seq = r.seq == seq
-
-pub same_numbers : (a b : ℕ) → (a == b) ≡ true → a ≡ b
-same_numbers a b h = grind (arith, nat_tests)
-
-pub numbers_same : (a b : ℕ) → a ≡ b → (a == b) ≡ true
-numbers_same a b h = grind (arith, nat_tests)
 
 -- the query under an id has the seq of that found elsewhere only where the ids are one
 not_here : (n : ℕ) (m : Registry) (id q : List ℕ) (s : Registered) (found : Option Registered) → IsNumbered n m → finite.get m id ≡ found → finite.get m q ≡ Some s → eq_by_cmp bytes_cmp q id ≡ false → has_seq found s.seq ≡ false

@@ -85,7 +85,7 @@ returns-in-Ok-clause-changed c =
           ∙ map-append arc_value c.args.segments.now.items (c.in_ok-new.field-0 ∷ [])
           ∙ ap (λ (s : List Registered). map arc_value c.args.segments.now.items ++ s ∷ []) (c.in_ok-new.ensures.ok ∙ c.in_ok-segment.ensures ∙ stand here.In_ok-live_entries)
           ∙ sym (segments_register (map arc_value c.args.segments.now.items) n c.args.roster.now.registry ss some);
-      small = c.in-Ok.ensures.room;
+      small = let room = c.in-Ok.ensures.room in omega arith;
       answer = ap applied.Registered (c.len.ensures ∙ ap finite.len (alone here.In_ok-live_entries) ∙ len_register n ss);
     }
 
