@@ -145,9 +145,7 @@ impl Roster {
                 mark(&mut self.live, self.base, entry.seq(), true);
                 self.by_id.put_back(id, entry);
             }
-            None => {
-                let _ = self.by_id.remove(id);
-            }
+            None => drop(self.by_id.remove(id)),
         }
     }
 

@@ -63,6 +63,3 @@ invariant_of-self c =
 
 pub invariant_of-self-in-None : goal.invariant_of-self-in-None
 invariant_of-self-in-None c = removed (goal.at.invariant_of-self-in-None c).After-pop c.remove.new.self c.remove.ensures.removed c.in-None.is
-
-pub invariant_of-self-in-None-2 : goal.invariant_of-self-in-None-2
-invariant_of-self-in-None-2 c = removed (goal.at.invariant_of-self-in-None-2 c).After-pop c.remove.new.self c.remove.ensures.removed c.in-None.is
