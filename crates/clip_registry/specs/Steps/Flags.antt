@@ -12,6 +12,6 @@ abbrev pub flags_with : ℕ → List Bool → ℕ → Bool → List Bool
 flags_with base flags seq live = cond (nat_lt base seq) (slice_set flags (seq - suc base) live) flags
 
 -- The seqs are numbered, and a seq is flagged exactly where it is live.
-pub record IsMarked (base : ℕ) (flags : List Bool) (registry : Registry) : Type 0 where
+pub record AreLiveFlags (base : ℕ) (flags : List Bool) (registry : Registry) : Type 0 where
   pub numbered : IsNumbered (base + length flags) registry
   pub flagged : (seq : ℕ) → flag_at base flags seq ≡ is_live_in registry seq

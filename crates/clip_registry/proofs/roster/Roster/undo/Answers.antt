@@ -5,9 +5,9 @@ use Rattle.std.specs.FinMap as finite
 use Rattle.std.proofs.lemmas.List.{with_items_is}
 use Rattle.clip_model.specs.History.{Registered, Registry}
 use Rattle.clip_registry.specs.Steps.Roster.{Roster, IsAbove, insert_one}
-use Rattle.clip_registry.specs.Steps.Flags.{IsMarked, flags_with}
+use Rattle.clip_registry.specs.Steps.Flags.{AreLiveFlags, flags_with}
 use Rattle.clip_model.proofs.Live.{inserted_at}
-use Rattle.clip_registry.proofs.Marks.{AreFewer, popped_flags, marked_back, marked_back_none, restored_before, length-marked}
+use Rattle.clip_registry.proofs.Marks.{AreFewer, popped_flags, flags_back, flags_back_none, restored_before, length-flags_with}
 use Rattle.clip_registry.proofs.roster.Roster.undo.Goals as goal
 use Rattle.clip_registry.proofs.roster.Roster.undo.Goals.{After-pop}
 
@@ -29,14 +29,14 @@ fewer c =
     c.pop.ensures.items there count low u.numbered u.seq u.key u.was (same c) c.self.invariant
 
 -- where no entry was replaced, the registry is that before once the last entry is out
-removed : (c : After-pop) (m : Registry) → m ≡ finite.remove c.self.inside.by_id c.args.id.now → c.args.replaced ≡ None → IsMarked c.self.inside.base c.pop.new.self.items m
+removed : (c : After-pop) (m : Registry) → m ≡ finite.remove c.self.inside.by_id c.args.id.now → c.args.replaced ≡ None → AreLiveFlags c.self.inside.base c.pop.new.self.items m
 removed c m out none =
     let u = c.requires in
     let one : option_map arc_value c.args.replaced ≡ None = ap (option_map arc_value) none in
     let was : finite.get u.before c.args.id.now ≡ None = u.was ∙ one in
-    let is = marked_back_none c.self.inside.base c.pop.new.self.items u.n u.before u.numbered (subst (λ o. AreFewer c.self.inside.base c.pop.new.self.items u.n o u.before) one (fewer c)) in
+    let is = flags_back_none c.self.inside.base c.pop.new.self.items u.n u.before u.numbered (subst (λ o. AreFewer c.self.inside.base c.pop.new.self.items u.n o u.before) one (fewer c)) in
     let reg : m ≡ u.before = out ∙ ap (λ m. finite.remove m c.args.id.now) (same c) ∙ restored_before u.before u.entry c.args.id.now None u.key was in
-    subst (IsMarked c.self.inside.base c.pop.new.self.items) (sym reg) is
+    subst (AreLiveFlags c.self.inside.base c.pop.new.self.items) (sym reg) is
 
 pub put_back-requires : goal.put_back-requires
 put_back-requires c =
@@ -54,12 +54,12 @@ invariant_of-self c =
     let one : option_map arc_value c.args.replaced ≡ Some t = ap (option_map arc_value) c.in-Some.is in
     let was : finite.get u.before c.args.id.now ≡ Some t = u.was ∙ one in
     let above : IsAbove base (Some t) = subst (IsAbove base) one (subst (λ b. IsAbove b (option_map arc_value c.args.replaced)) (sym (same_base at)) u.above) in
-    let is = marked_back base rest u.n u.before c.args.id.now t u.numbered above was (subst (λ o. AreFewer base rest u.n o u.before) one (fewer at)) in
+    let is = flags_back base rest u.n u.before c.args.id.now t u.numbered above was (subst (λ o. AreFewer base rest u.n o u.before) one (fewer at)) in
     let reg : c.put_back.new.self ≡ u.before = c.put_back.ensures ∙ ap (λ m. finite.insert m c.args.id.now t) (same at) ∙ restored_before u.before u.entry c.args.id.now (Some t) u.key was in
     let seq : c.seq.result ≡ t.seq = c.seq.ensures ∙ ap (λ (r : Registered). r.seq) c.deref.ensures in
     let new : c.mark.new.flags ≡ flags_with base rest t.seq true = c.mark.ensures ∙ ap (λ fs. flags_with base fs c.seq.result true) c.deref_mut.ensures.value ∙ ap (λ s. flags_with base rest s true) seq in
-    let len : length c.mark.new.flags ≡ c.pop.new.self.len = ap length c.mark.ensures ∙ length-marked base c.deref_mut.result.now c.seq.result true ∙ c.deref_mut.ensures.len in
-    subst (λ fs. IsMarked base fs c.put_back.new.self) (sym (with_items_is c.pop.new.self c.mark.new.flags len ∙ new)) (subst (IsMarked base (flags_with base rest t.seq true)) (sym reg) is)
+    let len : length c.mark.new.flags ≡ c.pop.new.self.len = ap length c.mark.ensures ∙ length-flags_with base c.deref_mut.result.now c.seq.result true ∙ c.deref_mut.ensures.len in
+    subst (λ fs. AreLiveFlags base fs c.put_back.new.self) (sym (with_items_is c.pop.new.self c.mark.new.flags len ∙ new)) (subst (AreLiveFlags base (flags_with base rest t.seq true)) (sym reg) is)
 
 pub invariant_of-self-in-None : goal.invariant_of-self-in-None
 invariant_of-self-in-None c = removed (goal.at.invariant_of-self-in-None c).After-pop c.remove.new.self c.remove.ensures.removed c.in-None.is
