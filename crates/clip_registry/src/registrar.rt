@@ -23,7 +23,8 @@ pub struct Registrar {
 }
 
 impl Model for Registrar {
-    ghost use Rattle.clip_registry.specs.Whole.{RegistryState, state_code, state_or_beginning};
+    ghost use Rattle.clip_registry.specs.Whole.{RegistryState, state_code};
+    ghost use Rattle.clip_registry.specs.Steps.State.{state_or_beginning};
 
     ghost Value = { RegistryState };
 

@@ -1,4 +1,4 @@
--- How a roster is kept.
+-- A roster as its fields hold it.
 use Rattle.std.specs.Prelude.{◌+◌, length}
 use Rattle.clip_registry.specs.Steps.Flags.{AreLiveFlags}
 use Rattle.clip_registry.specs.Steps.Roster.{Roster}

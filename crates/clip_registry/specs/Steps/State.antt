@@ -1,11 +1,13 @@
--- How a registrar and a view keep the registry.
-use Rattle.std.specs.Prelude.{◌≡◌, ℕ, ◌-◌, ◌<◌, ◌≤◌, List, map, length, slice_index}
+-- The registry as a state holds it.
+use Rattle.std.specs.Prelude.{◌≡◌, ℕ, ◌-◌, ◌<◌, ◌≤◌, List, map, length, slice_index, Option, Some, None}
 use Rattle.std.specs.Arc.{arc_value}
+use Rattle.std.specs.declared.sync.Arc.{Arc}
+use Rattle.std.specs.declared.alloc.Global.{Global}
 use Rattle.clip_model.specs.declared.limits.TheConstants.{MOST_CALLERS}
 use Rattle.clip_model.specs.History.{IsLegal, replay, listed, own}
 use Rattle.clip_registry.specs.Command.{shared_entry}
 use Rattle.clip_registry.specs.Steps.Roster.{Roster}
-use Rattle.clip_registry.specs.Whole.{RegistryState, IsWhole}
+use Rattle.clip_registry.specs.Whole.{RegistryState, IsWhole, beginning}
 use Rattle.clip_registry.specs.declared.state.State.TheInside.{Inside}
 
 abbrev pub state_of : Inside → RegistryState
@@ -22,3 +24,8 @@ pub record IsConsistent (state : RegistryState) (roster : Roster) (counts : List
 
 abbrev pub IsConsistentInside : Inside → Type 0
 IsConsistentInside s = IsConsistent (state_of s) s.roster s.counts.items
+
+-- what a registrar or a view holds: no state before the first command
+abbrev pub state_or_beginning : Option (Arc RegistryState Global) → RegistryState
+state_or_beginning None = beginning
+state_or_beginning (Some state) = arc_value state
