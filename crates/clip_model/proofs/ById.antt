@@ -11,7 +11,6 @@ use Rattle.std.specs.Cmp.Lexicographic.{slice_cmp}
 use Rattle.std.specs.Ordering.{eq_by_cmp, nat_cmp, match_ordering, is_eq, is_lt}
 use Rattle.std.proofs.lemmas.Cmp.{nat_list_cmp_total, eq_by_cmp_equiv}
 use Rattle.std.proofs.lemmas.Map.Keys.{sorted_head, sorted_tail}
-use Rattle.std.specs.declared.cmp.Ordering.{Ordering}
 use Rattle.std.specs.declared.cmp.Ordering.TheVariants.{Less, Equal, Greater}
 use Rattle.std.specs.declared.alloc.Global.{Global}
 use Rattle.std.specs.FinMap as finite
@@ -19,11 +18,7 @@ use Rattle.std.specs.FinMap.{slice_cmp-IsAntisymmetric, nat_cmp-IsAntisymmetric,
 use Rattle.std.specs.FinMap.Entries.{find, put, find-put, by_order, is_sorted, below_all}
 use Rattle.clip_words.specs.Order.{bytes_cmp}
 use Rattle.clip_model.specs.ById.{shown_pair, shown, map_of}
-
-equal : (r : Ordering) → is_eq r ≡ true → r ≡ Equal
-equal Less p = cc
-equal Equal p = refl
-equal Greater p = cc
+use Rattle.clip_model.proofs.Entries.{equal}
 
 pub bytes_same : (a b : List ℕ) → eq_by_cmp bytes_cmp a b ≡ true → a ≡ b
 bytes_same a b h = slice_cmp-IsAntisymmetric nat_cmp-IsAntisymmetric a b (equal _ h)
@@ -31,7 +26,7 @@ bytes_same a b h = slice_cmp-IsAntisymmetric nat_cmp-IsAntisymmetric a b (equal 
 pub bytes_itself : (a : List ℕ) → eq_by_cmp bytes_cmp a a ≡ true
 bytes_itself a = (eq_by_cmp_equiv nat_list_cmp_total).refl a
 
-false_true : false ≡ true → ⊥
+pub false_true : false ≡ true → ⊥
 false_true h = cc
 
 abbrev pub at_text : List ℕ → String Global → Bool

@@ -24,7 +24,7 @@ less Less p = refl
 less Equal p = absurd p
 less Greater p = absurd p
 
-equal : (r : Ordering) → is_eq r ≡ true → r ≡ Equal
+pub equal : (r : Ordering) → is_eq r ≡ true → r ≡ Equal
 equal Less p = cc
 equal Equal p = refl
 equal Greater p = cc

@@ -1,7 +1,11 @@
+pub mod Numbers
 pub mod Replay
 pub mod Splits
 pub mod Legal
 pub mod Entries
+pub mod ById
+pub mod Live
+pub mod Numbering
+pub mod Counting
 pub mod Seqs
 pub mod Rows
-pub mod ById

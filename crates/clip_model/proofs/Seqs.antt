@@ -1,73 +1,104 @@
--- The seqs of a registry's queries.
-use Rattle.std.proofs.Common.{◌≡◌, ◌<◌, ◌≤◌, ◌+◌, ◌⊎◌, ℕ, suc, Bool, true, false, cond, List, [], ◌∷◌, length, sym, subst, ◌∙◌, arith, inl, inr, Option, Some, None, ◌==◌}
-use Rattle.std.proofs.lemmas.Cmp.{nat_list_cmp_total}
-use Rattle.std.specs.Ordering.{eq_by_cmp}
+-- The queries that registries hold are those that their histories listed, in the places that their seqs tell.
+use Rattle.std.proofs.Common.{◌≡◌, ◌<◌, ◌+◌, ◌-◌, ℕ, suc, List, [], ◌∷◌, ◌++◌, length, refl, sym, ap, subst, ◌∙◌, arith, Some, append-nil, append_assoc, length-append}
+use Rattle.std.proofs.lemmas.List.{get_or_append_left}
+use Rattle.std.proofs.lemmas.Option.{slice_get_within, slice_get-get_or, get_or_from_slice_get}
+use Rattle.std.proofs.Math.Seq.{get_or-append_seam}
+use Rattle.std.specs.List.{slice_get}
 use Rattle.std.specs.FinMap as finite
-use Rattle.std.specs.FinMap.{get-insert, get-remove, get-empty}
-use Rattle.std.proofs.lemmas.Bool.Decides.{nat_tests}
+use Rattle.std.specs.FinMap.{get-empty}
 use Rattle.clip_words.specs.Order.{bytes_cmp}
 use Rattle.clip_model.specs.Standing.{Standing}
-use Rattle.clip_model.specs.History.{History, Command, Register, Delete, Clear, Registered, Registry, lists, listed, register_all, remove_all, after_command, replay_onto, replay}
-use Rattle.clip_model.specs.Laws.{SeqsAreListed}
-use Rattle.clip_model.proofs.Entries.{entry_given}
+use Rattle.clip_model.specs.History.{History, Command, Register, Delete, Clear, Registered, Registry, lists, queries_of, listed_queries, register_all, remove_all, after_command, replay_onto, replay}
+use Rattle.clip_model.specs.Laws.{ListedAreCounted, RegisteredAreListed, SeqsAreListed}
+use Rattle.clip_model.proofs.Live.{new, old, after_insert, after_remove, none_some, same_Some, live_given}
+use Rattle.clip_model.proofs.Numbering.{replay_numbered}
 
--- each registered query has a seq from 1 to n
-pub record AreListed (n : ℕ) (registry : Registry) : Type 0 where
-  pub at : (id : List ℕ) (r : Registered) → finite.get registry id ≡ Some r → (0 < r.seq) × (r.seq ≤ n)
+counts : (c : Command) → length (queries_of c) ≡ lists c
+counts (Register standings) = refl
+counts (Delete ids) = refl
+counts Clear = refl
 
-chosen : {A : Type 0} (b : Bool) (x r : A) (o : Option A) → cond b (Some x) o ≡ Some r → (x ≡ r) ⊎ (o ≡ Some r)
-chosen true x r o h = let e : x ≡ r = cc in inl e
-chosen false x r o h = inr h
+pub listed_are_counted : ListedAreCounted
+listed_are_counted [] = refl
+listed_are_counted (e ∷ h) = let first = counts e.command in let rest = listed_are_counted h in omega (arith, length-append (queries_of e.command) (listed_queries h))
 
-kept : {A : Type 0} (b : Bool) (r : A) (o : Option A) → cond b None o ≡ Some r → o ≡ Some r
-kept true r o h = cc
-kept false r o h = h
+-- ---- places of a list
 
-more_listed : (n k : ℕ) (registry : Registry) → n ≤ k → AreListed n registry → AreListed k registry
-more_listed n k registry le are = record { at = λ id r is. let w = are.at id r is in (w.0, let high = w.1 in omega arith) }
+pub place_kept : {A : Type 0} (xs ys : List A) (k : ℕ) (x : A) → slice_get xs k ≡ Some x → slice_get (xs ++ ys) k ≡ Some x
+place_kept xs ys k x is =
+    let within : k < length xs = slice_get_within xs k x is in
+    slice_get-get_or (xs ++ ys) k x (omega (arith, length-append xs ys)) ∙ ap (λ y. Some y) (get_or_append_left xs ys x k within ∙ get_or_from_slice_get xs k x x is)
 
-none_listed : (n : ℕ) → AreListed n finite.empty
-none_listed n = record { at = λ id r is. let none = get-empty {X = Registered} bytes_cmp id in cc }
+pub place_new : {A : Type 0} (xs ys : List A) (x : A) → slice_get (xs ++ x ∷ ys) (length xs) ≡ Some x
+place_new xs ys x = slice_get-get_or (xs ++ x ∷ ys) (length xs) x (omega (arith, length-append xs (x ∷ ys))) ∙ ap (λ y. Some y) (get_or-append_seam xs x ys x)
 
-insert_listed : (n : ℕ) (s : Standing) (registry : Registry) → AreListed n registry → AreListed (suc n) (finite.insert registry s.id (record { standing = s; seq = suc n }))
-insert_listed n s registry are = record {
-  at = λ id r is.
-      elim (chosen (eq_by_cmp bytes_cmp id s.id) (record { standing = s; seq = suc n }) r (finite.get registry id) (sym (get-insert nat_list_cmp_total registry s.id (record { standing = s; seq = suc n }) id) ∙ is)) as (λ _. (0 < r.seq) × (r.seq ≤ suc n)) [
-        | inl same ↦ subst (λ (q : Registered). (0 < q.seq) × (q.seq ≤ suc n)) same (omega arith, omega arith)
-        | inr old ↦ let w = are.at id r old in (w.0, let high = w.1 in omega arith)
-      ];
+-- ---- placed registries
+
+-- each query with seq n is the n-th of these
+pub record ArePlaced (queries : List Standing) (registry : Registry) : Type 0 where
+  pub at : (id : List ℕ) (r : Registered) → finite.get registry id ≡ Some r → slice_get queries (r.seq - 1) ≡ Some r.standing
+
+less_one : (n : ℕ) → suc n - 1 ≡ n
+less_one n = omega arith
+
+none_placed : (qs : List Standing) → ArePlaced qs finite.empty
+none_placed qs = record { at = λ id r is. absurd (none_some (sym (get-empty bytes_cmp id) ∙ is)) }
+
+more_placed : (qs more : List Standing) (m : Registry) → ArePlaced qs m → ArePlaced (qs ++ more) m
+more_placed qs more m are = record { at = λ id r is. place_kept qs more (r.seq - 1) r.standing (are.at id r is) }
+
+insert_placed : (qs : List Standing) (n : ℕ) (s : Standing) (m : Registry) → n ≡ length qs → ArePlaced qs m → ArePlaced (qs ++ s ∷ []) (finite.insert m s.id (record { standing = s; seq = suc n }))
+insert_placed qs n s m count are = record {
+  at = λ id r is. elim (after_insert m s.id (record { standing = s; seq = suc n }) id r is) as (λ _. slice_get (qs ++ s ∷ []) (r.seq - 1) ≡ Some r.standing) [
+    | new _ same ↦
+        subst (λ (q : Registered). slice_get (qs ++ s ∷ []) (q.seq - 1) ≡ Some q.standing) (sym same)
+        (ap (slice_get (qs ++ s ∷ [])) (less_one n ∙ count) ∙ place_new qs [] s)
+    | old _ was ↦ place_kept qs (s ∷ []) (r.seq - 1) r.standing (are.at id r was)
+  ];
 }
 
-remove_listed : (n : ℕ) (gone : List ℕ) (registry : Registry) → AreListed n registry → AreListed n (finite.remove registry gone)
-remove_listed n gone registry are = record {
-  at = λ id r is. are.at id r (kept (eq_by_cmp bytes_cmp id gone) r (finite.get registry id) (sym (get-remove nat_list_cmp_total registry gone id) ∙ is));
-}
+register_placed : (qs : List Standing) (n : ℕ) (ss : List Standing) (m : Registry) → n ≡ length qs → ArePlaced qs m → ArePlaced (qs ++ ss) (register_all n ss m)
+register_placed qs n [] m count are = subst (λ q. ArePlaced q m) (sym (append-nil qs)) are
+register_placed qs n (s ∷ ss) m count are =
+    subst (λ q. ArePlaced q (register_all n (s ∷ ss) m)) (append_assoc qs (s ∷ []) ss)
+    (register_placed (qs ++ s ∷ []) (suc n) ss _ (omega (arith, length-append qs (s ∷ []))) (insert_placed qs n s m count are))
 
-register_listed : (n : ℕ) (ss : List Standing) (registry : Registry) → AreListed n registry → AreListed (n + length ss) (register_all n ss registry)
-register_listed n [] registry are = more_listed n (n + 0) registry (omega arith) are
-register_listed n (s ∷ ss) registry are =
-    more_listed (suc n + length ss) (n + suc (length ss)) _ (omega arith) (register_listed (suc n) ss _ (insert_listed n s registry are))
+removed_placed : (qs : List Standing) (ids : List (List ℕ)) (m : Registry) → ArePlaced qs m → ArePlaced qs (remove_all ids m)
+removed_placed qs [] m are = are
+removed_placed qs (gone ∷ ids) m are = removed_placed qs ids _ (record { at = λ id r is. are.at id r (after_remove m gone id r is).was })
 
-removed_listed : (n : ℕ) (ids : List (List ℕ)) (registry : Registry) → AreListed n registry → AreListed n (remove_all ids registry)
-removed_listed n [] registry are = are
-removed_listed n (id ∷ ids) registry are = removed_listed n ids _ (remove_listed n id registry are)
+command_placed : (qs : List Standing) (n : ℕ) (c : Command) (m : Registry) → n ≡ length qs → ArePlaced qs m → ArePlaced (qs ++ queries_of c) (after_command n c m)
+command_placed qs n (Register standings) m count are = register_placed qs n standings m count are
+command_placed qs n (Delete ids) m count are = more_placed qs [] _ (removed_placed qs ids m are)
+command_placed qs n Clear m count are = none_placed _
 
-command_listed : (n : ℕ) (c : Command) (registry : Registry) → AreListed n registry → AreListed (n + lists c) (after_command n c registry)
-command_listed n (Register standings) registry are = register_listed n standings registry are
-command_listed n (Delete ids) registry are = more_listed n (n + 0) _ (omega arith) (removed_listed n ids registry are)
-command_listed n Clear registry are = none_listed (n + 0)
+history_placed : (qs : List Standing) (n : ℕ) (h : History) (m : Registry) → n ≡ length qs → ArePlaced qs m → ArePlaced (qs ++ listed_queries h) (replay_onto n h m)
+history_placed qs n [] m count are = more_placed qs [] m are
+history_placed qs n (e ∷ h) m count are =
+    subst (λ q. ArePlaced q (replay_onto n (e ∷ h) m)) (append_assoc qs (queries_of e.command) (listed_queries h))
+    (history_placed (qs ++ queries_of e.command) (n + lists e.command) h _ (let more = counts e.command in omega (arith, length-append qs (queries_of e.command))) (command_placed qs n e.command m count are))
 
-history_listed : (n : ℕ) (h : History) (registry : Registry) → AreListed n registry → AreListed (n + listed h) (replay_onto n h registry)
-history_listed n [] registry are = more_listed n (n + 0) registry (omega arith) are
-history_listed n (e ∷ h) registry are =
-    more_listed ((n + lists e.command) + listed h) (n + (lists e.command + listed h)) _ (omega arith) (history_listed (n + lists e.command) h _ (command_listed n e.command registry are))
+pub replay_placed : (h : History) → ArePlaced (listed_queries h) (replay h)
+replay_placed h = history_placed [] 0 h finite.empty refl (none_placed [])
 
-pub replay_listed : (h : History) → AreListed (listed h) (replay h)
-replay_listed h = more_listed (0 + listed h) (listed h) (replay h) (omega arith) (history_listed 0 h finite.empty (none_listed 0))
+pub registered_are_listed : RegisteredAreListed
+registered_are_listed h id r is =
+    let numbered = replay_numbered h in
+    let within = numbered.within id r is in
+    record { key = numbered.keyed id r is; from = within.0; to = within.1; place = (replay_placed h).at id r is }
 
 pub seqs_are_listed : SeqsAreListed
-seqs_are_listed h seq is =
-    let given = entry_given nat_list_cmp_total (λ e. e.1.seq == seq) (replay h) is in
-    let w = (replay_listed h).at given.0 given.1 given.2 in
-    let same : given.1.seq ≡ seq = let e = given.3 in grind (arith, nat_tests) in
-    subst (λ (n : ℕ). (0 < n) × (n ≤ listed h)) same w
+seqs_are_listed h seq live =
+    let numbered = replay_numbered h in
+    let at = live_given (replay h) seq live in
+    let key = numbered.keyed at.id at.entry at.given in
+    let given : finite.get (replay h) at.entry.standing.id ≡ Some at.entry = ap (finite.get (replay h)) key ∙ at.given in
+    record {
+      query = at.entry;
+      has = at.is;
+      registered = given;
+      listed = registered_are_listed h at.entry.standing.id at.entry given;
+      alone = λ id r is has.
+          let same : id ≡ at.id = numbered.distinct id at.id r at.entry is at.given (has ∙ sym at.is) in
+          same_Some (sym is ∙ ap (finite.get (replay h)) same ∙ at.given);
+    }

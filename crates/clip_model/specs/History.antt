@@ -8,6 +8,7 @@ use Rattle.clip_words.specs.Ids.{is_id}
 use Rattle.clip_words.specs.Order.{bytes_cmp}
 use Rattle.clip_grammar.specs.TreeCode.{bytes_code}
 use Rattle.clip_model.specs.Standing.{Standing, standing_code}
+use Rattle.clip_model.specs.declared.limits.TheConstants.{MOST_LISTED, MOST_LIVE, MOST_ENTRIES, MOST_CALLERS}
 
 -- ---- commands and entries
 
@@ -42,6 +43,17 @@ abbrev pub lists : Command → ℕ
 lists (Register standings) = length standings
 lists (Delete ids) = 0
 lists Clear = 0
+
+-- the queries that a command lists
+abbrev pub queries_of : Command → List Standing
+queries_of (Register standings) = standings
+queries_of (Delete ids) = []
+queries_of Clear = []
+
+-- the queries that the registers of a history list, in order
+abbrev pub listed_queries : History → List Standing
+listed_queries [] = []
+listed_queries (e ∷ h) = queries_of e.command ++ listed_queries h
 
 -- how many queries the registers of a history list
 abbrev pub listed : History → ℕ
@@ -89,35 +101,37 @@ applied h command = applied_to (replay h) command
 
 -- ---- legality
 
+-- the limits, under the names that they had before they were constants
 abbrev pub most_listed : ℕ
-most_listed = 1024
+most_listed = MOST_LISTED
 
 abbrev pub most_live : ℕ
-most_live = 1000000
+most_live = MOST_LIVE
 
 abbrev pub most_entries : ℕ
-most_entries = 4294967295
+most_entries = MOST_ENTRIES
 
 abbrev pub fits : Command → Bool
-fits (Register standings) = nat_le (length standings) most_listed
-fits (Delete ids) = nat_le (length ids) most_listed && list_all is_id ids
+fits (Register standings) = nat_le (length standings) MOST_LISTED
+fits (Delete ids) = nat_le (length ids) MOST_LISTED && list_all is_id ids
 fits Clear = true
 
 -- the commands of a caller, in order
 abbrev pub own : History → ℕ → List Command
 own h caller = map (λ e. e.command) (filter (λ e. e.caller == caller) h)
 
--- Callers are 1 to 64, each caller's numbers are 1, 2, 3, .. in order, each command fits, no front of the history replays to over a million queries, and it is not too long.
+-- Callers are in their range, each caller's numbers are 1, 2, 3, .. in order, each command fits,
+-- no front of the history replays to more queries than may be live, and it is not too long.
 pub record IsLegal (h : History) : Type 0 where
-  pub callers : (before after : History) (e : HistoryEntry) → h ≡ before ++ e ∷ after → (0 < e.caller) × (e.caller ≤ 64)
+  pub callers : (before after : History) (e : HistoryEntry) → h ≡ before ++ e ∷ after → (0 < e.caller) × (e.caller ≤ MOST_CALLERS)
   pub numbers : (before after : History) (e : HistoryEntry) → h ≡ before ++ e ∷ after → e.number ≡ suc (length (own before e.caller))
   pub commands : (before after : History) (e : HistoryEntry) → h ≡ before ++ e ∷ after → IsTrue (fits e.command)
-  pub small : (before after : History) → h ≡ before ++ after → finite.len (replay before) ≤ most_live
-  pub short : length h ≤ most_entries
+  pub small : (before after : History) → h ≡ before ++ after → finite.len (replay before) ≤ MOST_LIVE
+  pub short : length h ≤ MOST_ENTRIES
 
 -- one entry more breaks no limit
 abbrev pub has_room : History → Command → Bool
-has_room h command = nat_le (finite.len (after_command (listed h) command (replay h))) most_live && nat_lt (length h) most_entries
+has_room h command = nat_le (finite.len (after_command (listed h) command (replay h))) MOST_LIVE && nat_lt (length h) MOST_ENTRIES
 
 -- the entry of a caller's next command
 abbrev pub next_entry : History → ℕ → Command → HistoryEntry

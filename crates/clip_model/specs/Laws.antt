@@ -1,6 +1,8 @@
 -- Laws of histories.
-use Rattle.std.specs.Prelude.{◌≡◌, ℕ, ◌≤◌, ◌<◌, [], ◌∷◌, ◌++◌, true, IsTrue}
-use Rattle.clip_model.specs.History.{History, HistoryEntry, Command, IsLegal, replay, listed, after_command, is_live, with_command, has_room, fits}
+use Rattle.std.specs.Prelude.{◌≡◌, ℕ, ◌-◌, ◌≤◌, ◌<◌, List, [], ◌∷◌, ◌++◌, length, slice_get, Some, true, IsTrue}
+use Rattle.std.specs.FinMap as finite
+use Rattle.clip_model.specs.declared.limits.TheConstants.{MOST_CALLERS}
+use Rattle.clip_model.specs.History.{History, HistoryEntry, Command, Registered, IsLegal, replay, listed, listed_queries, after_command, is_live, with_command, has_room, fits}
 
 -- one entry more is one command more
 abbrev pub ReplaysOn : Type 0
@@ -12,8 +14,30 @@ FrontsAreLegal = (before after : History) → IsLegal (before ++ after) → IsLe
 
 -- a legal history goes on with the next command of a caller where it has room
 abbrev pub GoesOn : Type 0
-GoesOn = (h : History) (caller : ℕ) (command : Command) → IsLegal h → 0 < caller → caller ≤ 64 → IsTrue (fits command) → IsTrue (has_room h command) → IsLegal (with_command h caller command)
+GoesOn = (h : History) (caller : ℕ) (command : Command) → IsLegal h → 0 < caller → caller ≤ MOST_CALLERS → IsTrue (fits command) → IsTrue (has_room h command) → IsLegal (with_command h caller command)
 
--- the seqs of registered queries are from 1 to the number of queries listed
+-- the number listed is the length of the list of all queries
+abbrev pub ListedAreCounted : Type 0
+ListedAreCounted = (h : History) → length (listed_queries h) ≡ listed h
+
+-- The query stands under its id, and with seq n it is the n-th of the queries that were listed.
+pub record IsListed (h : History) (id : List ℕ) (r : Registered) : Type 0 where
+  pub key : r.standing.id ≡ id
+  pub from : 0 < r.seq
+  pub to : r.seq ≤ listed h
+  pub place : slice_get (listed_queries h) (r.seq - 1) ≡ Some r.standing
+
+-- each registered query was listed, in the place that its seq tells
+abbrev pub RegisteredAreListed : Type 0
+RegisteredAreListed = (h : History) (id : List ℕ) (r : Registered) → finite.get (replay h) id ≡ Some r → IsListed h id r
+
+-- each live seq is that of a registered query, and of no other
+pub record IsOfOne (h : History) (seq : ℕ) : Type 0 where
+  pub query : Registered
+  pub has : query.seq ≡ seq
+  pub registered : finite.get (replay h) query.standing.id ≡ Some query
+  pub listed : IsListed h query.standing.id query
+  pub alone : (id : List ℕ) (r : Registered) → finite.get (replay h) id ≡ Some r → r.seq ≡ seq → r ≡ query
+
 abbrev pub SeqsAreListed : Type 0
-SeqsAreListed = (h : History) (seq : ℕ) → is_live h seq ≡ true → (0 < seq) × (seq ≤ listed h)
+SeqsAreListed = (h : History) (seq : ℕ) → is_live h seq ≡ true → IsOfOne h seq

@@ -3,3 +3,4 @@ pub mod ById
 pub mod History
 pub mod Laws
 pub mod Standing
+pub mod Steps

@@ -1,15 +1,19 @@
 -- The queries that stand after a register, found by a roster of its list alone.
-use Rattle.std.proofs.Common.{◌≡◌, ℕ, suc, ◌<◌, ◌≤◌, ◌++◌, Bool, true, false, cond, List, [], ◌∷◌, length, refl, sym, ap, ◌∙◌, arith}
+use Rattle.std.proofs.Common.{◌≡◌, ℕ, suc, ◌<◌, ◌≤◌, ◌++◌, Bool, true, false, cond, List, [], ◌∷◌, length, refl, sym, ap, ◌∙◌, arith, add-zero}
 use Rattle.std.proofs.lemmas.List.Elements.{All-head, All-tail}
 use Rattle.std.specs.List.{All, filter}
 use Rattle.std.specs.FinMap as finite
-use Rattle.std.specs.FinMap.{get-empty}
+use Rattle.std.specs.FinMap.{get-empty, len-empty}
 use Rattle.clip_words.specs.Order.{bytes_cmp}
 use Rattle.clip_model.specs.Standing.{Standing}
 use Rattle.clip_model.specs.History.{Registered, Registry, Register, register_all, is_live_in}
-use Rattle.clip_registry.specs.Roster.{Roster, IsNumbered, insert_all, roster_with_all}
+use Rattle.clip_model.specs.Steps.Numbered.{IsNumbered}
+use Rattle.clip_registry.specs.Steps.Roster.{Roster, insert_all, roster_with_all}
+use Rattle.clip_model.specs.declared.limits.TheConstants.{MOST_LIVE}
+use Rattle.clip_registry.specs.Steps.Change.{Content, IsChanged}
+use Rattle.clip_registry.specs.declared.command.Applied.TheVariants as applied
 use Rattle.clip_registry.specs.Whole.{numbered, standing_after, segments_after}
-use Rattle.clip_registry.proofs.Live.{none_some}
+use Rattle.clip_model.proofs.Live.{none_some}
 use Rattle.clip_registry.proofs.Registering.{Agree, agree_all, live_agree, insert_all-numbered}
 use Rattle.clip_registry.proofs.Rising.{numbered_high}
 
@@ -43,13 +47,22 @@ segments_register segments n m [] some = absurd (omega arith)
 segments_register segments n m (s ∷ ss) some = refl
 
 -- a roster of the list alone gives what the list registers
-pub fresh_registry : (from n : ℕ) (ss : List Standing) (none fresh : Roster) (entries : List Registered) → none ≡ record { registry = finite.empty; listed = from; base = from } → fresh ≡ roster_with_all none entries → entries ≡ numbered from ss → from ≡ n
+pub fresh_registry : (n : ℕ) (ss : List Standing) (none fresh : Roster) (entries : List Registered) → none.registry ≡ finite.empty → fresh ≡ roster_with_all none entries → entries ≡ numbered n ss
     → fresh.registry ≡ register_all n ss finite.empty
-fresh_registry from n ss none fresh entries empty all are same =
-    ap (λ (r : Roster). r.registry) all ∙ ap (λ (r : Roster). insert_all r.registry entries) empty ∙ ap (insert_all finite.empty) are
-    ∙ insert_all-numbered from ss finite.empty ∙ ap (λ k. register_all k ss finite.empty) same
+fresh_registry n ss none fresh entries empty all are =
+    ap (λ (r : Roster). r.registry) all ∙ ap (λ m. insert_all m entries) empty ∙ ap (insert_all finite.empty) are ∙ insert_all-numbered n ss finite.empty
 
 pub live_registered : (n : ℕ) (ss : List Standing) (m : Registry) (fresh : Roster) (live entries : List Registered) → live ≡ filter (λ r. is_live_in fresh.registry r.seq) entries → fresh.registry ≡ register_all n ss finite.empty
     → entries ≡ numbered n ss → IsNumbered n m → live ≡ standing_after n ss m
 live_registered n ss m fresh live entries kept alone are is =
     kept ∙ ap (λ k. filter (λ (r : Registered). is_live_in k r.seq) entries) alone ∙ ap (filter (λ (r : Registered). is_live_in (register_all n ss finite.empty) r.seq)) are ∙ stand_alone n ss m is
+
+-- to register nothing changes nothing
+pub nothing_registered : (before : Content) → finite.len before.roster.registry ≤ MOST_LIVE → IsChanged (Register []) before before (applied.Registered 0)
+nothing_registered before small = record {
+  registry = refl;
+  listed = sym (add-zero before.roster.listed);
+  segments = refl;
+  small = small;
+  answer = ap applied.Registered (sym (len-empty bytes_cmp Registered));
+}

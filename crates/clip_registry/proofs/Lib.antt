@@ -1,13 +1,10 @@
-pub mod Live
 pub mod Numbering
 pub mod Rising
 pub mod Registering
 pub mod Whole
 pub mod Marks
-pub mod Legal
 pub mod Clones
 pub mod Undoing
 pub mod Entering
-pub mod Counting
 pub mod Alone
 pub mod Keeping

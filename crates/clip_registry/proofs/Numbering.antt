@@ -1,57 +1,15 @@
 -- Numbered registries, after each change.
-use Rattle.std.proofs.Common.{◌≡◌, ℕ, suc, ◌<◌, ◌≤◌, Bool, true, false, cond, List, refl, sym, ap, subst, ◌∙◌, arith, Option, Some, None, ◌==◌}
-use Rattle.std.proofs.lemmas.Bool.Decides.{nat_tests}
+use Rattle.std.proofs.Common.{◌≡◌, ℕ, suc, ◌<◌, ◌≤◌, Bool, true, false, cond, List, refl, sym, ap, subst, ◌∙◌, Option, Some, None, ◌==◌}
 use Rattle.std.specs.Ordering.{eq_by_cmp}
 use Rattle.std.specs.FinMap as finite
 use Rattle.std.specs.FinMap.{get-empty}
 use Rattle.clip_words.specs.Order.{bytes_cmp}
 use Rattle.clip_model.specs.History.{Registered, Registry, is_live_in}
-use Rattle.clip_registry.specs.Roster.{IsNumbered}
+use Rattle.clip_model.specs.Steps.Numbered.{IsNumbered}
 use Rattle.clip_model.proofs.ById.{bytes_itself, bytes_same}
-use Rattle.clip_registry.proofs.Live.{new, old, after_insert, after_remove, none_some, false_true, same_bool, inserted_at, inserted_else, removed_else, given_live, HasSeq, live_given}
-
-pub numbered_empty : (n : ℕ) → IsNumbered n finite.empty
-numbered_empty n = record {
-  keyed = λ id r h. absurd (none_some (sym (get-empty bytes_cmp id) ∙ h));
-  within = λ id r h. absurd (none_some (sym (get-empty bytes_cmp id) ∙ h));
-  distinct = λ a b r s h k e. absurd (none_some (sym (get-empty bytes_cmp a) ∙ h));
-}
-
-pub numbered_more : (n k : ℕ) (m : Registry) → n ≤ k → IsNumbered n m → IsNumbered k m
-numbered_more n k m le is = record {
-  keyed = is.keyed;
-  within = λ id r h. let w = is.within id r h in (w.0, let high = w.1 in omega arith);
-  distinct = is.distinct;
-}
-
-pub numbered_insert : (n : ℕ) (m : Registry) (r : Registered) → r.seq ≡ suc n → IsNumbered n m → IsNumbered (suc n) (finite.insert m r.standing.id r)
-numbered_insert n m r seq is = record {
-  keyed = λ id s h. elim (after_insert m r.standing.id r id s h) as (λ _. s.standing.id ≡ id) [
-    | new a e ↦ ap (λ (q : Registered). q.standing.id) e ∙ sym a
-    | old a e ↦ is.keyed id s e
-  ];
-  within = λ id s h. elim (after_insert m r.standing.id r id s h) as (λ _. (0 < s.seq) × (s.seq ≤ suc n)) [
-    | new a e ↦ subst (λ (q : Registered). (0 < q.seq) × (q.seq ≤ suc n)) (sym e) (omega arith, omega arith)
-    | old a e ↦ let w = is.within id s e in (w.0, let high = w.1 in omega arith)
-  ];
-  distinct = λ a b s t h k e. elim (after_insert m r.standing.id r a s h) as (λ _. a ≡ b) [
-    | new p same ↦ elim (after_insert m r.standing.id r b t k) as (λ _. a ≡ b) [
-      | new q other ↦ p ∙ sym q
-      | old q other ↦ let high = (is.within b t other).1 in let seqs : s.seq ≡ r.seq = ap (λ (q : Registered). q.seq) same in absurd (omega arith)
-    ]
-    | old p same ↦ elim (after_insert m r.standing.id r b t k) as (λ _. a ≡ b) [
-      | new q other ↦ let high = (is.within a s same).1 in let seqs : t.seq ≡ r.seq = ap (λ (q : Registered). q.seq) other in absurd (omega arith)
-      | old q other ↦ is.distinct a b s t same other e
-    ]
-  ];
-}
-
-pub numbered_remove : (n : ℕ) (m : Registry) (gone : List ℕ) → IsNumbered n m → IsNumbered n (finite.remove m gone)
-numbered_remove n m gone is = record {
-  keyed = λ id s h. is.keyed id s (after_remove m gone id s h).was;
-  within = λ id s h. is.within id s (after_remove m gone id s h).was;
-  distinct = λ a b s t h k e. is.distinct a b s t (after_remove m gone a s h).was (after_remove m gone b t k).was e;
-}
+use Rattle.clip_model.proofs.ById.{false_true}
+use Rattle.clip_model.proofs.Live.{new, old, after_insert, after_remove, none_some, same_bool, inserted_at, inserted_else, removed_else, given_live, HasSeq, live_given}
+use Rattle.clip_model.proofs.Numbers.{same_numbers, numbers_same}
 
 -- ---- live seqs
 
@@ -59,12 +17,6 @@ numbered_remove n m gone is = record {
 abbrev pub has_seq : Option Registered → ℕ → Bool
 has_seq None seq = false
 has_seq (Some r) seq = r.seq == seq
-
-pub same_numbers : (a b : ℕ) → (a == b) ≡ true → a ≡ b
-same_numbers a b h = grind (arith, nat_tests)
-
-pub numbers_same : (a b : ℕ) → a ≡ b → (a == b) ≡ true
-numbers_same a b h = grind (arith, nat_tests)
 
 -- the query under an id has the seq of that found elsewhere only where the ids are one
 not_here : (n : ℕ) (m : Registry) (id q : List ℕ) (s : Registered) (found : Option Registered) → IsNumbered n m → finite.get m id ≡ found → finite.get m q ≡ Some s → eq_by_cmp bytes_cmp q id ≡ false → has_seq found s.seq ≡ false

@@ -1,13 +1,12 @@
 -- What a register leaves.
-use Rattle.std.proofs.Common.{◌≡◌, ℕ, suc, ◌+◌, ◌<◌, ◌⊎◌, List, [], ◌∷◌, length, refl, sym, ap, subst, ◌∙◌, inl, inr, arith, Some}
+use Rattle.std.proofs.Common.{◌≡◌, ℕ, suc, ◌<◌, ◌⊎◌, List, [], ◌∷◌, refl, sym, ap, subst, ◌∙◌, inl, inr, arith, Some}
 use Rattle.std.specs.List.{Contains}
 use Rattle.std.specs.FinMap as finite
 use Rattle.clip_model.specs.Standing.{Standing}
 use Rattle.clip_model.specs.History.{Registered, Registry, register_all, remove_all, is_live_in}
-use Rattle.clip_registry.specs.Roster.{IsNumbered, insert_one, insert_all, SeqsFollow}
+use Rattle.clip_registry.specs.Steps.Roster.{insert_one, insert_all, SeqsFollow}
 use Rattle.clip_registry.specs.Whole.{numbered}
-use Rattle.clip_registry.proofs.Live.{new, old, after_insert, after_remove, inserted_at, inserted_else, same_bool, live_given, given_live}
-use Rattle.clip_registry.proofs.Numbering.{numbered_insert, numbered_remove, numbered_more}
+use Rattle.clip_model.proofs.Live.{new, old, after_insert, after_remove, inserted_at, inserted_else, same_bool, live_given, given_live}
 use Rattle.clip_registry.proofs.Rising.{contains_head, contains_later}
 
 -- to register is to insert the numbered queries
@@ -18,15 +17,6 @@ insert_all-numbered n (s ∷ ss) m = insert_all-numbered (suc n) ss _
 pub numbered_follow : (n : ℕ) (ss : List Standing) → SeqsFollow n (numbered n ss)
 numbered_follow n [] = tt
 numbered_follow n (s ∷ ss) = (refl, numbered_follow (suc n) ss)
-
-pub numbered_all : (n : ℕ) (rs : List Registered) (m : Registry) → SeqsFollow n rs → IsNumbered n m → IsNumbered (n + length rs) (insert_all m rs)
-numbered_all n [] m follow is = numbered_more n (n + 0) m (omega arith) is
-numbered_all n (r ∷ rs) m follow is =
-    numbered_more (suc n + length rs) (n + suc (length rs)) _ (omega arith) (numbered_all (suc n) rs (insert_one m r) follow.1 (numbered_insert n m r follow.0 is))
-
-pub numbered_removed : (n : ℕ) (ids : List (List ℕ)) (m : Registry) → IsNumbered n m → IsNumbered n (remove_all ids m)
-numbered_removed n [] m is = is
-numbered_removed n (id ∷ ids) m is = numbered_removed n ids _ (numbered_remove n m id is)
 
 -- what is there after inserts was inserted or was there
 pub inserted_or_old : (rs : List Registered) (m : Registry) (id : List ℕ) (r : Registered) → finite.get (insert_all m rs) id ≡ Some r → Contains rs r ⊎ (finite.get m id ≡ Some r)

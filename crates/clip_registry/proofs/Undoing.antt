@@ -2,13 +2,13 @@
 use Rattle.std.proofs.Common.{◌≡◌, ℕ, suc, ◌-◌, List, Option, arith}
 use Rattle.std.specs.FinMap as finite
 use Rattle.clip_model.specs.History.{Registered}
-use Rattle.clip_registry.specs.Roster.{Roster, undone, roster_with}
+use Rattle.clip_registry.specs.Steps.Roster.{Roster, without_last, roster_with}
 use Rattle.clip_registry.proofs.Marks.{restored_before}
 
 less_one : (n : ℕ) → suc n - 1 ≡ n
 less_one n = omega arith
 
-pub undone_with : (roster : Roster) (r : Registered) (id : List ℕ) (replaced : Option Registered) → r.standing.id ≡ id → finite.get roster.registry id ≡ replaced → undone (roster_with roster r) id replaced ≡ roster
+pub undone_with : (roster : Roster) (r : Registered) (id : List ℕ) (replaced : Option Registered) → r.standing.id ≡ id → finite.get roster.registry id ≡ replaced → without_last (roster_with roster r) id replaced ≡ roster
 undone_with roster r id replaced key was = λ i. record {
   registry = restored_before roster.registry r id replaced key was i;
   listed = less_one roster.listed i;

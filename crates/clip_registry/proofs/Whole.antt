@@ -7,13 +7,13 @@ use Rattle.std.specs.FinMap.{get-empty}
 use Rattle.clip_words.specs.Order.{bytes_cmp}
 use Rattle.clip_segment.specs.Segment.{IsRising}
 use Rattle.clip_model.specs.Standing.{Standing}
-use Rattle.clip_model.specs.History.{History, Command, Register, Delete, Clear, Registered, Registry, register_all, remove_all, after_command, replay, replay_onto, listed, lists, is_live_in, with_command, next_entry}
+use Rattle.clip_model.specs.History.{Command, Register, Delete, Clear, Registered, Registry, register_all, remove_all, after_command, replay, listed, lists, is_live_in, with_command, next_entry}
 use Rattle.clip_model.proofs.Replay.{replays_on, listed_on}
-use Rattle.clip_registry.specs.Roster.{IsNumbered}
+use Rattle.clip_model.specs.Steps.Numbered.{IsNumbered}
 use Rattle.clip_registry.specs.Whole.{RegistryState, IsWhole, all_entries, numbered, standing_after, segments_after, state_after, beginning}
-use Rattle.clip_registry.proofs.Live.{none_some, live_given, given_live}
-use Rattle.clip_registry.proofs.Numbering.{numbered_empty, numbered_more}
-use Rattle.clip_registry.proofs.Registering.{insert_all-numbered, numbered_follow, numbered_all, numbered_removed, inserted_or_old, removed_was}
+use Rattle.clip_model.proofs.Live.{none_some, live_given, given_live}
+use Rattle.clip_model.proofs.Numbering.{numbered_empty, numbered_register, numbered_removed, replay_numbered}
+use Rattle.clip_registry.proofs.Registering.{insert_all-numbered, inserted_or_old, removed_was}
 use Rattle.clip_registry.proofs.Rising.{rising_nil, rising_append, rising_filter, same_seq, numbered_rising, numbered_high, numbered_low, contains_filter}
 
 pub all_entries-push : (segments : List (List Registered)) (segment : List Registered) → all_entries (segments ++ segment ∷ []) ≡ all_entries segments ++ segment
@@ -52,11 +52,6 @@ shelved state is whole = record {
 pub length-numbered : (n : ℕ) (ss : List Standing) → length (numbered n ss) ≡ length ss
 length-numbered n [] = refl
 length-numbered n (s ∷ ss) = ap suc (length-numbered (suc n) ss)
-
-numbered_register : (n : ℕ) (ss : List Standing) (m : Registry) → IsNumbered n m → IsNumbered (n + length ss) (register_all n ss m)
-numbered_register n ss m is =
-    let all = numbered_all n (numbered n ss) m (numbered_follow n ss) is in
-    subst (λ k. IsNumbered (n + k) (register_all n ss m)) (length-numbered n ss) (subst (λ k. IsNumbered (n + length (numbered n ss)) k) (insert_all-numbered n ss m) all)
 
 among_register : (n : ℕ) (ss : List Standing) (entries : List Registered) (m : Registry) → IsShelved n entries m → (id : List ℕ) (r : Registered)
     → finite.get (register_all n ss m) id ≡ Some r → Contains (entries ++ standing_after n ss m) r
@@ -103,20 +98,6 @@ shelved_after n segments m (Register (s ∷ ss)) is =
     (shelved_register n (s ∷ ss) (all_entries segments) m is)
 shelved_after n segments m (Delete ids) is = same_count n _ _ (shelved_delete n ids (all_entries segments) m is)
 shelved_after n segments m Clear is = shelved_nothing (n + 0)
-
-pub numbered_after : (n : ℕ) (m : Registry) (command : Command) → IsNumbered n m → IsNumbered (n + lists command) (after_command n command m)
-numbered_after n m (Register ss) is = numbered_register n ss m is
-numbered_after n m (Delete ids) is = numbered_more n (n + 0) _ (omega arith) (numbered_removed n ids m is)
-numbered_after n m Clear is = numbered_empty (n + 0)
-
-numbered_onto : (n : ℕ) (h : History) (m : Registry) → IsNumbered n m → IsNumbered (n + listed h) (replay_onto n h m)
-numbered_onto n [] m is = numbered_more n (n + 0) m (omega arith) is
-numbered_onto n (e ∷ h) m is =
-    numbered_more ((n + lists e.command) + listed h) (n + (lists e.command + listed h)) _ (omega arith) (numbered_onto (n + lists e.command) h _ (numbered_after n m e.command is))
-
--- what a history replays to is numbered
-pub replay_numbered : (h : History) → IsNumbered (listed h) (replay h)
-replay_numbered h = numbered_more (0 + listed h) (listed h) (replay h) (omega arith) (numbered_onto 0 h finite.empty (numbered_empty 0))
 
 whole_from : (state : RegistryState) → IsShelved (listed state.history) (all_entries state.segments) (replay state.history) → IsWhole state
 whole_from state is = record {

@@ -1,9 +1,6 @@
 -- A registry as contracts see it: its segments and its history.
-use Rattle.std.specs.Prelude.{◌≡◌, ◌↔◌, ℕ, suc, ◌≤◌, List, [], ◌∷◌, ◌++◌, filter, Option, Some, None, IsTrue, All, Contains, refl}
-use Rattle.std.specs.Arc.{arc_value}
+use Rattle.std.specs.Prelude.{◌≡◌, ◌↔◌, ℕ, suc, ◌≤◌, List, [], ◌∷◌, ◌++◌, filter, Some, IsTrue, All, Contains, refl}
 use Rattle.std.specs.FinMap as finite
-use Rattle.std.specs.declared.sync.Arc.{Arc}
-use Rattle.std.specs.declared.alloc.Global.{Global}
 use Rattle.std.specs.Coded.{Coded, code_by, coded×, coded_list}
 use Rattle.clip_model.specs.Standing.{Standing}
 use Rattle.clip_model.specs.History.{History, Command, Register, Delete, Clear, Registered, Registry, replay, listed, is_live, is_live_in, after_command, with_command, history_code, registered_code}
@@ -54,8 +51,3 @@ state_after state caller command = record {
   segments = segments_after state.segments (listed state.history) (replay state.history) command;
   history = with_command state.history caller command;
 }
-
--- the registry of a state that is there from the first command on
-abbrev pub kept_state : Option (Arc RegistryState Global) → RegistryState
-kept_state None = beginning
-kept_state (Some state) = arc_value state

@@ -5,16 +5,14 @@ ghost use Rattle.clip_model.specs.History.{fits};
 ghost use Rattle.clip_words.specs.Ids.{is_id};
 ghost use Rattle.clip_registry.specs.Command.{command_of};
 
+use clip_model::MOST_LISTED;
 use clip_segment::Standing;
 use clip_words::{NoMemory, is_id};
 use std::alloc::AllocFailed;
 use std::sync::Arc;
 use thiserror::Error;
 
-/// The most queries or ids that a command lists.
-pub const MOST_LISTED: usize = 1024;
-
-/// A change of the registry.
+/// A change of the registry. What a registrar takes fits: `Command::fits`.
 #[derive(Drop)]
 pub enum Command {
     /// Registers the queries in order; each takes the place of the one with its id.
@@ -28,7 +26,7 @@ pub enum Command {
 /// A command that was accepted.
 #[derive(Drop)]
 pub struct HistoryEntry {
-    /// Who gave it, from 1 to 64.
+    /// Who gave it, from 1 to `MOST_CALLERS`.
     pub caller: u32,
     /// Its number among that caller's commands, from 1.
     pub number: u64,
@@ -50,10 +48,10 @@ pub enum Applied {
 /// Why a command was not accepted.
 #[derive(Clone, Copy, Debug, PartialEq, Eq, Error)]
 pub enum Refused {
-    /// The live queries would be more than 1,000,000, or the history more than 4,294,967,295 entries long.
+    /// More than `MOST_LIVE` queries would be registered, or more than `MOST_ENTRIES` commands accepted.
     #[error("the registry is full")]
     Full,
-    /// A growth was refused.
+    /// An allocation failed.
     #[error("no memory")]
     NoMemory,
 }
@@ -86,7 +84,8 @@ fn are_ids(ids: &[String]) -> bool
 }
 
 impl Command {
-    /// Whether a registrar takes the command: it lists at most 1,024 queries or ids, and each id to delete is 1 to 256 bytes long. Its cost is in the ids to delete.
+    /// Whether a registrar takes the command: it lists at most `MOST_LISTED` queries or ids, and each id to delete is
+    /// an id, of 1 to 256 bytes. It costs a step for each id to delete, and else constant time.
     pub fn fits(&self) -> bool
         ensures { result ≡ fits (command_of self.now) }
     {
@@ -97,7 +96,8 @@ impl Command {
         }
     }
 
-    /// A command with the same content, whose queries are shared and whose ids are copied.
+    /// A command with the same content, whose queries are shared and whose ids are copied, or `NoMemory` where an
+    /// allocation failed.
     pub(crate) fn copy(&self) -> Result<Command, NoMemory>
         ensures { IfOk result (λ copy. command_of copy ≡ command_of self.now) }
     {

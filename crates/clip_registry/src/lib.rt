@@ -5,13 +5,11 @@ ghost use Rattle.std.specs.Prelude.{◌≡◌};
 
 mod by_id;
 mod change;
-pub mod command;
-pub mod registrar;
+mod command;
+mod registrar;
 mod roster;
 mod state;
-#[cfg(test)]
-mod tests;
-pub mod view;
+mod view;
 
 pub use command::{Applied, Command, HistoryEntry, Refused};
 pub use registrar::Registrar;

@@ -8,12 +8,14 @@ ghost use Rattle.clip_registry.specs.declared.command.Refused.TheVariants as ref
 use crate::command::{Applied, Command, HistoryEntry, Refused};
 use crate::state::State;
 use crate::view::View;
+use clip_model::MOST_CALLERS;
 use clip_words::NoMemory;
 use std::alloc::Global;
 use std::marker::Model;
 use std::sync::Arc;
 
-/// The registry that commands change, seen as its list of segments and its history. Until the first command it has no state.
+/// The registry that commands change, seen as its list of segments and its history. Until the first command it has no
+/// state.
 #[derive(Drop)]
 pub struct Registrar {
     alloc: Global,
@@ -21,54 +23,21 @@ pub struct Registrar {
 }
 
 impl Model for Registrar {
-    ghost use Rattle.std.specs.Prelude.{◌≡◌};
-    ghost use Rattle.clip_model.specs.History.{IsLegal};
-    ghost use Rattle.clip_registry.specs.Whole.{RegistryState, state_code, IsWhole, kept_state};
+    ghost use Rattle.clip_registry.specs.Whole.{RegistryState, state_code};
+    ghost use Rattle.clip_registry.specs.Steps.State.{state_or_beginning};
 
     ghost Value = { RegistryState };
 
     ghost coded = { state_code };
 
-    ghost view = { λ r. kept_state r.state };
-
-    ghost invariant = { λ r. IsWhole (kept_state r.state) × IsLegal (kept_state r.state).history };
+    ghost view = { λ r. state_or_beginning r.state };
 }
 
-/// The state before the first command.
+/// The state before the first command, or `NoMemory` where an allocation failed.
 fn first_state(alloc: Global) -> Result<Arc<State>, NoMemory>
     ensures { IfOk result (λ state. state.value ≡ beginning) }
 {
     Ok(Arc::new(alloc, State::new(alloc)?)?)
-}
-
-/// Applies a command to a state, or to a copy of it in its place where a view holds it.
-fn apply_to(
-    alloc: Global,
-    shared: &mut Arc<State>,
-    caller: u32,
-    command: Command,
-) -> Result<Applied, (Command, Refused)>
-    requires fits { IsTrue (fits (command_of command)) }
-    requires caller_from { 0 < caller }
-    requires caller_to { caller ≤ 64 }
-    requires whole { IsWhole shared.old.value }
-    requires legal { IsLegal shared.old.value.history }
-    ensures accepted { OnOk result (shared.new.value ≡ state_after shared.old.value caller (command_of command)) }
-    ensures answer { IfOk result (λ answer. answer ≡ answer_of (command_of command) (applied shared.old.value.history (command_of command))) }
-    ensures room { OnOk result (IsTrue (has_room shared.old.value.history (command_of command))) }
-    ensures full { IfErr result (λ back. back.1 ≡ refused.Full → IsFalse (has_room shared.old.value.history (command_of command))) }
-    ensures handed_back { IfErr result (λ back. back.0 ≡ command) }
-    ensures unchanged { OnErr result (shared.new.value ≡ shared.old.value) }
-    ensures whole { IsWhole shared.new.value }
-    ensures legal { IsLegal shared.new.value.history }
-{
-    let Ok(state) = Arc::make_mut(shared) else {
-        return Err((command, Refused::NoMemory));
-    };
-    match state.accept(alloc, caller, &command) {
-        Ok(applied) => Ok(applied),
-        Err(refused) => Err((command, refused)),
-    }
 }
 
 impl Registrar {
@@ -79,13 +48,21 @@ impl Registrar {
         Registrar { alloc, state: None }
     }
 
-    /// Accepts a caller's next command, or refuses it and hands it back with nothing changed: `Full` where the live queries would then be more than 1,000,000 or the history is 4,294,967,295 entries long, and `NoMemory` where a growth is refused.
+    /// Accepts a caller's next command, or refuses it and hands it back with nothing changed: `Full` where more than
+    /// `MOST_LIVE` queries would then be registered or `MOST_ENTRIES` commands were accepted, and `NoMemory` where an
+    /// allocation failed.
     ///
-    /// It costs the extraction of the keys of each listed query, and for each listed query or id a search among the ids; a clear costs the dropping of all entries. While a view of the registry as it stands is held, it also costs a copy of its lists and maps: a step for each history entry, each segment, each registered query (whose id is copied, and no other text) and each query listed since the last clear.
+    /// A register costs the extraction of the keys of each listed query, and for each a search among the ids of its
+    /// list and one among the registered ids; a delete costs such a search for each listed id; a clear costs the
+    /// dropping of all entries.
+    ///
+    /// While a view of the registry as it stands is held, a command also costs a copy of the registry's lists and
+    /// maps: a step for each history entry, each segment, each registered query (whose id is copied, and no other
+    /// text) and each query listed since the last clear.
     pub fn apply(&mut self, caller: u32, command: Command) -> Result<Applied, (Command, Refused)>
         requires fits { IsTrue (fits (command_of command)) }
         requires caller_from { 0 < caller }
-        requires caller_to { caller ≤ 64 }
+        requires caller_to { caller ≤ MOST_CALLERS }
         ensures accepted { OnOk result (self.new ≡ state_after self.old caller (command_of command)) }
         ensures answer { IfOk result (λ answer. answer ≡ answer_of (command_of command) (applied self.old.history (command_of command))) }
         ensures room { OnOk result (IsTrue (has_room self.old.history (command_of command))) }
@@ -100,19 +77,27 @@ impl Registrar {
                 Err(NoMemory) => return Err((command, Refused::NoMemory)),
             }
         }
-        match &mut self.state {
-            Some(state) => apply_to(self.alloc, state, caller, command),
-            None => unreachable!(),
+        let Some(shared) = &mut self.state else {
+            unreachable!()
+        };
+        let Ok(state) = Arc::make_mut(shared) else {
+            return Err((command, Refused::NoMemory));
+        };
+        match state.accept(self.alloc, caller, &command) {
+            Ok(applied) => Ok(applied),
+            Err(refused) => Err((command, refused)),
         }
     }
 
-    /// The registry as it stands. Constant time.
+    /// The registry as it stands, or `NoMemory` where the count of its holders is at its end. Constant time.
     pub fn view(&self) -> Result<View, NoMemory>
         ensures { IfOk result (λ view. view ≡ self.now) }
     {
         match &self.state {
-            Some(state) => Ok(View::of(Some(state.clone()?))),
-            None => Ok(View::of(None)),
+            Some(state) => Ok(View {
+                state: Some(state.clone()?),
+            }),
+            None => Ok(View { state: None }),
         }
     }
 
@@ -123,7 +108,7 @@ impl Registrar {
         ensures legal { IsLegal self.now.history }
     {
         match &self.state {
-            Some(state) => state.history(),
+            Some(state) => &state.history,
             None => &[],
         }
     }

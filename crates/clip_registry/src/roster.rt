@@ -1,10 +1,11 @@
 //! The registered queries by id, with how many were ever listed and which of their seqs are live.
-ghost use Rattle.std.specs.Prelude.{◌≡◌, ◌+◌, ◌<◌, ◌≤◌, ◌^◌, suc, map, option_map, option_copied, IfOk, IfErr, OnOk, OnErr, IfSome, IsSomeAnd, string_bytes};
+ghost use Rattle.std.specs.Prelude.{◌≡◌, ◌+◌, ◌<◌, ◌≤◌, ◌^◌, suc, map, option_map, option_copied, IfOk, IfErr, OnOk, OnErr, IfSome, string_bytes, [], ◌∷◌};
 ghost use Rattle.std.specs.Arc.{arc_value};
 ghost use Rattle.std.specs.FinMap as finite;
 ghost use Rattle.clip_model.specs.History.{is_live_in};
-ghost use Rattle.clip_registry.specs.Flags.{marked};
-ghost use Rattle.clip_registry.specs.Roster.{IsNumbered, IsAbove, IsUndoable, SeqsFollow, insert_all, roster_with, roster_with_all, roster_without, undone};
+ghost use Rattle.clip_registry.specs.Steps.Flags.{flags_with};
+ghost use Rattle.clip_model.specs.Steps.Numbered.{IsNumbered};
+ghost use Rattle.clip_registry.specs.Steps.Roster.{IsAbove, IsOver, IsUndoable, SeqsFollow, insert_all, roster_with, roster_with_all, roster_without, without_last};
 ghost use Rattle.clip_registry.specs.declared.command.Refused.TheVariants as refused;
 
 use crate::by_id::ById;
@@ -15,7 +16,8 @@ use std::alloc::{AllocError, Global};
 use std::marker::Model;
 use std::sync::Arc;
 
-/// The live entries by id, and for each seq above a base whether it is live: one flag is kept for each query listed since the last clear.
+/// The live entries by id, and for each seq above a base whether it is live: one flag is held for each query listed
+/// since the last clear.
 #[derive(Drop)]
 pub struct Roster {
     by_id: ById,
@@ -24,13 +26,13 @@ pub struct Roster {
 }
 
 impl Model for Roster {
-    ghost use Rattle.clip_registry.specs.Roster as value;
+    ghost use Rattle.clip_registry.specs.Steps.Roster as value;
 
     ghost Value = { value.Roster };
 
     ghost coded = { value.roster_code };
 
-    ghost use Rattle.clip_registry.specs.RosterKept.{roster_of, IsRoster};
+    ghost use Rattle.clip_registry.specs.Steps.RosterInside.{roster_of, IsRoster};
 
     ghost view = { roster_of };
 
@@ -51,7 +53,7 @@ impl Clone for Roster {
 
 /// Sets the flag of a seq above the base, if it has a place.
 fn mark(flags: &mut [bool], base: u64, seq: u64, live: bool)
-    ensures { flags.new ≡ marked base flags.old seq live }
+    ensures { flags.new ≡ flags_with base flags.old seq live }
 {
     if base < seq {
         let place = (seq - base - 1) as usize;
@@ -89,14 +91,14 @@ impl Roster {
         self.base + self.live.len() as u64
     }
 
-    /// The entry under the id.
+    /// The entry under the id. It costs one search among the ids.
     pub fn get(&self, id: &str) -> Option<&Arc<Entry>>
         ensures { option_map arc_value (option_copied result) ≡ finite.get self.now.registry id.now }
     {
         self.by_id.get(id)
     }
 
-    /// Whether a registered query has the seq.
+    /// Whether a registered query has the seq. Constant time.
     pub fn is_live(&self, seq: u64) -> bool
         ensures { result ≡ is_live_in self.now.registry seq }
     {
@@ -109,11 +111,12 @@ impl Roster {
         }
     }
 
-    /// Puts the next entry in the place of the one with its id, which it gives.
+    /// Puts the next entry in the place of the one with its id, which it gives. `NoMemory` where an allocation
+    /// failed, with nothing changed.
     fn insert(&mut self, alloc: Global, entry: &Arc<Entry>) -> Result<Option<Arc<Entry>>, NoMemory>
         requires { entry.now.value.seq ≡ suc self.old.listed }
         ensures inserted { OnOk result (self.new ≡ roster_with self.old entry.now.value) }
-        ensures replaced { IfOk result (λ replaced. option_map arc_value replaced ≡ finite.get self.old.registry entry.now.value.standing.id) }
+        ensures replaced { IfOk result (λ old. option_map arc_value old ≡ finite.get self.old.registry entry.now.value.standing.id) }
         ensures above { IfOk result (λ replaced. IsAbove self.old.base (option_map arc_value replaced)) }
         ensures unchanged { OnErr result (self.new ≡ self.old) }
         ensures numbered { IsNumbered self.old.listed self.old.registry }
@@ -134,7 +137,7 @@ impl Roster {
     /// Takes the last entry out again, and puts the one that it replaced back. It takes no memory.
     fn undo(&mut self, id: &str, replaced: Option<Arc<Entry>>)
         requires { IsUndoable self.old id.now (option_map arc_value replaced) }
-        ensures { self.new ≡ undone self.old id.now (option_map arc_value replaced) }
+        ensures { self.new ≡ without_last self.old id.now (option_map arc_value replaced) }
     {
         let _ = self.live.pop();
         match replaced {
@@ -142,13 +145,13 @@ impl Roster {
                 mark(&mut self.live, self.base, entry.seq(), true);
                 self.by_id.put_back(id, entry);
             }
-            None => {
-                let _ = self.by_id.remove(id);
-            }
+            None => drop(self.by_id.remove(id)),
         }
     }
 
-    /// Puts the next entries in the places of those with their ids, in order, or none of them: `Full` where more than `most` queries would then be registered. Recursion is as deep as the list is long.
+    /// Puts the next entries in the places of those with their ids, in order, or none of them: `Full` where more than
+    /// `most` queries would then be registered, and `NoMemory` where an allocation failed. It costs a search among
+    /// the ids for each entry. Recursion is as deep as the list is long.
     pub fn insert_all(
         &mut self,
         alloc: Global,
@@ -158,7 +161,7 @@ impl Roster {
         requires { SeqsFollow self.old.listed (map arc_value entries.now) }
         ensures inserted { OnOk result (self.new ≡ roster_with_all self.old (map arc_value entries.now)) }
         ensures room { OnOk result (IfSome most (λ most. finite.len self.new.registry ≤ most)) }
-        ensures full { IfErr result (λ back. back ≡ refused.Full → IsSomeAnd most (λ most. most < finite.len (insert_all self.old.registry (map arc_value entries.now)))) }
+        ensures full { IfErr result (λ back. back ≡ refused.Full → IsOver most (insert_all self.old.registry (map arc_value entries.now))) }
         ensures unchanged { OnErr result (self.new ≡ self.old) }
     {
         let Some((first, others)) = entries.split_first() else {
@@ -179,14 +182,14 @@ impl Roster {
 
     /// Takes out the query under the id, if one is there.
     fn remove(&mut self, id: &str)
-        ensures { self.new ≡ record { registry = finite.remove self.old.registry id.now; listed = self.old.listed; base = self.old.base } }
+        ensures { self.new ≡ roster_without self.old (id.now ∷ []) }
     {
         if let Some(gone) = self.by_id.remove(id) {
             mark(&mut self.live, self.base, gone.seq(), false);
         }
     }
 
-    /// Takes out the queries under these ids. It takes no memory.
+    /// Takes out the queries under these ids. It takes no memory, and costs a search among the ids for each.
     pub fn remove_all(&mut self, ids: &[String])
         ensures { self.new ≡ roster_without self.old (map string_bytes ids.now) }
     {

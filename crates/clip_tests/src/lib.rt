@@ -6,6 +6,8 @@ mod extract;
 #[cfg(test)]
 mod meaning;
 #[cfg(test)]
+mod registry;
+#[cfg(test)]
 mod segment;
 #[cfg(test)]
 mod syntax;

@@ -1,10 +1,10 @@
-use Rattle.std.proofs.Common.{◌≡◌, ◌≤◌, sym, ap, subst, ◌∙◌, arith, map, string_bytes}
+use Rattle.std.proofs.Common.{◌≡◌, ◌≤◌, rules, sym, ap, subst, ◌∙◌, arith, map, string_bytes}
 use Rattle.std.specs.FinMap as finite
 use Rattle.std.specs.FinMap.{len-empty}
 use Rattle.clip_words.specs.Order.{bytes_cmp}
 use Rattle.clip_model.specs.History.{Registered}
-use Rattle.clip_registry.specs.Roster.{Roster}
-use Rattle.clip_registry.proofs.Counting.{len_removed}
+use Rattle.clip_model.proofs.Counting.{len_removed}
+use Rattle.clip_registry.specs.Steps.Roster.{Roster}
 use Rattle.clip_registry.proofs.change.change.Goals as goal
 
 fewer : (c : goal.After-len) → finite.len c.remove_all.new.self.registry ≤ finite.len c.args.roster.now.registry
@@ -13,8 +13,20 @@ fewer c = subst (λ (r : Roster). finite.len r.registry ≤ finite.len c.args.ro
 pub overflow_sub-result : goal.overflow_sub-result
 overflow_sub-result c = let a = fewer c in let b = c.len.ensures in let d = c.len-before.ensures in omega arith
 
-pub returns-in-Delete-clause-room : goal.returns-in-Delete-clause-room
-returns-in-Delete-clause-room c = let a = fewer c in let b = c.requires.room in omega arith
+pub returns-in-Delete-clause-changed : goal.returns-in-Delete-clause-changed
+returns-in-Delete-clause-changed c = record {
+  registry = search rules;
+  listed = search rules;
+  segments = search rules;
+  small = let a = fewer c in let b = c.requires.small in omega arith;
+  answer = search rules;
+}
 
-pub returns-in-Clear-clause-room : goal.returns-in-Clear-clause-room
-returns-in-Clear-clause-room c = let a : finite.len c.new.result.registry ≡ 0 = ap (λ (r : Roster). finite.len r.registry) c.new.ensures ∙ len-empty bytes_cmp Registered in omega arith
+pub returns-in-Clear-clause-changed : goal.returns-in-Clear-clause-changed
+returns-in-Clear-clause-changed c = record {
+  registry = search rules;
+  listed = search rules;
+  segments = search rules;
+  small = let a : finite.len c.new.result.registry ≡ 0 = ap (λ (r : Roster). finite.len r.registry) c.new.ensures ∙ len-empty bytes_cmp Registered in omega arith;
+  answer = search rules;
+}

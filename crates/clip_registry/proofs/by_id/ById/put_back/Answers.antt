@@ -4,7 +4,7 @@ use Rattle.std.specs.Arc.{arc_value}
 use Rattle.std.specs.FinMap as finite
 use Rattle.clip_model.specs.ById.{map_of}
 use Rattle.clip_registry.specs.declared.by_id.ById.TheInside.{Inside}
-use Rattle.clip_registry.proofs.Live.{false_true}
+use Rattle.clip_model.proofs.ById.{false_true}
 use Rattle.clip_model.proofs.ById.{get_shown, set_shown}
 use Rattle.clip_registry.proofs.by_id.ById.put_back.Goals as goal
 use Rattle.clip_registry.proofs.by_id.ById.put_back.Goals.{in-Some, in_default}

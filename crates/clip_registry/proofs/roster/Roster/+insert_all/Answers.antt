@@ -4,7 +4,7 @@ use Rattle.std.specs.Arc.{arc_value}
 use Rattle.std.specs.FinMap as finite
 use Rattle.clip_model.specs.Standing.{Standing}
 use Rattle.clip_model.specs.History.{Registered}
-use Rattle.clip_registry.specs.Roster.{Roster, IsAbove, undone}
+use Rattle.clip_registry.specs.Steps.Roster.{Roster, IsAbove, without_last}
 use Rattle.clip_registry.proofs.Undoing.{undone_with}
 use Rattle.clip_registry.proofs.roster.Roster.+insert_all.Goals as goal
 
@@ -32,5 +32,5 @@ returns-in-Err-clause-unchanged t c =
     let r : Registered = arc_value c.in-Some.first.now in
     let key : r.standing.id ≡ c.id.result.now = sym (c.id.ensures ∙ ap (λ (s : Standing). s.id) (c.deref-in-Err.ensures ∙ c.standing.ensures ∙ ap (λ (e : Registered). e.standing) c.deref.ensures)) in
     c.undo.ensures
-    ∙ ap (λ (s : Roster). undone s c.id.result.now (option_map arc_value c.in_ok-replaced.replaced)) (c.in-Err.ensures.unchanged ∙ c.in_ok-replaced.ensures.inserted)
+    ∙ ap (λ (s : Roster). without_last s c.id.result.now (option_map arc_value c.in_ok-replaced.replaced)) (c.in-Err.ensures.unchanged ∙ c.in_ok-replaced.ensures.inserted)
     ∙ undone_with c.args.self.now r c.id.result.now (option_map arc_value c.in_ok-replaced.replaced) key (ap (finite.get c.args.self.now.registry) (sym key) ∙ sym c.in_ok-replaced.ensures.replaced)

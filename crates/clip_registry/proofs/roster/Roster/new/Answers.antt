@@ -1,8 +1,9 @@
 use Rattle.std.proofs.Common.{sym, ap, subst, ◌∙◌}
 use Rattle.clip_model.specs.History.{is_live_in}
-use Rattle.clip_registry.specs.Flags.{flag_at}
-use Rattle.clip_registry.specs.Roster.{IsNumbered}
-use Rattle.clip_registry.proofs.Numbering.{numbered_empty, none_live}
+use Rattle.clip_registry.specs.Steps.Flags.{flag_at}
+use Rattle.clip_model.specs.Steps.Numbered.{IsNumbered}
+use Rattle.clip_model.proofs.Numbering.{numbered_empty}
+use Rattle.clip_registry.proofs.Numbering.{none_live}
 use Rattle.clip_registry.proofs.Marks.{flag_at-nil}
 use Rattle.clip_registry.proofs.roster.Roster.new.Goals as goal
 

@@ -1,5 +1,5 @@
 use Rattle.std.proofs.Common.{◌≡◌, map, drop, string_bytes}
-use Rattle.clip_registry.specs.Roster.{roster_without}
+use Rattle.clip_registry.specs.Steps.Roster.{roster_without}
 use Rattle.clip_registry.proofs.roster.Roster.remove_all.Given as goal
 
 abbrev pub invariant-loop-id : goal.invariant-loop-id

@@ -1,7 +1,7 @@
 use Rattle.std.proofs.Common.{◌-◌, ◌<◌, arith, length}
 use Rattle.clip_model.specs.History.{own}
-use Rattle.clip_registry.specs.Kept.{state_of}
-use Rattle.clip_registry.proofs.Counting.{own_length}
+use Rattle.clip_registry.specs.Steps.State.{state_of}
+use Rattle.clip_model.proofs.Counting.{own_length}
 use Rattle.clip_registry.proofs.Keeping.{counted}
 use Rattle.clip_registry.proofs.state.State.next_entry.Goals as goal
 

@@ -5,8 +5,8 @@ use Rattle.std.specs.declared.sync.Arc.{Arc}
 use Rattle.std.specs.declared.alloc.Global.{Global}
 use Rattle.clip_registry.specs.Command.{entry_of, shared_entry}
 use Rattle.clip_registry.specs.declared.command.HistoryEntry.{HistoryEntry}
-use Rattle.clip_registry.specs.Kept.{AreKept, state_of}
-use Rattle.clip_registry.specs.Roster.{Roster}
+use Rattle.clip_registry.specs.Steps.State.{IsConsistent, state_of}
+use Rattle.clip_registry.specs.Steps.Roster.{Roster}
 use Rattle.clip_registry.proofs.Clones.{map_clones, map_shared}
 use Rattle.clip_registry.proofs.state.StateClone.clone.Goals as goal
 
@@ -19,9 +19,9 @@ same_state c = λ i. record {
 pub invariant_of-result : goal.invariant_of-result
 invariant_of-result c =
     let counts : c.in_ok-clone-4.field-0.items ≡ c.self.inside.counts.items = same_from_all_zip (λ (x y : ℕ). y ≡ x) _ _ c.in_ok-clone-4.ensures.cases.0 (λ x y e. e) in
-    subst (λ s. AreKept s c.in_ok-clone-3.field-0 c.in_ok-clone-4.field-0.items) (sym (same_state c))
-    (subst (λ (r : Roster). AreKept (state_of c.self.inside) r c.in_ok-clone-4.field-0.items) (sym c.in_ok-clone-3.ensures.cases)
-    (subst (AreKept (state_of c.self.inside) c.self.inside.roster) (sym counts) c.self.invariant))
+    subst (λ s. IsConsistent s c.in_ok-clone-3.field-0 c.in_ok-clone-4.field-0.items) (sym (same_state c))
+    (subst (λ (r : Roster). IsConsistent (state_of c.self.inside) r c.in_ok-clone-4.field-0.items) (sym c.in_ok-clone-3.ensures.cases)
+    (subst (IsConsistent (state_of c.self.inside) c.self.inside.roster) (sym counts) c.self.invariant))
 
 pub returns : goal.returns
 returns c = record { cases = same_state c ∙ c.self.view_is }

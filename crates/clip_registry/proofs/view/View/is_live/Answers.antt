@@ -1,8 +1,9 @@
 use Rattle.std.proofs.Common.{sym, ap, ◌∙◌}
 use Rattle.clip_model.specs.History.{is_live}
-use Rattle.clip_registry.specs.Whole.{RegistryState, kept_state}
+use Rattle.clip_registry.specs.Whole.{RegistryState}
+use Rattle.clip_registry.specs.Steps.State.{state_or_beginning}
 use Rattle.clip_registry.proofs.Numbering.{none_live}
 use Rattle.clip_registry.proofs.view.View.is_live.Goals as goal
 
 pub returns-in-None : goal.returns-in-None
-returns-in-None c = sym (none_live c.args.entry.now.seq) ∙ ap (λ (s : RegistryState). is_live s.history c.args.entry.now.seq) (ap kept_state (sym c.in-None.is) ∙ c.self.view_is)
+returns-in-None c = sym (none_live c.args.entry.now.seq) ∙ ap (λ (s : RegistryState). is_live s.history c.args.entry.now.seq) (ap state_or_beginning (sym c.in-None.is) ∙ c.self.view_is)

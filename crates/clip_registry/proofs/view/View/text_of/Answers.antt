@@ -4,10 +4,11 @@ use Rattle.std.specs.FinMap as finite
 use Rattle.std.specs.FinMap.{get-empty}
 use Rattle.clip_words.specs.Order.{bytes_cmp}
 use Rattle.clip_model.specs.History.{Registered, replay}
-use Rattle.clip_registry.specs.Whole.{RegistryState, kept_state}
+use Rattle.clip_registry.specs.Whole.{RegistryState}
+use Rattle.clip_registry.specs.Steps.State.{state_or_beginning}
 use Rattle.clip_registry.proofs.view.View.text_of.Goals as goal
 
 pub returns-in-None : goal.returns-in-None
 returns-in-None c =
     ap (option_map (λ (r : Registered). r.standing.text)) (sym (get-empty {X = Registered} bytes_cmp c.args.id.now))
-    ∙ ap (λ (s : RegistryState). option_map (λ (r : Registered). r.standing.text) (finite.get (replay s.history) c.args.id.now)) (ap kept_state (sym c.in-None.is) ∙ c.self.view_is)
+    ∙ ap (λ (s : RegistryState). option_map (λ (r : Registered). r.standing.text) (finite.get (replay s.history) c.args.id.now)) (ap state_or_beginning (sym c.in-None.is) ∙ c.self.view_is)

@@ -1,7 +1,7 @@
--- How a roster is kept.
+-- A roster as its fields hold it.
 use Rattle.std.specs.Prelude.{◌+◌, length}
-use Rattle.clip_registry.specs.Flags.{IsMarked}
-use Rattle.clip_registry.specs.Roster.{Roster}
+use Rattle.clip_registry.specs.Steps.Flags.{AreLiveFlags}
+use Rattle.clip_registry.specs.Steps.Roster.{Roster}
 use Rattle.clip_registry.specs.declared.roster.Roster.TheInside.{Inside}
 
 abbrev pub roster_of : Inside → Roster
@@ -9,4 +9,4 @@ roster_of r = record { registry = r.by_id; listed = r.base + length r.live.items
 
 -- The flags are those of the live seqs.
 abbrev pub IsRoster : Inside → Type 0
-IsRoster r = IsMarked r.base r.live.items r.by_id
+IsRoster r = AreLiveFlags r.base r.live.items r.by_id

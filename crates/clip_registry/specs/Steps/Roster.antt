@@ -1,8 +1,9 @@
 -- The registered queries, and how many were ever listed.
-use Rattle.std.specs.Prelude.{◌≡◌, ℕ, suc, ◌+◌, ◌-◌, ◌<◌, ◌≤◌, List, [], ◌∷◌, length, Option, Some, None, refl}
+use Rattle.std.specs.Prelude.{◌≡◌, ℕ, suc, ◌+◌, ◌-◌, ◌<◌, ◌≤◌, List, [], ◌∷◌, length, filter, Option, Some, None, IsSomeAnd, refl}
 use Rattle.std.specs.FinMap as finite
 use Rattle.std.specs.Coded.{Coded, code_by, coded×, coded_ℕ}
-use Rattle.clip_model.specs.History.{Registered, Registry, registry_code, remove_all}
+use Rattle.clip_model.specs.History.{Registered, Registry, registry_code, remove_all, is_live_in}
+use Rattle.clip_model.specs.Steps.Numbered.{IsNumbered}
 
 -- the registered queries, how many were listed, and a seq up to which none is live
 pub record Roster : Type 0 where
@@ -12,12 +13,6 @@ pub record Roster : Type 0 where
 
 abbrev pub roster_code : Coded Roster
 roster_code = code_by (Registry × (ℕ × ℕ)) (coded× registry_code (coded× coded_ℕ coded_ℕ)) (λ r. (r.registry, (r.listed, r.base))) (λ p. record { registry = p.0; listed = p.1.0; base = p.1.1 }) (λ _. refl)
-
--- Each query stands under its id, seqs are from 1 to n, and no two queries have one.
-pub record IsNumbered (n : ℕ) (registry : Registry) : Type 0 where
-  pub keyed : (id : List ℕ) (r : Registered) → finite.get registry id ≡ Some r → r.standing.id ≡ id
-  pub within : (id : List ℕ) (r : Registered) → finite.get registry id ≡ Some r → (0 < r.seq) × (r.seq ≤ n)
-  pub distinct : (a b : List ℕ) (r s : Registered) → finite.get registry a ≡ Some r → finite.get registry b ≡ Some s → r.seq ≡ s.seq → a ≡ b
 
 -- a query takes the place of the one with its id
 abbrev pub insert_one : Registry → Registered → Registry
@@ -41,19 +36,27 @@ roster_with roster r = record { registry = insert_one roster.registry r; listed 
 abbrev pub roster_with_all : Roster → List Registered → Roster
 roster_with_all roster rs = record { registry = insert_all roster.registry rs; listed = roster.listed + length rs; base = roster.base }
 
+-- of the entries, those that are live
+abbrev pub live_in : Registry → List Registered → List Registered
+live_in registry rs = filter (λ r. is_live_in registry r.seq) rs
+
+-- There is a most, and the registry holds more.
+abbrev pub IsOver : Option ℕ → Registry → Type 0
+IsOver most registry = IsSomeAnd most (λ n. n < finite.len registry)
+
 -- The query, if there is one, has a seq above the base.
 abbrev pub IsAbove : ℕ → Option Registered → Type 0
 IsAbove base None = Unit {0}
 IsAbove base (Some r) = base < r.seq
 
 -- the registry with this query under the id, or with none
-abbrev pub restored : Registry → List ℕ → Option Registered → Registry
-restored registry id None = finite.remove registry id
-restored registry id (Some r) = finite.insert registry id r
+abbrev pub with_or_without : Registry → List ℕ → Option Registered → Registry
+with_or_without registry id None = finite.remove registry id
+with_or_without registry id (Some r) = finite.insert registry id r
 
 -- the roster without its last query, and with the one that it replaced
-abbrev pub undone : Roster → List ℕ → Option Registered → Roster
-undone roster id replaced = record { registry = restored roster.registry id replaced; listed = roster.listed - 1; base = roster.base }
+abbrev pub without_last : Roster → List ℕ → Option Registered → Roster
+without_last roster id replaced = record { registry = with_or_without roster.registry id replaced; listed = roster.listed - 1; base = roster.base }
 
 -- The last query of the roster was put under the id, in the place of this one.
 pub record IsUndoable (roster : Roster) (id : List ℕ) (replaced : Option Registered) : Type 0 where

@@ -1,11 +1,13 @@
-//! Worked examples and limits.
-use crate::{Applied, Command, HistoryEntry, Refused, Registrar, View};
+//! The registry: worked examples and limits.
+use clip_model::MOST_CALLERS;
+use clip_registry::{Applied, Command, Refused, Registrar, View};
 use clip_segment::Standing;
 use std::alloc::Global;
 use std::process::Abort;
 use std::sync::Arc;
 use std::test::Fail;
 
+/// A shared standing query with no listener.
 fn standing(alloc: Global, id: &str, text: &str) -> Result<Arc<Standing>, Fail> {
     Ok(Arc::new(alloc, Standing::read(alloc, id, text, None)?)?)
 }
@@ -23,15 +25,15 @@ fn answer(
     command: Command,
 ) -> Result<Applied, Refused> {
     let fits = command.fits();
-    assert!(rt; fits && caller > 0 && caller <= 64);
+    assert!(rt; fits && caller > 0 && caller <= MOST_CALLERS);
     match registrar.apply(caller, command) {
         Ok(applied) => Ok(applied),
         Err((_command, refused)) => Err(refused),
     }
 }
 
-/// The lengths of a view's segments, and which of their entries are live.
-fn shelves(alloc: Global, view: &View) -> Result<Vec<(usize, usize)>, Fail> {
+/// The lengths of a view's segments, and how many of their entries are live.
+fn segments_of(alloc: Global, view: &View) -> Result<Vec<(usize, usize)>, Fail> {
     let mut lengths = Vec::new(alloc);
     for segment in view.segments() {
         let mut live = 0usize;
@@ -46,7 +48,7 @@ fn shelves(alloc: Global, view: &View) -> Result<Vec<(usize, usize)>, Fail> {
 }
 
 #[test]
-fn a_query_is_replaced(rt: HostRuntime) -> Result<(), Fail> {
+fn a_query_takes_the_place_of_the_one_with_its_id(rt: HostRuntime) -> Result<(), Fail> {
     let alloc = rt.alloc();
     let mut registrar = Registrar::new(alloc);
     let before = registrar.view()?;
@@ -75,20 +77,22 @@ fn a_query_is_replaced(rt: HostRuntime) -> Result<(), Fail> {
     assert_eq!(rt; first.count(), 1);
     assert_eq!(rt; first.place(), 1);
     assert_eq!(rt; first.text_of("q1"), Some("tea"));
-    assert_eq!(rt; shelves(alloc, &first)?.as_slice(), [(1, 1)].as_slice());
+    assert_eq!(rt; segments_of(alloc, &first)?.as_slice(), [(1, 1)].as_slice());
     assert_eq!(rt; second.count(), 2);
     assert_eq!(rt; second.place(), 2);
     assert_eq!(rt; second.text_of("q1"), Some("coffee"));
     assert_eq!(rt; second.text_of("q9"), None);
     assert_eq!(rt;
-        shelves(alloc, &second)?.as_slice(),
+        segments_of(alloc, &second)?.as_slice(),
         [(1, 0), (2, 2)].as_slice()
     );
     Ok(())
 }
 
 #[test]
-fn queries_are_deleted_and_cleared(rt: HostRuntime) -> Result<(), Fail> {
+fn a_delete_counts_the_distinct_ids_that_are_there_and_a_clear_all_queries(
+    rt: HostRuntime,
+) -> Result<(), Fail> {
     let alloc = rt.alloc();
     let mut registrar = Registrar::new(alloc);
     assert_eq!(rt;
@@ -107,7 +111,7 @@ fn queries_are_deleted_and_cleared(rt: HostRuntime) -> Result<(), Fail> {
         );
     }
     assert_eq!(rt;
-        shelves(alloc, &registrar.view()?)?.as_slice(),
+        segments_of(alloc, &registrar.view()?)?.as_slice(),
         [(1, 0)].as_slice()
     );
     assert_eq!(rt;
@@ -120,7 +124,7 @@ fn queries_are_deleted_and_cleared(rt: HostRuntime) -> Result<(), Fail> {
         Ok(Applied::Registered(1))
     );
     assert_eq!(rt;
-        shelves(alloc, &registrar.view()?)?.as_slice(),
+        segments_of(alloc, &registrar.view()?)?.as_slice(),
         [(1, 1)].as_slice()
     );
     assert_eq!(rt;
@@ -158,7 +162,9 @@ fn commands_are_numbered_by_caller(rt: HostRuntime) -> Result<(), Fail> {
 }
 
 #[test]
-fn lists_and_ids_have_limits(rt: HostRuntime) -> Result<(), Fail> {
+fn a_list_of_1024_fits_and_of_1025_does_not_and_an_id_is_1_to_256_bytes_long(
+    rt: HostRuntime,
+) -> Result<(), Fail> {
     let alloc = rt.alloc();
     let shared = standing(alloc, "q1", "tea")?;
     let mut list = Vec::new(alloc);
@@ -190,28 +196,39 @@ fn many(alloc: Global, from: u32, to: u32) -> Result<Command, Fail> {
 }
 
 #[test]
-fn a_million_queries_fill_it(rt: HostRuntime) -> Result<(), Fail> {
+fn a_million_queries_fill_the_registry(rt: HostRuntime) -> Result<(), Fail> {
     let alloc = rt.alloc();
     let mut registrar = Registrar::new(alloc);
-    for list in 0..977u32 {
-        let from = list * 1024;
-        let to = (from + 1024).min(1_000_000);
-        let command = many(alloc, from, to)?;
+    for list in 0..976u32 {
+        let command = many(alloc, list * 1024, list * 1024 + 1024)?;
         assert_eq!(rt;
             answer(&rt, &mut registrar, 1, command),
-            Ok(Applied::Registered((to - from) as u64))
+            Ok(Applied::Registered(1024))
         );
     }
+    assert_eq!(rt;
+        answer(&rt, &mut registrar, 1, many(alloc, 999_424, 1_000_000)?),
+        Ok(Applied::Registered(576))
+    );
     assert_eq!(rt; registrar.view()?.count(), 1_000_000);
     assert_eq!(rt;
         answer(&rt, &mut registrar, 1, one(alloc, "new", "tea")?),
         Err(Refused::Full)
     );
-    assert_eq!(rt; registrar.view()?.place(), 977);
+    let view = registrar.view()?;
+    assert_eq!(rt; view.count(), 1_000_000);
+    assert_eq!(rt; view.place(), 977);
+    assert_eq!(rt; view.text_of("new"), None);
+    assert_eq!(rt; view.segments().len(), 977);
+    assert_eq!(rt; registrar.history().len(), 977);
+    drop(view);
     assert_eq!(rt;
-        answer(&rt, &mut registrar, 1, one(alloc, "7", "tea")?),
+        answer(&rt, &mut registrar, 1, one(alloc, "7", "mat")?),
         Ok(Applied::Registered(1))
     );
-    assert_eq!(rt; registrar.view()?.count(), 1_000_000);
+    let after = registrar.view()?;
+    assert_eq!(rt; after.count(), 1_000_000);
+    assert_eq!(rt; after.place(), 978);
+    assert_eq!(rt; after.text_of("7"), Some("mat"));
     Ok(())
 }

@@ -2,13 +2,15 @@
 use Rattle.std.proofs.Common.{◌≡◌, ℕ, suc, ◌+◌, ◌*◌, ◌-◌, ◌≤◌, Bool, true, false, cond, List, [], ◌∷◌, ◌++◌, length, map, refl, sym, ap, subst, ◌∙◌, arith, Some, is_some, IsTrue, ◌==◌}
 use Rattle.std.proofs.lemmas.Bool.Decides.{nat_tests}
 use Rattle.std.proofs.lemmas.Cmp.{nat_list_cmp_total}
+use Rattle.std.proofs.lemmas.List.{length-map}
 use Rattle.std.specs.List.{filter}
 use Rattle.std.specs.Ordering.{eq_by_cmp}
 use Rattle.std.specs.FinMap as finite
 use Rattle.std.specs.FinMap.{get-insert, len-insert, len-remove}
 use Rattle.clip_words.specs.Order.{bytes_cmp}
 use Rattle.clip_model.specs.Standing.{Standing}
-use Rattle.clip_model.specs.History.{History, HistoryEntry, Command, Register, Delete, Clear, Registered, Registry, IsLegal, register_all, remove_all, listed, lists, own, fits, most_entries}
+use Rattle.clip_model.specs.History.{History, HistoryEntry, Command, Register, Delete, Clear, Registered, Registry, IsLegal, register_all, remove_all, listed, lists, own, fits}
+use Rattle.clip_model.specs.declared.limits.TheConstants.{MOST_LISTED, MOST_ENTRIES}
 
 -- fewer by one, or as many
 not_more : (b : Bool) (n : ℕ) → cond b (n - 1) n ≤ n
@@ -46,32 +48,28 @@ len_register n ss = (same_register n 0 ss finite.empty finite.empty (record { id
 
 -- ---- histories
 
-lists_few : (c : Command) → IsTrue (fits c) → lists c ≤ 1024
+lists_few : (c : Command) → IsTrue (fits c) → lists c ≤ MOST_LISTED
 lists_few (Register standings) h = grind (arith, nat_tests)
 lists_few (Delete ids) h = omega arith
 lists_few Clear h = omega arith
 
-listed_few : (h : History) → ((before after : History) (e : HistoryEntry) → h ≡ before ++ e ∷ after → IsTrue (fits e.command)) → listed h ≤ 1024 * length h
+listed_few : (h : History) → ((before after : History) (e : HistoryEntry) → h ≡ before ++ e ∷ after → IsTrue (fits e.command)) → listed h ≤ MOST_LISTED * length h
 listed_few [] fit = omega arith
 listed_few (e ∷ h) fit =
     let first = lists_few e.command (fit [] h e refl) in
     let rest = listed_few h (λ before after f parts. fit (e ∷ before) after f (ap (λ x. e ∷ x) parts)) in
     omega arith
 
--- a legal history listed no more than 1,024 queries with each entry
-pub listed_bound : (h : History) → IsLegal h → listed h ≤ 1024 * most_entries
+-- a legal history listed no more queries with each entry than a command may list
+pub listed_bound : (h : History) → IsLegal h → listed h ≤ MOST_LISTED * MOST_ENTRIES
 listed_bound h legal = let few = listed_few h legal.commands in let short = legal.short in omega arith
 
 filter_length : (p : HistoryEntry → Bool) (h : History) → length (filter p h) ≤ length h
 filter_length p [] = omega arith
 filter_length p (e ∷ h) = let rest = filter_length p h in elim (p e) as (λ b. length (cond b (e ∷ filter p h) (filter p h)) ≤ suc (length h)) [ true ↦ omega arith | false ↦ omega arith ]
 
-pub length_map : {A B : Type 0} (f : A → B) (xs : List A) → length (map f xs) ≡ length xs
-length_map f [] = refl
-length_map f (x ∷ xs) = ap suc (length_map f xs)
-
 pub own_length : (h : History) (caller : ℕ) → length (own h caller) ≤ length h
-own_length h caller = let few = filter_length (λ e. e.caller == caller) h in let same = length_map (λ (e : HistoryEntry). e.command) (filter (λ e. e.caller == caller) h) in omega arith
+own_length h caller = let few = filter_length (λ e. e.caller == caller) h in let same = length-map (filter (λ e. e.caller == caller) h) (λ (e : HistoryEntry). e.command) in omega arith
 
 -- one entry more is one command more of its caller, and none of another
 pub own_more : (h : History) (e : HistoryEntry) (caller : ℕ) → length (own (h ++ e ∷ []) caller) ≡ cond (e.caller == caller) (suc (length (own h caller))) (length (own h caller))
@@ -87,7 +85,3 @@ own_more (f ∷ h) e caller =
     pushed : (b : Bool) (n : ℕ) → suc (cond b (suc n) n) ≡ cond b (suc (suc n)) (suc n)
     pushed true n = refl
     pushed false n = refl
-
-pub no_items : {A : Type 0} (xs : List A) → length xs ≡ 0 → xs ≡ []
-no_items [] h = refl
-no_items (x ∷ xs) h = absurd (omega arith)

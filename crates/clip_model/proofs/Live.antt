@@ -1,6 +1,5 @@
 -- Keys of registries, and which seqs are live.
-use Rattle.std.proofs.Common.{◌≡◌, ℕ, Bool, true, false, cond, ◌||◌, List, [], ◌∷◌, refl, sym, ap, ◌∙◌, arith, Some, None, ◌==◌}
-use Rattle.std.proofs.lemmas.Bool.Decides.{nat_tests}
+use Rattle.std.proofs.Common.{◌≡◌, ℕ, Bool, true, false, cond, ◌||◌, List, [], ◌∷◌, refl, sym, ap, ◌∙◌, Some, None, ◌==◌}
 use Rattle.std.proofs.lemmas.Cmp.{nat_list_cmp_total}
 use Rattle.std.specs.List.{list_any}
 use Rattle.std.specs.Ordering.{eq_by_cmp}
@@ -11,15 +10,13 @@ use Rattle.clip_words.specs.Order.{bytes_cmp}
 use Rattle.clip_model.specs.History.{Registered, Registry, is_live_in}
 use Rattle.clip_model.proofs.ById.{bytes_same, bytes_itself}
 use Rattle.clip_model.proofs.Entries.{entry_given}
+use Rattle.clip_model.proofs.Numbers.{same_numbers, numbers_same}
 
 pub same_Some : {A : Type 0} {x y : A} → Some x ≡ Some y → x ≡ y
 same_Some h = cc
 
 pub none_some : {A : Type 0} {x : A} → None ≡ Some x → ⊥
 none_some h = cc
-
-pub false_true : false ≡ true → ⊥
-false_true h = cc
 
 -- two tests that follow from each other are the same
 pub same_bool : (a b : Bool) → (a ≡ true → b ≡ true) → (b ≡ true → a ≡ true) → a ≡ b
@@ -40,7 +37,7 @@ removed_at m id = get-remove nat_list_cmp_total m id id ∙ ap (λ b. cond b Non
 pub removed_else : (m : Registry) (id : List ℕ) (q : List ℕ) → eq_by_cmp bytes_cmp q id ≡ false → finite.get (finite.remove m id) q ≡ finite.get m q
 removed_else m id q e = get-remove nat_list_cmp_total m id q ∙ ap (λ b. cond b None (finite.get m q)) e
 
--- what is found behind an insert is the new query, or was there under another id
+-- what is found after an insert is the new query, or was there under another id
 pub data AfterInsert (m : Registry) (id : List ℕ) (r : Registered) (q : List ℕ) (s : Registered) : Type 0 where
   new : q ≡ id → s ≡ r → AfterInsert m id r q s
   old : eq_by_cmp bytes_cmp q id ≡ false → finite.get m q ≡ Some s → AfterInsert m id r q s
@@ -69,13 +66,10 @@ found_any : (id : List ℕ) (r : Registered) (es : List (List ℕ × Registered)
 found_any id r [] h = absurd (none_some h)
 found_any id r (e ∷ es) h =
     elim (eq_by_cmp bytes_cmp id e.0) as (λ b. cond b (Some e.1) (find bytes_cmp id es) ≡ Some r → (e.1.seq == r.seq || list_any (λ e. e.1.seq == r.seq) es) ≡ true) [
-      | true ↦ λ is. let same : e.1 ≡ r = same_Some is in let seqs : (e.1.seq == r.seq) ≡ true = rw same (itself r.seq) in ap (λ b. b || list_any (λ e. e.1.seq == r.seq) es) seqs
+      | true ↦ λ is. let same : e.1 ≡ r = same_Some is in let seqs : (e.1.seq == r.seq) ≡ true = rw same (numbers_same r.seq r.seq refl) in ap (λ b. b || list_any (λ e. e.1.seq == r.seq) es) seqs
       | false ↦ λ is. or_right (e.1.seq == r.seq) _ (found_any id r es is)
     ] h
   where
-    itself : (n : ℕ) → (n == n) ≡ true
-    itself n = grind (arith, nat_tests)
-
     or_right : (a b : Bool) → b ≡ true → (a || b) ≡ true
     or_right true b h = refl
     or_right false b h = h
@@ -94,4 +88,4 @@ pub record HasSeq (m : Registry) (seq : ℕ) : Type 0 where
 pub live_given : (m : Registry) (seq : ℕ) → is_live_in m seq ≡ true → HasSeq m seq
 live_given m seq h =
     let given = entry_given nat_list_cmp_total (λ e. e.1.seq == seq) m h in
-    record { id = given.0; entry = given.1; given = given.2; is = let e = given.3 in grind (arith, nat_tests) }
+    record { id = given.0; entry = given.1; given = given.2; is = same_numbers _ _ given.3 }

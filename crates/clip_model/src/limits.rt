@@ -1,0 +1,13 @@
+//! The limits of the registry, each in one place.
+
+/// The most queries or ids that one command lists.
+pub const MOST_LISTED: usize = 1024;
+
+/// The most queries that are registered at once.
+pub const MOST_LIVE: u64 = 1_000_000;
+
+/// The most commands that a history holds.
+pub const MOST_ENTRIES: u64 = 4_294_967_295;
+
+/// Callers are numbered from 1 to this.
+pub const MOST_CALLERS: u32 = 64;

@@ -1,0 +1,31 @@
+-- The registry as a state holds it.
+use Rattle.std.specs.Prelude.{◌≡◌, ℕ, ◌-◌, ◌<◌, ◌≤◌, List, map, length, slice_index, Option, Some, None}
+use Rattle.std.specs.Arc.{arc_value}
+use Rattle.std.specs.declared.sync.Arc.{Arc}
+use Rattle.std.specs.declared.alloc.Global.{Global}
+use Rattle.clip_model.specs.declared.limits.TheConstants.{MOST_CALLERS}
+use Rattle.clip_model.specs.History.{IsLegal, replay, listed, own}
+use Rattle.clip_registry.specs.Command.{shared_entry}
+use Rattle.clip_registry.specs.Steps.Roster.{Roster}
+use Rattle.clip_registry.specs.Whole.{RegistryState, IsWhole, beginning}
+use Rattle.clip_registry.specs.declared.state.State.TheInside.{Inside}
+
+abbrev pub state_of : Inside → RegistryState
+state_of s = record { segments = map arc_value s.segments.items; history = map shared_entry s.history.items }
+
+-- The registry is whole over a legal history, the roster is what the history replays to, and each caller's commands are counted.
+pub record IsConsistent (state : RegistryState) (roster : Roster) (counts : List ℕ) : Type 0 where
+  pub whole : IsWhole state
+  pub legal : IsLegal state.history
+  pub registry : roster.registry ≡ replay state.history
+  pub listed : roster.listed ≡ listed state.history
+  pub callers : length counts ≡ MOST_CALLERS
+  pub numbers : (caller : ℕ) → 0 < caller → caller ≤ MOST_CALLERS → slice_index counts (caller - 1) ≡ length (own state.history caller)
+
+abbrev pub IsConsistentInside : Inside → Type 0
+IsConsistentInside s = IsConsistent (state_of s) s.roster s.counts.items
+
+-- what a registrar or a view holds: no state before the first command
+abbrev pub state_or_beginning : Option (Arc RegistryState Global) → RegistryState
+state_or_beginning None = beginning
+state_or_beginning (Some state) = arc_value state
