@@ -29,8 +29,9 @@ use Rattle.clip_registry.specs.Whole.{RegistryState}
 use Rattle.clip_registry.proofs.Rising.{contains_filter}
 use Rattle.clip_registry.proofs.Whole.{replay_numbered}
 use Rattle.clip_presearch.specs.Candidates.{AreRegistered, MissesNone}
+use Rattle.clip_presearch.proofs.Strict.{sorted_mapped, sorted_keys, entries_in_order, keys_in_order}
 use Rattle.clip_match.specs.Alerts.{alert_due}
-use Rattle.clip_match.proofs.Sorted.{sorted_mapped, strict_from_distinct, find_lookup, sorted_keys, keys_sorted, sorted_filter, true_from}
+use Rattle.clip_match.proofs.Sorted.{strict_from_distinct, find_lookup, sorted_filter}
 
 abbrev same_id : List ℕ → List ℕ → Bool
 same_id = eq_by_cmp bytes_cmp
@@ -140,9 +141,8 @@ due state article found rs registered misses_none rising moved sorted =
     let sorted_ids =
     sorted_mapped first (λ x y. is_lt (bytes_cmp x y)) (by_id rs) (sorted_mapped with_id (λ x y. is_lt (bytes_cmp x.0 y.0)) rs sorted) in
     let rs_sorted = T_from_true _ (sorted_keys bytes_cmp (by_id rs) (strict_from_distinct nat_list_cmp_total (ids rs) sorted_ids distinct)) in
-    let entries_in_order : is_sorted bytes_cmp entries ≡ true = true_from _ (entries_sorted registry) in
-    let holding_sorted = T_from_true _ (sorted_filter bytes_cmp (holds_of article) entries entries_in_order) in
-    let apart = IsDistinct-from_sorted bytes_cmp (keys_of entries) (keys_sorted bytes_cmp entries entries_in_order) in
+    let holding_sorted = T_from_true _ (sorted_filter bytes_cmp (holds_of article) entries (entries_in_order bytes_cmp registry)) in
+    let apart = IsDistinct-from_sorted bytes_cmp (finite.keys registry) (keys_in_order bytes_cmp registry) in
     let look : (q : List ℕ) → find bytes_cmp q holding ≡ option_filter held (finite.get registry q) =
     λ q. find_lookup bytes_cmp q holding ∙ lookup-filter-values laws held q entries apart
     ∙ ap (option_filter held) (sym (find_lookup bytes_cmp q entries) ∙ sym (get-entries registry q)) in

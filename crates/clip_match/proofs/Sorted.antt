@@ -1,4 +1,4 @@
--- Lists that are sorted by a key, as the entries of a finite map.
+-- Entries in order, look-ups and filters.
 use Rattle.std.proofs.Common.{◌≡◌, ◌+◌, ◌<◌, Bool, true, false, cond, List, [], ◌∷◌, map, length, filter, refl, sym, ap, ◌∙◌, arith, Some, is_lt}
 use Rattle.std.proofs.Math.Dec.{T}
 use Rattle.std.specs.Cmp.{IsTotalOrder}
@@ -13,10 +13,6 @@ use Rattle.std.proofs.lemmas.Bool.{and_from, and_parts, false≢true}
 use Rattle.std.proofs.lemmas.List.{length-map, get_or-map}
 use Rattle.std.proofs.lemmas.Map.Keys.{apart_from_distinct, sorted_from_all_adjacent}
 
-pub true_from : (b : Bool) → T b → b ≡ true
-true_from true h = refl
-true_from false h = absurd h
-
 pub map_filter : {A B : Type 0} (f : A → B) (p : B → Bool) (xs : List A) → map f (filter (λ x. p (f x)) xs) ≡ filter p (map f xs)
 map_filter f p [] = refl
 map_filter f p (x ∷ xs) =
@@ -24,14 +20,6 @@ map_filter f p (x ∷ xs) =
       | true ↦ ap (λ ys. f x ∷ ys) (map_filter f p xs)
       | false ↦ map_filter f p xs
     ]
-
-pub sorted_mapped : {A B : Type 0} (f : A → B) (lt : B → B → Bool) (xs : List A) → IsSortedBy (λ x y. lt (f x) (f y)) xs → IsSortedBy lt (map f xs)
-sorted_mapped f lt [] sorted k d low inside = absurd (omega arith)
-sorted_mapped f lt (x ∷ xs) sorted k d low inside =
-    let more : k + 1 < length (x ∷ xs) = omega (arith, length-map (x ∷ xs) f) in
-    let next = get_or-map f (x ∷ xs) (k + 1) x d more in
-    let this = get_or-map f (x ∷ xs) k x d (omega arith) in
-    (λ i. lt (next i) (this i)) ∙ sorted k x low more
 
 module _ {K : Type 0} {R : K → K → Ordering} (o : IsTotalOrder R) where
   rises : (x y : K) → is_lt (R y x) ≡ false → eq_by_cmp R x y ≡ false → R x y ≡ Less
@@ -55,34 +43,6 @@ module _ {K X : Type 0} (R : K → K → Ordering) where
   pub find_lookup : (q : K) (es : List (K × X)) → find R q es ≡ lookup (eq_by_cmp R q) es
   find_lookup q [] = refl
   find_lookup q (e ∷ es) = ap (cond (eq_by_cmp R q e.0) (Some e.1)) (find_lookup q es)
-
-  -- ---- the keys rise strictly
-  below_keys : (k : K) (es : List (K × X)) → AllByRecursion (λ l. R k l ≡ Less) (keys_of es) → below_all R k es ≡ true
-  below_keys k [] all = refl
-  below_keys k (e ∷ es) all = and_from (is_lt (R k e.0)) _ (ap is_lt all.0) (below_keys k es all.1)
-
-  pub sorted_keys : (es : List (K × X)) → IsStrictlySortedBy R (keys_of es) → is_sorted R es ≡ true
-  unfolding IsStrictlySortedBy
-  sorted_keys [] sorted = refl
-  sorted_keys (e ∷ es) sorted = and_from (below_all R e.0 es) _ (below_keys e.0 es sorted.0) (sorted_keys es sorted.1)
-
-  keys_below : (k : K) (es : List (K × X)) → below_all R k es ≡ true → AllByRecursion (λ l. R k l ≡ Less) (keys_of es)
-  keys_below k [] below = tt
-  keys_below k (e ∷ es) below =
-      let parts = and_parts (is_lt (R k e.0)) _ below in
-      (less (R k e.0) parts.0, keys_below k es parts.1)
-    where
-      less : (r : Ordering) → is_lt r ≡ true → r ≡ Less
-      less Less h = refl
-      less Equal h = cc
-      less Greater h = cc
-
-  pub keys_sorted : (es : List (K × X)) → is_sorted R es ≡ true → IsStrictlySortedBy R (keys_of es)
-  unfolding IsStrictlySortedBy
-  keys_sorted [] sorted = tt
-  keys_sorted (e ∷ es) sorted =
-      let parts = and_parts (below_all R e.0 es) _ sorted in
-      (keys_below e.0 es parts.0, keys_sorted es parts.1)
 
   -- ---- of the entries, those that pass a test
 

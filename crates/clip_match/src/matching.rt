@@ -6,8 +6,7 @@ ghost use Rattle.clip_meaning.specs.Meaning.{holds};
 ghost use Rattle.clip_match.specs.Alerts.{alert_value, alerts_value, alert_due, alerts_due};
 
 use crate::alert::{Alert, Alerts};
-use clip_meaning::Article;
-use clip_meaning::meaning::holds;
+use clip_meaning::{Article, holds};
 use clip_presearch::candidates;
 use clip_registry::View;
 use clip_segment::Entry;

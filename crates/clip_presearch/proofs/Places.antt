@@ -13,7 +13,7 @@ use Rattle.clip_extract.specs.Keys.{KeyValue, is_same}
 use Rattle.clip_extract.specs.Extraction.{query_keys}
 use Rattle.clip_segment.specs.Segment.{holds_key, positions_with}
 use Rattle.clip_segment.proofs.Keys.{flipped}
-use Rattle.clip_presearch.specs.Places.{has_one, placed_with, places_with, live_with}
+use Rattle.clip_presearch.specs.Steps.Places.{has_one, placed_with, places_with, live_with}
 
 -- ---- tests of lists
 

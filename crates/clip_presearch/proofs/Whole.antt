@@ -8,15 +8,15 @@ use Rattle.clip_model.specs.History.{is_live}
 use Rattle.clip_segment.specs.Segment.{IsRising}
 use Rattle.clip_registry.proofs.Rising.{contains_filter}
 use Rattle.clip_registry.specs.Whole.{RegistryState, IsWhole, all_entries}
-use Rattle.clip_extract.proofs.Covers.{covering}
+use Rattle.clip_extract.specs.Covering.{Covers}
 use Rattle.clip_presearch.specs.Candidates.{is_candidate, candidates_of, MissesNone, AreRegistered}
 
 -- no candidate is missed
-pub misses_none : (state : RegistryState) (article : ArticleValue) → IsWhole state → MissesNone state article (candidates_of state article)
-misses_none state article whole r stands held =
+pub misses_none : Covers → (state : RegistryState) (article : ArticleValue) → IsWhole state → MissesNone state article (candidates_of state article)
+misses_none covers state article whole r stands held =
     let live = (whole.live_entries r).0 stands in
     contains_filter (is_candidate state.history article.fields) r (all_entries state.segments)
-    (and_from (is_live state.history r.seq) _ live.1 (covering r.standing.tree article.fields held)) live.0
+    (and_from (is_live state.history r.seq) _ live.1 (covers r.standing.tree article.fields held)) live.0
 
 pub candidates_rise : (state : RegistryState) (article : ArticleValue) → IsWhole state → IsRising (candidates_of state article)
 candidates_rise state article whole = record {

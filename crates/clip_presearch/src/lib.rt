@@ -3,10 +3,8 @@
 
 ghost use Rattle.std.specs.Prelude.{◌≡◌};
 
-mod article;
+mod keys;
 mod presearch;
-#[cfg(test)]
-mod tests;
 
-pub use article::article_keys;
+pub use keys::article_keys;
 pub use presearch::candidates;

@@ -3,10 +3,11 @@ ghost use Rattle.std.specs.Prelude.{◌≡◌, ◌++◌, map, IfOk, OnOk};
 ghost use Rattle.clip_extract.specs.Keys.{key_of};
 ghost use Rattle.clip_segment.specs.Segment.{IsRising};
 ghost use Rattle.clip_presearch.specs.Candidates.{candidates_of, MissesNone, AreRegistered};
-ghost use Rattle.clip_presearch.specs.Places.{places_with, live_with};
+ghost use Rattle.clip_presearch.specs.Steps.Places.{places_with, live_with};
 
-use crate::article::article_keys;
+use crate::keys::article_keys;
 use clip_extract::Key;
+use clip_extract::laws::covering_law;
 use clip_meaning::Article;
 use clip_registry::View;
 use clip_segment::{Entry, Segment};
@@ -52,7 +53,7 @@ fn add_candidates<'a>(
 /// The entries that could hold of an article: exactly the live ones whose query has a key in common with it, each once,
 /// in rising seq. Each registered query that holds of the article is among them.
 ///
-/// `NoMemory` where a growth was refused. Cost: the keys of the article, one look-up in each segment for each of them,
+/// `NoMemory` where an allocation failed. Cost: the keys of the article, one look-up in each segment for each of them,
 /// and a step and a sort's share for each position found; an entry without such a key is not looked at.
 pub fn candidates<'a>(
     alloc: Global,
@@ -64,6 +65,7 @@ pub fn candidates<'a>(
     ensures registered { IfOk result (λ found. AreRegistered view.now (map (λ e. e.now) found.items)) }
     ensures rising { IfOk result (λ found. IsRising (map (λ e. e.now) found.items)) }
 {
+    covering_law();
     let keys = article_keys(alloc, article)?;
     let mut positions = Vec::new(alloc);
     let mut found = Vec::new(alloc);

@@ -4,7 +4,11 @@
 #[cfg(test)]
 mod extract;
 #[cfg(test)]
+mod matching;
+#[cfg(test)]
 mod meaning;
+#[cfg(test)]
+mod presearch;
 #[cfg(test)]
 mod registry;
 #[cfg(test)]

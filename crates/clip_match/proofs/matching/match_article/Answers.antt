@@ -1,11 +1,14 @@
-use Rattle.std.proofs.Common.{◌≡◌, map, length, filter, IsPermutation, sym, ap, subst, ◌∙◌, rules, Bor}
+use Rattle.std.proofs.Common.{◌≡◌, ℕ, List, map, length, filter, IsPermutation, sym, ap, subst, ◌∙◌, rules, Bor}
 use Rattle.std.specs.Arc.{arc_str_bytes}
 use Rattle.std.proofs.lemmas.List.{length-map}
+use Rattle.clip_meaning.specs.Article.{ArticleValue}
 use Rattle.clip_meaning.specs.Meaning.{holds}
 use Rattle.clip_model.specs.History.{Registered}
 use Rattle.clip_model.specs.Alerts.{alerts}
+use Rattle.clip_registry.specs.Whole.{RegistryState}
 use Rattle.clip_presearch.specs.Candidates.{candidates_of}
-use Rattle.clip_match.specs.Alerts.{alert_value, alert_due}
+use Rattle.clip_match.specs.declared.alert.Alerts.{Alerts}
+use Rattle.clip_match.specs.Alerts.{alert_value, alerts_value, alert_due, alerts_due}
 use Rattle.clip_match.proofs.Due.{alerts_are_due}
 use Rattle.clip_match.proofs.matching.match_article.Goals as goal
 
@@ -13,16 +16,14 @@ pub returns : goal.returns
 returns c =
     let state = c.args.view.now in
     let article = c.args.article.now in
-    let found = map (λ (e : Bor Registered). e.now) c.in_ok-entries.entries.items in
+    let entries = c.in_ok-entries.entries.items in
+    let found = map (λ (e : Bor Registered). e.now) entries in
     let sorted = map (λ (e : Bor Registered). e.now) c.sort_by_id.new.entries.items in
     let moved : IsPermutation (filter (λ r. holds r.standing.tree article.fields) found) sorted =
     subst (λ xs. IsPermutation xs sorted) c.keep_holding.ensures c.sort_by_id.ensures.moved in
-    let id : arc_str_bytes c.in_ok-clone.field-0 ≡ article.id = search rules in
-    let place : c.place.result ≡ length state.history = c.place.ensures in
-    let asked : c.len-asked.result ≡ length (candidates_of state article) =
-    let items : c.len-asked.result ≡ length c.in_ok-entries.entries.items = search rules in
-    items ∙ sym (length-map c.in_ok-entries.entries.items (λ (e : Bor Registered). e.now)) ∙ ap length c.in_ok-entries.ensures.sharers in
+    let tried : length entries ≡ length (candidates_of state article) =
+    sym (length-map entries (λ (e : Bor Registered). e.now)) ∙ ap length c.in_ok-entries.ensures.sharers in
     let due : map alert_value c.in_ok-alerts.field-0.items ≡ alerts state.history article =
     c.in_ok-alerts.ensures ∙ ap (λ es. map (alert_due article) (map (λ (e : Bor Registered). e.now) es)) c.deref.ensures.value
     ∙ alerts_are_due state article found sorted c.in_ok-entries.ensures.registered c.in_ok-entries.ensures.misses_none c.in_ok-entries.ensures.rising moved c.sort_by_id.ensures.sorted in
-    λ i. record { article = id i; place = place i; asked = asked i; alerts = due i }
+    search (rules, tried, due)

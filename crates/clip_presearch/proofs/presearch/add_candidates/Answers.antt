@@ -4,7 +4,7 @@ use Rattle.std.specs.List.{slice_get}
 use Rattle.std.proofs.lemmas.List.{map-append, append_assoc, append-nil, take_all, length-map}
 use Rattle.clip_extract.specs.Keys.{key_of}
 use Rattle.clip_model.specs.History.{Registered, is_live}
-use Rattle.clip_presearch.specs.Places.{placed_with, places_with}
+use Rattle.clip_presearch.specs.Steps.Places.{placed_with, places_with}
 use Rattle.clip_presearch.proofs.Places.{entry_there, live_more, live_places}
 use Rattle.clip_presearch.proofs.presearch.add_candidates.Goals as goal
 

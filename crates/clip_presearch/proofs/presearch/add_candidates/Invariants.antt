@@ -1,7 +1,7 @@
 use Rattle.std.proofs.Common.{◌≡◌, ◌++◌, map, filter, take}
 use Rattle.clip_extract.specs.Keys.{key_of}
 use Rattle.clip_model.specs.History.{is_live}
-use Rattle.clip_presearch.specs.Places.{placed_with}
+use Rattle.clip_presearch.specs.Steps.Places.{placed_with}
 use Rattle.clip_presearch.proofs.presearch.add_candidates.Given as goal
 
 abbrev pub invariant-loop-position : goal.invariant-loop-position

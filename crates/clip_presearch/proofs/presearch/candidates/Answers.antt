@@ -6,7 +6,7 @@ use Rattle.clip_model.specs.History.{Registered}
 use Rattle.clip_segment.specs.Segment.{IsRising}
 use Rattle.clip_registry.specs.Whole.{all_entries}
 use Rattle.clip_presearch.specs.Candidates.{candidates_of, MissesNone, AreRegistered}
-use Rattle.clip_presearch.specs.Places.{live_with}
+use Rattle.clip_presearch.specs.Steps.Places.{live_with}
 use Rattle.clip_presearch.proofs.Whole.{misses_none, candidates_registered, candidates_rise}
 use Rattle.clip_presearch.proofs.presearch.candidates.Goals as goal
 
@@ -26,7 +26,7 @@ returns c =
     ∙ ap (λ keys. live_with state.history keys (all_entries state.segments)) c.in_ok-keys.ensures in
     record {
       sharers = all;
-      misses_none = subst (MissesNone state article) (sym all) (misses_none state article whole);
+      misses_none = subst (MissesNone state article) (sym all) (misses_none c.covering_law.ensures state article whole);
       registered = subst (AreRegistered state) (sym all) (candidates_registered state article whole);
       rising = subst IsRising (sym all) (candidates_rise state article whole);
     }

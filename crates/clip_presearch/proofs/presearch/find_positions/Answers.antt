@@ -5,7 +5,7 @@ use Rattle.std.proofs.lemmas.List.Folds.{flat_map-map}
 use Rattle.clip_extract.specs.Keys.{key_of}
 use Rattle.clip_model.specs.History.{Registered}
 use Rattle.clip_segment.specs.Segment.{positions_with}
-use Rattle.clip_presearch.specs.Places.{has_one, places_with}
+use Rattle.clip_presearch.specs.Steps.Places.{has_one, places_with}
 use Rattle.clip_presearch.proofs.Numbers.{sorted_numbers}
 use Rattle.clip_presearch.proofs.Places.{any_position, places_rise}
 use Rattle.clip_presearch.proofs.presearch.find_positions.Goals as goal

@@ -1,0 +1,3 @@
+-- Stepping stones of the proofs.
+pub mod KeysByField
+pub mod Places
