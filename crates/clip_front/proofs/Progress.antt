@@ -4,7 +4,7 @@ use Rattle.std.specs.Prelude.{⊤, IfSome, OnErr, Result, Ok, Err, nat_lt}
 use Rattle.std.specs.Io.KnownBytes.{Appends, prepend_known}
 use Rattle.std.proofs.lemmas.Bool.Decides.{nat_tests}
 use Rattle.std.proofs.lemmas.List.{length-take}
-use Rattle.clip_registry.specs.Whole.{RegistryState}
+use Rattle.clip_registry.specs.RegistryState.{RegistryState}
 use Rattle.clip_stream.specs.Device.{AppendsFront, HandsOver}
 use Rattle.clip_stream.specs.Lines.{lines_of, onto_first}
 use Rattle.clip_stream.specs.Steps.Reading.{first_line, after_line, has_feed, cut, FindsKnownLine}

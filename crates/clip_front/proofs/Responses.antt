@@ -4,7 +4,7 @@ use Rattle.clip_meaning.specs.Article.{ArticleValue}
 use Rattle.clip_model.specs.History.{History, Command, Register, Delete, Clear, has_room, applied}
 use Rattle.clip_match.specs.Alerts.{AlertsValue, alerts_due}
 use Rattle.clip_registry.specs.Command.{answer_of}
-use Rattle.clip_registry.specs.Whole.{RegistryState, state_after}
+use Rattle.clip_registry.specs.RegistryState.{RegistryState, state_after}
 use Rattle.clip_registry.specs.declared.command.Applied.{Applied}
 use Rattle.clip_front.specs.LineMeaning.{Meaning, command, judged, after}
 use Rattle.clip_front.specs.Reply.{Reply, accepted, alerts_shown, answer_to}

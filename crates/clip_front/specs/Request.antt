@@ -4,7 +4,7 @@ use Rattle.std.specs.List.{list_all}
 use Rattle.serde_json.specs.Data.{Data, string, array, object, Members, no_members, member}
 use Rattle.serde_json.specs.View.{items_of}
 use Rattle.clip_meaning.specs.Article.{may_be}
-use Rattle.clip_model.specs.History.{most_listed}
+use Rattle.clip_model.specs.declared.limits.TheConstants.{MOST_LISTED}
 use Rattle.clip_words.specs.Ids.{is_id}
 use Rattle.clip_front.specs.declared.limits.TheConstants.{MOST_ARTICLES}
 
@@ -59,8 +59,8 @@ value_of (match drafts) = object_of ((codes "articles", array_of (map draft_valu
 -- ---- limits
 
 abbrev pub within : Request → Bool
-within (register listings) = nat_le (length listings) most_listed && list_all (λ l. is_id l.id) listings
-within (delete ids) = nat_le (length ids) most_listed && list_all is_id ids
+within (register listings) = nat_le (length listings) MOST_LISTED && list_all (λ l. is_id l.id) listings
+within (delete ids) = nat_le (length ids) MOST_LISTED && list_all is_id ids
 within clear = true
 within count = true
 within (show id) = is_id id

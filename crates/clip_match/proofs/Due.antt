@@ -25,9 +25,9 @@ use Rattle.clip_model.specs.History.{Registered, replay}
 use Rattle.clip_model.specs.Alerts.{alert_of, alerts, holds_of}
 use Rattle.clip_model.proofs.ById.{bytes_same}
 use Rattle.clip_segment.specs.Segment.{IsRising}
-use Rattle.clip_registry.specs.Whole.{RegistryState}
+use Rattle.clip_registry.specs.RegistryState.{RegistryState}
 use Rattle.clip_registry.proofs.Rising.{contains_filter}
-use Rattle.clip_registry.proofs.Whole.{replay_numbered}
+use Rattle.clip_model.proofs.Numbering.{replay_numbered}
 use Rattle.clip_presearch.specs.Candidates.{AreRegistered, MissesNone}
 use Rattle.clip_presearch.proofs.Strict.{sorted_mapped, sorted_keys, entries_in_order, keys_in_order}
 use Rattle.clip_match.specs.Alerts.{alert_due}

@@ -4,7 +4,7 @@ use Rattle.std.specs.Arc.{arc_str_bytes}
 use Rattle.clip_meaning.specs.Article.{ArticleValue}
 use Rattle.clip_model.specs.History.{Registered}
 use Rattle.clip_model.specs.Alerts as model
-use Rattle.clip_registry.specs.Whole.{RegistryState}
+use Rattle.clip_registry.specs.RegistryState.{RegistryState}
 use Rattle.clip_presearch.specs.Candidates.{candidates_of}
 use Rattle.clip_match.specs.declared.alert.Alert.{Alert}
 use Rattle.clip_match.specs.declared.alert.Alerts.{Alerts}

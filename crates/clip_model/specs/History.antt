@@ -101,16 +101,7 @@ applied h command = applied_to (replay h) command
 
 -- ---- legality
 
--- the limits, under the names that they had before they were constants
-abbrev pub most_listed : ℕ
-most_listed = MOST_LISTED
-
-abbrev pub most_live : ℕ
-most_live = MOST_LIVE
-
-abbrev pub most_entries : ℕ
-most_entries = MOST_ENTRIES
-
+-- it lists no more than it may, and ids that may be ones
 abbrev pub fits : Command → Bool
 fits (Register standings) = nat_le (length standings) MOST_LISTED
 fits (Delete ids) = nat_le (length ids) MOST_LISTED && list_all is_id ids

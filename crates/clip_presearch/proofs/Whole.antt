@@ -7,7 +7,7 @@ use Rattle.clip_meaning.specs.Article.{ArticleValue}
 use Rattle.clip_model.specs.History.{is_live}
 use Rattle.clip_segment.specs.Segment.{IsRising}
 use Rattle.clip_registry.proofs.Rising.{contains_filter}
-use Rattle.clip_registry.specs.Whole.{RegistryState, IsWhole, all_entries}
+use Rattle.clip_registry.specs.RegistryState.{RegistryState, IsWhole, all_entries}
 use Rattle.clip_extract.specs.Covering.{Covers}
 use Rattle.clip_presearch.specs.Candidates.{is_candidate, candidates_of, MissesNone, AreRegistered}
 

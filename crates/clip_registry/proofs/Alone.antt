@@ -12,7 +12,7 @@ use Rattle.clip_registry.specs.Steps.Roster.{Roster, insert_all, roster_with_all
 use Rattle.clip_model.specs.declared.limits.TheConstants.{MOST_LIVE}
 use Rattle.clip_registry.specs.Steps.Change.{Content, IsChanged}
 use Rattle.clip_registry.specs.declared.command.Applied.TheVariants as applied
-use Rattle.clip_registry.specs.Whole.{numbered, standing_after, segments_after}
+use Rattle.clip_registry.specs.RegistryState.{numbered, standing_after, segments_after}
 use Rattle.clip_model.proofs.Live.{none_some}
 use Rattle.clip_registry.proofs.Registering.{Agree, agree_all, live_agree, insert_all-numbered}
 use Rattle.clip_registry.proofs.Rising.{numbered_high}

@@ -13,7 +13,7 @@ use Rattle.clip_registry.specs.Steps.Change.{Content, IsChanged, IsAccepted}
 use Rattle.clip_registry.specs.declared.command.Applied.{Applied}
 use Rattle.clip_registry.specs.Steps.State.{IsConsistent}
 use Rattle.clip_registry.specs.Steps.Roster.{Roster}
-use Rattle.clip_registry.specs.Whole.{RegistryState, segments_after, beginning}
+use Rattle.clip_registry.specs.RegistryState.{RegistryState, segments_after, beginning}
 use Rattle.clip_model.proofs.Counting.{own_more}
 use Rattle.clip_registry.proofs.Whole.{whole_after, whole_beginning}
 use Rattle.clip_model.proofs.Numbers.{numbers_same, number_less, number_more}

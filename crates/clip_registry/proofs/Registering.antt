@@ -5,7 +5,7 @@ use Rattle.std.specs.FinMap as finite
 use Rattle.clip_model.specs.Standing.{Standing}
 use Rattle.clip_model.specs.History.{Registered, Registry, register_all, remove_all, is_live_in}
 use Rattle.clip_registry.specs.Steps.Roster.{insert_one, insert_all, SeqsFollow}
-use Rattle.clip_registry.specs.Whole.{numbered}
+use Rattle.clip_registry.specs.RegistryState.{numbered}
 use Rattle.clip_model.proofs.Live.{new, old, after_insert, after_remove, inserted_at, inserted_else, same_bool, live_given, given_live}
 use Rattle.clip_registry.proofs.Rising.{contains_head, contains_later}
 

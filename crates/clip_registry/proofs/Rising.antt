@@ -8,7 +8,7 @@ use Rattle.std.specs.List.{All, Contains, filter}
 use Rattle.clip_segment.specs.Segment.{IsRising}
 use Rattle.clip_model.specs.Standing.{Standing}
 use Rattle.clip_model.specs.History.{Registered}
-use Rattle.clip_registry.specs.Whole.{numbered}
+use Rattle.clip_registry.specs.RegistryState.{numbered}
 
 abbrev pub Below : Registered → Registered → Type 0
 Below e f = e.seq < f.seq

@@ -1,3 +1,3 @@
 pub mod Command
 pub mod Steps
-pub mod Whole
+pub mod RegistryState

@@ -7,7 +7,7 @@ ghost use Rattle.clip_model.specs.History.{fits};
 ghost use Rattle.clip_registry.specs.Command.{command_of};
 ghost use Rattle.clip_registry.specs.Steps.Change.{content, IsChanged, IsUnchanged};
 ghost use Rattle.clip_registry.specs.Steps.Roster.{live_in};
-ghost use Rattle.clip_registry.specs.Whole.{numbered};
+ghost use Rattle.clip_registry.specs.RegistryState.{numbered};
 
 use crate::command::{Applied, Command, Refused};
 use crate::roster::Roster;

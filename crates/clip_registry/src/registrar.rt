@@ -2,7 +2,7 @@
 ghost use Rattle.std.specs.Prelude.{◌≡◌, ◌<◌, ◌≤◌, map, IfOk, IfErr, OnOk, OnErr, IsTrue, IsFalse};
 ghost use Rattle.clip_model.specs.History.{fits, has_room, applied, IsLegal};
 ghost use Rattle.clip_registry.specs.Command.{command_of, answer_of, shared_entry};
-ghost use Rattle.clip_registry.specs.Whole.{IsWhole, beginning, state_after};
+ghost use Rattle.clip_registry.specs.RegistryState.{IsWhole, beginning, state_after};
 ghost use Rattle.clip_registry.specs.declared.command.Refused.TheVariants as refused;
 
 use crate::command::{Applied, Command, HistoryEntry, Refused};
@@ -23,7 +23,7 @@ pub struct Registrar {
 }
 
 impl Model for Registrar {
-    ghost use Rattle.clip_registry.specs.Whole.{RegistryState, state_code};
+    ghost use Rattle.clip_registry.specs.RegistryState.{RegistryState, state_code};
     ghost use Rattle.clip_registry.specs.Steps.State.{state_or_beginning};
 
     ghost Value = { RegistryState };

@@ -3,7 +3,7 @@ ghost use Rattle.std.specs.Prelude.{◌≡◌, ◌<◌, ◌≤◌, IfOk, IfErr, 
 ghost use Rattle.clip_model.specs.History.{fits, next_entry};
 ghost use Rattle.clip_registry.specs.Command.{command_of, shared_entry};
 ghost use Rattle.clip_registry.specs.Steps.Change.{IsAccepted, IsRefused};
-ghost use Rattle.clip_registry.specs.Whole.{beginning};
+ghost use Rattle.clip_registry.specs.RegistryState.{beginning};
 
 use crate::change::change;
 use crate::command::{Applied, Command, HistoryEntry, Refused};
@@ -25,7 +25,7 @@ pub struct State {
 }
 
 impl Model for State {
-    ghost use Rattle.clip_registry.specs.Whole.{RegistryState, state_code};
+    ghost use Rattle.clip_registry.specs.RegistryState.{RegistryState, state_code};
 
     ghost Value = { RegistryState };
 

@@ -3,7 +3,7 @@ ghost use Rattle.std.specs.Prelude.{◌≡◌, map, length, option_map, option_c
 ghost use Rattle.std.specs.Arc.{arc_value};
 ghost use Rattle.std.specs.FinMap as finite;
 ghost use Rattle.clip_model.specs.History.{IsLegal, replay, is_live};
-ghost use Rattle.clip_registry.specs.Whole.{IsWhole};
+ghost use Rattle.clip_registry.specs.RegistryState.{IsWhole};
 
 use crate::state::State;
 use clip_segment::{Entry, Segment};
@@ -18,7 +18,7 @@ pub struct View {
 }
 
 impl Model for View {
-    ghost use Rattle.clip_registry.specs.Whole.{RegistryState, state_code};
+    ghost use Rattle.clip_registry.specs.RegistryState.{RegistryState, state_code};
     ghost use Rattle.clip_registry.specs.Steps.State.{state_or_beginning};
 
     ghost Value = { RegistryState };

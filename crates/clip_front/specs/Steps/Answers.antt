@@ -6,7 +6,7 @@ use Rattle.std.specs.declared.sync.Arc.{Arc}
 use Rattle.std.specs.declared.vec.Vec.{Vec}
 use Rattle.clip_model.specs.History.{Command}
 use Rattle.clip_model.specs.Standing.{Standing}
-use Rattle.clip_registry.specs.Whole.{RegistryState}
+use Rattle.clip_registry.specs.RegistryState.{RegistryState}
 use Rattle.clip_front.specs.Request.{Listing}
 use Rattle.clip_front.specs.LineMeaning.{Meaning, AreReadAs, FirstRefused, judged, after}
 use Rattle.clip_front.specs.Reply.{Reply, answer_to, reply_text}

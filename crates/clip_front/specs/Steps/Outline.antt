@@ -6,7 +6,8 @@ use Rattle.serde_json.specs.Find.{get, as_str, as_array, as_object}
 use Rattle.std.specs.List.{list_all}
 use Rattle.clip_meaning.specs.Article.{ArticleValue, may_be}
 use Rattle.clip_words.specs.Ids.{is_id}
-use Rattle.clip_model.specs.History.{History, most_listed}
+use Rattle.clip_model.specs.History.{History}
+use Rattle.clip_model.specs.declared.limits.TheConstants.{MOST_LISTED}
 use Rattle.clip_front.specs.declared.refusal.Refusal.{Refusal}
 use Rattle.clip_front.specs.declared.refusal.Refusal.TheVariants as refusal
 use Rattle.clip_front.specs.declared.refusal.Unread.{Unread}
@@ -144,8 +145,8 @@ outline bytes = if is_long bytes then refused refusal.Long else (if is_blank byt
 
 -- what is listed is not too much, and ids may be ones
 abbrev pub is_within : Outline → Bool
-is_within (registers listings) = nat_le (length listings) most_listed && list_all (λ l. is_id l.id) listings
-is_within (deletes ids) = nat_le (length ids) most_listed && list_all is_id ids
+is_within (registers listings) = nat_le (length listings) MOST_LISTED && list_all (λ l. is_id l.id) listings
+is_within (deletes ids) = nat_le (length ids) MOST_LISTED && list_all is_id ids
 is_within _ = true
 
 abbrev pub MeansOutline : History → Outline → Meaning → Type 0

@@ -7,7 +7,7 @@ use Rattle.std.specs.declared.alloc.Global.{Global}
 use Rattle.clip_model.specs.declared.limits.TheConstants.{MOST_LIVE}
 use Rattle.clip_model.specs.History.{Command, Registered, after_command, applied, applied_to, has_room, lists}
 use Rattle.clip_registry.specs.Command.{answer_of}
-use Rattle.clip_registry.specs.Whole.{RegistryState, segments_after, state_after}
+use Rattle.clip_registry.specs.RegistryState.{RegistryState, segments_after, state_after}
 use Rattle.clip_registry.specs.Steps.Roster.{Roster}
 use Rattle.clip_registry.specs.declared.command.Applied.{Applied}
 use Rattle.clip_registry.specs.declared.command.Refused.{Refused}

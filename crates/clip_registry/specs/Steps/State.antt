@@ -7,7 +7,7 @@ use Rattle.clip_model.specs.declared.limits.TheConstants.{MOST_CALLERS}
 use Rattle.clip_model.specs.History.{IsLegal, replay, listed, own}
 use Rattle.clip_registry.specs.Command.{shared_entry}
 use Rattle.clip_registry.specs.Steps.Roster.{Roster}
-use Rattle.clip_registry.specs.Whole.{RegistryState, IsWhole, beginning}
+use Rattle.clip_registry.specs.RegistryState.{RegistryState, IsWhole, beginning}
 use Rattle.clip_registry.specs.declared.state.State.TheInside.{Inside}
 
 abbrev pub state_of : Inside → RegistryState

@@ -5,7 +5,7 @@ use Rattle.clip_meaning.specs.Article.{ArticleValue}
 use Rattle.clip_meaning.specs.Meaning.{holds}
 use Rattle.clip_model.specs.History.{Registered}
 use Rattle.clip_model.specs.Alerts.{alerts}
-use Rattle.clip_registry.specs.Whole.{RegistryState}
+use Rattle.clip_registry.specs.RegistryState.{RegistryState}
 use Rattle.clip_presearch.specs.Candidates.{candidates_of}
 use Rattle.clip_match.specs.declared.alert.Alerts.{Alerts}
 use Rattle.clip_match.specs.Alerts.{alert_value, alerts_value, alert_due, alerts_due}

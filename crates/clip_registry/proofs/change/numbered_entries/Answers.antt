@@ -3,7 +3,7 @@ use Rattle.std.proofs.lemmas.List.{map-append, drop_more}
 use Rattle.std.specs.Arc.{arc_value}
 use Rattle.clip_model.specs.Standing.{Standing}
 use Rattle.clip_model.specs.History.{Registered}
-use Rattle.clip_registry.specs.Whole.{numbered}
+use Rattle.clip_registry.specs.RegistryState.{numbered}
 use Rattle.clip_registry.proofs.Entering.{numbered_step}
 use Rattle.clip_registry.proofs.change.numbered_entries.Goals as goal
 

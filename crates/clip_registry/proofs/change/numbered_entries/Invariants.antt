@@ -1,6 +1,6 @@
 use Rattle.std.proofs.Common.{◌≡◌, ◌+◌, ◌++◌, map, drop}
 use Rattle.std.specs.Arc.{arc_value}
-use Rattle.clip_registry.specs.Whole.{numbered}
+use Rattle.clip_registry.specs.RegistryState.{numbered}
 use Rattle.clip_registry.proofs.change.numbered_entries.Given as goal
 
 abbrev pub invariant-loop-standing : goal.invariant-loop-standing

@@ -11,7 +11,7 @@ use Rattle.clip_model.proofs.Counting.{len_register}
 use Rattle.clip_registry.specs.declared.command.Applied.TheVariants as applied
 use Rattle.clip_registry.specs.Steps.Change.{content, IsChanged}
 use Rattle.clip_registry.specs.Steps.Roster.{Roster, SeqsFollow, insert_all}
-use Rattle.clip_registry.specs.Whole.{numbered, standing_after}
+use Rattle.clip_registry.specs.RegistryState.{numbered, standing_after}
 use Rattle.clip_registry.proofs.Alone.{fresh_registry, live_registered, filter_fewer, segments_register, nothing_registered}
 use Rattle.clip_registry.proofs.Registering.{insert_all-numbered, numbered_follow}
 use Rattle.clip_registry.proofs.Rising.{rising_filter, numbered_rising}

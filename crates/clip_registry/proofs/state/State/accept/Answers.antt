@@ -11,7 +11,7 @@ use Rattle.clip_model.proofs.Legal.{no_room_live}
 use Rattle.clip_registry.specs.Command.{command_of, shared_entry}
 use Rattle.clip_registry.specs.Steps.Change.{content, IsAccepted}
 use Rattle.clip_registry.specs.Steps.State.{state_of}
-use Rattle.clip_registry.specs.Whole.{RegistryState}
+use Rattle.clip_registry.specs.RegistryState.{RegistryState}
 use Rattle.clip_registry.proofs.Keeping.{counted, accepted_after, consistent_after}
 use Rattle.clip_registry.proofs.state.State.accept.Goals as goal
 use Rattle.clip_registry.proofs.state.State.accept.Goals.{In-Ok}

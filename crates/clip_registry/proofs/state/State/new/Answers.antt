@@ -5,7 +5,7 @@ use Rattle.clip_model.specs.declared.limits.TheConstants.{MOST_CALLERS}
 use Rattle.clip_registry.specs.Command.{shared_entry}
 use Rattle.clip_registry.specs.Steps.State.{IsConsistent}
 use Rattle.clip_registry.specs.Steps.Roster.{Roster}
-use Rattle.clip_registry.specs.Whole.{beginning}
+use Rattle.clip_registry.specs.RegistryState.{beginning}
 use Rattle.clip_registry.proofs.Keeping.{consistent_beginning}
 use Rattle.clip_registry.proofs.state.State.new.Goals as goal
 

@@ -1,6 +1,6 @@
 use Rattle.std.proofs.Common.{sym, ap, ◌∙◌}
 use Rattle.clip_model.specs.History.{is_live}
-use Rattle.clip_registry.specs.Whole.{RegistryState}
+use Rattle.clip_registry.specs.RegistryState.{RegistryState}
 use Rattle.clip_registry.specs.Steps.State.{state_or_beginning}
 use Rattle.clip_registry.proofs.Numbering.{none_live}
 use Rattle.clip_registry.proofs.view.View.is_live.Goals as goal

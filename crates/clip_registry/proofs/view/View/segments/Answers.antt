@@ -1,7 +1,7 @@
 use Rattle.std.proofs.Common.{sym, ap, subst, ◌∙◌}
 use Rattle.clip_model.specs.History.{IsLegal}
 use Rattle.clip_model.proofs.Legal.{legal_beginning}
-use Rattle.clip_registry.specs.Whole.{RegistryState, IsWhole}
+use Rattle.clip_registry.specs.RegistryState.{RegistryState, IsWhole}
 use Rattle.clip_registry.specs.Steps.State.{state_or_beginning}
 use Rattle.clip_registry.proofs.Whole.{whole_beginning}
 use Rattle.clip_registry.proofs.view.View.segments.Goals as goal
