@@ -11,7 +11,7 @@ from dataclasses import dataclass
 from itertools import accumulate
 from random import Random
 
-VOCABULARY = 40_000
+VOCABULARY = 60_000
 TOPICS = 150
 WORDS_PER_TOPIC = 350
 NAMES_PER_TOPIC = 250
@@ -40,7 +40,7 @@ def zipf(count: int, exponent: float, shift: float = 2.7) -> list[float]:
 def syllables_at(rank: int, rng: Random) -> int:
     """How many syllables a word of this rank gets: frequent words are short."""
     if rank < 120:
-        return 1
+        return 1 if rank < 40 else rng.choice((1, 1, 1, 2))
     if rank < 800:
         return rng.choice((1, 2, 2, 3))
     return rng.choice((1, 2, 3, 3)) if rank < 6_000 else rng.choice((2, 2, 3, 3))

@@ -260,17 +260,17 @@ def all_without(source: QuerySource) -> Query:
 
 # Each kind of query: its name, its share in a hundred, and how one is made.
 KINDS: tuple[tuple[str, float, Callable[[QuerySource], Query]], ...] = (
-    ("single", 6.0, single),
-    ("two required", 15.0, two_required),
-    ("three required", 9.0, three_required),
+    ("single", 5.0, single),
+    ("two required", 11.0, two_required),
+    ("three required", 7.0, three_required),
     ("phrase", 20.0, phrase),
     ("disjunction", 12.0, disjunction),
     ("phrase without", 10.0, excluding),
-    ("group", 12.0, group),
-    ("long", 3.0, long),
+    ("group", 17.0, group),
+    ("long", 5.0, long),
     ("title", 9.0, in_title),
-    ("with prefix", 3.0, with_prefix),
-    ("with range", 0.8, with_range),
+    ("with prefix", 3.3, with_prefix),
+    ("with range", 0.5, with_range),
     ("prefix alone", 0.18, prefix_alone),
     ("all without", 0.02, all_without),
 )

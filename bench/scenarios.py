@@ -6,7 +6,7 @@ To add a row, write a function that takes a workload and a size and gives a
 
 from __future__ import annotations
 
-from dataclasses import dataclass
+from dataclasses import dataclass, replace
 from typing import Callable
 
 from prose import Article
@@ -31,12 +31,17 @@ class Size:
 
 @dataclass(frozen=True)
 class Scenario:
-    """The lines of a row. Where two engines are compared, they take the passes in turn."""
+    """The lines of a row, in passes. Where two engines are compared, they take the passes in turn.
+
+    `steady` says that the timed lines leave the registered queries as they
+    are, so that replies can be judged by the queries alone.
+    """
 
     size: Size
     register: list[list[bytes]]
     warm: list[bytes]
     timed: list[list[bytes]]
+    steady: bool = True
 
 
 def cut(lines: list[bytes], passes: int) -> list[list[bytes]]:
@@ -77,8 +82,22 @@ def one_a_line(workload: Workload, size: Size) -> Scenario:
     return scenario_of(workload, size, 1, 1)
 
 
+def churn(workload: Workload, size: Size) -> Scenario:
+    """Eight queries that are there get other texts, then four articles come one a line, again and again."""
+    base = full_lines(workload, size)
+    _, timed = articles_of(workload, size)
+    named = workload.named[:size.queries]
+    lines: list[bytes] = []
+    for turn, at in enumerate(range(0, len(timed), 4)):
+        places = [(turn * 8 + k) % len(named) for k in range(8)]
+        changed = [(named[place][0], named[place - len(named) // 2][1]) for place in places]
+        lines += register_lines(changed) + match_lines(timed[at:at + 4])
+    return replace(base, timed=cut(lines, PASSES), steady=False)
+
+
 SCENARIOS: dict[str, Callable[[Workload, Size], Scenario]] = {
     "full-lines": full_lines,
     "batches": batches,
     "one-a-line": one_a_line,
+    "churn": churn,
 }
