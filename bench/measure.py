@@ -22,6 +22,7 @@ class Result:
     engine: str
     size: Size
     registering: list[Exchange] = field(default_factory=list)
+    warming: list[Exchange] = field(default_factory=list)
     matching: list[Exchange] = field(default_factory=list)
     grown_bytes: int = 0
 
@@ -95,9 +96,11 @@ def run_scenario(engines: Sequence[Engine], scenario: Scenario) -> list[Result]:
     for result, engine, start in zip(results, engines, before):
         check_count(result)
         result.grown_bytes = engine.resident_bytes() - start
-        engine.exchange(scenario.warm)
+        result.warming.append(engine.exchange(scenario.warm))
     for place, run in in_turn(engines, scenario.timed):
         results[place].matching.append(run)
+    for result in results:
+        check_articles(result)
     return results
 
 
@@ -108,6 +111,13 @@ def check_count(result: Result) -> None:
         raise EngineFailed(f"{result.engine} counts {told} queries, and not {result.size.queries}")
 
 
+def check_articles(result: Result) -> None:
+    """Sees that every article was answered."""
+    answered = sum(articles_in(run) for run in result.warming + result.matching)
+    if answered != result.size.articles:
+        raise EngineFailed(f"{result.engine} answers {answered} of {result.size.articles} articles")
+
+
 def median_ratio(first: Result, second: Result) -> float:
     """How many times as long the second engine takes, the median over the passes."""
     return statistics.median(b / a for a, b in zip(first.pass_micros, second.pass_micros))
@@ -115,9 +125,9 @@ def median_ratio(first: Result, second: Result) -> float:
 
 def differing(first: Result, second: Result) -> list[str]:
     """The articles for which two engines name other queries, or the same in another order."""
-    told = zip((a for run in first.matching for a in alerts_of(run.replies)),
-               (b for run in second.matching for b in alerts_of(run.replies)))
-    return [a[0] for a, b in told if a != b]
+    told = zip(*((alert for run in result.warming + result.matching for alert in alerts_of(run.replies))
+                 for result in (first, second)))
+    return [one[0] for one, other in told if one != other]
 
 
 def wrong(workload: Workload, result: Result, articles: int) -> list[str]:

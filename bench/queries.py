@@ -130,7 +130,7 @@ class QuerySource:
         self.rng = Random(f"queries {seed}")
         self.bands = Bands(prose, Random(f"bands {seed}"))
         self._stock: dict[str, list[str]] = {name: [] for name, _ in Bands.LIMITS}
-        self._near: dict[int, dict[str, list[str]]] = {}
+        self._near: dict[Topic, dict[str, list[str]]] = {}
         self._kinds = [kind for kind, _, _ in KINDS]
         self._makers: dict[str, Callable[[QuerySource], Query]] = {kind: make for kind, _, make in KINDS}
         self._shares = [share for _, share, _ in KINDS]
@@ -155,12 +155,12 @@ class QuerySource:
 
     def _by_band(self, topic: Topic) -> dict[str, list[str]]:
         """The words of a topic by band."""
-        found = self._near.get(id(topic))
+        found = self._near.get(topic)
         if found is None:
             found = {name: [] for name, _ in Bands.LIMITS}
             for word in topic.words:
                 found[self.bands.band_of.get(word, "rare")].append(word)
-            self._near[id(topic)] = found
+            self._near[topic] = found
         return found
 
     def name(self, field: str = DEFAULT_FIELD) -> Phrase:
