@@ -18,9 +18,10 @@ NAMES_PER_TOPIC = 250
 FIRST_TOPICAL_RANK = 120
 FIRST_NAME_RANK = 300
 
-ONSETS = "b c d f g h j k l m n p r s t v w b c d f l m n p r s t br ch cl cr dr gr pl pr sh st th tr".split() + 5 * [""]
+ONSETS = ("b c d f g h j k l m n p r s t v w b c d f l m n p r s t "
+          "br ch cl cr dr gr pl pr sh st th tr").split() + 5 * [""]
 VOWELS = "a a a a e e e e e i i i o o o u u ea ou".split()
-CODAS = "n r s t l d m n r s t nd nt rt st ck ng".split() + [""] * 30
+CODAS = "n r s t l d m n r s t nd nt rt st ck ng".split() + 30 * [""]
 ENDINGS = "s s s ed ed ing ing er ers ly ion ions al ity ment ism".split()
 ACCENTS = {"a": "å", "e": "é", "o": "ö", "u": "ü"}
 
