@@ -1,0 +1,105 @@
+"""What the replies ought to be, said a second time in Python: when a query holds, and by which keys it is found.
+
+It is written from docs/PROTOCOL.md and docs/DEFINITIONS.md and shares nothing
+with the engine, so it serves as a check on a few articles. It also counts
+candidates, which replies do not tell.
+"""
+
+from __future__ import annotations
+
+from dataclasses import dataclass
+from typing import Iterable, Optional
+
+from prose import Article, words_of
+from queries import All, Group, Phrase, Prefix, Query, Span, Word
+
+# A word of a field, or None for what nothing narrows.
+Key = Optional[tuple[str, str]]
+
+
+@dataclass(frozen=True)
+class Field:
+    """The words of a field in order, and each once."""
+
+    words: list[str]
+    distinct: frozenset[str]
+
+
+def fields_of(article: Article) -> dict[str, Field]:
+    """The fields of an article, cut into words."""
+    cut = {"title": words_of(article.title), "text": words_of(article.text)}
+    return {name: Field(words, frozenset(words)) for name, words in cut.items()}
+
+
+def holds(query: Query, fields: dict[str, Field]) -> bool:
+    """Whether the query holds of an article with these fields."""
+    if isinstance(query, Word):
+        return query.word in fields[query.field].distinct
+    if isinstance(query, Phrase):
+        return has_phrase(query.words, fields[query.field])
+    if isinstance(query, Prefix):
+        return any(word.startswith(query.front) for word in fields[query.field].distinct)
+    if isinstance(query, Span):
+        return any(query.low <= word <= query.high for word in fields[query.field].distinct)
+    if isinstance(query, All):
+        return True
+    return group_holds(query, fields)
+
+
+def has_phrase(words: tuple[str, ...], field: Field) -> bool:
+    """Whether the words stand next to each other, in this order."""
+    if not field.distinct.issuperset(words):
+        return False
+    size = len(words)
+    return any(tuple(field.words[at:at + size]) == words for at in range(len(field.words) - size + 1))
+
+
+def group_holds(group: Group, fields: dict[str, Field]) -> bool:
+    """Each required clause, no excluded one, and where none is required at least one other."""
+    signs = {sign for sign, _ in group.clauses}
+    if any(not holds(child, fields) for sign, child in group.clauses if sign == "+"):
+        return False
+    if any(holds(child, fields) for sign, child in group.clauses if sign == "-"):
+        return False
+    return "+" in signs or any(holds(child, fields) for sign, child in group.clauses if sign == "")
+
+
+def extract(query: Query) -> tuple[int, list[Key]]:
+    """The weight and the keys of a query: of a phrase its longest word, of a group its weightiest required clause or,
+    without one, all that are optional; None for what nothing narrows."""
+    if isinstance(query, Word):
+        return len(query.word), [(query.field, query.word)]
+    if isinstance(query, Phrase):
+        longest = max(query.words, key=len)
+        return len(longest), [(query.field, longest)]
+    if isinstance(query, Group):
+        musts = [extract(child) for sign, child in query.clauses if sign == "+"]
+        if musts:
+            return max(musts, key=lambda found: found[0])
+        shoulds = [extract(child) for sign, child in query.clauses if sign == ""]
+        if shoulds:
+            return min(weight for weight, _ in shoulds), [key for _, keys in shoulds for key in keys]
+    return 0, [None]
+
+
+class Presearcher:
+    """Queries by their keys."""
+
+    def __init__(self) -> None:
+        self._holders: dict[Key, list[int]] = {}
+        self._count = 0
+
+    def add(self, queries: Iterable[Query]) -> None:
+        """Adds queries, which are numbered in order from 0."""
+        for query in queries:
+            for key in set(extract(query)[1]):
+                self._holders.setdefault(key, []).append(self._count)
+            self._count += 1
+
+    def candidates(self, fields: dict[str, Field]) -> set[int]:
+        """The numbers of the queries that share a key with an article of these fields."""
+        found = set(self._holders.get(None, ()))
+        for name, field in fields.items():
+            for word in field.distinct:
+                found.update(self._holders.get((name, word), ()))
+        return found

@@ -1,0 +1,103 @@
+"""What is measured: each scenario makes the lines of one row of the table.
+
+To add a row, write a function that takes a workload and a size and gives a
+`Scenario`, and name it in `SCENARIOS`. `bench/run --scenario NAME` runs it.
+"""
+
+from __future__ import annotations
+
+from dataclasses import dataclass, replace
+from typing import Callable
+
+from prose import Article
+from workload import Workload, match_lines, register_lines
+
+PASSES = 10
+
+
+@dataclass(frozen=True)
+class Size:
+    """How many queries are registered, and how many articles are sent to warm up and then timed."""
+
+    queries: int
+    warm: int
+    timed: int
+
+    @property
+    def articles(self) -> int:
+        """All articles of a row."""
+        return self.warm + self.timed
+
+
+@dataclass(frozen=True)
+class Scenario:
+    """The lines of a row, in passes. Where two engines are compared, they take the passes in turn.
+
+    `steady` says that the timed lines leave the registered queries as they
+    are, so that replies can be judged by the queries alone.
+    """
+
+    size: Size
+    register: list[list[bytes]]
+    warm: list[bytes]
+    timed: list[list[bytes]]
+    steady: bool = True
+
+
+def cut(lines: list[bytes], passes: int) -> list[list[bytes]]:
+    """The lines in as many runs of about one length, none of them empty."""
+    count = max(1, min(passes, len(lines)))
+    ends = [len(lines) * k // count for k in range(count + 1)]
+    return [lines[start:end] for start, end in zip(ends, ends[1:])]
+
+
+def articles_of(workload: Workload, size: Size) -> tuple[list[Article], list[Article]]:
+    """The articles to warm up with, and those to time."""
+    return workload.articles[:size.warm], workload.articles[size.warm:size.articles]
+
+
+def scenario_of(workload: Workload, size: Size, per_register: int, per_match: int) -> Scenario:
+    """Registers all, then matches all."""
+    warm, timed = articles_of(workload, size)
+    return Scenario(
+        size,
+        cut(register_lines(workload.named[:size.queries], per_register), PASSES),
+        match_lines(warm, per_match),
+        cut(match_lines(timed, per_match), PASSES),
+    )
+
+
+def full_lines(workload: Workload, size: Size) -> Scenario:
+    """Queries in lines of 1,024, then one article a line."""
+    return scenario_of(workload, size, 1_024, 1)
+
+
+def batches(workload: Workload, size: Size) -> Scenario:
+    """Queries in lines of 1,024, then 16 articles a line."""
+    return scenario_of(workload, size, 1_024, 16)
+
+
+def one_a_line(workload: Workload, size: Size) -> Scenario:
+    """One query a line, then one article a line."""
+    return scenario_of(workload, size, 1, 1)
+
+
+def churn(workload: Workload, size: Size) -> Scenario:
+    """Eight queries that are there get other texts, then four articles come one a line, again and again."""
+    base = full_lines(workload, size)
+    _, timed = articles_of(workload, size)
+    named = workload.named[:size.queries]
+    lines: list[bytes] = []
+    for turn, at in enumerate(range(0, len(timed), 4)):
+        places = [(turn * 8 + k) % len(named) for k in range(8)]
+        changed = [(named[place][0], named[place - len(named) // 2][1]) for place in places]
+        lines += register_lines(changed) + match_lines(timed[at:at + 4])
+    return replace(base, timed=cut(lines, PASSES), steady=False)
+
+
+SCENARIOS: dict[str, Callable[[Workload, Size], Scenario]] = {
+    "full-lines": full_lines,
+    "batches": batches,
+    "one-a-line": one_a_line,
+    "churn": churn,
+}
