@@ -27,7 +27,7 @@ fn find_positions(segment: &Segment, keys: &[Key], positions: &mut Vec<u32>) -> 
     Ok(())
 }
 
-/// Adds a segment's live entries that have one of the keys. `positions` is a buffer.
+/// Adds a segment's live entries that have one of the keys, in order. `positions` is a buffer.
 fn add_candidates<'a>(
     view: &View,
     segment: &'a Segment,
@@ -35,7 +35,8 @@ fn add_candidates<'a>(
     positions: &mut Vec<u32>,
     found: &mut Vec<&'a Entry>,
 ) -> Result<(), NoMemory>
-    ensures { OnOk result (map (λ e. e.now) found.new.items ≡ map (λ e. e.now) found.old.items ++ live_with view.now.history (map key_of keys.now) segment.now) }
+    ensures { OnOk result (map (λ e. e.now) found.new.items
+        ≡ map (λ e. e.now) found.old.items ++ live_with view.now.history (map key_of keys.now) segment.now) }
 {
     find_positions(segment, keys, positions)?;
     for position in positions.iter() {

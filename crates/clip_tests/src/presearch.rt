@@ -3,13 +3,44 @@ use clip_extract::Key;
 use clip_meaning::Article;
 use clip_presearch::{article_keys, candidates};
 use clip_registry::{Command, Registrar};
-use clip_segment::{Entry, Standing};
+use clip_segment::Standing;
 use std::alloc::{AllocError, Global};
+use std::process::Abort;
 use std::sync::Arc;
 use std::test::Fail;
 
+/// A standing query without a listener.
+fn standing(alloc: Global, id: &str, text: &str) -> Result<Arc<Standing>, Fail> {
+    Ok(Arc::new(alloc, Standing::read(alloc, id, text, None)?)?)
+}
+
+/// Registers queries in one command.
+fn register(registrar: &mut Registrar, standings: Vec<Arc<Standing>>) -> Result<(), Fail> {
+    let command = Command::Register(standings);
+    if !command.fits() {
+        return Err("too many queries".into());
+    }
+    match registrar.apply(1, command) {
+        Ok(_) => Ok(()),
+        Err((_, refused)) => Err(refused.into()),
+    }
+}
+
+/// Registers queries, each an id and a text, in one command.
+fn register_texts(
+    alloc: Global,
+    registrar: &mut Registrar,
+    queries: &[(&str, &str)],
+) -> Result<(), Fail> {
+    let mut standings = Vec::new(alloc);
+    for (id, text) in queries {
+        standings.push(standing(alloc, id, text)?)?;
+    }
+    register(registrar, standings)
+}
+
 /// The article of these fields, each a name and a text.
-fn article_of(alloc: Global, fields: &[(&str, &str)]) -> Result<Article, Fail> {
+fn article(alloc: Global, fields: &[(&str, &str)]) -> Result<Article, Fail> {
     let mut owned = Vec::new(alloc);
     for (name, text) in fields {
         let name = String::from_str(alloc, name)?;
@@ -18,125 +49,75 @@ fn article_of(alloc: Global, fields: &[(&str, &str)]) -> Result<Article, Fail> {
     Ok(Article::read(alloc, "a1", &owned)?)
 }
 
-/// The article of one field `text`.
-fn article(alloc: Global, text: &str) -> Result<Article, Fail> {
-    article_of(alloc, &[("text", text)])
-}
-
-/// A standing query without a listener.
-fn standing(alloc: Global, id: &str, text: &str) -> Result<Arc<Standing>, Fail> {
-    Ok(Arc::new(alloc, Standing::read(alloc, id, text, None)?)?)
-}
-
-/// Applies a command.
-pub(crate) fn apply(registrar: &mut Registrar, command: Command) -> Result<(), Fail> {
-    if !command.fits() {
-        return Err("the command lists too much".into());
-    }
-    match registrar.apply(1, command) {
-        Ok(_) => Ok(()),
-        Err((_, refused)) => Err(refused.into()),
-    }
-}
-
-/// Registers queries in one command.
-fn register(registrar: &mut Registrar, standings: Vec<Arc<Standing>>) -> Result<(), Fail> {
-    apply(registrar, Command::Register(standings))
-}
-
-/// The ids of entries, each with a space after it.
-fn ids(alloc: Global, entries: &[&Entry]) -> Result<String, AllocError> {
+/// The keys of an article, Any as `*` and a word as `field:word`, each with a space after it.
+fn spelled_keys(alloc: Global, article: &Article) -> Result<String, Fail> {
     let mut text = String::new(alloc);
-    for entry in entries {
+    for key in article_keys(alloc, article)? {
+        match key {
+            Key::Any => text.push_str("* ")?,
+            Key::Word(field, word) => text.push_str(&format!(in alloc; "{field}:{word} ")?)?,
+        }
+    }
+    Ok(text)
+}
+
+/// The ids of the candidates of an article, each with a space after it.
+fn candidate_ids(alloc: Global, registrar: &Registrar, article: &Article) -> Result<String, Fail> {
+    let mut text = String::new(alloc);
+    let view = registrar.view()?;
+    for entry in candidates(alloc, &view, article)? {
         text.push_str(entry.standing().id())?;
         text.push_str(" ")?;
     }
     Ok(text)
 }
 
-/// A key as `field:word`, and Any as `*`.
-fn spelled(alloc: Global, key: &Key) -> Result<String, AllocError> {
-    match key {
-        Key::Any => String::from_str(alloc, "*"),
-        Key::Word(field, word) => format!(in alloc; "{field}:{word}"),
-    }
+/// The article of this text in its field `text` has just these candidates.
+fn expect_candidates(
+    rt: &impl Abort,
+    alloc: Global,
+    registrar: &Registrar,
+    text: &str,
+    wanted: &str,
+) -> Result<(), Fail> {
+    let article = article(alloc, &[("text", text)])?;
+    let found = candidate_ids(alloc, registrar, &article)?;
+    assert_eq!(rt; found.as_str(), wanted, "candidates of {text}");
+    Ok(())
 }
 
 #[test]
 fn an_article_has_any_and_each_of_its_words_once_in_order(rt: HostRuntime) -> Result<(), Fail> {
     let alloc = rt.alloc();
-    let fields = [
-        ("title", "Zebra apple"),
-        ("body", "tea Milk, tea and TEA"),
-        ("note", ""),
+    let rows: [(&[(&str, &str)], &str); 3] = [
+        (&[("text", "tea")], "* text:tea "),
+        (
+            &[("title", "Zebra apple"), ("body", "tea Milk, tea and TEA")],
+            "* body:and body:milk body:tea title:apple title:zebra ",
+        ),
+        (&[("text", "")], "* "),
     ];
-    let found = article_keys(alloc, &article_of(alloc, &fields)?)?;
-    let wanted = [
-        "*",
-        "body:and",
-        "body:milk",
-        "body:tea",
-        "title:apple",
-        "title:zebra",
-    ];
-    assert_eq!(rt; found.len(), wanted.len());
-    for (key, wanted) in found.iter().zip(wanted) {
-        assert_eq!(rt; spelled(alloc, key)?.as_str(), wanted);
+    for (fields, wanted) in rows {
+        let found = spelled_keys(alloc, &article(alloc, fields)?)?;
+        assert_eq!(rt; found.as_str(), wanted);
     }
-    assert_eq!(rt; article_keys(alloc, &article(alloc, "")?)?.len(), 1);
     Ok(())
 }
 
 #[test]
-fn only_a_query_with_a_key_of_the_article_is_a_candidate(rt: HostRuntime) -> Result<(), Fail> {
+fn just_the_live_queries_that_share_a_key_are_candidates_by_seq(
+    rt: HostRuntime,
+) -> Result<(), Fail> {
     let alloc = rt.alloc();
     let mut registrar = Registrar::new(alloc);
-    let first = standing(alloc, "q1", "tea")?;
-    let second = standing(alloc, "q2", "coffee")?;
-    let third = standing(alloc, "q3", "+tea +milk")?;
-    register(&mut registrar, vec![in alloc; first, second, third]?)?;
-    let view = registrar.view()?;
-
-    let tea = article(alloc, "tea")?;
-    let keys = article_keys(alloc, &tea)?;
-    assert_eq!(rt; keys.len(), 2);
-    assert_eq!(rt; keys[0], Key::Any);
-    assert_eq!(rt; spelled(alloc, &keys[1])?.as_str(), "text:tea");
-    let found = candidates(alloc, &view, &tea)?;
-    assert_eq!(rt; ids(alloc, &found)?.as_str(), "q1 ");
-    Ok(())
-}
-
-#[test]
-fn each_live_query_is_a_candidate_once_in_the_order_of_seqs(rt: HostRuntime) -> Result<(), Fail> {
-    let alloc = rt.alloc();
-    let mut registrar = Registrar::new(alloc);
-    let first = standing(alloc, "q1", "tea milk")?;
-    let second = standing(alloc, "q2", "tea coffee milk")?;
-    register(&mut registrar, vec![in alloc; first, second]?)?;
-    let third = standing(alloc, "q3", "-spam milk")?;
-    register(&mut registrar, vec![in alloc; third]?)?;
-    let before = registrar.view()?;
-    // another query takes the first id
-    let fourth = standing(alloc, "q1", "coffee")?;
-    register(&mut registrar, vec![in alloc; fourth]?)?;
-    let after = registrar.view()?;
-
-    let both = article(alloc, "milk tea")?;
-    assert_eq!(rt;
-        ids(alloc, &candidates(alloc, &before, &both)?)?.as_str(),
-        "q1 q2 q3 "
-    );
-    assert_eq!(rt;
-        ids(alloc, &candidates(alloc, &after, &both)?)?.as_str(),
-        "q2 q3 "
-    );
-    let other = article(alloc, "coffee")?;
-    assert_eq!(rt;
-        ids(alloc, &candidates(alloc, &after, &other)?)?.as_str(),
-        "q2 q1 "
-    );
-    Ok(())
+    let queries = [("q1", "tea"), ("q2", "coffee"), ("q3", "+tea +milk")];
+    register_texts(alloc, &mut registrar, &queries)?;
+    expect_candidates(&rt, alloc, &registrar, "tea", "q1 ")?;
+    register_texts(alloc, &mut registrar, &[("q0", "-spam tea milk")])?;
+    expect_candidates(&rt, alloc, &registrar, "milk tea", "q1 q3 q0 ")?;
+    register_texts(alloc, &mut registrar, &[("q1", "coffee")])?;
+    expect_candidates(&rt, alloc, &registrar, "milk tea", "q3 q0 ")?;
+    expect_candidates(&rt, alloc, &registrar, "coffee", "q2 q1 ")
 }
 
 /// The text of the query of a number.
@@ -214,36 +195,44 @@ fn register_all(
     register(registrar, list)
 }
 
+/// The numbers of the queries that are to be candidates.
+fn wanted_numbers(alloc: Global, short: &[u64], long: &[u64]) -> Result<Vec<u64>, Fail> {
+    let mut wanted = Vec::new(alloc);
+    for i in REPLACED..MANY {
+        if is_wanted(i, short, long) {
+            wanted.push(i)?;
+        }
+    }
+    Ok(wanted)
+}
+
+/// The numbers of the queries that are candidates of the article of a text.
+fn found_numbers(alloc: Global, registrar: &Registrar, text: &str) -> Result<Vec<u64>, Fail> {
+    let mut found = Vec::new(alloc);
+    let article = article(alloc, &[("text", text)])?;
+    let view = registrar.view()?;
+    for entry in candidates(alloc, &view, &article)? {
+        found.push(entry.seq().wrapping_sub(1))?;
+    }
+    Ok(found)
+}
+
 #[test]
 fn ten_thousand_queries_have_just_the_candidates_worked_by_hand(
     rt: HostRuntime,
 ) -> Result<(), Fail> {
     let alloc = rt.alloc();
-    let standings = many(alloc)?;
     let mut registrar = Registrar::new(alloc);
-    register_all(alloc, &mut registrar, &standings)?;
-    let view = registrar.view()?;
+    register_all(alloc, &mut registrar, &many(alloc)?)?;
     let rows: [(&str, &[u64], &[u64]); 4] = [
         ("", &[], &[]),
-        (
-            "w1 w2 w3 w4 w5 w6 w7 w8 w9",
-            &[1, 2, 3, 4, 5, 6, 7, 8, 9],
-            &[],
-        ),
+        ("w1 w2 w3 w4 w5 w6 w7 w8", &[1, 2, 3, 4, 5, 6, 7, 8], &[]),
         ("word1 word50 word100 w88", &[88], &[1, 50, 100]),
         ("w10 w10 nothing w96 word3", &[10, 96], &[3]),
     ];
     for (text, short, long) in rows {
-        let mut wanted = Vec::new(alloc);
-        for i in REPLACED..MANY {
-            if is_wanted(i, short, long) {
-                wanted.push(i)?;
-            }
-        }
-        let mut found = Vec::new(alloc);
-        for entry in candidates(alloc, &view, &article(alloc, text)?)? {
-            found.push(entry.seq().wrapping_sub(1))?;
-        }
+        let wanted = wanted_numbers(alloc, short, long)?;
+        let found = found_numbers(alloc, &registrar, text)?;
         assert_eq!(rt; found.as_slice(), wanted.as_slice(), "candidates of {text}");
     }
     Ok(())

@@ -1,14 +1,10 @@
-use Rattle.std.proofs.Common.{◌≡◌, ℕ, List, map, length, filter, IsPermutation, sym, ap, subst, ◌∙◌, rules, Bor}
-use Rattle.std.specs.Arc.{arc_str_bytes}
+use Rattle.std.proofs.Common.{◌≡◌, map, length, filter, IsPermutation, sym, ap, subst, ◌∙◌, rules, Bor}
 use Rattle.std.proofs.lemmas.List.{length-map}
-use Rattle.clip_meaning.specs.Article.{ArticleValue}
 use Rattle.clip_meaning.specs.Meaning.{holds}
 use Rattle.clip_model.specs.History.{Registered}
 use Rattle.clip_model.specs.Alerts.{alerts}
-use Rattle.clip_registry.specs.RegistryState.{RegistryState}
 use Rattle.clip_presearch.specs.Candidates.{candidates_of}
-use Rattle.clip_match.specs.declared.alert.Alerts.{Alerts}
-use Rattle.clip_match.specs.Alerts.{alert_value, alerts_value, alert_due, alerts_due}
+use Rattle.clip_match.specs.Alerts.{alert_value, alert_due}
 use Rattle.clip_match.proofs.Due.{alerts_are_due}
 use Rattle.clip_match.proofs.matching.match_article.Goals as goal
 
