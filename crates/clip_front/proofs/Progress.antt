@@ -175,15 +175,6 @@ progress_end (Some input) (Some rest) (Some new_rest) pending line taken_first t
       subst (Appends taken_first taken) (sym all) p.written,
     )
 
-pub progress_lines : (input rest new_rest : Option (List ℕ)) (line : List ℕ) (taken_first taken : Option (List ℕ)) (gathered : List ℕ) (n : ℕ) (s : RegistryState) → Progress input rest taken_first taken gathered n s → FindsKnownLine false rest line new_rest
-    → IfSome input (λ bytes. n ≡ length (lines_of bytes))
-progress_lines None rest new_rest line taken_first taken gathered n s p f = tt
-progress_lines (Some input) None new_rest line taken_first taken gathered n s p f = absurd p
-progress_lines (Some input) (Some rest) None line taken_first taken gathered n s p f = absurd f
-progress_lines (Some input) (Some rest) (Some new_rest) line taken_first taken gathered n s p f =
-    let lines : lines_of input ≡ p.front = p.split ∙ ap (λ r. p.front ++ lines_of r) f.0 ∙ append-nil p.front in
-    sym p.counted ∙ ap length (sym lines)
-
 pub prepend_nothing : (pending : List ℕ) (left : Option (List ℕ)) → pending ≡ [] → prepend_known pending left ≡ left
 prepend_nothing pending None e = refl
 prepend_nothing pending (Some xs) e = ap (λ p. Some (p ++ xs)) e
@@ -195,10 +186,6 @@ whole_front old new text a = (length text, subst (Appends old new) (sym (take_al
 
 front_on : (old mid new : Option (List ℕ)) (done bytes : List ℕ) → Appends old mid done → AppendsFront mid new bytes → AppendsFront old new (done ++ bytes)
 front_on old mid new done bytes a f = (length done + f.0, subst (Appends old new) (sym (take-append-add done bytes f.0)) (appends_on old mid new done (take f.0 bytes) a f.1))
-
-pub fault_first : (input : Option (List ℕ)) (taken : Option (List ℕ)) → IfSome input (λ bytes. WritesFront bytes taken taken)
-fault_first None taken = tt
-fault_first (Some input) taken = ([], lines_of input, [], refl, refl, whole_front taken taken [] (appends_none taken))
 
 -- a front of what is gathered was written
 pub fault_handing : (input rest : Option (List ℕ)) (taken_first taken new_taken : Option (List ℕ)) (gathered : List ℕ) (n : ℕ) (s : RegistryState) → Progress input rest taken_first taken gathered n s → AppendsFront taken new_taken gathered

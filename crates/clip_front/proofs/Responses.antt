@@ -30,9 +30,6 @@ judges_accepted old new c a r is room answer shows =
       reply = shows ∙ ap applied_view answer ∙ applied_view-answer_of c _ ∙ ap (answer_to old.history) (sym accepts);
     }
 
-pub responds_judged : (old new : RegistryState) (o : Outline) (c : Command) (r : Reply) → MeansOutline old.history o (judged old.history c) → Judges old new c r → Responds old new o r
-responds_judged old new o c r means j = record { meaning = judged old.history c; means = means; history = j.history; reply = j.reply }
-
 -- ---- all else
 
 pub responds_still : (s : RegistryState) (o : Outline) (m : Meaning) (r : Reply) → MeansOutline s.history o m → after s.history m ≡ s.history → r ≡ answer_to s.history m → Responds s s o r

@@ -1,28 +1,38 @@
 //! The keys of an article.
-ghost use Rattle.std.specs.Prelude.{◌≡◌, ◌++◌, map, IfOk, OnOk};
-ghost use Rattle.clip_extract.specs.Keys.{key_of};
+ghost use Rattle.std.specs.Prelude.{◌≡◌, ◌++◌, None, map, IfOk, OnOk};
+ghost use Rattle.std.specs.Arc.{arc_str_bytes};
+ghost use Rattle.clip_extract.specs.Keys.{Word, key_of};
 ghost use Rattle.clip_extract.specs.Covering.{article_keys};
-ghost use Rattle.clip_presearch.specs.Steps.KeysByField.{ordered_keys};
+ghost use Rattle.clip_presearch.specs.Steps.KeysByField.{differing, ordered_keys};
 
 use clip_extract::Key;
-use clip_meaning::{Article, Field};
+use clip_meaning::{Article, Field, Posting};
 use clip_words::NoMemory;
 use std::alloc::Global;
+use std::sync::ArcStr;
+
+/// Adds a key of a field for each word of the postings that is not the word of the posting before it.
+fn add_differing(name: &ArcStr, postings: &[Posting], keys: &mut Vec<Key>) -> Result<(), NoMemory>
+    ensures { OnOk result (map key_of keys.new.items ≡ map key_of keys.old.items
+        ++ map (Word (arc_str_bytes name.now)) (differing None (map (λ p. p.0) postings.now))) }
+{
+    let mut last: Option<&str> = None;
+    for posting in postings {
+        let word = posting.word();
+        if last == Some(word.as_str()) {
+            continue;
+        }
+        keys.push(Key::Word(name.clone()?, word.clone()?))?;
+        last = Some(word.as_str());
+    }
+    Ok(())
+}
 
 /// Adds a key for each word of a field, in the byte order of the words, each once.
 fn add_words(field: &Field, keys: &mut Vec<Key>) -> Result<(), NoMemory>
     ensures { OnOk result (map key_of keys.new.items ≡ map key_of keys.old.items ++ ordered_keys field.now) }
 {
-    let mut last: Option<&str> = None;
-    for posting in field.postings() {
-        let word = posting.word();
-        if last == Some(word.as_str()) {
-            continue;
-        }
-        keys.push(Key::Word(field.name().clone()?, word.clone()?))?;
-        last = Some(word.as_str());
-    }
-    Ok(())
+    add_differing(field.name(), field.postings(), keys)
 }
 
 /// The keys of an article, in order, each once: Any, and each word of each field. Texts are shared with the article.

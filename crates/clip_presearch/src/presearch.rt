@@ -6,8 +6,7 @@ ghost use Rattle.clip_presearch.specs.Candidates.{candidates_of, MissesNone, Are
 ghost use Rattle.clip_presearch.specs.Steps.Places.{places_with, live_with};
 
 use crate::keys::article_keys;
-use clip_extract::Key;
-use clip_extract::covering_law;
+use clip_extract::{Key, covering_law};
 use clip_meaning::Article;
 use clip_registry::View;
 use clip_segment::{Entry, Segment};

@@ -22,10 +22,6 @@ appends_more (Some xs) None new bytes i n a b = absurd a
 appends_more (Some xs) (Some ys) None bytes i n a b = absurd b
 appends_more (Some xs) (Some ys) (Some zs) bytes i n a b = b ∙ ap (λ v. v ++ take n (drop i bytes)) a ∙ append_assoc xs _ _ ∙ ap (λ v. xs ++ v) (sym (take-add i n bytes))
 
-pub appends_nothing : (old : Option (List ℕ)) (bytes : List ℕ) → Appends old old (take 0 bytes)
-appends_nothing None bytes = tt
-appends_nothing (Some xs) bytes = sym (append-nil xs)
-
 -- ---- what is pending
 
 pub later_pending : (items : List ℕ) (start end n : ℕ) → start + n ≤ end → take (end - (start + n)) (drop (start + n) items) ≡ drop n (take (end - start) (drop start items))

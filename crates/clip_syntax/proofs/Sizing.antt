@@ -34,10 +34,6 @@ sign_nodes shape.Minus = refl
 sign_nodes shape.Bang = refl
 sign_nodes shape.Not = refl
 
-field_nodes : (field : Option (List ℕ)) → count_by is_node (field_tokens field) ≡ count_by is_colon (field_tokens field)
-field_nodes None = refl
-field_nodes (Some field) = refl
-
 everything_nodes : (ts : List Token) → count_by is_node ts ≡ count_by is_colon ts → count_by is_node (ts ++ token.Star ∷ token.Colon ∷ token.Star ∷ []) ≡ 1 + count_by is_colon (ts ++ token.Star ∷ token.Colon ∷ token.Star ∷ [])
 everything_nodes ts h =
     let all = token.Star ∷ token.Colon ∷ token.Star ∷ [] in
