@@ -4,9 +4,9 @@
 ghost use Rattle.std.specs.Prelude.{◌≡◌};
 
 mod extraction;
-pub mod key;
+mod key;
 mod laws;
 
 pub use extraction::{keys, weight};
-pub use key::Key;
+pub use key::{Key, sorted};
 pub use laws::covering_law;

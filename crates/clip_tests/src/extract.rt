@@ -1,6 +1,5 @@
 //! Keys: their order, and the keys and weights of read queries.
-use clip_extract::key::sorted;
-use clip_extract::{Key, keys, weight};
+use clip_extract::{Key, keys, sorted, weight};
 use clip_syntax::read_query;
 use std::alloc::{AllocError, Global};
 use std::process::Abort;
