@@ -67,8 +67,9 @@ fn alerts(alloc: Global, entries: &[&Entry], article: &Article) -> Result<Vec<Al
 ///
 /// Just the article's candidates are tried.
 ///
-/// `NoMemory` where an allocation failed. Cost: that of `candidates`, one `holds` for each candidate, and a sort of
-/// those that hold.
+/// `NoMemory` where an allocation failed. Cost: that of `candidates`, so a step for each word of the article and a
+/// look-up in each segment for each of its keys; one `holds` for each candidate; and a sort of those that hold. No text
+/// is copied, and a query without a key of the article costs nothing.
 pub fn match_article(alloc: Global, view: &View, article: &Article) -> Result<Alerts, NoMemory>
     ensures { IfOk result (λ found. alerts_value found ≡ alerts_due view.now article.now) }
 {

@@ -51,7 +51,8 @@ fn add_candidates<'a>(
 }
 
 /// The entries that could hold of an article: exactly the live ones whose query has a key in common with it, each once,
-/// in rising seq. Each registered query that holds of the article is among them.
+/// in rising seq. Entries that were replaced or deleted are left out. Each registered query that holds of the article is
+/// among them, by the covering law.
 ///
 /// `NoMemory` where an allocation failed. Cost: the keys of the article, one look-up in each segment for each of them,
 /// and a step and a sort's share for each position found; an entry without such a key is not looked at.
