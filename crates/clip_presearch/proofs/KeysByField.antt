@@ -1,5 +1,5 @@
 -- The keys of an article, made field by field from sorted words.
-use Rattle.std.proofs.Common.{◌≡◌, ℕ, ◌+◌, Bool, true, false, cond, ◌||◌, List, [], ◌∷◌, ◌++◌, map, flat_map, Option, Some, None, IsPermutation, refl, sym, ap, ◌∙◌, subst, is_lt, Bor}
+use Rattle.std.proofs.Common.{◌≡◌, ℕ, ◌+◌, Bool, true, false, cond, ◌||◌, List, [], ◌∷◌, map, flat_map, Some, None, IsPermutation, refl, sym, ap, ◌∙◌, subst, is_lt}
 use Rattle.std.specs.FinMap as finite
 use Rattle.std.specs.FinMap.{nat_cmp-IsAntisymmetric, slice_cmp-IsAntisymmetric, IsAntisymmetric}
 use Rattle.std.specs.FinMap.Entries.{is_sorted, below_all}
@@ -8,11 +8,9 @@ use Rattle.std.specs.List.Sorted.{IsSorted, IsSortedByKey, IsStrictlySortedBy}
 use Rattle.std.specs.Ordering.{eq_by_cmp, ordering_then}
 use Rattle.std.specs.Cmp.{IsEquivalence, tied_itself, Equal-is, eq_by_cmp_equiv}
 use Rattle.std.specs.Cmp.Lexicographic.{nat_list_cmp_total, texts_ties}
-use Rattle.std.specs.Option.{option_eq, option_map}
 use Rattle.std.specs.Str.{bytes_eq}
 use Rattle.std.specs.declared.cmp.Ordering.TheVariants.{Less, Equal}
 use Rattle.std.proofs.lemmas.Bool.{and_parts}
-use Rattle.std.proofs.lemmas.List.{append_assoc}
 use Rattle.std.proofs.lemmas.List.Folds.{list_any-append}
 use Rattle.std.proofs.lemmas.List.Sorted.{list_any-IsPermutation}
 use Rattle.std.proofs.lemmas.List.Kept.{Contains-dedup, Contains-from_dedup, IsStrictlySortedBy-dedup}
@@ -22,7 +20,7 @@ use Rattle.clip_meaning.specs.Index.{numbered}
 use Rattle.clip_extract.specs.Keys.{KeyValue, Any, Word, key_cmp, is_same}
 use Rattle.clip_extract.specs.Covering.{field_keys, article_keys}
 use Rattle.clip_extract.proofs.Order.{key_cmp_total, key_cmp_same, same_answer}
-use Rattle.clip_presearch.specs.Steps.KeysByField.{words_in_order, ordered_keys, is_word, differing}
+use Rattle.clip_presearch.specs.Steps.KeysByField.{words_in_order, ordered_keys, differing}
 use Rattle.clip_presearch.proofs.Strict.{sorted_mapped, any_kept, all_appended, less_from, keys_in_order, entries_in_order, strict_append, strict_keys, same_members, keys_members}
 
 bytes_exact : IsAntisymmetric bytes_cmp
@@ -74,31 +72,6 @@ any_deduped t ws =
   where
     repeats_laws : IsEquivalence repeats
     repeats_laws = subst IsEquivalence (λ i x y. sym (ties x y) i) (eq_by_cmp_equiv nat_list_cmp_total)
-
--- ---- one word more
-
--- a word that differs from the last one kept is kept
-pub differing_kept : (name : List ℕ) (last next : Option (List ℕ)) (word : List ℕ) (words : List (List ℕ)) (keys new all : List KeyValue) → is_word last word ≡ false
-    → keys ++ map (Word name) (differing last (word ∷ words)) ≡ all → new ≡ keys ++ Word name word ∷ [] → next ≡ Some word
-    → new ++ map (Word name) (differing next words) ≡ all
-differing_kept name last next word words keys new all differs before pushed is =
-    (λ i. pushed i ++ map (Word name) (differing (is i) words))
-    ∙ append_assoc keys (Word name word ∷ []) (map (Word name) (differing (Some word) words))
-    ∙ ap (λ b. keys ++ map (Word name) (cond b (differing last words) (word ∷ differing (Some word) words))) (sym differs)
-    ∙ before
-
--- and one that does not is skipped
-pub differing_skipped : (name : List ℕ) (last : Option (List ℕ)) (word : List ℕ) (words : List (List ℕ)) (keys all : List KeyValue) → is_word last word ≡ true
-    → keys ++ map (Word name) (differing last (word ∷ words)) ≡ all → keys ++ map (Word name) (differing last words) ≡ all
-differing_skipped name last word words keys all same before =
-    ap (λ b. keys ++ map (Word name) (cond b (differing last words) (word ∷ differing (Some word) words))) (sym same) ∙ before
-
--- a word is the last one where they compare as the same
-pub same_as_last : (last : Option (Bor (List ℕ))) (word : Bor (List ℕ)) → option_eq (λ (a b : Bor (List ℕ)). bytes_eq a.now b.now) last (Some word) ≡ is_word (option_map (λ w. w.now) last) word.now
-same_as_last None word = refl
-same_as_last (Some last) word = refl
-
--- ---- all words
 
 -- of sorted postings, the words that differ are the field's words in order
 pub differing_words : (ws : List (List ℕ)) (ps : List Place) → IsPermutation (numbered 0 ws) ps → IsSortedByKey (λ p. p.0) bytes_cmp ps → differing None (words_at ps) ≡ words_in_order ws
