@@ -12,8 +12,9 @@ use Rattle.std.proofs.lemmas.Cmp.{tied_itself}
 use Rattle.std.proofs.lemmas.List.Sums.{prefix_len_is, prefix_len-le-length}
 use Rattle.std.specs.Cmp.Lexicographic.{nat_list_cmp_total}
 use Rattle.clip_words.specs.Order.{bytes_cmp}
+use Rattle.clip_grammar.proofs.Booleans.{first, second, both}
+use Rattle.clip_grammar.proofs.Orderings.{less, greater}
 use Rattle.clip_meaning.specs.Article.{Fields}
-use Rattle.clip_meaning.proofs.Tests.{first, second, both, less, greater}
 
 -- where the elements that pass a test end
 pub prefix_from_point : {X : Type 0} (p : X → Bool) (xs : List X) (i : ℕ) (d : X) → i ≤ length xs → IsPartitionPoint (λ y. p y ≡ true) (λ y. p y ≡ false) xs i → i ≡ prefix_len p xs

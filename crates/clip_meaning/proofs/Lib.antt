@@ -4,5 +4,3 @@ mod Groups
 mod Numbered
 mod Pairs
 mod Postings
-pub mod Tests
-pub mod Trees
