@@ -11,12 +11,13 @@ use Rattle.std.proofs.lemmas.Slice.Eq.{bytes_eq-Decides, starts_is}
 use Rattle.clip_words.specs.Order.{bytes_cmp}
 use Rattle.clip_grammar.specs.Tree.{Tree, Clauses, none, clause}
 use Rattle.clip_grammar.specs.declared.query.Occur.TheVariants.{Must, Should, MustNot}
+use Rattle.clip_grammar.proofs.Booleans.{either}
 use Rattle.clip_meaning.specs.Article.{Fields, words_in}
 use Rattle.clip_meaning.specs.Meaning.{holds, verdicts, group_holds, has_run, is_nonempty, meets_must, meets_must_not, meets_should, is_must}
 use Rattle.clip_extract.specs.Keys.{KeyValue, Any, Word, is_same, share}
 use Rattle.clip_extract.specs.Extraction.{Extracted, unnarrowed, word_extract, heavier, together, heaviest, union, musts, shoulds, group_extract, extract, extracts}
 use Rattle.clip_extract.specs.Covering.{field_keys, Covers}
-use Rattle.clip_extract.proofs.Order.{either, bytes_same, same_itself, share_in_order}
+use Rattle.clip_extract.proofs.Order.{bytes_same, same_itself, share_in_order}
 
 -- the word is one of these
 abbrev is_word_of : List (List ℕ) → List ℕ → Bool
