@@ -10,11 +10,13 @@ use Rattle.std.specs.Map.{keys_of}
 use Rattle.std.specs.Ordering.{eq_by_cmp}
 use Rattle.std.specs.declared.cmp.Ordering.{Ordering}
 use Rattle.std.specs.declared.cmp.Ordering.TheVariants.{Less}
-use Rattle.std.proofs.lemmas.Bool.{and_from, false≢true}
+use Rattle.std.proofs.lemmas.Bool.{and_from, and_parts, false≢true}
 use Rattle.std.proofs.lemmas.Float.{T_from_true}
 use Rattle.std.proofs.lemmas.List.Folds.{Any-from_list_any, list_any_at}
 use Rattle.std.proofs.lemmas.Map.Views.{Contains-from_any, list_any-from_Contains}
-use Rattle.clip_grammar.proofs.Booleans.{same_answer}
+pub use Rattle.clip_grammar.proofs.Booleans.{same_answer}
+use Rattle.clip_grammar.proofs.Booleans.{truth}
+use Rattle.clip_grammar.proofs.Orderings.{less}
 
 -- the members of one list are among those of another
 pub any_kept : {A : Type 0} (p : A → Bool) (xs ys : List A) → ((x : A) → Contains xs x → Contains ys x) → list_any p xs ≡ true → list_any p ys ≡ true
@@ -33,6 +35,9 @@ same_option None (Some u) e = absurd (false≢true e)
 same_option (Some u) None e = absurd (false≢true (sym e))
 same_option (Some u) (Some v) e = refl
 
+pub less_from : (r : Ordering) → is_lt r ≡ true → r ≡ Less
+less_from r h = less r (T_from_true (is_lt r) h)
+
 module _ {K X : Type 0} (R : K → K → Ordering) where
   below_keys : (k : K) (es : List (K × X)) → AllByRecursion (λ l. R k l ≡ Less) (keys_of es) → below_all R k es ≡ true
   below_keys k [] all = refl
@@ -43,6 +48,26 @@ module _ {K X : Type 0} (R : K → K → Ordering) where
   unfolding IsStrictlySortedBy
   sorted_keys [] sorted = refl
   sorted_keys (e ∷ es) sorted = and_from (below_all R e.0 es) _ (below_keys e.0 es sorted.0) (sorted_keys es sorted.1)
+
+  keys_below : (k : K) (es : List (K × X)) → below_all R k es ≡ true → AllByRecursion (λ l. R k l ≡ Less) (keys_of es)
+  keys_below k [] below = tt
+  keys_below k (e ∷ es) below =
+      let parts = and_parts (is_lt (R k e.0)) _ below in
+      (less_from (R k e.0) parts.0, keys_below k es parts.1)
+
+  keys_rise : (es : List (K × X)) → is_sorted R es ≡ true → IsStrictlySortedBy R (keys_of es)
+  unfolding IsStrictlySortedBy
+  keys_rise [] sorted = tt
+  keys_rise (e ∷ es) sorted =
+      let parts = and_parts (below_all R e.0 es) _ sorted in
+      (keys_below e.0 es parts.0, keys_rise es parts.1)
+
+-- the entries of a finite map are sorted, and its keys rise strictly
+pub entries_in_order : {K X : Type 0} (R : K → K → Ordering) (m : finite.FinMap R X) → is_sorted R (finite.entries m) ≡ true
+entries_in_order R m = truth _ (finite.entries_sorted m)
+
+pub keys_in_order : {K X : Type 0} (R : K → K → Ordering) (m : finite.FinMap R X) → IsStrictlySortedBy R (finite.keys m)
+keys_in_order R m = keys_rise R (finite.entries m) (entries_in_order R m)
 
 -- keys as the entries of a finite map
 abbrev pub marked : {K : Type 0} → List K → List (K × Unit {0})

@@ -19,12 +19,10 @@ use Rattle.clip_meaning.specs.Article.{Fields}
 use Rattle.clip_meaning.specs.Index.{numbered}
 use Rattle.clip_extract.specs.Keys.{KeyValue, Any, Word, key_cmp, is_same}
 use Rattle.clip_extract.specs.Covering.{field_keys, article_keys}
-use Rattle.clip_extract.proofs.Order.{key_cmp_total, key_cmp_same, same_answer}
+use Rattle.clip_extract.proofs.Members.{same_answer, any_kept, any_map, less_from, keys_in_order, entries_in_order, strict_keys, same_members, keys_members}
+use Rattle.clip_extract.proofs.Order.{bytes_same, key_cmp_total, key_cmp_same}
 use Rattle.clip_presearch.specs.Steps.KeysByField.{words_in_order, ordered_keys, differing}
-use Rattle.clip_presearch.proofs.Strict.{sorted_mapped, any_kept, all_appended, less_from, keys_in_order, entries_in_order, strict_append, strict_keys, same_members, keys_members}
-
-bytes_exact : IsAntisymmetric bytes_cmp
-bytes_exact = slice_cmp-IsAntisymmetric nat_cmp-IsAntisymmetric
+use Rattle.clip_presearch.proofs.Strict.{sorted_mapped, all_appended, strict_append}
 
 -- ---- sorted words, each once
 
@@ -48,7 +46,7 @@ deduped [] = refl
 deduped (w ∷ ws) = differs_on w ws
 
 same_word : (x y : List ℕ) → repeats x y ≡ true → x ≡ y
-same_word x y h = bytes_exact x y ((Equal-is (bytes_cmp x y)).0 (sym (ties x y) ∙ h))
+same_word x y h = bytes_same x y ((Equal-is (bytes_cmp x y)).0 (sym (ties x y) ∙ h))
 
 abbrev Place : Type 0
 Place = List ℕ × ℕ
@@ -59,10 +57,6 @@ words_at ps = map (λ p. p.0) ps
 numbered_pass : (t : List ℕ → Bool) (n : ℕ) (ws : List (List ℕ)) → list_any (λ (p : Place). t p.0) (numbered n ws) ≡ list_any t ws
 numbered_pass t n [] = refl
 numbered_pass t n (w ∷ ws) = ap (λ b. t w || b) (numbered_pass t (n + 1) ws)
-
-any_map : {A B : Type 0} (t : B → Bool) (f : A → B) (xs : List A) → list_any t (map f xs) ≡ list_any (λ x. t (f x)) xs
-any_map t f [] = refl
-any_map t f (x ∷ xs) = ap (λ b. t (f x) || b) (any_map t f xs)
 
 any_deduped : (t : List ℕ → Bool) (ws : List (List ℕ)) → list_any t (dedup repeats ws) ≡ list_any t ws
 any_deduped t ws =
@@ -78,7 +72,7 @@ pub differing_words : (ws : List (List ℕ)) (ps : List Place) → IsPermutation
 differing_words ws ps moved sorted =
     let rising : IsSorted bytes_cmp (words_at ps) = sorted_mapped (λ (p : Place). p.0) (λ v w. is_lt (bytes_cmp v w)) ps sorted in
     deduped (words_at ps)
-    ∙ strict_keys nat_list_cmp_total bytes_exact (dedup repeats (words_at ps)) ws (IsStrictlySortedBy-dedup nat_list_cmp_total ties (words_at ps) rising)
+    ∙ strict_keys nat_list_cmp_total bytes_same (dedup repeats (words_at ps)) ws (IsStrictlySortedBy-dedup nat_list_cmp_total ties (words_at ps) rising)
     (λ q. any_deduped (eq_by_cmp bytes_cmp q) (words_at ps) ∙ any_map (eq_by_cmp bytes_cmp q) (λ (p : Place). p.0) ps
     ∙ sym (list_any-IsPermutation (λ (p : Place). eq_by_cmp bytes_cmp q p.0) (numbered 0 ws) ps moved) ∙ numbered_pass (eq_by_cmp bytes_cmp q) 0 ws)
 
@@ -141,7 +135,7 @@ any_rises fields sorted = (any_below fields, fields_rise fields sorted)
 same_field : (t : KeyValue → Bool) (field : List ℕ × List (List ℕ)) → list_any t (ordered_keys field) ≡ list_any t (field_keys field)
 same_field t field =
     any_map t (Word field.0) (words_in_order field.1)
-    ∙ same_members nat_list_cmp_total bytes_exact (λ w. t (Word field.0 w)) (words_in_order field.1) field.1 (λ q. keys_members nat_list_cmp_total bytes_exact q field.1)
+    ∙ same_members nat_list_cmp_total bytes_same (λ w. t (Word field.0 w)) (words_in_order field.1) field.1 (λ q. keys_members nat_list_cmp_total bytes_same q field.1)
     ∙ sym (any_map t (Word field.0) field.1)
 
 same_fields : (t : KeyValue → Bool) (fields : List (List ℕ × List (List ℕ))) → list_any t (flat_map ordered_keys fields) ≡ list_any t (flat_map field_keys fields)

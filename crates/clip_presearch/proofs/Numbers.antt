@@ -9,8 +9,7 @@ use Rattle.std.specs.List.Retain.{IsFiltered, DiffersFromLast}
 use Rattle.std.proofs.lemmas.List.Filters.{dedup_is}
 use Rattle.std.proofs.lemmas.List.Kept.{Contains-dedup_nat, Contains-from_dedup, IsStrictlySortedBy-dedup}
 use Rattle.std.proofs.lemmas.List.Sorted.{Contains-permutation, IsPermutation-sym}
-use Rattle.clip_extract.proofs.Order.{same_answer}
-use Rattle.clip_presearch.proofs.Strict.{any_kept, same_strict}
+use Rattle.clip_extract.proofs.Members.{same_answer, any_kept, same_strict}
 
 same_numbers : (ms ns : List ℕ) → IsStrictlySortedBy nat_cmp ms → IsStrictlySortedBy nat_cmp ns → ((q : ℕ) → list_any (nat_eq q) ms ≡ list_any (nat_eq q) ns) → ms ≡ ns
 same_numbers ms ns left right same =
