@@ -1,6 +1,6 @@
 mod Fields
 mod Fronts
 mod Groups
-mod Numbered
+pub mod Numbered
 mod Pairs
 mod Postings

@@ -1,7 +1,6 @@
 -- The keys of an article, made field by field from sorted words.
-use Rattle.std.proofs.Common.{◌≡◌, ℕ, ◌+◌, Bool, true, false, cond, ◌||◌, List, [], ◌∷◌, map, flat_map, Some, None, IsPermutation, refl, sym, ap, ◌∙◌, subst, is_lt}
+use Rattle.std.proofs.Common.{◌≡◌, ℕ, Bool, true, false, cond, ◌||◌, List, [], ◌∷◌, map, flat_map, Some, None, IsPermutation, refl, sym, ap, ◌∙◌, subst, is_lt}
 use Rattle.std.specs.FinMap as finite
-use Rattle.std.specs.FinMap.{nat_cmp-IsAntisymmetric, slice_cmp-IsAntisymmetric, IsAntisymmetric}
 use Rattle.std.specs.FinMap.Entries.{is_sorted, below_all}
 use Rattle.std.specs.List.{list_any, dedup, dedup_from, AllByRecursion}
 use Rattle.std.specs.List.Sorted.{IsSorted, IsSortedByKey, IsStrictlySortedBy}
@@ -12,11 +11,11 @@ use Rattle.std.specs.Str.{bytes_eq}
 use Rattle.std.specs.declared.cmp.Ordering.TheVariants.{Less, Equal}
 use Rattle.std.proofs.lemmas.Bool.{and_parts}
 use Rattle.std.proofs.lemmas.List.Folds.{list_any-append}
-use Rattle.std.proofs.lemmas.List.Sorted.{list_any-IsPermutation}
 use Rattle.std.proofs.lemmas.List.Kept.{Contains-dedup, Contains-from_dedup, IsStrictlySortedBy-dedup}
 use Rattle.clip_words.specs.Order.{bytes_cmp}
 use Rattle.clip_meaning.specs.Article.{Fields}
 use Rattle.clip_meaning.specs.Index.{numbered}
+use Rattle.clip_meaning.proofs.Numbered.{words_pass}
 use Rattle.clip_extract.specs.Keys.{KeyValue, Any, Word, key_cmp, is_same}
 use Rattle.clip_extract.specs.Covering.{field_keys, article_keys}
 use Rattle.clip_extract.proofs.Members.{same_answer, any_kept, any_map, less_from, keys_in_order, entries_in_order, strict_keys, same_members, keys_members}
@@ -54,10 +53,6 @@ Place = List ℕ × ℕ
 abbrev words_at : List Place → List (List ℕ)
 words_at ps = map (λ p. p.0) ps
 
-numbered_pass : (t : List ℕ → Bool) (n : ℕ) (ws : List (List ℕ)) → list_any (λ (p : Place). t p.0) (numbered n ws) ≡ list_any t ws
-numbered_pass t n [] = refl
-numbered_pass t n (w ∷ ws) = ap (λ b. t w || b) (numbered_pass t (n + 1) ws)
-
 any_deduped : (t : List ℕ → Bool) (ws : List (List ℕ)) → list_any t (dedup repeats ws) ≡ list_any t ws
 any_deduped t ws =
     same_answer _ _
@@ -74,7 +69,7 @@ differing_words ws ps moved sorted =
     deduped (words_at ps)
     ∙ strict_keys nat_list_cmp_total bytes_same (dedup repeats (words_at ps)) ws (IsStrictlySortedBy-dedup nat_list_cmp_total ties (words_at ps) rising)
     (λ q. any_deduped (eq_by_cmp bytes_cmp q) (words_at ps) ∙ any_map (eq_by_cmp bytes_cmp q) (λ (p : Place). p.0) ps
-    ∙ sym (list_any-IsPermutation (λ (p : Place). eq_by_cmp bytes_cmp q p.0) (numbered 0 ws) ps moved) ∙ numbered_pass (eq_by_cmp bytes_cmp q) 0 ws)
+    ∙ words_pass (eq_by_cmp bytes_cmp q) ws ps moved)
 
 -- ---- fields in order
 
