@@ -1,10 +1,10 @@
 -- Lists that strictly rise, as the keys of finite maps: they are what their members are.
 use Rattle.std.proofs.Common.{◌≡◌, true, ◌||◌, List, [], ◌∷◌, map, Option, Some, None, Bool, is_some, refl, sym, ap, ◌∙◌, subst, is_lt}
-use Rattle.std.specs.Cmp.{IsTotalOrder, Equal-is, eq_by_cmp_equiv}
+use Rattle.std.specs.Cmp.{IsEquivalence, IsTotalOrder, Equal-is, eq_by_cmp_equiv}
 use Rattle.std.specs.FinMap as finite
 use Rattle.std.specs.FinMap.{IsAntisymmetric}
 use Rattle.std.specs.FinMap.Entries.{is_sorted, below_all, is_some-find}
-use Rattle.std.specs.List.{list_any, Contains, AllByRecursion}
+use Rattle.std.specs.List.{list_any, dedup, Contains, AllByRecursion}
 use Rattle.std.specs.List.Sorted.{IsStrictlySortedBy}
 use Rattle.std.specs.Map.{keys_of}
 use Rattle.std.specs.Ordering.{eq_by_cmp}
@@ -13,9 +13,9 @@ use Rattle.std.specs.declared.cmp.Ordering.TheVariants.{Less}
 use Rattle.std.proofs.lemmas.Bool.{and_from, and_parts, false≢true}
 use Rattle.std.proofs.lemmas.Float.{T_from_true}
 use Rattle.std.proofs.lemmas.List.Folds.{Any-from_list_any, list_any_at}
+use Rattle.std.proofs.lemmas.List.Kept.{Any-dedup, Contains-from_dedup}
 use Rattle.std.proofs.lemmas.Map.Views.{Contains-from_any, list_any-from_Contains}
-pub use Rattle.clip_grammar.proofs.Booleans.{same_answer}
-use Rattle.clip_grammar.proofs.Booleans.{truth}
+use Rattle.clip_grammar.proofs.Booleans.{truth, same_answer}
 use Rattle.clip_grammar.proofs.Orderings.{less}
 
 -- the members of one list are among those of another
@@ -28,6 +28,15 @@ any_kept p xs ys keeps h =
 pub any_map : {A B : Type 0} (p : B → Bool) (f : A → B) (xs : List A) → list_any p (map f xs) ≡ list_any (λ x. p (f x)) xs
 any_map p f [] = refl
 any_map p f (x ∷ xs) = ap (λ b. p (f x) || b) (any_map p f xs)
+
+-- a `dedup` by an equality that f respects keeps what passes a test of f
+pub any_deduped : {A B : Type 0} {eq : A → A → Bool} (laws : IsEquivalence eq) (f : A → B) (same : (x y : A) → eq x y ≡ true → f x ≡ f y) (p : B → Bool) (xs : List A) → list_any (λ x. p (f x)) (dedup eq xs) ≡ list_any (λ x. p (f x)) xs
+any_deduped {eq = eq} laws f same p xs =
+    same_answer _ _
+    (any_kept (λ x. p (f x)) (dedup eq xs) xs (Contains-from_dedup eq xs))
+    (λ h. let a = Any-from_list_any (λ x. p (f x)) xs h in
+    let b = Any-dedup laws xs a.1 (a.0, a.2, a.3) in
+    list_any_at (λ x. p (f x)) (dedup eq xs) b.0 b.1 b.2 (ap (λ x. p (f x)) b.3 ∙ ap p (sym (same a.1 b.1 b.4)) ∙ a.4))
 
 same_option : (a b : Option (Unit {0})) → is_some a ≡ is_some b → a ≡ b
 same_option None None e = refl

@@ -20,7 +20,7 @@ use Rattle.clip_extract.specs.declared.key.Key.TheVariants as variant
 use Rattle.clip_extract.specs.contracts.key.KeyOrd.TheImpl as key_ord
 use Rattle.clip_extract.specs.contracts.key.KeyPartialEq.TheImpl as key_eq
 use Rattle.clip_extract.specs.Keys.{KeyValue, key_of, key_cmp, is_same, in_order}
-use Rattle.clip_extract.proofs.Members.{any_kept, any_map, strict_keys}
+use Rattle.clip_extract.proofs.Members.{any_map, any_deduped, strict_keys}
 use Rattle.clip_extract.proofs.Order.{key_cmp_total, key_cmp_same, same_key}
 
 -- ---- keys compare as what contracts see of them
@@ -51,14 +51,6 @@ key_equality (variant.Word f w) (variant.Word g v) =
 abbrev same_keys : Key → Key → Bool
 same_keys x y = is_same (key_of x) (key_of y)
 
-any_deduped : (p : KeyValue → Bool) (xs : List Key) → list_any (λ x. p (key_of x)) (dedup same_keys xs) ≡ list_any (λ x. p (key_of x)) xs
-any_deduped p xs =
-    same_answer _ _
-    (any_kept (λ x. p (key_of x)) (dedup same_keys xs) xs (Contains-from_dedup same_keys xs))
-    (λ h. let a = Any-from_list_any (λ x. p (key_of x)) xs h in
-    let b = Any-dedup (eq_by_cmp_equiv (on_total key_of key_cmp_total)) xs a.1 (a.0, a.2, a.3) in
-    list_any_at (λ x. p (key_of x)) (dedup same_keys xs) b.0 b.1 b.2 (ap (λ x. p (key_of x)) b.3 ∙ ap p (sym (same_key (key_of a.1) (key_of b.1) b.4)) ∙ a.4))
-
 all_mapped : (k : KeyValue) (xs : List Key) → AllByRecursion (λ y. key_cmp k (key_of y) ≡ Less) xs → AllByRecursion (λ l. key_cmp k l ≡ Less) (map key_of xs)
 all_mapped k [] all = tt
 all_mapped k (x ∷ xs) all = (all.0, all_mapped k xs all.1)
@@ -77,4 +69,4 @@ sorted_keys xs ys zs moved sorted filtered =
     let strict : IsStrictlySortedBy (on key_of key_cmp) (dedup same_keys ys) = IsStrictlySortedBy-dedup (on_total key_of key_cmp_total) (λ x y. refl) ys rising in
     ap (map key_of) left
     ∙ strict_keys key_cmp_total key_cmp_same (map key_of (dedup same_keys ys)) (map key_of xs) (strict_mapped (dedup same_keys ys) strict)
-    (λ k. any_map (is_same k) key_of (dedup same_keys ys) ∙ any_deduped (is_same k) ys ∙ sym (list_any-IsPermutation (λ x. is_same k (key_of x)) xs ys moved) ∙ sym (any_map (is_same k) key_of xs))
+    (λ k. any_map (is_same k) key_of (dedup same_keys ys) ∙ any_deduped (eq_by_cmp_equiv (on_total key_of key_cmp_total)) key_of (λ x y. same_key (key_of x) (key_of y)) (is_same k) ys ∙ sym (list_any-IsPermutation (λ x. is_same k (key_of x)) xs ys moved) ∙ sym (any_map (is_same k) key_of xs))

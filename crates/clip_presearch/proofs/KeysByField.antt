@@ -18,7 +18,7 @@ use Rattle.clip_meaning.specs.Index.{numbered}
 use Rattle.clip_meaning.proofs.Numbered.{words_pass}
 use Rattle.clip_extract.specs.Keys.{KeyValue, Any, Word, key_cmp, is_same}
 use Rattle.clip_extract.specs.Covering.{field_keys, article_keys}
-use Rattle.clip_extract.proofs.Members.{same_answer, any_kept, any_map, less_from, keys_in_order, entries_in_order, strict_keys, same_members, keys_members}
+use Rattle.clip_extract.proofs.Members.{any_map, any_deduped, less_from, keys_in_order, entries_in_order, strict_keys, same_members, keys_members}
 use Rattle.clip_extract.proofs.Order.{bytes_same, key_cmp_total, key_cmp_same}
 use Rattle.clip_presearch.specs.Steps.KeysByField.{words_in_order, ordered_keys, differing}
 use Rattle.clip_presearch.proofs.Strict.{sorted_mapped, all_appended, strict_append}
@@ -53,14 +53,8 @@ Place = List ℕ × ℕ
 abbrev words_at : List Place → List (List ℕ)
 words_at ps = map (λ p. p.0) ps
 
-any_deduped : (t : List ℕ → Bool) (ws : List (List ℕ)) → list_any t (dedup repeats ws) ≡ list_any t ws
-any_deduped t ws =
-    same_answer _ _
-    (any_kept t (dedup repeats ws) ws (Contains-from_dedup repeats ws))
-    (any_kept t ws (dedup repeats ws) (Contains-dedup repeats_laws same_word ws))
-  where
-    repeats_laws : IsEquivalence repeats
-    repeats_laws = subst IsEquivalence (λ i x y. sym (ties x y) i) (eq_by_cmp_equiv nat_list_cmp_total)
+repeats_laws : IsEquivalence repeats
+repeats_laws = subst IsEquivalence (λ i x y. sym (ties x y) i) (eq_by_cmp_equiv nat_list_cmp_total)
 
 -- of sorted postings, the words that differ are the field's words in order
 pub differing_words : (ws : List (List ℕ)) (ps : List Place) → IsPermutation (numbered 0 ws) ps → IsSortedByKey (λ p. p.0) bytes_cmp ps → differing None (words_at ps) ≡ words_in_order ws
@@ -68,7 +62,7 @@ differing_words ws ps moved sorted =
     let rising : IsSorted bytes_cmp (words_at ps) = sorted_mapped (λ (p : Place). p.0) (λ v w. is_lt (bytes_cmp v w)) ps sorted in
     deduped (words_at ps)
     ∙ strict_keys nat_list_cmp_total bytes_same (dedup repeats (words_at ps)) ws (IsStrictlySortedBy-dedup nat_list_cmp_total ties (words_at ps) rising)
-    (λ q. any_deduped (eq_by_cmp bytes_cmp q) (words_at ps) ∙ any_map (eq_by_cmp bytes_cmp q) (λ (p : Place). p.0) ps
+    (λ q. any_deduped repeats_laws (λ w. w) same_word (eq_by_cmp bytes_cmp q) (words_at ps) ∙ any_map (eq_by_cmp bytes_cmp q) (λ (p : Place). p.0) ps
     ∙ words_pass (eq_by_cmp bytes_cmp q) ws ps moved)
 
 -- ---- fields in order

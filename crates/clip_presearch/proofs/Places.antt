@@ -2,6 +2,7 @@
 use Rattle.std.proofs.Common.{◌≡◌, ℕ, ◌+◌, ◌<◌, Bool, true, false, cond, ◌&&◌, ◌||◌, nat_eq, List, [], ◌∷◌, ◌++◌, map, length, get_or, filter, flat_map, take, Some, None, unwrap_or, refl, sym, ap, ◌∙◌, subst, arith}
 use Rattle.std.specs.List.{list_any, enumerate_from, slice_get, All, AllByRecursion}
 use Rattle.std.specs.List.Sorted.{IsStrictlySortedBy}
+use Rattle.std.specs.Cmp.{nat_cmp_is}
 use Rattle.std.specs.Ordering.{nat_cmp}
 use Rattle.std.specs.declared.cmp.Ordering.TheVariants.{Less, Equal, Greater}
 use Rattle.std.proofs.Math.Bool.{and-or_distrib_right}
@@ -10,9 +11,11 @@ use Rattle.std.proofs.lemmas.Option.{none-some}
 use Rattle.std.proofs.lemmas.List.{length-append, append_assoc, append-nil, length-map, get_or-map, take_more, map-append}
 use Rattle.std.proofs.lemmas.List.Folds.{list_any-append}
 use Rattle.std.proofs.lemmas.List.Elements.{All-filter, All-cons, All-nil, filter-append}
+use Rattle.clip_meaning.proofs.Numbered.{any_filter}
 use Rattle.clip_model.specs.History.{Registered, History, is_live}
 use Rattle.clip_extract.specs.Keys.{KeyValue, is_same}
 use Rattle.clip_extract.specs.Extraction.{query_keys}
+use Rattle.clip_extract.proofs.Members.{any_map}
 use Rattle.clip_segment.specs.Segment.{holds_key, positions_with}
 use Rattle.clip_segment.proofs.Keys.{flipped}
 use Rattle.clip_presearch.specs.Steps.Places.{has_one, placed_with, places_with, live_with}
@@ -46,12 +49,7 @@ any_flat_map p f [] = refl
 any_flat_map p f (a ∷ xs) = list_any-append p (f a) (flat_map f xs) ∙ ap (λ x. list_any p (f a) || x) (any_flat_map p f xs)
 
 any_map_filter : {A B : Type 0} (p : B → Bool) (f : A → B) (t : A → Bool) (xs : List A) → list_any p (map f (filter t xs)) ≡ list_any (λ a. t a && p (f a)) xs
-any_map_filter p f t [] = refl
-any_map_filter p f t (a ∷ xs) =
-    elim (t a) as (λ b. list_any p (map f (cond b (a ∷ filter t xs) (filter t xs))) ≡ ((b && p (f a)) || list_any (λ a. t a && p (f a)) xs)) [
-      | true ↦ ap (λ x. p (f a) || x) (any_map_filter p f t xs)
-      | false ↦ any_map_filter p f t xs
-    ]
+any_map_filter p f t xs = any_map p f (filter t xs) ∙ any_filter t (λ a. p (f a)) xs
 
 -- ---- the positions of the keys are the places
 
@@ -72,9 +70,6 @@ any_position ks es q =
 
 -- ---- places rise
 
-less : (m n : ℕ) → m < n → nat_cmp m n ≡ Less
-less m n lt = ap (λ b. cond b Less (cond (nat_eq m n) Equal Greater)) (lt-ltb m n lt)
-
 abbrev fronts : List (ℕ × Registered) → List ℕ
 fronts = map (λ (e : ℕ × Registered). e.0)
 
@@ -83,7 +78,7 @@ above_places t m n [] lt = tt
 above_places t m n (e ∷ es) lt =
     let later = above_places t m (n + 1) es (omega arith) in
     elim (t (n, e)) as (λ b. AllByRecursion (λ k. nat_cmp m k ≡ Less) (fronts (cond b ((n, e) ∷ filter t (enumerate_from (n + 1) es)) (filter t (enumerate_from (n + 1) es))))) [
-      | true ↦ (less m n lt, later)
+      | true ↦ (sym (nat_cmp_is m n Less lt), later)
       | false ↦ later
     ]
 
