@@ -3,15 +3,12 @@ use Rattle.std.proofs.Common.{◌≡◌, ℕ, Bool, true, List, [], ◌∷◌, r
 use Rattle.std.specs.Ordering.{is_eq}
 use Rattle.std.specs.Cmp.{IsTotalOrder, Equal-is, tied_itself, on_total, then_total, nat_cmp_total}
 use Rattle.std.specs.Cmp.Lexicographic.{lists_total, nat_list_cmp_total}
-use Rattle.std.specs.FinMap.{IsAntisymmetric, nat_cmp-IsAntisymmetric, slice_cmp-IsAntisymmetric}
+use Rattle.std.specs.FinMap.{IsAntisymmetric, slice_cmp-IsAntisymmetric}
 use Rattle.std.specs.List.{list_any}
 use Rattle.std.proofs.lemmas.Bool.{false≢true}
-use Rattle.clip_words.specs.Order.{bytes_cmp}
+use Rattle.clip_meaning.proofs.Fields.{bytes_exact}
 use Rattle.clip_extract.specs.Keys.{KeyValue, Any, Word, rank, texts, key_cmp, is_same, in_order, share}
 use Rattle.clip_extract.proofs.Members.{same_members, keys_members}
-
-pub bytes_same : IsAntisymmetric bytes_cmp
-bytes_same = slice_cmp-IsAntisymmetric nat_cmp-IsAntisymmetric
 
 pub key_cmp_total : IsTotalOrder key_cmp
 key_cmp_total = then_total (on_total rank nat_cmp_total) (on_total texts (lists_total nat_list_cmp_total))
@@ -25,7 +22,7 @@ pub key_cmp_same : IsAntisymmetric key_cmp
 key_cmp_same Any Any e = refl
 key_cmp_same Any (Word g v) e = absurd (false≢true (ap is_eq e))
 key_cmp_same (Word f w) Any e = absurd (false≢true (ap is_eq e))
-key_cmp_same (Word f w) (Word g v) e = ap with_texts (slice_cmp-IsAntisymmetric bytes_same (f ∷ w ∷ []) (g ∷ v ∷ []) e)
+key_cmp_same (Word f w) (Word g v) e = ap with_texts (slice_cmp-IsAntisymmetric bytes_exact (f ∷ w ∷ []) (g ∷ v ∷ []) e)
 
 pub same_key : (k l : KeyValue) → is_same k l ≡ true → k ≡ l
 same_key k l e = key_cmp_same k l ((Equal-is (key_cmp k l)).0 e)

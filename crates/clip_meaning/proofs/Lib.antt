@@ -1,4 +1,4 @@
-mod Fields
+pub mod Fields
 mod Fronts
 mod Groups
 pub mod Numbered

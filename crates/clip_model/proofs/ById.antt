@@ -20,10 +20,11 @@ use Rattle.std.proofs.lemmas.Bool.{false≢true}
 use Rattle.clip_words.specs.Order.{bytes_cmp}
 use Rattle.clip_grammar.proofs.Booleans.{both}
 use Rattle.clip_grammar.proofs.Orderings.{equal}
+use Rattle.clip_meaning.proofs.Fields.{bytes_exact}
 use Rattle.clip_model.specs.ById.{shown_pair, shown, map_of}
 
 pub bytes_same : (a b : List ℕ) → eq_by_cmp bytes_cmp a b ≡ true → a ≡ b
-bytes_same a b h = slice_cmp-IsAntisymmetric nat_cmp-IsAntisymmetric a b (equal _ h)
+bytes_same a b h = bytes_exact a b (equal _ h)
 
 pub bytes_itself : (a : List ℕ) → eq_by_cmp bytes_cmp a a ≡ true
 bytes_itself a = (eq_by_cmp_equiv nat_list_cmp_total).refl a
@@ -33,7 +34,7 @@ at_text id = is_at (λ k. slice_cmp nat_cmp id (string_bytes k))
 
 -- two maps that give the same are one
 pub same : {X : Type 0} (m k : finite.FinMap bytes_cmp X) → ((id : List ℕ) → finite.get m id ≡ finite.get k id) → m ≡ k
-same m k = same_map nat_list_cmp_total (slice_cmp-IsAntisymmetric nat_cmp-IsAntisymmetric) m k
+same m k = same_map nat_list_cmp_total bytes_exact m k
 
 -- where two ids differ, what is under the one is not what the other finds
 apart : (q id key : List ℕ) → eq_by_cmp bytes_cmp q id ≡ false → eq_by_cmp bytes_cmp id key ≡ true → eq_by_cmp bytes_cmp q key ≡ false

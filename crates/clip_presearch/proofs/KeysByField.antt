@@ -11,15 +11,16 @@ use Rattle.std.specs.Str.{bytes_eq}
 use Rattle.std.specs.declared.cmp.Ordering.TheVariants.{Less, Equal}
 use Rattle.std.proofs.lemmas.Bool.{and_parts}
 use Rattle.std.proofs.lemmas.List.Folds.{list_any-append}
-use Rattle.std.proofs.lemmas.List.Kept.{Contains-dedup, Contains-from_dedup, IsStrictlySortedBy-dedup}
+use Rattle.std.proofs.lemmas.List.Kept.{IsStrictlySortedBy-dedup}
 use Rattle.clip_words.specs.Order.{bytes_cmp}
 use Rattle.clip_meaning.specs.Article.{Fields}
 use Rattle.clip_meaning.specs.Index.{numbered}
+use Rattle.clip_meaning.proofs.Fields.{bytes_exact}
 use Rattle.clip_meaning.proofs.Numbered.{words_pass}
 use Rattle.clip_extract.specs.Keys.{KeyValue, Any, Word, key_cmp, is_same}
 use Rattle.clip_extract.specs.Covering.{field_keys, article_keys}
 use Rattle.clip_extract.proofs.Members.{any_map, any_deduped, less_from, keys_in_order, entries_in_order, strict_keys, same_members, keys_members}
-use Rattle.clip_extract.proofs.Order.{bytes_same, key_cmp_total, key_cmp_same}
+use Rattle.clip_extract.proofs.Order.{key_cmp_total, key_cmp_same}
 use Rattle.clip_presearch.specs.Steps.KeysByField.{words_in_order, ordered_keys, differing}
 use Rattle.clip_presearch.proofs.Strict.{sorted_mapped, all_appended, strict_append}
 
@@ -45,7 +46,7 @@ deduped [] = refl
 deduped (w ∷ ws) = differs_on w ws
 
 same_word : (x y : List ℕ) → repeats x y ≡ true → x ≡ y
-same_word x y h = bytes_same x y ((Equal-is (bytes_cmp x y)).0 (sym (ties x y) ∙ h))
+same_word x y h = bytes_exact x y ((Equal-is (bytes_cmp x y)).0 (sym (ties x y) ∙ h))
 
 abbrev Place : Type 0
 Place = List ℕ × ℕ
@@ -61,7 +62,7 @@ pub differing_words : (ws : List (List ℕ)) (ps : List Place) → IsPermutation
 differing_words ws ps moved sorted =
     let rising : IsSorted bytes_cmp (words_at ps) = sorted_mapped (λ (p : Place). p.0) (λ v w. is_lt (bytes_cmp v w)) ps sorted in
     deduped (words_at ps)
-    ∙ strict_keys nat_list_cmp_total bytes_same (dedup repeats (words_at ps)) ws (IsStrictlySortedBy-dedup nat_list_cmp_total ties (words_at ps) rising)
+    ∙ strict_keys nat_list_cmp_total bytes_exact (dedup repeats (words_at ps)) ws (IsStrictlySortedBy-dedup nat_list_cmp_total ties (words_at ps) rising)
     (λ q. any_deduped repeats_laws (λ w. w) same_word (eq_by_cmp bytes_cmp q) (words_at ps) ∙ any_map (eq_by_cmp bytes_cmp q) (λ (p : Place). p.0) ps
     ∙ words_pass (eq_by_cmp bytes_cmp q) ws ps moved)
 
@@ -124,7 +125,7 @@ any_rises fields sorted = (any_below fields, fields_rise fields sorted)
 same_field : (t : KeyValue → Bool) (field : List ℕ × List (List ℕ)) → list_any t (ordered_keys field) ≡ list_any t (field_keys field)
 same_field t field =
     any_map t (Word field.0) (words_in_order field.1)
-    ∙ same_members nat_list_cmp_total bytes_same (λ w. t (Word field.0 w)) (words_in_order field.1) field.1 (λ q. keys_members nat_list_cmp_total bytes_same q field.1)
+    ∙ same_members nat_list_cmp_total bytes_exact (λ w. t (Word field.0 w)) (words_in_order field.1) field.1 (λ q. keys_members nat_list_cmp_total bytes_exact q field.1)
     ∙ sym (any_map t (Word field.0) field.1)
 
 same_fields : (t : KeyValue → Bool) (fields : List (List ℕ × List (List ℕ))) → list_any t (flat_map ordered_keys fields) ≡ list_any t (flat_map field_keys fields)

@@ -4,9 +4,8 @@ use Rattle.std.specs.List.{list_any, enumerate_from, slice_get, All, AllByRecurs
 use Rattle.std.specs.List.Sorted.{IsStrictlySortedBy}
 use Rattle.std.specs.Cmp.{nat_cmp_is}
 use Rattle.std.specs.Ordering.{nat_cmp}
-use Rattle.std.specs.declared.cmp.Ordering.TheVariants.{Less, Equal, Greater}
+use Rattle.std.specs.declared.cmp.Ordering.TheVariants.{Less}
 use Rattle.std.proofs.Math.Bool.{and-or_distrib_right}
-use Rattle.std.proofs.lemmas.Bool.{lt-ltb}
 use Rattle.std.proofs.lemmas.Option.{none-some}
 use Rattle.std.proofs.lemmas.List.{length-append, append_assoc, append-nil, length-map, get_or-map, take_more, map-append}
 use Rattle.std.proofs.lemmas.List.Folds.{list_any-append}
