@@ -11,12 +11,14 @@ use Rattle.std.proofs.lemmas.Slice.Eq.{bytes_eq-Decides, starts_is}
 use Rattle.clip_words.specs.Order.{bytes_cmp}
 use Rattle.clip_grammar.specs.Tree.{Tree, Clauses, none, clause}
 use Rattle.clip_grammar.specs.declared.query.Occur.TheVariants.{Must, Should, MustNot}
+use Rattle.clip_grammar.proofs.Booleans.{either}
 use Rattle.clip_meaning.specs.Article.{Fields, words_in}
+use Rattle.clip_meaning.proofs.Fields.{bytes_exact}
 use Rattle.clip_meaning.specs.Meaning.{holds, verdicts, group_holds, has_run, is_nonempty, meets_must, meets_must_not, meets_should, is_must}
 use Rattle.clip_extract.specs.Keys.{KeyValue, Any, Word, is_same, share}
 use Rattle.clip_extract.specs.Extraction.{Extracted, unnarrowed, word_extract, heavier, together, heaviest, union, musts, shoulds, group_extract, extract, extracts}
 use Rattle.clip_extract.specs.Covering.{field_keys, Covers}
-use Rattle.clip_extract.proofs.Order.{either, bytes_same, same_itself, share_in_order}
+use Rattle.clip_extract.proofs.Order.{same_itself, share_in_order}
 
 -- the word is one of these
 abbrev is_word_of : List (List ℕ) → List ℕ → Bool
@@ -166,7 +168,7 @@ key_among field word [] h = absurd (false≢true h)
 key_among field word (e ∷ es) h =
     list_any-append (is_same (Word field word)) (field_keys e) (flat_map field_keys es)
     ∙ elim (eq_by_cmp bytes_cmp field e.0) as (λ b. eq_by_cmp bytes_cmp field e.0 ≡ b → is_word_of (unwrap_or (cond b (Some e.1) (finite.find bytes_cmp field es)) []) word ≡ true → (list_any (is_same (Word field word)) (field_keys e) || list_any (is_same (Word field word)) (flat_map field_keys es)) ≡ true) [
-      | true ↦ λ t h. or_left (list_any (is_same (Word field word)) (field_keys e)) _ (ap (λ f. list_any (is_same (Word field word)) (map (Word f) e.1)) (sym (bytes_same field e.0 ((Equal-is (bytes_cmp field e.0)).0 t))) ∙ word_among field word e.1 h)
+      | true ↦ λ t h. or_left (list_any (is_same (Word field word)) (field_keys e)) _ (ap (λ f. list_any (is_same (Word field word)) (map (Word f) e.1)) (sym (bytes_exact field e.0 ((Equal-is (bytes_cmp field e.0)).0 t))) ∙ word_among field word e.1 h)
       | false ↦ λ t h. or_right (list_any (is_same (Word field word)) (field_keys e)) _ (key_among field word es h)
     ] refl h
 

@@ -8,7 +8,7 @@ use Rattle.clip_grammar.specs.declared.query.Occur.TheVariants.{Must, Should, Mu
 use Rattle.clip_grammar.specs.declared.query.Query.{Query}
 use Rattle.clip_grammar.specs.declared.query.Query.TheViews.{Group}
 use Rattle.clip_grammar.specs.Tree.{clauses_of, tree_of}
-use Rattle.clip_meaning.proofs.Trees.{tree_of_group}
+use Rattle.clip_grammar.proofs.Trees.{tree_of_group}
 use Rattle.clip_extract.specs.Keys.{KeyValue}
 use Rattle.clip_extract.specs.Extraction.{Extracted, unnarrowed, heavier, together, heaviest, musts, shoulds, group_extract, extract, extracts}
 use Rattle.clip_extract.specs.Steps.Groups.{group_with, group_from, next_found, counts, kept}

@@ -1,3 +1,4 @@
+pub mod Members
 pub mod Order
 pub mod Covers
 pub mod Groups

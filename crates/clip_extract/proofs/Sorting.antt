@@ -1,29 +1,25 @@
 -- A list of keys that is sorted and has none twice.
-use Rattle.std.proofs.Common.{◌≡◌, Bool, true, ◌||◌, List, [], ◌∷◌, map, Option, Some, None, is_some, refl, sym, ap, ◌∙◌, subst, IsPermutation}
-use Rattle.std.specs.FinMap as finite
-use Rattle.std.specs.FinMap.Entries.{is_sorted, below_all, is_some-find}
-use Rattle.std.specs.Ordering.{is_lt, is_eq, on, nat_cmp, ordering_then}
+use Rattle.std.proofs.Common.{◌≡◌, Bool, List, [], ◌∷◌, map, refl, sym, ap, ◌∙◌, subst, IsPermutation}
+use Rattle.std.specs.Ordering.{is_eq, on, nat_cmp, ordering_then}
 use Rattle.std.specs.declared.cmp.Ordering.TheVariants.{Less, Equal, Greater}
 use Rattle.std.specs.declared.cmp.Ordering.{Ordering}
 use Rattle.std.specs.Cmp.{on_total, eq_by_cmp_equiv, both_tied}
 use Rattle.std.specs.Cmp.Lexicographic.{slice_cmp, texts_ties}
 use Rattle.std.specs.Arc.{arc_str_bytes}
-use Rattle.std.specs.List.{list_any, dedup, Contains, AllByRecursion}
+use Rattle.std.specs.List.{dedup, AllByRecursion}
 use Rattle.std.specs.List.Sorted.{IsSorted, IsStrictlySortedBy}
 use Rattle.std.specs.List.Retain.{IsFiltered, DiffersFromLast}
 use Rattle.std.proofs.lemmas.List.Filters.{dedup_is}
-use Rattle.std.proofs.lemmas.List.Folds.{Any-from_list_any, list_any_at}
-use Rattle.std.proofs.lemmas.List.Kept.{Any-dedup, Contains-from_dedup, IsStrictlySortedBy-dedup}
-use Rattle.std.proofs.lemmas.List.Sorted.{Contains-permutation, IsPermutation-sym}
-use Rattle.std.proofs.lemmas.Float.{T_from_true}
-use Rattle.std.proofs.lemmas.Bool.{and_from, false≢true}
+use Rattle.std.proofs.lemmas.List.Kept.{IsStrictlySortedBy-dedup}
+use Rattle.std.proofs.lemmas.List.Sorted.{list_any-IsPermutation}
 use Rattle.clip_words.specs.Order.{bytes_cmp}
 use Rattle.clip_extract.specs.declared.key.Key.{Key}
 use Rattle.clip_extract.specs.declared.key.Key.TheVariants as variant
 use Rattle.clip_extract.specs.contracts.key.KeyOrd.TheImpl as key_ord
 use Rattle.clip_extract.specs.contracts.key.KeyPartialEq.TheImpl as key_eq
 use Rattle.clip_extract.specs.Keys.{KeyValue, key_of, key_cmp, is_same, in_order}
-use Rattle.clip_extract.proofs.Order.{key_cmp_total, key_cmp_same, same_key, same_answer, marked, unmarked}
+use Rattle.clip_extract.proofs.Members.{any_map, any_deduped, strict_keys}
+use Rattle.clip_extract.proofs.Order.{key_cmp_total, key_cmp_same, same_key}
 
 -- ---- keys compare as what contracts see of them
 
@@ -48,63 +44,10 @@ key_equality (variant.Word f w) (variant.Word g v) =
     both_tied _ _ a b (texts_ties (arc_str_bytes f) (arc_str_bytes g)) (texts_ties (arc_str_bytes w) (arc_str_bytes v))
     ∙ ap (λ r. is_eq (ordering_then a r)) (then_equal b)
 
--- ---- strictly sorted lists with the same keys
-
-below_marked : (k : KeyValue) (ks : List KeyValue) → AllByRecursion (λ l. key_cmp k l ≡ Less) ks → below_all key_cmp k (marked ks) ≡ true
-below_marked k [] all = refl
-below_marked k (l ∷ ks) all = and_from (is_lt (key_cmp k l)) _ (ap is_lt all.0) (below_marked k ks all.1)
-
-sorted_marked : (ks : List KeyValue) → IsStrictlySortedBy key_cmp ks → is_sorted key_cmp (marked ks) ≡ true
-unfolding IsStrictlySortedBy
-sorted_marked [] sorted = refl
-sorted_marked (k ∷ ks) sorted = and_from (below_all key_cmp k (marked ks)) _ (below_marked k ks sorted.0) (sorted_marked ks sorted.1)
-
-same_option : (a b : Option (Unit {0})) → is_some a ≡ is_some b → a ≡ b
-same_option None None e = refl
-same_option None (Some u) e = absurd (false≢true e)
-same_option (Some u) None e = absurd (false≢true (sym e))
-same_option (Some u) (Some v) e = refl
-
--- a strictly sorted list is in order, each once
-pub strict_in_order : (ks ls : List KeyValue) → IsStrictlySortedBy key_cmp ks → ((k : KeyValue) → list_any (is_same k) ks ≡ list_any (is_same k) ls) → ks ≡ in_order ls
-strict_in_order ks ls sorted same =
-    let proved = T_from_true (is_sorted key_cmp (marked ks)) (sorted_marked ks sorted) in
-    let found = λ (es : List (KeyValue × Unit {0})). λ (q : KeyValue). is_some-find key_cmp q es in
-    let maps : finite.from_sorted {R = key_cmp} (marked ks) ≡ finite.from_entries {R = key_cmp} (marked ls) =
-    finite.same_map key_cmp_total key_cmp_same _ _
-    (λ q. finite.get-from_sorted key_cmp (marked ks) q proved
-    ∙ same_option _ _ (found (marked ks) q ∙ ap (list_any (is_same q)) (unmarked ks) ∙ same q ∙ ap (list_any (is_same q)) (sym (unmarked ls)) ∙ sym (found (marked ls) q))
-    ∙ sym (finite.get-from_entries key_cmp_total (marked ls) q)) in
-    sym (unmarked ks) ∙ ap (map (λ e. e.0)) (sym (finite.entries-from_sorted key_cmp (marked ks) proved)) ∙ ap finite.keys maps
-
 -- ---- after a sort and a `dedup`
-
-any_map : (p : KeyValue → Bool) (xs : List Key) → list_any p (map key_of xs) ≡ list_any (λ x. p (key_of x)) xs
-any_map p [] = refl
-any_map p (x ∷ xs) = ap (λ b. p (key_of x) || b) (any_map p xs)
-
-any_kept : (p : Key → Bool) (xs ys : List Key) → ((x : Key) → Contains xs x → Contains ys x) → list_any p xs ≡ true → list_any p ys ≡ true
-any_kept p xs ys keeps h =
-    let a = Any-from_list_any p xs h in
-    let c = keeps a.1 (a.0, a.2, a.3) in
-    list_any_at p ys c.0 a.1 c.1 (ap p c.2 ∙ a.4)
-
-any_permuted : (p : Key → Bool) (xs ys : List Key) → IsPermutation xs ys → list_any p xs ≡ list_any p ys
-any_permuted p xs ys moved =
-    same_answer (list_any p xs) (list_any p ys)
-    (any_kept p xs ys (λ x. Contains-permutation xs ys x moved))
-    (any_kept p ys xs (λ x. Contains-permutation ys xs x (IsPermutation-sym xs ys moved)))
 
 abbrev same_keys : Key → Key → Bool
 same_keys x y = is_same (key_of x) (key_of y)
-
-any_deduped : (p : KeyValue → Bool) (xs : List Key) → list_any (λ x. p (key_of x)) (dedup same_keys xs) ≡ list_any (λ x. p (key_of x)) xs
-any_deduped p xs =
-    same_answer _ _
-    (any_kept (λ x. p (key_of x)) (dedup same_keys xs) xs (Contains-from_dedup same_keys xs))
-    (λ h. let a = Any-from_list_any (λ x. p (key_of x)) xs h in
-    let b = Any-dedup (eq_by_cmp_equiv (on_total key_of key_cmp_total)) xs a.1 (a.0, a.2, a.3) in
-    list_any_at (λ x. p (key_of x)) (dedup same_keys xs) b.0 b.1 b.2 (ap (λ x. p (key_of x)) b.3 ∙ ap p (sym (same_key (key_of a.1) (key_of b.1) b.4)) ∙ a.4))
 
 all_mapped : (k : KeyValue) (xs : List Key) → AllByRecursion (λ y. key_cmp k (key_of y) ≡ Less) xs → AllByRecursion (λ l. key_cmp k l ≡ Less) (map key_of xs)
 all_mapped k [] all = tt
@@ -123,5 +66,5 @@ sorted_keys xs ys zs moved sorted filtered =
     let left : zs ≡ dedup same_keys ys = dedup_is same_keys ys zs (subst (λ (E : Key → Key → Bool). IsFiltered (DiffersFromLast E) [] ys zs) equality filtered) in
     let strict : IsStrictlySortedBy (on key_of key_cmp) (dedup same_keys ys) = IsStrictlySortedBy-dedup (on_total key_of key_cmp_total) (λ x y. refl) ys rising in
     ap (map key_of) left
-    ∙ strict_in_order (map key_of (dedup same_keys ys)) (map key_of xs) (strict_mapped (dedup same_keys ys) strict)
-    (λ k. any_map (is_same k) (dedup same_keys ys) ∙ any_deduped (is_same k) ys ∙ sym (any_permuted (λ x. is_same k (key_of x)) xs ys moved) ∙ sym (any_map (is_same k) xs))
+    ∙ strict_keys key_cmp_total key_cmp_same (map key_of (dedup same_keys ys)) (map key_of xs) (strict_mapped (dedup same_keys ys) strict)
+    (λ k. any_map (is_same k) key_of (dedup same_keys ys) ∙ any_deduped (eq_by_cmp_equiv (on_total key_of key_cmp_total)) key_of (λ x y. same_key (key_of x) (key_of y)) (is_same k) ys ∙ sym (list_any-IsPermutation (λ x. is_same k (key_of x)) xs ys moved) ∙ sym (any_map (is_same k) key_of xs))

@@ -1,5 +1,5 @@
 -- Tests, for the proofs of the crates above too. What std has is cited from `Rattle.std.proofs.lemmas.Bool`.
-use Rattle.std.proofs.Common.{◌≡◌, Bool, true, false, ◌&&◌, ◌||◌, refl, T}
+use Rattle.std.proofs.Common.{◌≡◌, Bool, true, false, ◌&&◌, ◌||◌, refl, sym, T}
 
 -- by the one that holds of two
 pub either : {A : Type 0} (a b : Bool) → (a || b) ≡ true → (a ≡ true → A) → (b ≡ true → A) → A
@@ -18,3 +18,13 @@ first false b p = p
 pub second : (a b : Bool) → T (a && b) → T b
 second true b p = p
 second false b p = absurd p
+
+pub truth : (b : Bool) → T b → b ≡ true
+truth true p = refl
+truth false p = absurd p
+
+-- two tests that imply each other
+pub same_answer : (a b : Bool) → (a ≡ true → b ≡ true) → (b ≡ true → a ≡ true) → a ≡ b
+same_answer true b f g = sym (f refl)
+same_answer false true f g = g refl
+same_answer false false f g = refl

@@ -3,6 +3,7 @@ use Rattle.std.proofs.Common.{◌≡◌, ℕ, Bool, true, false, not, ◌&&◌, 
 use Rattle.clip_grammar.specs.Lexemes.{Piece, Lexeme, Blank, Word, Quoted, Range, Sign, Foreign, Bare, Escape, Code, is_lexeme, is_word, are_lexemes, continues_word, is_piece, spell, spell_pieces, spell_piece, Lexes}
 use Rattle.clip_grammar.specs.Characters.{is_one_of, white_chars, is_start, word_char, first_char}
 use Rattle.std.specs.Str.{chars}
+use Rattle.std.proofs.lemmas.Option.{none-some, same_Some}
 use Rattle.std.proofs.lemmas.Str.{encodes-append}
 use Rattle.std.proofs.lemmas.List.Concat.{flat_map-append}
 use Rattle.clip_grammar.specs.Reading.{IsStuck}
@@ -10,12 +11,6 @@ use Rattle.clip_grammar.specs.Steps.Lexer.{piece_at, pieces_at, lexeme_at, Finds
 use Rattle.std.proofs.lemmas.Bool.{and_parts, and_from, not-true}
 use Rattle.clip_grammar.proofs.Pieces.{if_some_at, piece_again}
 use Rattle.clip_grammar.proofs.Fronts.{among_all, no_backslash, ends_at, LexemeFound, lexeme_found, lexeme_again, word_longer}
-
-some_none : {A : Type 0} {x : A} → Some x ≡ None → ⊥
-some_none h = cc
-
-some_inj : {A : Type 0} {x y : A} → Some x ≡ Some y → x ≡ y
-some_inj h = cc
 
 -- a lexeme that does not continue a word begins with no piece of one
 no_piece : (l : Lexeme) (ls : List Lexeme) (x : List ℕ) → is_lexeme l ≡ true → continues_word (l ∷ ls) ≡ false → piece_at word_char (spell l ++ x) ≡ None
@@ -77,7 +72,7 @@ one_finding [] [] cs f g = refl
 one_finding [] (m ∷ ms) cs f g = absurd (nothing m g.0 (ap lexeme_at (sym f) ∙ g.1))
 one_finding (l ∷ ls) [] cs f g = absurd (nothing l f.0 (ap lexeme_at (sym g) ∙ f.1))
 one_finding (l ∷ ls) (m ∷ ms) cs f g =
-    let same : (l, f.0) ≡ (m, g.0) = some_inj (sym f.1 ∙ g.1) in
+    let same : (l, f.0) ≡ (m, g.0) = same_Some _ _ (sym f.1 ∙ g.1) in
     let head : l ≡ m = ap (λ (v : Lexeme × List ℕ). v.0) same in
     let rest : g.0 ≡ f.0 = sym (ap (λ (v : Lexeme × List ℕ). v.1) same) in
     let tails : ls ≡ ms = one_finding ls ms f.0 f.2 (subst (λ x. Finds x ms []) rest g.2) in
@@ -112,7 +107,7 @@ piece_of_word (Blank c) ls x ok h e = cc
 piece_of_word (Word []) ls x ok h e = cc
 piece_of_word (Word (p ∷ ps)) ls x ok h e =
     let token_and_rest = sym (ap (piece_at word_char) (append_assoc (spell_piece p) (spell_pieces ps) x)) ∙ e in
-    some_none (sym (piece_again word_char refl p (spell_pieces ps ++ x) (wider p (and_parts (is_piece first_char p) _ ok).0)) ∙ token_and_rest)
+    none-some _ (sym token_and_rest ∙ piece_again word_char refl p (spell_pieces ps ++ x) (wider p (and_parts (is_piece first_char p) _ ok).0))
   where
     wider : (p : Piece) → is_piece first_char p ≡ true → is_piece word_char p ≡ true
     wider (Bare c) k = or_wider (is_start c) (is_one_of "*?" c) (is_one_of "*?+-" c) k (among_all (is_one_of "*?+-") (codes "*?") c refl)
@@ -121,7 +116,7 @@ piece_of_word (Word (p ∷ ps)) ls x ok h e =
 piece_of_word (Quoted ps) ls x ok h e = cc
 piece_of_word (Range left a low b c high d right) ls x ok h e = cc
 piece_of_word (Sign c) ls x ok h e =
-    some_none (sym (piece_again word_char refl (Bare c) x (among_all word_char (codes "+-") c refl h)) ∙ e)
+    none-some _ (sym e ∙ piece_again word_char refl (Bare c) x (among_all word_char (codes "+-") c refl h))
 piece_of_word (Foreign c) ls x ok h e = cc
 
 -- what continues a word begins with a piece of one
@@ -147,12 +142,12 @@ found_lexemes (l ∷ ls) cs rest f =
 -- ---- no longer front has lexemes
 
 begun : (m : Lexeme) (x : List ℕ) → is_lexeme m ≡ true → lexeme_at (spell m ++ x) ≡ None → ⊥
-begun (Blank c) x ok e = let k = lexeme_again (Blank c) x ok (λ w. cc) in some_none (sym k ∙ e)
-begun (Word ps) x ok e = let k = word_longer ps x ok in some_none (sym k ∙ e)
-begun (Quoted ps) x ok e = let k = lexeme_again (Quoted ps) x ok (λ w. cc) in some_none (sym k ∙ e)
-begun (Range left a low b c high d right) x ok e = let k = lexeme_again (Range left a low b c high d right) x ok (λ w. cc) in some_none (sym k ∙ e)
-begun (Sign c) x ok e = let k = lexeme_again (Sign c) x ok (λ w. cc) in some_none (sym k ∙ e)
-begun (Foreign c) x ok e = let k = lexeme_again (Foreign c) x ok (λ w. cc) in some_none (sym k ∙ e)
+begun (Blank c) x ok e = let k = lexeme_again (Blank c) x ok (λ w. cc) in none-some _ (sym e ∙ k)
+begun (Word ps) x ok e = let k = word_longer ps x ok in none-some _ (sym e ∙ k)
+begun (Quoted ps) x ok e = let k = lexeme_again (Quoted ps) x ok (λ w. cc) in none-some _ (sym e ∙ k)
+begun (Range left a low b c high d right) x ok e = let k = lexeme_again (Range left a low b c high d right) x ok (λ w. cc) in none-some _ (sym e ∙ k)
+begun (Sign c) x ok e = let k = lexeme_again (Sign c) x ok (λ w. cc) in none-some _ (sym e ∙ k)
+begun (Foreign c) x ok e = let k = lexeme_again (Foreign c) x ok (λ w. cc) in none-some _ (sym e ∙ k)
 
 -- the same lexeme is found, and the rest goes on
 abbrev IsFront : List ℕ → List ℕ → Type 0
@@ -160,14 +155,14 @@ IsFront xs ys = (more : List ℕ) × (xs ++ more ≡ ys)
 
 same_front : (m l : Lexeme) (after mid : List ℕ) → lexeme_at (spell m ++ after) ≡ Some (m, after) → lexeme_at (spell m ++ after) ≡ Some (l, mid) → IsFront (spell m) (spell l)
 same_front m l after mid a b =
-    let found : (m, after) ≡ (l, mid) = some_inj (sym a ∙ b) in
+    let found : (m, after) ≡ (l, mid) = same_Some _ _ (sym a ∙ b) in
     let is : m ≡ l = ap (λ (v : Lexeme × List ℕ). v.0) found in
     ([], append-nil (spell m) ∙ ap spell is)
 
 -- the lexeme found is the longer one
 front_of_one : (m l : Lexeme) (after mid : List ℕ) → is_lexeme m ≡ true → lexeme_at (spell m ++ after) ≡ Some (l, mid) → IsFront (spell m) (spell l)
 front_of_one (Word ps) l after mid ok e =
-    let found : (Word (ps ++ (pieces_at word_char after).0), (pieces_at word_char after).1) ≡ (l, mid) = some_inj (sym (word_longer ps after ok) ∙ e) in
+    let found : (Word (ps ++ (pieces_at word_char after).0), (pieces_at word_char after).1) ≡ (l, mid) = same_Some _ _ (sym (word_longer ps after ok) ∙ e) in
     let is : Word (ps ++ (pieces_at word_char after).0) ≡ l = ap (λ (v : Lexeme × List ℕ). v.0) found in
     (spell_pieces (pieces_at word_char after).0, sym (flat_map-append spell_piece ps (pieces_at word_char after).0) ∙ ap spell is)
 front_of_one (Blank c) l after mid ok e = same_front (Blank c) l after mid (lexeme_again (Blank c) after ok (λ w. cc)) e
@@ -193,7 +188,7 @@ longest (l ∷ ls) (m ∷ k ∷ ms) cs rest after f e ok h =
     let ends : is_word m ≡ true → piece_at word_char x ≡ None = λ w.
     ap (piece_at word_char) (append_assoc (spell k) (flat_map spell ms) after) ∙ no_piece k ms (flat_map spell ms ++ after) q.0 (word_then m (k ∷ ms) p.1 w) in
     let text : spell m ++ x ≡ cs = sym (append_assoc (spell m) (flat_map spell (k ∷ ms)) after) ∙ h in
-    let found : (m, x) ≡ (l, f.0) = some_inj (sym (lexeme_again m x p.0 ends) ∙ ap lexeme_at text ∙ f.1) in
+    let found : (m, x) ≡ (l, f.0) = same_Some _ _ (sym (lexeme_again m x p.0 ends) ∙ ap lexeme_at text ∙ f.1) in
     let is : m ≡ l = ap (λ (v : Lexeme × List ℕ). v.0) found in
     let mid : x ≡ f.0 = ap (λ (v : Lexeme × List ℕ). v.1) found in
     let others = longest ls (k ∷ ms) f.0 rest after f.2 e p.2 mid in

@@ -2,6 +2,7 @@
 use Rattle.std.proofs.Common.{◌≡◌, ℕ, zero, Bool, true, false, List, [], ◌∷◌, ◌++◌, Option, Some, None, refl, sym, ap, ◌∙◌, append_assoc, append-nil, flat_map, length}
 use Rattle.std.specs.Prelude.{is_some}
 use Rattle.std.proofs.lemmas.List.{flat_map_more}
+use Rattle.std.proofs.lemmas.Option.{none-some}
 use Rattle.clip_grammar.specs.Tokens as token
 use Rattle.clip_grammar.specs.Tokens.{Token, End}
 use Rattle.clip_grammar.specs.Shape as shape
@@ -229,15 +230,12 @@ push_close x f c cs ts =
     ∙ ap (λ y. x ++ (flat f.clauses ++ (pending_tokens f.pending ++ token.Open ∷ y))) (append_assoc (tokens (written_of c cs)) (token.Close ∷ []) ts ∙ ap (λ y. y ++ token.Close ∷ ts) (tokens_listed c cs))
     ∙ sym (push_open x (flat f.clauses) (pending_tokens f.pending) (flat (c ∷ cs) ++ token.Close ∷ ts))
 
-none_some : {A : Type 0} {B : Type 0} {x : A} → None ≡ Some x → B
-none_some h = cc
-
 end_sound : (below : List Frame) (cs : List WrittenClause) (pending : Pending) (w : Written) → ended below cs pending ≡ Some w → tokens w ≡ before below ++ (flat cs ++ (pending_tokens pending ++ []))
-end_sound [] [] pending w e = none_some e
+end_sound [] [] pending w e = absurd (none-some _ e)
 end_sound [] (c ∷ cs) Nothing w e = let same : w ≡ written_of c cs = cc in ap tokens same ∙ tokens_listed c cs ∙ sym (append-nil (flat (c ∷ cs)))
-end_sound [] (c ∷ cs) (Signed sign) w e = none_some e
-end_sound [] (c ∷ cs) (Fielded sign field) w e = none_some e
-end_sound (f ∷ below) cs pending w e = none_some e
+end_sound [] (c ∷ cs) (Signed sign) w e = absurd (none-some _ e)
+end_sound [] (c ∷ cs) (Fielded sign field) w e = absurd (none-some _ e)
+end_sound (f ∷ below) cs pending w e = absurd (none-some _ e)
 
 pub run_sound : (ts : List Token) (below : List Frame) (cs : List WrittenClause) (pending : Pending) (w : Written) → run ts below cs pending ≡ Some w → tokens w ≡ before below ++ (flat cs ++ (pending_tokens pending ++ ts))
 unfolding run
@@ -248,7 +246,7 @@ run_sound (token.Bang ∷ ts) below cs Nothing w e = run_sound ts below cs (Sign
 run_sound (token.Not ∷ ts) below cs Nothing w e = run_sound ts below cs (Signed shape.Not) w e
 run_sound (token.Plain field ∷ token.Colon ∷ ts) below cs Nothing w e = run_sound ts below cs (Fielded shape.Unsigned field) w e
 run_sound (token.Plain field ∷ token.Colon ∷ ts) below cs (Signed sign) w e = run_sound ts below cs (Fielded sign field) w e ∙ push_field (before below) (flat cs) sign field ts
-run_sound (token.Plain field ∷ token.Colon ∷ ts) below cs (Fielded sign other) w e = none_some e
+run_sound (token.Plain field ∷ token.Colon ∷ ts) below cs (Fielded sign other) w e = absurd (none-some _ e)
 run_sound (token.Plain text ∷ ts) below cs pending w e = run_sound ts below (with_item cs pending (shape.Plain text)) Nothing w e ∙ push_item (before below) cs pending (shape.Plain text) ts
 run_sound (token.Front text ∷ ts) below cs pending w e = run_sound ts below (with_item cs pending (shape.Front text)) Nothing w e ∙ push_item (before below) cs pending (shape.Front text) ts
 run_sound (token.Phrase text ∷ ts) below cs pending w e = run_sound ts below (with_item cs pending (shape.Phrase text)) Nothing w e ∙ push_item (before below) cs pending (shape.Phrase text) ts
@@ -257,7 +255,7 @@ run_sound (token.Star ∷ token.Colon ∷ token.Star ∷ ts) below cs Nothing w 
 run_sound (token.Star ∷ token.Colon ∷ token.Star ∷ ts) below cs (Signed sign) w e = run_sound ts below (cs ++ everything sign ∷ []) Nothing w e ∙ push_everything (before below) cs sign ts
 run_sound (token.Open ∷ ts) below cs pending w e = run_sound ts (record { clauses = cs; pending = pending } ∷ below) [] Nothing w e ∙ push_open (before below) (flat cs) (pending_tokens pending) ts
 run_sound (token.Close ∷ ts) (f ∷ below) (c ∷ cs) Nothing w e = run_sound ts below (with_item f.clauses f.pending (shape.Parens (written_of c cs))) Nothing w e ∙ push_close (before below) f c cs ts
-run_sound (_ ∷ ts) below cs pending w e = none_some e
+run_sound (_ ∷ ts) below cs pending w e = absurd (none-some _ e)
 
 -- what is read is written so
 pub parse_sound : (ts : List Token) (w : Written) → parse ts ≡ Some w → tokens w ≡ ts

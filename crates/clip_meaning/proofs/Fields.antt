@@ -6,14 +6,15 @@ use Rattle.std.specs.Ordering.{ordering_reverse}
 use Rattle.std.specs.Cmp.{IsTotalOrder}
 use Rattle.std.specs.FinMap.{FinMap, empty, empty_of_len, len-entries, find, put, is_sorted, from_sorted, entries, entries-from_sorted}
 use Rattle.std.specs.FinMap as finite
-use Rattle.std.specs.FinMap.{get, contains_key, get-entries, entries-insert, entries_sorted, same_entries_map, slice_cmp-IsAntisymmetric, nat_cmp-IsAntisymmetric}
+use Rattle.std.specs.FinMap.{get, contains_key, get-entries, entries-insert, entries_sorted, same_entries_map, IsAntisymmetric, slice_cmp-IsAntisymmetric, nat_cmp-IsAntisymmetric}
 use Rattle.std.specs.FinMap.Entries.{below_all, by_order}
 use Rattle.std.proofs.lemmas.Cmp.{tied_itself}
 use Rattle.std.proofs.lemmas.List.Sums.{prefix_len_is, prefix_len-le-length}
 use Rattle.std.specs.Cmp.Lexicographic.{nat_list_cmp_total}
 use Rattle.clip_words.specs.Order.{bytes_cmp}
+use Rattle.clip_grammar.proofs.Booleans.{first, second, both}
+use Rattle.clip_grammar.proofs.Orderings.{less, greater}
 use Rattle.clip_meaning.specs.Article.{Fields}
-use Rattle.clip_meaning.proofs.Tests.{first, second, both, less, greater}
 
 -- where the elements that pass a test end
 pub prefix_from_point : {X : Type 0} (p : X → Bool) (xs : List X) (i : ℕ) (d : X) → i ≤ length xs → IsPartitionPoint (λ y. p y ≡ true) (λ y. p y ≡ false) xs i → i ≡ prefix_len p xs
@@ -110,8 +111,8 @@ is_none_from : {X : Type 0} (o : Option X) → is_some o ≡ false → o ≡ Non
 is_none_from None e = refl
 is_none_from (Some x) e = absurd (true≢false e)
 
-exact : (q x : List ℕ) → bytes_cmp q x ≡ Equal → q ≡ x
-exact = slice_cmp-IsAntisymmetric nat_cmp-IsAntisymmetric
+pub bytes_exact : IsAntisymmetric bytes_cmp
+bytes_exact = slice_cmp-IsAntisymmetric nat_cmp-IsAntisymmetric
 
 abbrev pub Entry : Type 0
 Entry = List ℕ × List (List ℕ)
@@ -128,7 +129,7 @@ got es m q n f kept is lt there same =
 pub not_got : (es : List Entry) (m : Fields) (q : List ℕ) (n : ℕ) (d : Entry) → es ≡ entries m → n ≡ count bytes_cmp nat_list_cmp_total q (entries m) → (n < length es → (get_or es n d).0 ≢ q) → None ≡ get m q
 not_got es m q n d kept is apart =
     let sorted : T (is_sorted bytes_cmp es) = subst (λ xs. T (is_sorted bytes_cmp xs)) (sym kept) (entries_sorted m) in
-    sym (absent bytes_cmp nat_list_cmp_total q es n d sorted (exact q) (is ∙ ap (count bytes_cmp nat_list_cmp_total q) (sym kept)) apart)
+    sym (absent bytes_cmp nat_list_cmp_total q es n d sorted (bytes_exact q) (is ∙ ap (count bytes_cmp nat_list_cmp_total q) (sym kept)) apart)
     ∙ ap (find bytes_cmp q) kept ∙ sym (get-entries m q)
 
 -- a new name's entry is put where the search for it ends

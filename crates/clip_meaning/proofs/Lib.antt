@@ -1,8 +1,6 @@
-mod Fields
+pub mod Fields
 mod Fronts
 mod Groups
-mod Numbered
+pub mod Numbered
 mod Pairs
 mod Postings
-pub mod Tests
-pub mod Trees

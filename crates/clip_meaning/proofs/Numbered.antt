@@ -13,19 +13,20 @@ numbered_pass : (t : List ℕ → Bool) (n : ℕ) (ws : List (List ℕ)) → lis
 numbered_pass t n [] = refl
 numbered_pass t n (w ∷ ws) = ap (λ b. t w || b) (numbered_pass t (n + 1) ws)
 
+-- one that is kept passes
+pub any_filter : {A : Type 0} (q t : A → Bool) (xs : List A) → list_any t (filter q xs) ≡ list_any (λ x. q x && t x) xs
+any_filter q t [] = refl
+any_filter q t (x ∷ xs) = by_test (q x) ∙ ap (λ b. (q x && t x) || b) (any_filter q t xs)
+  where
+    by_test : (b : Bool) → list_any t (cond b (x ∷ filter q xs) (filter q xs)) ≡ ((b && t x) || list_any t (filter q xs))
+    by_test true = refl
+    by_test false = refl
+
 -- some posting's word passes where some word does
 pub words_pass : (t : List ℕ → Bool) (ws : List (List ℕ)) (ps : List Place) → IsPermutation (numbered 0 ws) ps → list_any (λ (p : Place). t p.0) ps ≡ list_any t ws
 words_pass t ws ps same = sym (list_any-IsPermutation (λ (p : Place). t p.0) (numbered 0 ws) ps same) ∙ numbered_pass t 0 ws
 
 -- ---- phrases
-
-any_kept : (q t : Place → Bool) (ps : List Place) → list_any t (filter q ps) ≡ list_any (λ p. q p && t p) ps
-any_kept q t [] = refl
-any_kept q t (p ∷ ps) = by_test (q p) ∙ ap (λ b. (q p && t p) || b) (any_kept q t ps)
-  where
-    by_test : (b : Bool) → list_any t (cond b (p ∷ filter q ps) (filter q ps)) ≡ ((b && t p) || list_any t (filter q ps))
-    by_test true = refl
-    by_test false = refl
 
 rest_dropped : (n : ℕ) (all : List (List ℕ)) (w : List ℕ) (ws : List (List ℕ)) → drop n all ≡ w ∷ ws → drop (n + 1) all ≡ ws
 rest_dropped n all w ws e = sym (drop-drop 1 n all) ∙ ap (drop 1) e
@@ -48,6 +49,6 @@ run_at_posting g all [] x ps found lt is same kept = absurd (omega arith)
 run_at_posting g all (y ∷ ys) x ps found lt is same kept =
     let f = g y in
     let fs = map g ys in
-    ap (list_any (stands_at all (f ∷ fs))) (kept ∙ ap (λ z. filter (λ (p : Place). bytes_eq p.0 (g z)) ps) is) ∙ any_kept (λ p. bytes_eq p.0 f) (stands_at all (f ∷ fs)) ps
+    ap (list_any (stands_at all (f ∷ fs))) (kept ∙ ap (λ z. filter (λ (p : Place). bytes_eq p.0 (g z)) ps) is) ∙ any_filter (λ p. bytes_eq p.0 f) (stands_at all (f ∷ fs)) ps
     ∙ sym (list_any-IsPermutation (λ (p : Place). bytes_eq p.0 f && stands_at all (f ∷ fs) p) (numbered 0 all) ps same)
     ∙ sym (run_numbered all all fs f 0 refl)

@@ -1,7 +1,7 @@
 -- Pairs of distinct names, read one after another.
 use Rattle.std.proofs.Common.{◌≡◌, ℕ, zero, suc, ◌+◌, ◌<◌, Bool, true, false, cond, not, List, [], ◌∷◌, ◌++◌, length, take, map, get_or, Some, None, is_some, String, Global, string_bytes, bytes_eq, if◌then◌else◌, nat_lt, refl, sym, ap, ◌∙◌, arith}
 use Rattle.std.specs.FinMap as finite
-use Rattle.std.specs.FinMap.{find, from_entries_push, get-from_entries, slice_cmp-IsAntisymmetric, nat_cmp-IsAntisymmetric}
+use Rattle.std.specs.FinMap.{find, from_entries_push, get-from_entries}
 use Rattle.std.specs.List.{list_any, list_all}
 use Rattle.std.specs.Ordering.{eq_by_cmp}
 use Rattle.std.specs.Cmp.Lexicographic.{nat_list_cmp_total, nat_list_eq_equiv}
@@ -14,6 +14,7 @@ use Rattle.clip_words.specs.Ids.{is_id}
 use Rattle.clip_meaning.specs.Article.{fault_of, is_field_name, has_twice, names, pairs_of, read_fields}
 use Rattle.clip_meaning.specs.declared.fault.TheConstants.{MOST_FIELDS}
 use Rattle.clip_meaning.specs.declared.fault.ArticleFault.TheVariants.{Id, TooMany, Field, Twice}
+use Rattle.clip_meaning.proofs.Fields.{bytes_exact}
 
 abbrev pub TextPair : Type 0
 TextPair = String Global × String Global
@@ -61,4 +62,4 @@ one_more l i x once lt is =
     sym (ap (λ ps. finite.from_entries (worded (pairs_of ps))) (take_more l i x lt ∙ ap (λ (z : TextPair). take i l ++ z ∷ []) (sym is))
     ∙ ap (λ ps. finite.from_entries (worded ps)) (map-append (λ (p : TextPair). (string_bytes p.0, string_bytes p.1)) (take i l) (x ∷ []))
     ∙ ap finite.from_entries (map-append (λ (p : List ℕ × List ℕ). (p.0, words_of p.1)) (pairs_of (take i l)) ((string_bytes x.0, string_bytes x.1) ∷ []))
-    ∙ from_entries_push nat_list_cmp_total (slice_cmp-IsAntisymmetric nat_cmp-IsAntisymmetric) (worded (pairs_of (take i l))) (string_bytes x.0) (words_of (string_bytes x.1)) (unseen l i x once lt is))
+    ∙ from_entries_push nat_list_cmp_total bytes_exact (worded (pairs_of (take i l))) (string_bytes x.0) (words_of (string_bytes x.1)) (unseen l i x once lt is))

@@ -15,8 +15,8 @@ use Rattle.std.proofs.lemmas.Map.Text.{is_eq-slice_cmp}
 use borrow.Author.Tests.{eqb-true}
 use Rattle.clip_words.specs.Order.{bytes_cmp}
 use Rattle.clip_grammar.specs.Tokens.{End}
+use Rattle.clip_grammar.proofs.Orderings.{greater}
 use Rattle.clip_meaning.proofs.Fields.{prefix_from_point}
-use Rattle.clip_meaning.proofs.Tests.{greater}
 use Rattle.clip_meaning.specs.Index.{posting_cmp}
 use Rattle.clip_meaning.specs.Steps.Searches.{from_low}
 use Rattle.clip_meaning.specs.Meaning.{above, below, begins_with}

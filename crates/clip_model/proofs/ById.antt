@@ -1,5 +1,5 @@
 -- A map by ids, as the finite map that it is.
-use Rattle.std.proofs.Common.{◌≡◌, ℕ, suc, Bool, true, false, cond, ◌&&◌, List, [], ◌∷◌, map, length, refl, sym, ap, subst, ◌∙◌, Some, None, is_some, String, string_bytes}
+use Rattle.std.proofs.Common.{◌≡◌, ℕ, suc, Bool, true, false, cond, List, [], ◌∷◌, map, length, refl, sym, ap, subst, ◌∙◌, Some, None, is_some, String, string_bytes}
 use Rattle.std.proofs.Math.Dec.{T}
 use Rattle.std.specs.Option.{option_map}
 use Rattle.std.specs.Map.{lookup, remove_entry, set_value}
@@ -16,25 +16,25 @@ use Rattle.std.specs.declared.alloc.Global.{Global}
 use Rattle.std.specs.FinMap as finite
 use Rattle.std.specs.FinMap.{slice_cmp-IsAntisymmetric, nat_cmp-IsAntisymmetric, same_map, get-from_entries, get-from_sorted, get-insert, get-remove, len-entries, entries-from_sorted}
 use Rattle.std.specs.FinMap.Entries.{find, put, find-put, by_order, is_sorted, below_all}
+use Rattle.std.proofs.lemmas.Bool.{false≢true}
 use Rattle.clip_words.specs.Order.{bytes_cmp}
+use Rattle.clip_grammar.proofs.Booleans.{both}
+use Rattle.clip_grammar.proofs.Orderings.{equal}
+use Rattle.clip_meaning.proofs.Fields.{bytes_exact}
 use Rattle.clip_model.specs.ById.{shown_pair, shown, map_of}
-use Rattle.clip_model.proofs.Entries.{equal}
 
 pub bytes_same : (a b : List ℕ) → eq_by_cmp bytes_cmp a b ≡ true → a ≡ b
-bytes_same a b h = slice_cmp-IsAntisymmetric nat_cmp-IsAntisymmetric a b (equal _ h)
+bytes_same a b h = bytes_exact a b (equal _ h)
 
 pub bytes_itself : (a : List ℕ) → eq_by_cmp bytes_cmp a a ≡ true
 bytes_itself a = (eq_by_cmp_equiv nat_list_cmp_total).refl a
-
-pub false_true : false ≡ true → ⊥
-false_true h = cc
 
 abbrev pub at_text : List ℕ → String Global → Bool
 at_text id = is_at (λ k. slice_cmp nat_cmp id (string_bytes k))
 
 -- two maps that give the same are one
 pub same : {X : Type 0} (m k : finite.FinMap bytes_cmp X) → ((id : List ℕ) → finite.get m id ≡ finite.get k id) → m ≡ k
-same m k = same_map nat_list_cmp_total (slice_cmp-IsAntisymmetric nat_cmp-IsAntisymmetric) m k
+same m k = same_map nat_list_cmp_total bytes_exact m k
 
 -- where two ids differ, what is under the one is not what the other finds
 apart : (q id key : List ℕ) → eq_by_cmp bytes_cmp q id ≡ false → eq_by_cmp bytes_cmp id key ≡ true → eq_by_cmp bytes_cmp q key ≡ false
@@ -46,10 +46,6 @@ swapped a b x y z off = elim a as (λ a. (a ≡ true → b ≡ false) → cond b
 shadowed : {A : Type 0} (a : Bool) (x y z : A) → cond a y z ≡ cond a y (cond a x z)
 shadowed true x y z = refl
 shadowed false x y z = refl
-
-both : (a b : Bool) → T a → T b → T (a && b)
-both true b p q = q
-both false b p q = p
 
 module _ {V X : Type 0} (value : V → X) where
   pub find_shown : (id : List ℕ) (es : List (String Global × V)) → option_map value (lookup (at_text id) es) ≡ find bytes_cmp id (map (shown_pair value) es)
@@ -85,7 +81,7 @@ module _ {V X : Type 0} (value : V → X) where
 
   find_set : (q id : List ℕ) (v : V) (es : List (String Global × V)) → is_some (find bytes_cmp id (map (shown_pair value) es)) ≡ true
       → find bytes_cmp q (map (shown_pair value) (set_value (at_text id) es v)) ≡ cond (eq_by_cmp bytes_cmp q id) (Some (value v)) (find bytes_cmp q (map (shown_pair value) es))
-  find_set q id v [] some = absurd (false_true some)
+  find_set q id v [] some = absurd (false≢true some)
   find_set q id v (e ∷ es) some =
       let key = string_bytes e.0 in
       elim (eq_by_cmp bytes_cmp id key) as (λ b. eq_by_cmp bytes_cmp id key ≡ b → is_some (cond b (Some (value e.1)) (find bytes_cmp id (map (shown_pair value) es))) ≡ true

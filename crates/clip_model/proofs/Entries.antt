@@ -1,33 +1,17 @@
 -- The entries of a finite map, and what it gives.
-use Rattle.std.proofs.Common.{◌≡◌, Bool, true, false, cond, List, [], ◌∷◌, refl, ap, ◌∙◌, Some, None, ◌||◌, ◌&&◌, is_lt}
+use Rattle.std.proofs.Common.{◌≡◌, Bool, true, false, cond, List, [], ◌∷◌, refl, ap, ◌∙◌, Some, None, ◌||◌}
 use Rattle.std.proofs.Math.Dec.{T}
 use Rattle.std.specs.List.{list_any}
 use Rattle.std.specs.Cmp.{IsTotalOrder}
 use Rattle.std.specs.Ordering.{eq_by_cmp, is_eq}
 use Rattle.std.specs.declared.cmp.Ordering.{Ordering}
-use Rattle.std.specs.declared.cmp.Ordering.TheVariants.{Less, Equal, Greater}
+use Rattle.std.specs.declared.cmp.Ordering.TheVariants.{Less, Equal}
 use Rattle.std.specs.FinMap as finite
 use Rattle.std.specs.FinMap.{get-entries, entries_sorted}
 use Rattle.std.specs.FinMap.Entries.{find, is_sorted, below_all}
 use Rattle.std.proofs.lemmas.Cmp.{eq_by_cmp_equiv}
-
-left : (a b : Bool) → T (a && b) → T a
-left true b p = tt
-left false b p = absurd p
-
-right : (a b : Bool) → T (a && b) → T b
-right true b p = p
-right false b p = absurd p
-
-less : (r : Ordering) → T (is_lt r) → r ≡ Less
-less Less p = refl
-less Equal p = absurd p
-less Greater p = absurd p
-
-pub equal : (r : Ordering) → is_eq r ≡ true → r ≡ Equal
-equal Less p = cc
-equal Equal p = refl
-equal Greater p = cc
+use Rattle.clip_grammar.proofs.Booleans.{first, second}
+use Rattle.clip_grammar.proofs.Orderings.{less, equal}
 
 -- a member that passes a test, with its key
 pub record Finds {K X : Type 0} (R : K → K → Ordering) (p : K × X → Bool) (es : List (K × X)) : Type 0 where
@@ -41,8 +25,8 @@ module _ {K X : Type 0} {R : K → K → Ordering} (o : IsTotalOrder R) where
   none_below : (k x : K) (es : List (K × X)) → R k x ≡ Equal → T (below_all R x es) → find R k es ≡ None
   none_below k x [] tied h = refl
   none_below k x (f ∷ es) tied h =
-      let same : R k f.0 ≡ Less = o.congr k x f.0 tied ∙ less _ (left _ _ h) in
-      ap (λ r. cond (is_eq r) (Some f.1) (find R k es)) same ∙ none_below k x es tied (right _ _ h)
+      let same : R k f.0 ≡ Less = o.congr k x f.0 tied ∙ less _ (first _ _ h) in
+      ap (λ r. cond (is_eq r) (Some f.1) (find R k es)) same ∙ none_below k x es tied (second _ _ h)
 
   found_behind : (p : K × X → Bool) (e : K × X) (es : List (K × X)) → T (below_all R e.0 es) → Finds R p es → Finds R p (e ∷ es)
   found_behind p e es h at = record {
@@ -65,7 +49,7 @@ module _ {K X : Type 0} {R : K → K → Ordering} (o : IsTotalOrder R) where
           found = ap (λ b. cond b (Some e.1) (find R e.0 es)) ((eq_by_cmp_equiv o).refl e.0);
           passes = is;
         }
-        | false ↦ λ is more. found_behind p e es (left _ _ sorted) (finds_member p es (right _ _ sorted) more)
+        | false ↦ λ is more. found_behind p e es (first _ _ sorted) (finds_member p es (second _ _ sorted) more)
       ] refl h
 
   -- an entry that passes a test is what its key gives

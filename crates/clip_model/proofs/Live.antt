@@ -1,6 +1,7 @@
 -- Keys of registries, and which seqs are live.
 use Rattle.std.proofs.Common.{◌≡◌, ℕ, Bool, true, false, cond, ◌||◌, List, [], ◌∷◌, refl, sym, ap, ◌∙◌, Some, None, ◌==◌}
 use Rattle.std.proofs.lemmas.Cmp.{nat_list_cmp_total}
+use Rattle.std.proofs.lemmas.Option.{same_Some, none-some}
 use Rattle.std.specs.List.{list_any}
 use Rattle.std.specs.Ordering.{eq_by_cmp}
 use Rattle.std.specs.FinMap as finite
@@ -11,18 +12,6 @@ use Rattle.clip_model.specs.History.{Registered, Registry, is_live_in}
 use Rattle.clip_model.proofs.ById.{bytes_same, bytes_itself}
 use Rattle.clip_model.proofs.Entries.{entry_given}
 use Rattle.clip_model.proofs.Numbers.{same_numbers, numbers_same}
-
-pub same_Some : {A : Type 0} {x y : A} → Some x ≡ Some y → x ≡ y
-same_Some h = cc
-
-pub none_some : {A : Type 0} {x : A} → None ≡ Some x → ⊥
-none_some h = cc
-
--- two tests that follow from each other are the same
-pub same_bool : (a b : Bool) → (a ≡ true → b ≡ true) → (b ≡ true → a ≡ true) → a ≡ b
-same_bool true b f g = sym (f refl)
-same_bool false true f g = g refl
-same_bool false false f g = refl
 
 -- what a registry gives after an insert: the new query under its id, and elsewhere what was there
 pub inserted_at : (m : Registry) (id : List ℕ) (r : Registered) → finite.get (finite.insert m id r) id ≡ Some r
@@ -45,7 +34,7 @@ pub data AfterInsert (m : Registry) (id : List ℕ) (r : Registered) (q : List �
 pub after_insert : (m : Registry) (id : List ℕ) (r : Registered) (q : List ℕ) (s : Registered) → finite.get (finite.insert m id r) q ≡ Some s → AfterInsert m id r q s
 after_insert m id r q s h =
     elim (eq_by_cmp bytes_cmp q id) as (λ b. eq_by_cmp bytes_cmp q id ≡ b → cond b (Some r) (finite.get m q) ≡ Some s → AfterInsert m id r q s) [
-      | true ↦ λ b is. new (bytes_same q id b) (sym (same_Some is))
+      | true ↦ λ b is. new (bytes_same q id b) (sym (same_Some _ _ is))
       | false ↦ λ b is. old b is
     ] refl (sym (get-insert nat_list_cmp_total m id r q) ∙ h)
 
@@ -56,17 +45,17 @@ pub record AfterRemove (m : Registry) (id q : List ℕ) (s : Registered) : Type 
 pub after_remove : (m : Registry) (id q : List ℕ) (s : Registered) → finite.get (finite.remove m id) q ≡ Some s → AfterRemove m id q s
 after_remove m id q s h =
     elim (eq_by_cmp bytes_cmp q id) as (λ b. eq_by_cmp bytes_cmp q id ≡ b → cond b None (finite.get m q) ≡ Some s → AfterRemove m id q s) [
-      | true ↦ λ b is. absurd (none_some is)
+      | true ↦ λ b is. absurd (none-some _ is)
       | false ↦ λ b is. record { other = b; was = is }
     ] refl (sym (get-remove nat_list_cmp_total m id q) ∙ h)
 
 -- ---- live seqs
 
 found_any : (id : List ℕ) (r : Registered) (es : List (List ℕ × Registered)) → find bytes_cmp id es ≡ Some r → list_any (λ e. e.1.seq == r.seq) es ≡ true
-found_any id r [] h = absurd (none_some h)
+found_any id r [] h = absurd (none-some _ h)
 found_any id r (e ∷ es) h =
     elim (eq_by_cmp bytes_cmp id e.0) as (λ b. cond b (Some e.1) (find bytes_cmp id es) ≡ Some r → (e.1.seq == r.seq || list_any (λ e. e.1.seq == r.seq) es) ≡ true) [
-      | true ↦ λ is. let same : e.1 ≡ r = same_Some is in let seqs : (e.1.seq == r.seq) ≡ true = rw same (numbers_same r.seq r.seq refl) in ap (λ b. b || list_any (λ e. e.1.seq == r.seq) es) seqs
+      | true ↦ λ is. let same : e.1 ≡ r = same_Some _ _ is in let seqs : (e.1.seq == r.seq) ≡ true = rw same (numbers_same r.seq r.seq refl) in ap (λ b. b || list_any (λ e. e.1.seq == r.seq) es) seqs
       | false ↦ λ is. or_right (e.1.seq == r.seq) _ (found_any id r es is)
     ] h
   where

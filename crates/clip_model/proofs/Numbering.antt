@@ -6,13 +6,14 @@ use Rattle.clip_words.specs.Order.{bytes_cmp}
 use Rattle.clip_model.specs.Standing.{Standing}
 use Rattle.clip_model.specs.History.{History, Command, Register, Delete, Clear, Registered, Registry, register_all, remove_all, after_command, replay, replay_onto, listed, lists}
 use Rattle.clip_model.specs.Steps.Numbered.{IsNumbered}
-use Rattle.clip_model.proofs.Live.{new, old, after_insert, after_remove, none_some}
+use Rattle.clip_model.proofs.Live.{new, old, after_insert, after_remove}
+use Rattle.std.proofs.lemmas.Option.{none-some}
 
 pub numbered_empty : (n : ℕ) → IsNumbered n finite.empty
 numbered_empty n = record {
-  keyed = λ id r h. absurd (none_some (sym (get-empty bytes_cmp id) ∙ h));
-  within = λ id r h. absurd (none_some (sym (get-empty bytes_cmp id) ∙ h));
-  distinct = λ a b r s h k e. absurd (none_some (sym (get-empty bytes_cmp a) ∙ h));
+  keyed = λ id r h. absurd (none-some _ (sym (get-empty bytes_cmp id) ∙ h));
+  within = λ id r h. absurd (none-some _ (sym (get-empty bytes_cmp id) ∙ h));
+  distinct = λ a b r s h k e. absurd (none-some _ (sym (get-empty bytes_cmp a) ∙ h));
 }
 
 pub numbered_more : (n k : ℕ) (m : Registry) → n ≤ k → IsNumbered n m → IsNumbered k m

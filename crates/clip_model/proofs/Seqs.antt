@@ -1,7 +1,7 @@
 -- The queries that registries hold are those that their histories listed, in the places that their seqs tell.
 use Rattle.std.proofs.Common.{◌≡◌, ◌<◌, ◌+◌, ◌-◌, ℕ, suc, List, [], ◌∷◌, ◌++◌, length, refl, sym, ap, subst, ◌∙◌, arith, Some, append-nil, append_assoc, length-append}
 use Rattle.std.proofs.lemmas.List.{get_or_append_left}
-use Rattle.std.proofs.lemmas.Option.{slice_get_within, slice_get-get_or, get_or_from_slice_get}
+use Rattle.std.proofs.lemmas.Option.{none-some, same_Some, slice_get_within, slice_get-get_or, get_or_from_slice_get}
 use Rattle.std.proofs.Math.Seq.{get_or-append_seam}
 use Rattle.std.specs.List.{slice_get}
 use Rattle.std.specs.FinMap as finite
@@ -10,7 +10,7 @@ use Rattle.clip_words.specs.Order.{bytes_cmp}
 use Rattle.clip_model.specs.Standing.{Standing}
 use Rattle.clip_model.specs.History.{History, Command, Register, Delete, Clear, Registered, Registry, lists, queries_of, listed_queries, register_all, remove_all, after_command, replay_onto, replay}
 use Rattle.clip_model.specs.Laws.{ListedAreCounted, RegisteredAreListed, SeqsAreListed}
-use Rattle.clip_model.proofs.Live.{new, old, after_insert, after_remove, none_some, same_Some, live_given}
+use Rattle.clip_model.proofs.Live.{new, old, after_insert, after_remove, live_given}
 use Rattle.clip_model.proofs.Numbering.{replay_numbered}
 
 counts : (c : Command) → length (queries_of c) ≡ lists c
@@ -38,11 +38,11 @@ place_new xs ys x = slice_get-get_or (xs ++ x ∷ ys) (length xs) x (omega (arit
 pub record ArePlaced (queries : List Standing) (registry : Registry) : Type 0 where
   pub at : (id : List ℕ) (r : Registered) → finite.get registry id ≡ Some r → slice_get queries (r.seq - 1) ≡ Some r.standing
 
-less_one : (n : ℕ) → suc n - 1 ≡ n
+pub less_one : (n : ℕ) → suc n - 1 ≡ n
 less_one n = omega arith
 
 none_placed : (qs : List Standing) → ArePlaced qs finite.empty
-none_placed qs = record { at = λ id r is. absurd (none_some (sym (get-empty bytes_cmp id) ∙ is)) }
+none_placed qs = record { at = λ id r is. absurd (none-some _ (sym (get-empty bytes_cmp id) ∙ is)) }
 
 more_placed : (qs more : List Standing) (m : Registry) → ArePlaced qs m → ArePlaced (qs ++ more) m
 more_placed qs more m are = record { at = λ id r is. place_kept qs more (r.seq - 1) r.standing (are.at id r is) }
@@ -100,5 +100,5 @@ seqs_are_listed h seq live =
       listed = registered_are_listed h at.entry.standing.id at.entry given;
       alone = λ id r is has.
           let same : id ≡ at.id = numbered.distinct id at.id r at.entry is at.given (has ∙ sym at.is) in
-          same_Some (sym is ∙ ap (finite.get (replay h)) same ∙ at.given);
+          same_Some _ _ (sym is ∙ ap (finite.get (replay h)) same ∙ at.given);
     }

@@ -1,7 +1,6 @@
 -- The keys of an article, made field by field from sorted words.
-use Rattle.std.proofs.Common.{◌≡◌, ℕ, ◌+◌, Bool, true, false, cond, ◌||◌, List, [], ◌∷◌, map, flat_map, Some, None, IsPermutation, refl, sym, ap, ◌∙◌, subst, is_lt}
+use Rattle.std.proofs.Common.{◌≡◌, ℕ, Bool, true, false, cond, ◌||◌, List, [], ◌∷◌, map, flat_map, Some, None, IsPermutation, refl, sym, ap, ◌∙◌, subst, is_lt}
 use Rattle.std.specs.FinMap as finite
-use Rattle.std.specs.FinMap.{nat_cmp-IsAntisymmetric, slice_cmp-IsAntisymmetric, IsAntisymmetric}
 use Rattle.std.specs.FinMap.Entries.{is_sorted, below_all}
 use Rattle.std.specs.List.{list_any, dedup, dedup_from, AllByRecursion}
 use Rattle.std.specs.List.Sorted.{IsSorted, IsSortedByKey, IsStrictlySortedBy}
@@ -12,19 +11,18 @@ use Rattle.std.specs.Str.{bytes_eq}
 use Rattle.std.specs.declared.cmp.Ordering.TheVariants.{Less, Equal}
 use Rattle.std.proofs.lemmas.Bool.{and_parts}
 use Rattle.std.proofs.lemmas.List.Folds.{list_any-append}
-use Rattle.std.proofs.lemmas.List.Sorted.{list_any-IsPermutation}
-use Rattle.std.proofs.lemmas.List.Kept.{Contains-dedup, Contains-from_dedup, IsStrictlySortedBy-dedup}
+use Rattle.std.proofs.lemmas.List.Kept.{IsStrictlySortedBy-dedup}
 use Rattle.clip_words.specs.Order.{bytes_cmp}
 use Rattle.clip_meaning.specs.Article.{Fields}
 use Rattle.clip_meaning.specs.Index.{numbered}
+use Rattle.clip_meaning.proofs.Fields.{bytes_exact}
+use Rattle.clip_meaning.proofs.Numbered.{words_pass}
 use Rattle.clip_extract.specs.Keys.{KeyValue, Any, Word, key_cmp, is_same}
 use Rattle.clip_extract.specs.Covering.{field_keys, article_keys}
-use Rattle.clip_extract.proofs.Order.{key_cmp_total, key_cmp_same, same_answer}
+use Rattle.clip_extract.proofs.Members.{any_map, any_deduped, less_from, keys_in_order, entries_in_order, strict_keys, same_members, keys_members}
+use Rattle.clip_extract.proofs.Order.{key_cmp_total, key_cmp_same}
 use Rattle.clip_presearch.specs.Steps.KeysByField.{words_in_order, ordered_keys, differing}
-use Rattle.clip_presearch.proofs.Strict.{sorted_mapped, any_kept, all_appended, less_from, keys_in_order, entries_in_order, strict_append, strict_keys, same_members, keys_members}
-
-bytes_exact : IsAntisymmetric bytes_cmp
-bytes_exact = slice_cmp-IsAntisymmetric nat_cmp-IsAntisymmetric
+use Rattle.clip_presearch.proofs.Strict.{sorted_mapped, all_appended, strict_append}
 
 -- ---- sorted words, each once
 
@@ -56,22 +54,8 @@ Place = List ℕ × ℕ
 abbrev words_at : List Place → List (List ℕ)
 words_at ps = map (λ p. p.0) ps
 
-numbered_pass : (t : List ℕ → Bool) (n : ℕ) (ws : List (List ℕ)) → list_any (λ (p : Place). t p.0) (numbered n ws) ≡ list_any t ws
-numbered_pass t n [] = refl
-numbered_pass t n (w ∷ ws) = ap (λ b. t w || b) (numbered_pass t (n + 1) ws)
-
-any_map : {A B : Type 0} (t : B → Bool) (f : A → B) (xs : List A) → list_any t (map f xs) ≡ list_any (λ x. t (f x)) xs
-any_map t f [] = refl
-any_map t f (x ∷ xs) = ap (λ b. t (f x) || b) (any_map t f xs)
-
-any_deduped : (t : List ℕ → Bool) (ws : List (List ℕ)) → list_any t (dedup repeats ws) ≡ list_any t ws
-any_deduped t ws =
-    same_answer _ _
-    (any_kept t (dedup repeats ws) ws (Contains-from_dedup repeats ws))
-    (any_kept t ws (dedup repeats ws) (Contains-dedup repeats_laws same_word ws))
-  where
-    repeats_laws : IsEquivalence repeats
-    repeats_laws = subst IsEquivalence (λ i x y. sym (ties x y) i) (eq_by_cmp_equiv nat_list_cmp_total)
+repeats_laws : IsEquivalence repeats
+repeats_laws = subst IsEquivalence (λ i x y. sym (ties x y) i) (eq_by_cmp_equiv nat_list_cmp_total)
 
 -- of sorted postings, the words that differ are the field's words in order
 pub differing_words : (ws : List (List ℕ)) (ps : List Place) → IsPermutation (numbered 0 ws) ps → IsSortedByKey (λ p. p.0) bytes_cmp ps → differing None (words_at ps) ≡ words_in_order ws
@@ -79,8 +63,8 @@ differing_words ws ps moved sorted =
     let rising : IsSorted bytes_cmp (words_at ps) = sorted_mapped (λ (p : Place). p.0) (λ v w. is_lt (bytes_cmp v w)) ps sorted in
     deduped (words_at ps)
     ∙ strict_keys nat_list_cmp_total bytes_exact (dedup repeats (words_at ps)) ws (IsStrictlySortedBy-dedup nat_list_cmp_total ties (words_at ps) rising)
-    (λ q. any_deduped (eq_by_cmp bytes_cmp q) (words_at ps) ∙ any_map (eq_by_cmp bytes_cmp q) (λ (p : Place). p.0) ps
-    ∙ sym (list_any-IsPermutation (λ (p : Place). eq_by_cmp bytes_cmp q p.0) (numbered 0 ws) ps moved) ∙ numbered_pass (eq_by_cmp bytes_cmp q) 0 ws)
+    (λ q. any_deduped repeats_laws (λ w. w) same_word (eq_by_cmp bytes_cmp q) (words_at ps) ∙ any_map (eq_by_cmp bytes_cmp q) (λ (p : Place). p.0) ps
+    ∙ words_pass (eq_by_cmp bytes_cmp q) ws ps moved)
 
 -- ---- fields in order
 

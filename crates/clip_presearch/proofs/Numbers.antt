@@ -7,10 +7,11 @@ use Rattle.std.specs.List.{list_any, dedup}
 use Rattle.std.specs.List.Sorted.{IsSorted, IsStrictlySortedBy}
 use Rattle.std.specs.List.Retain.{IsFiltered, DiffersFromLast}
 use Rattle.std.proofs.lemmas.List.Filters.{dedup_is}
-use Rattle.std.proofs.lemmas.List.Kept.{Contains-dedup_nat, Contains-from_dedup, IsStrictlySortedBy-dedup}
-use Rattle.std.proofs.lemmas.List.Sorted.{Contains-permutation, IsPermutation-sym}
-use Rattle.clip_extract.proofs.Order.{same_answer}
-use Rattle.clip_presearch.proofs.Strict.{any_kept, same_strict}
+use Rattle.std.proofs.lemmas.List.Kept.{IsStrictlySortedBy-dedup}
+use Rattle.std.proofs.lemmas.List.Sorted.{list_any-IsPermutation}
+use Rattle.std.proofs.lemmas.Bool.{eqb-true}
+use Rattle.std.proofs.lemmas.Cmp.{nat_eq_equiv}
+use Rattle.clip_extract.proofs.Members.{any_deduped, same_strict}
 
 same_numbers : (ms ns : List ℕ) → IsStrictlySortedBy nat_cmp ms → IsStrictlySortedBy nat_cmp ns → ((q : ℕ) → list_any (nat_eq q) ms ≡ list_any (nat_eq q) ns) → ms ≡ ns
 same_numbers ms ns left right same =
@@ -23,6 +24,4 @@ pub sorted_numbers : (xs ys zs goal : List ℕ) → IsPermutation xs ys → IsSo
 sorted_numbers xs ys zs goal moved sorted filtered strict same =
     let left : zs ≡ dedup nat_eq ys = dedup_is nat_eq ys zs filtered in
     left ∙ same_numbers (dedup nat_eq ys) goal (IsStrictlySortedBy-dedup nat_cmp_total unsigned_ties ys sorted) strict
-    (λ q. same_answer _ _
-    (λ h. sym (same q) ∙ any_kept (nat_eq q) (dedup nat_eq ys) xs (λ x k. Contains-permutation ys xs x (IsPermutation-sym xs ys moved) (Contains-from_dedup nat_eq ys x k)) h)
-    (λ h. any_kept (nat_eq q) xs (dedup nat_eq ys) (λ x k. Contains-dedup_nat ys x (Contains-permutation xs ys x moved k)) (same q ∙ h)))
+    (λ q. any_deduped nat_eq_equiv (λ n. n) eqb-true (nat_eq q) ys ∙ sym (list_any-IsPermutation (nat_eq q) xs ys moved) ∙ same q)

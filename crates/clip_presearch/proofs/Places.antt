@@ -2,36 +2,30 @@
 use Rattle.std.proofs.Common.{◌≡◌, ℕ, ◌+◌, ◌<◌, Bool, true, false, cond, ◌&&◌, ◌||◌, nat_eq, List, [], ◌∷◌, ◌++◌, map, length, get_or, filter, flat_map, take, Some, None, unwrap_or, refl, sym, ap, ◌∙◌, subst, arith}
 use Rattle.std.specs.List.{list_any, enumerate_from, slice_get, All, AllByRecursion}
 use Rattle.std.specs.List.Sorted.{IsStrictlySortedBy}
+use Rattle.std.specs.Cmp.{nat_cmp_is}
 use Rattle.std.specs.Ordering.{nat_cmp}
-use Rattle.std.specs.declared.cmp.Ordering.TheVariants.{Less, Equal, Greater}
-use Rattle.std.proofs.lemmas.Bool.{lt-ltb}
-use Rattle.std.proofs.lemmas.List.{length-append, append_assoc, length-map, get_or-map, take_more, map-append}
+use Rattle.std.specs.declared.cmp.Ordering.TheVariants.{Less}
+use Rattle.std.proofs.Math.Bool.{and-or_distrib_right}
+use Rattle.std.proofs.lemmas.Option.{none-some}
+use Rattle.std.proofs.lemmas.List.{length-append, append_assoc, append-nil, length-map, get_or-map, take_more, map-append}
 use Rattle.std.proofs.lemmas.List.Folds.{list_any-append}
 use Rattle.std.proofs.lemmas.List.Elements.{All-filter, All-cons, All-nil, filter-append}
+use Rattle.clip_meaning.proofs.Numbered.{any_filter}
 use Rattle.clip_model.specs.History.{Registered, History, is_live}
 use Rattle.clip_extract.specs.Keys.{KeyValue, is_same}
 use Rattle.clip_extract.specs.Extraction.{query_keys}
+use Rattle.clip_extract.proofs.Members.{any_map}
 use Rattle.clip_segment.specs.Segment.{holds_key, positions_with}
 use Rattle.clip_segment.proofs.Keys.{flipped}
 use Rattle.clip_presearch.specs.Steps.Places.{has_one, placed_with, places_with, live_with}
 
 -- ---- tests of lists
 
-or-false : (a : Bool) → (a || false) ≡ a
-or-false true = refl
-or-false false = refl
-
 or_swap : (a b c d : Bool) → ((a || b) || (c || d)) ≡ ((a || c) || (b || d))
 or_swap true b c d = refl
 or_swap false true true d = refl
 or_swap false true false d = refl
 or_swap false false c d = refl
-
-and_or : (a b c : Bool) → ((a || b) && c) ≡ ((a && c) || (b && c))
-and_or true b true = refl
-and_or true true false = refl
-and_or true false false = refl
-and_or false b c = refl
 
 any_false : {B : Type 0} (bs : List B) → list_any (λ b. false) bs ≡ false
 any_false [] = refl
@@ -47,19 +41,14 @@ any_swap r (a ∷ xs) bs = ap (λ x. list_any (r a) bs || x) (any_swap r xs bs) 
 
 any_and : {A : Type 0} (p : A → Bool) (c : Bool) (xs : List A) → list_any (λ a. p a && c) xs ≡ (list_any p xs && c)
 any_and p c [] = refl
-any_and p c (a ∷ xs) = ap (λ x. (p a && c) || x) (any_and p c xs) ∙ sym (and_or (p a) (list_any p xs) c)
+any_and p c (a ∷ xs) = ap (λ x. (p a && c) || x) (any_and p c xs) ∙ sym (and-or_distrib_right (p a) (list_any p xs) c)
 
 any_flat_map : {A B : Type 0} (p : B → Bool) (f : A → List B) (xs : List A) → list_any p (flat_map f xs) ≡ list_any (λ a. list_any p (f a)) xs
 any_flat_map p f [] = refl
 any_flat_map p f (a ∷ xs) = list_any-append p (f a) (flat_map f xs) ∙ ap (λ x. list_any p (f a) || x) (any_flat_map p f xs)
 
 any_map_filter : {A B : Type 0} (p : B → Bool) (f : A → B) (t : A → Bool) (xs : List A) → list_any p (map f (filter t xs)) ≡ list_any (λ a. t a && p (f a)) xs
-any_map_filter p f t [] = refl
-any_map_filter p f t (a ∷ xs) =
-    elim (t a) as (λ b. list_any p (map f (cond b (a ∷ filter t xs) (filter t xs))) ≡ ((b && p (f a)) || list_any (λ a. t a && p (f a)) xs)) [
-      | true ↦ ap (λ x. p (f a) || x) (any_map_filter p f t xs)
-      | false ↦ any_map_filter p f t xs
-    ]
+any_map_filter p f t xs = any_map p f (filter t xs) ∙ any_filter t (λ a. p (f a)) xs
 
 -- ---- the positions of the keys are the places
 
@@ -80,9 +69,6 @@ any_position ks es q =
 
 -- ---- places rise
 
-less : (m n : ℕ) → m < n → nat_cmp m n ≡ Less
-less m n lt = ap (λ b. cond b Less (cond (nat_eq m n) Equal Greater)) (lt-ltb m n lt)
-
 abbrev fronts : List (ℕ × Registered) → List ℕ
 fronts = map (λ (e : ℕ × Registered). e.0)
 
@@ -91,7 +77,7 @@ above_places t m n [] lt = tt
 above_places t m n (e ∷ es) lt =
     let later = above_places t m (n + 1) es (omega arith) in
     elim (t (n, e)) as (λ b. AllByRecursion (λ k. nat_cmp m k ≡ Less) (fronts (cond b ((n, e) ∷ filter t (enumerate_from (n + 1) es)) (filter t (enumerate_from (n + 1) es))))) [
-      | true ↦ (less m n lt, later)
+      | true ↦ (sym (nat_cmp_is m n Less lt), later)
       | false ↦ later
     ]
 
@@ -155,19 +141,16 @@ here ks es i d lt =
     let inside : i < length (placed_with ks es) = omega (arith, length-map (placed_with ks es) (λ (e : ℕ × Registered). e.0)) in
     ap (slice_get es) (get_or-map (λ (e : ℕ × Registered). e.0) (placed_with ks es) i d 0 inside) ∙ entry_at_place ks es i d inside
 
-some_none : {x : Registered} → Some x ≡ None → ⊥
-some_none e = cc
-
 -- an entry stands at each place
 pub entry_there : (ks : List KeyValue) (es : List Registered) (i : ℕ) → i < length (places_with ks es) → slice_get es (get_or (places_with ks es) i 0) ≡ None → ⊥
 entry_there ks es i lt none = pick (placed_with ks es) refl
   where
     pick : (qs : List (ℕ × Registered)) → placed_with ks es ≡ qs → ⊥
     pick [] e = omega (arith, ap length e, length-map (placed_with ks es) (λ (e : ℕ × Registered). e.0))
-    pick (q ∷ qs) e = some_none (sym (here ks es i q lt) ∙ none)
+    pick (q ∷ qs) e = none-some _ (sym none ∙ here ks es i q lt)
 
 -- one place more, at which x stands
-pub live_more : (p : Registered → Bool) (ks : List KeyValue) (es : List Registered) (i : ℕ) (x : Registered) → i < length (places_with ks es) → Some x ≡ slice_get es (get_or (places_with ks es) i 0)
+live_more : (p : Registered → Bool) (ks : List KeyValue) (es : List Registered) (i : ℕ) (x : Registered) → i < length (places_with ks es) → Some x ≡ slice_get es (get_or (places_with ks es) i 0)
     → filter p (map snd (take (i + 1) (placed_with ks es))) ≡ filter p (map snd (take i (placed_with ks es))) ++ cond (p x) (x ∷ []) []
 live_more p ks es i x lt is =
     let qs = placed_with ks es in
@@ -178,3 +161,19 @@ live_more p ks es i x lt is =
     ∙ ap (filter p) (map-append snd (take i qs) (get_or qs i d ∷ []))
     ∙ filter-append p (map snd (take i qs)) ((get_or qs i d).1 ∷ [])
     ∙ ap (λ y. filter p (map snd (take i qs)) ++ cond (p y) (y ∷ []) []) same
+
+-- the live ones of the first i places
+abbrev pub live_front : History → List KeyValue → List Registered → ℕ → List Registered
+live_front h ks es i = filter (λ r. is_live h r.seq) (map snd (take i (placed_with ks es)))
+
+module _ (h : History) (ks : List KeyValue) (es : List Registered) (ps : List ℕ) (i : ℕ) (x : Registered) where
+  one_more : ps ≡ places_with ks es → i < length ps → Some x ≡ slice_get es (get_or ps i 0) → live_front h ks es (i + 1) ≡ live_front h ks es i ++ cond (is_live h x.seq) (x ∷ []) []
+  one_more same lt there = live_more (λ r. is_live h r.seq) ks es i x (omega (arith, ap length same)) (there ∙ ap (λ qs. slice_get es (get_or qs i 0)) same)
+
+  -- one place more, at which a query stands that is no longer live
+  pub dead_next : ps ≡ places_with ks es → i < length ps → Some x ≡ slice_get es (get_or ps i 0) → is_live h x.seq ≡ false → live_front h ks es i ≡ live_front h ks es (i + 1)
+  dead_next same lt there dead = sym (one_more same lt there ∙ ap (λ b. live_front h ks es i ++ cond b (x ∷ []) []) dead ∙ append-nil (live_front h ks es i))
+
+  -- one place more, at which a live query stands
+  pub live_next : ps ≡ places_with ks es → i < length ps → Some x ≡ slice_get es (get_or ps i 0) → is_live h x.seq ≡ true → live_front h ks es i ++ x ∷ [] ≡ live_front h ks es (i + 1)
+  live_next same lt there alive = sym (one_more same lt there ∙ ap (λ b. live_front h ks es i ++ cond b (x ∷ []) []) alive)

@@ -1,5 +1,6 @@
 -- The queries that stand after a register, found by a roster of its list alone.
 use Rattle.std.proofs.Common.{◌≡◌, ℕ, suc, ◌<◌, ◌≤◌, ◌++◌, Bool, true, false, cond, List, [], ◌∷◌, length, refl, sym, ap, ◌∙◌, arith, add-zero}
+use Rattle.std.proofs.lemmas.Option.{none-some}
 use Rattle.std.proofs.lemmas.List.Elements.{All-head, All-tail}
 use Rattle.std.specs.List.{All, filter}
 use Rattle.std.specs.FinMap as finite
@@ -13,13 +14,12 @@ use Rattle.clip_model.specs.declared.limits.TheConstants.{MOST_LIVE}
 use Rattle.clip_registry.specs.Steps.Change.{Content, IsChanged}
 use Rattle.clip_registry.specs.declared.command.Applied.TheVariants as applied
 use Rattle.clip_registry.specs.RegistryState.{numbered, standing_after, segments_after}
-use Rattle.clip_model.proofs.Live.{none_some}
 use Rattle.clip_registry.proofs.Registering.{Agree, agree_all, live_agree, insert_all-numbered}
 use Rattle.clip_registry.proofs.Rising.{numbered_high}
 
 agree_nothing : (n : ℕ) (m : Registry) → IsNumbered n m → Agree n finite.empty m
 agree_nothing n m is = record {
-  forth = λ id r high h. absurd (none_some (sym (get-empty bytes_cmp id) ∙ h));
+  forth = λ id r high h. absurd (none-some _ (sym (get-empty bytes_cmp id) ∙ h));
   back = λ id r high h. let low = (is.within id r h).1 in absurd (omega arith);
 }
 

@@ -1,7 +1,7 @@
 -- The flags of seqs.
 use Rattle.std.proofs.Common.{◌≡◌, ℕ, suc, ◌+◌, ◌-◌, ◌<◌, ◌≤◌, Bool, true, false, cond, ◌&&◌, nat_lt, List, [], ◌∷◌, ◌++◌, length, get_or, set, refl, sym, ap, subst, ◌∙◌, inl, inr, arith, ◌==◌, length-append, Option, Some, None, option_to_list, is_some}
 use Rattle.std.proofs.lemmas.Bool.Decides.{nat_tests}
-use Rattle.std.proofs.lemmas.Bool.{cases_lt, cases_order}
+use Rattle.std.proofs.lemmas.Bool.{cases_lt, cases_order, false≢true}
 use Rattle.std.proofs.lemmas.List.{get_or-set_same, get_or-set_other, get_or_append_left, get_or_push, get_or_past}
 use Rattle.std.proofs.Math.ListN.{length-set}
 use Rattle.std.specs.FinMap as finite
@@ -11,7 +11,6 @@ use Rattle.clip_model.specs.History.{Registered, Registry, is_live_in}
 use Rattle.clip_registry.specs.Steps.Flags.{flag_at, flags_with, AreLiveFlags}
 use Rattle.clip_model.specs.Steps.Numbered.{IsNumbered}
 use Rattle.clip_registry.specs.Steps.Roster.{IsAbove, insert_one, with_or_without}
-use Rattle.clip_model.proofs.ById.{false_true}
 use Rattle.clip_model.proofs.Live.{given_live, inserted_at, inserted_else, removed_at, removed_else}
 use Rattle.clip_model.proofs.ById.{bytes_same, same, swapped}
 use Rattle.clip_model.proofs.Numbering.{numbered_insert, numbered_remove}
@@ -81,10 +80,10 @@ placed_from_flag base flags seq h =
         above = above;
         within = elim (cases_lt (seq - suc base) (length flags)) as (λ _. seq - suc base < length flags) [
           | inl less ↦ less
-          | inr past ↦ absurd (false_true (sym (flag_above base flags seq above ∙ get_or_past flags (seq - suc base) false past) ∙ h))
+          | inr past ↦ absurd (false≢true (sym (flag_above base flags seq above ∙ get_or_past flags (seq - suc base) false past) ∙ h))
         ];
       }
-      | inr below ↦ absurd (false_true (sym (flag_below base flags seq below) ∙ h))
+      | inr below ↦ absurd (false≢true (sym (flag_below base flags seq below) ∙ h))
     ]
 
 pub length-flags_with : (base : ℕ) (flags : List Bool) (at : ℕ) (live : Bool) → length (flags_with base flags at live) ≡ length flags
@@ -196,7 +195,7 @@ pub popped_flags : (base : ℕ) (flags rest : List Bool) (popped : Option Bool) 
     → flags ≡ rest ++ option_to_list popped → (0 < length flags → is_some popped ≡ true) → base + length flags ≡ suc n → base ≤ n
     → IsNumbered n before → entry.seq ≡ suc n → entry.standing.id ≡ id → finite.get before id ≡ found → m ≡ insert_one before entry → AreLiveFlags base flags m → AreFewer base rest n found before
 popped_flags base flags rest None n before m entry id found parts there len low numbered e key was same is =
-    let full : 0 < length flags = omega arith in absurd (false_true (there full))
+    let full : 0 < length flags = omega arith in absurd (false≢true (there full))
 popped_flags base flags rest (Some last) n before m entry id found parts there len low numbered e key was same is =
     let count : base + length rest ≡ n = let k = ap length parts in omega (arith, length-append rest (last ∷ []), k) in
     let before_pop : AreLiveFlags base (rest ++ last ∷ []) (insert_one before entry) = subst (λ fs. AreLiveFlags base fs (insert_one before entry)) parts (subst (AreLiveFlags base flags) same is) in

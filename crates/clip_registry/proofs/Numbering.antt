@@ -1,14 +1,16 @@
 -- Numbered registries, after each change.
 use Rattle.std.proofs.Common.{◌≡◌, ℕ, suc, ◌<◌, ◌≤◌, Bool, true, false, cond, List, refl, sym, ap, subst, ◌∙◌, Option, Some, None, ◌==◌}
+use Rattle.std.proofs.lemmas.Bool.{false≢true}
+use Rattle.std.proofs.lemmas.Option.{none-some}
 use Rattle.std.specs.Ordering.{eq_by_cmp}
 use Rattle.std.specs.FinMap as finite
 use Rattle.std.specs.FinMap.{get-empty}
 use Rattle.clip_words.specs.Order.{bytes_cmp}
+use Rattle.clip_grammar.proofs.Booleans.{same_answer}
 use Rattle.clip_model.specs.History.{Registered, Registry, is_live_in}
 use Rattle.clip_model.specs.Steps.Numbered.{IsNumbered}
 use Rattle.clip_model.proofs.ById.{bytes_itself, bytes_same}
-use Rattle.clip_model.proofs.ById.{false_true}
-use Rattle.clip_model.proofs.Live.{new, old, after_insert, after_remove, none_some, same_bool, inserted_at, inserted_else, removed_else, given_live, HasSeq, live_given}
+use Rattle.clip_model.proofs.Live.{new, old, after_insert, after_remove, inserted_at, inserted_else, removed_else, given_live, HasSeq, live_given}
 use Rattle.clip_model.proofs.Numbers.{same_numbers, numbers_same}
 
 -- ---- live seqs
@@ -24,7 +26,7 @@ not_here n m id q s None is at given other = refl
 not_here n m id q s (Some r) is at given other =
     elim (r.seq == s.seq) as (λ b. (r.seq == s.seq) ≡ b → b ≡ false) [
       | false ↦ λ _. refl
-      | true ↦ λ e. let same : q ≡ id = is.distinct q id s r given at (sym (same_numbers _ _ e)) in absurd (false_true (sym other ∙ ap (λ (x : List ℕ). eq_by_cmp bytes_cmp x id) same ∙ bytes_itself id))
+      | true ↦ λ e. let same : q ≡ id = is.distinct q id s r given at (sym (same_numbers _ _ e)) in absurd (false≢true (sym other ∙ ap (λ (x : List ℕ). eq_by_cmp bytes_cmp x id) same ∙ bytes_itself id))
     ] refl
 
 -- a query that has the seq of the one under an id stands there
@@ -32,7 +34,7 @@ elsewhere : (m : Registry) (id q : List ℕ) (s : Registered) → finite.get m q
 elsewhere m id q s given none =
     elim (eq_by_cmp bytes_cmp q id) as (λ b. eq_by_cmp bytes_cmp q id ≡ b → b ≡ false) [
       | false ↦ λ _. refl
-      | true ↦ λ e. let at : finite.get m id ≡ Some s = ap (finite.get m) (sym (bytes_same q id e)) ∙ given in absurd (false_true (sym none ∙ ap (λ o. has_seq o s.seq) at ∙ numbers_same s.seq s.seq refl))
+      | true ↦ λ e. let at : finite.get m id ≡ Some s = ap (finite.get m) (sym (bytes_same q id e)) ∙ given in absurd (false≢true (sym none ∙ ap (λ o. has_seq o s.seq) at ∙ numbers_same s.seq s.seq refl))
     ] refl
 
 pub live_within : (n : ℕ) (m : Registry) (seq : ℕ) → IsNumbered n m → is_live_in m seq ≡ true → (0 < seq) × (seq ≤ n)
@@ -72,7 +74,7 @@ insert_back n m r seq e h =
           let seqs : r.seq ≡ seq = e ∙ same_numbers (suc n) seq b in
           ap (is_live_in (finite.insert m r.standing.id r)) (sym seqs) ∙ given_live _ r.standing.id r (inserted_at m r.standing.id r)
       | false ↦ λ b k. elim (has_seq (finite.get m r.standing.id) seq) as (λ c. has_seq (finite.get m r.standing.id) seq ≡ c → cond c false (is_live_in m seq) ≡ true → is_live_in (finite.insert m r.standing.id r) seq ≡ true) [
-        | true ↦ λ c l. absurd (false_true l)
+        | true ↦ λ c l. absurd (false≢true l)
         | false ↦ λ c l. insert_old m r seq c (live_given m seq l)
       ] refl k
     ] refl h
@@ -80,7 +82,7 @@ insert_back n m r seq e h =
 -- a seq is live after an insert where it is the new one, or was live and isn't that of the query that was there
 pub live_insert : (n : ℕ) (m : Registry) (r : Registered) (seq : ℕ) → r.seq ≡ suc n → IsNumbered n m
     → is_live_in (finite.insert m r.standing.id r) seq ≡ cond (suc n == seq) true (cond (has_seq (finite.get m r.standing.id) seq) false (is_live_in m seq))
-live_insert n m r seq e is = same_bool _ _ (λ h. insert_forth n m r seq e is (live_given _ seq h)) (insert_back n m r seq e)
+live_insert n m r seq e is = same_answer _ _ (λ h. insert_forth n m r seq e is (live_given _ seq h)) (insert_back n m r seq e)
 
 remove_forth : (n : ℕ) (m : Registry) (gone : List ℕ) (seq : ℕ) → IsNumbered n m → HasSeq (finite.remove m gone) seq → cond (has_seq (finite.get m gone) seq) false (is_live_in m seq) ≡ true
 remove_forth n m gone seq is at =
@@ -96,14 +98,14 @@ remove_old m gone seq none at =
 remove_back : (m : Registry) (gone : List ℕ) (seq : ℕ) → cond (has_seq (finite.get m gone) seq) false (is_live_in m seq) ≡ true → is_live_in (finite.remove m gone) seq ≡ true
 remove_back m gone seq h =
     elim (has_seq (finite.get m gone) seq) as (λ c. has_seq (finite.get m gone) seq ≡ c → cond c false (is_live_in m seq) ≡ true → is_live_in (finite.remove m gone) seq ≡ true) [
-      | true ↦ λ c l. absurd (false_true l)
+      | true ↦ λ c l. absurd (false≢true l)
       | false ↦ λ c l. remove_old m gone seq c (live_given m seq l)
     ] refl h
 
 -- a seq is live after a removal where it was live and isn't that of the query that went
 pub live_remove : (n : ℕ) (m : Registry) (gone : List ℕ) (seq : ℕ) → IsNumbered n m → is_live_in (finite.remove m gone) seq ≡ cond (has_seq (finite.get m gone) seq) false (is_live_in m seq)
-live_remove n m gone seq is = same_bool _ _ (λ h. remove_forth n m gone seq is (live_given _ seq h)) (remove_back m gone seq)
+live_remove n m gone seq is = same_answer _ _ (λ h. remove_forth n m gone seq is (live_given _ seq h)) (remove_back m gone seq)
 
 -- nothing is live in an empty registry
 pub none_live : (seq : ℕ) → is_live_in finite.empty seq ≡ false
-none_live seq = same_bool _ _ (λ h. let at = live_given finite.empty seq h in absurd (none_some (sym (get-empty bytes_cmp at.id) ∙ at.given))) (λ h. absurd (false_true h))
+none_live seq = same_answer _ _ (λ h. let at = live_given finite.empty seq h in absurd (none-some _ (sym (get-empty bytes_cmp at.id) ∙ at.given))) (λ h. absurd (false≢true h))

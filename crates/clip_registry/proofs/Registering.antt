@@ -2,11 +2,12 @@
 use Rattle.std.proofs.Common.{◌≡◌, ℕ, suc, ◌<◌, ◌⊎◌, List, [], ◌∷◌, refl, sym, ap, subst, ◌∙◌, inl, inr, arith, Some}
 use Rattle.std.specs.List.{Contains}
 use Rattle.std.specs.FinMap as finite
+use Rattle.clip_grammar.proofs.Booleans.{same_answer}
 use Rattle.clip_model.specs.Standing.{Standing}
 use Rattle.clip_model.specs.History.{Registered, Registry, register_all, remove_all, is_live_in}
 use Rattle.clip_registry.specs.Steps.Roster.{insert_one, insert_all, SeqsFollow}
 use Rattle.clip_registry.specs.RegistryState.{numbered}
-use Rattle.clip_model.proofs.Live.{new, old, after_insert, after_remove, inserted_at, inserted_else, same_bool, live_given, given_live}
+use Rattle.clip_model.proofs.Live.{new, old, after_insert, after_remove, inserted_at, inserted_else, live_given, given_live}
 use Rattle.clip_registry.proofs.Rising.{contains_head, contains_later}
 
 -- to register is to insert the numbered queries
@@ -54,6 +55,6 @@ agree_all n (q ∷ rs) m k are = agree_all n rs _ _ (record {
 })
 
 pub live_agree : (n : ℕ) (m k : Registry) (seq : ℕ) → n < seq → Agree n m k → is_live_in m seq ≡ is_live_in k seq
-live_agree n m k seq high are = same_bool _ _
+live_agree n m k seq high are = same_answer _ _
     (λ h. let at = live_given m seq h in let above : n < at.entry.seq = let e = at.is in omega arith in ap (is_live_in k) (sym at.is) ∙ given_live k at.id at.entry (are.forth at.id at.entry above at.given))
     (λ h. let at = live_given k seq h in let above : n < at.entry.seq = let e = at.is in omega arith in ap (is_live_in m) (sym at.is) ∙ given_live m at.id at.entry (are.back at.id at.entry above at.given))

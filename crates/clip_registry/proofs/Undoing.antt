@@ -1,12 +1,10 @@
 -- A roster with a query more, and then without it.
-use Rattle.std.proofs.Common.{◌≡◌, ℕ, suc, ◌-◌, List, Option, arith}
+use Rattle.std.proofs.Common.{◌≡◌, ℕ, List, Option}
 use Rattle.std.specs.FinMap as finite
 use Rattle.clip_model.specs.History.{Registered}
+use Rattle.clip_model.proofs.Seqs.{less_one}
 use Rattle.clip_registry.specs.Steps.Roster.{Roster, without_last, roster_with}
 use Rattle.clip_registry.proofs.Marks.{restored_before}
-
-less_one : (n : ℕ) → suc n - 1 ≡ n
-less_one n = omega arith
 
 pub undone_with : (roster : Roster) (r : Registered) (id : List ℕ) (replaced : Option Registered) → r.standing.id ≡ id → finite.get roster.registry id ≡ replaced → without_last (roster_with roster r) id replaced ≡ roster
 undone_with roster r id replaced key was = λ i. record {

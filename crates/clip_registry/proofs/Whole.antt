@@ -1,5 +1,6 @@
 -- The registry stays whole.
 use Rattle.std.proofs.Common.{◌≡◌, ◌↔◌, ℕ, suc, ◌+◌, ◌<◌, ◌≤◌, List, [], ◌∷◌, ◌++◌, length, refl, sym, ap, subst, ◌∙◌, inl, inr, arith, Some, IsTrue, append-nil, append_assoc, add-zero}
+use Rattle.std.proofs.lemmas.Option.{none-some}
 use Rattle.std.proofs.lemmas.List.Elements.{All-nil, All-append, All-weaker, All-filter, Contains-append_left, Contains-append_right}
 use Rattle.std.specs.List.{All, Contains}
 use Rattle.std.specs.FinMap as finite
@@ -11,7 +12,7 @@ use Rattle.clip_model.specs.History.{Command, Register, Delete, Clear, Registere
 use Rattle.clip_model.proofs.Replay.{replays_on, listed_on}
 use Rattle.clip_model.specs.Steps.Numbered.{IsNumbered}
 use Rattle.clip_registry.specs.RegistryState.{RegistryState, IsWhole, all_entries, numbered, standing_after, segments_after, state_after, beginning}
-use Rattle.clip_model.proofs.Live.{none_some, live_given, given_live}
+use Rattle.clip_model.proofs.Live.{live_given, given_live}
 use Rattle.clip_model.proofs.Numbering.{numbered_empty, numbered_register, numbered_removed, replay_numbered}
 use Rattle.clip_registry.proofs.Registering.{insert_all-numbered, inserted_or_old, removed_was}
 use Rattle.clip_registry.proofs.Rising.{rising_nil, rising_append, rising_filter, same_seq, numbered_rising, numbered_high, numbered_low, contains_filter}
@@ -83,7 +84,7 @@ shelved_nothing n = record {
   rising = rising_nil;
   within = All-nil (λ r. r.seq ≤ n);
   numbered = numbered_empty n;
-  among = λ id r h. absurd (none_some (sym (get-empty bytes_cmp id) ∙ h));
+  among = λ id r h. absurd (none-some _ (sym (get-empty bytes_cmp id) ∙ h));
 }
 
 same_count : (n : ℕ) (entries : List Registered) (m : Registry) → IsShelved n entries m → IsShelved (n + 0) entries m

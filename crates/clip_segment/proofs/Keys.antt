@@ -14,8 +14,9 @@ use Rattle.std.specs.Cmp.Lexicographic.{pointwise, lists_ties, texts_ties}
 use Rattle.std.specs.List.{list_any}
 use Rattle.std.specs.FinMap as finite
 use Rattle.clip_words.specs.Order.{bytes_cmp}
-use Rattle.clip_meaning.proofs.Tests.{truth, first, second}
-use Rattle.clip_extract.proofs.Order.{key_cmp_total, marked, same_key}
+use Rattle.clip_grammar.proofs.Booleans.{truth, first, second}
+use Rattle.clip_extract.proofs.Members.{marked}
+use Rattle.clip_extract.proofs.Order.{key_cmp_total, same_key}
 use Rattle.clip_extract.specs.Keys.{KeyValue, key_of, key_cmp, is_same, in_order}
 use Rattle.clip_extract.specs.declared.key.Key.{Key}
 use Rattle.clip_extract.specs.declared.key.Key.TheVariants as variant

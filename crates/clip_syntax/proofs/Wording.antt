@@ -1,5 +1,6 @@
 -- The words of a query's items, and the items that have none.
 use Rattle.std.proofs.Common.{◌≡◌, ℕ, Bool, true, false, ◌||◌, List, [], ◌∷◌, ◌++◌, map, Option, Some, None, refl, sym, ap, ◌∙◌, append_assoc, append-nil, length, arith}
+use Rattle.std.proofs.Math.Bool.{or_assoc, or-false}
 use Rattle.std.specs.Option.{option_to_list}
 use Rattle.std.specs.List.{list_any}
 use Rattle.clip_words.specs.Words.{words_of}
@@ -16,14 +17,6 @@ use Rattle.clip_syntax.specs.Steps.Items.{item_text, item_texts, items_words}
 -- some item of the tokens has no words
 abbrev pub lacks : List Token → Bool
 lacks ts = list_any is_empty (items_words ts)
-
-or_assoc : (a b c : Bool) → ((a || b) || c) ≡ (a || (b || c))
-or_assoc true b c = refl
-or_assoc false b c = refl
-
-or_false : (a : Bool) → (a || false) ≡ a
-or_false true = refl
-or_false false = refl
 
 lacks_sign : (sign : Sign) (ts : List Token) → lacks (sign_tokens sign ++ ts) ≡ lacks ts
 lacks_sign shape.Unsigned ts = refl
@@ -65,7 +58,7 @@ mutual
 
 -- the items of what is written
 pub lacks_written : (w : Written) (ts : List Token) → tokens w ≡ ts → lacks ts ≡ lacks_words w
-lacks_written w ts e = ap lacks (sym e ∙ sym (append-nil (tokens w))) ∙ lacks_from w [] refl ∙ or_false (lacks_words w)
+lacks_written w ts e = ap lacks (sym e ∙ sym (append-nil (tokens w))) ∙ lacks_from w [] refl ∙ or-false (lacks_words w)
 
 -- ---- step by step
 

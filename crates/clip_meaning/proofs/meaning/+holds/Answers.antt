@@ -1,9 +1,9 @@
 use Rattle.std.proofs.Common.{false, ◌||◌, sym, ap, ◌∙◌}
 use Rattle.clip_meaning.specs.Steps.Tally.{group_with}
 use Rattle.clip_grammar.specs.Tree.{tree_of}
+use Rattle.clip_grammar.proofs.Trees.{tree_of_group}
 use Rattle.clip_meaning.specs.Meaning.{holds}
 use Rattle.clip_meaning.proofs.Groups.{verdicts_of, group_start, all_read}
-use Rattle.clip_meaning.proofs.Trees.{tree_of_group}
 use Rattle.clip_meaning.proofs.meaning.+holds.Goals as goal
 
 pub loop-occur-init : goal.loop-occur-init

@@ -1,4 +1,4 @@
-use Rattle.std.proofs.Common.{◌≡◌, ◌++◌, map, ap₂, subst, None}
+use Rattle.std.proofs.Common.{◌≡◌, ◌++◌, map, ap₂, subst}
 use Rattle.std.specs.Prelude.{OnOk}
 use Rattle.clip_extract.specs.Keys.{Word, key_of}
 use Rattle.clip_presearch.proofs.KeysByField.{differing_words}

@@ -1,11 +1,11 @@
-use Rattle.std.proofs.Common.{◌≡◌, ℕ, ◌<◌, ◌≤◌, [], ◌∷◌, ◌++◌, map, filter, length, get_or, take, cond, sym, ap, ◌∙◌, arith, Bor}
+use Rattle.std.proofs.Common.{◌≡◌, ℕ, ◌<◌, ◌≤◌, [], ◌∷◌, ◌++◌, map, filter, length, get_or, sym, ap, ◌∙◌, arith, Bor}
 use Rattle.std.specs.Arc.{arc_value}
 use Rattle.std.specs.List.{slice_get}
-use Rattle.std.proofs.lemmas.List.{map-append, append_assoc, append-nil, take_all, length-map}
+use Rattle.std.proofs.lemmas.List.{map-append, append_assoc, take_all, length-map}
 use Rattle.clip_extract.specs.Keys.{key_of}
 use Rattle.clip_model.specs.History.{Registered, is_live}
 use Rattle.clip_presearch.specs.Steps.Places.{placed_with, places_with}
-use Rattle.clip_presearch.proofs.Places.{entry_there, live_more, live_places}
+use Rattle.clip_presearch.proofs.Places.{entry_there, live_front, dead_next, live_next, live_places}
 use Rattle.clip_presearch.proofs.presearch.add_candidates.Goals as goal
 
 pub unreachable-requires : goal.unreachable-requires
@@ -22,16 +22,10 @@ loop-position-preserved-then-not-is_live c =
     let es = c.args.segment.now in
     let ks = map key_of c.args.keys.now in
     let h = c.args.view.now.history in
-    let i = c.loop-position.position-index in
     let old = map (λ (e : Bor Registered). e.now) c.args.found.now.items in
-    let so_far = filter (λ r. is_live h r.seq) (map (λ (e : ℕ × Registered). e.1) (take i (placed_with ks es))) in
-    let x = arc_value c.in-Some.entry.now in
     let same : c.deref-position-items.result.now ≡ places_with ks es = c.deref-position-items.ensures.value ∙ c.in_ok-find_positions.ensures in
-    let lt : i < length (places_with ks es) = omega (arith, ap length same, c.loop-position-test.true) in
-    let there = c.in-Some.ensures ∙ ap (λ ps. slice_get es (get_or ps i 0)) same in
     let dead = c.if-not-is_live.ensures ∙ ap (λ (r : Registered). is_live h r.seq) c.deref.ensures in
-    c.loop-position.invariant
-    ∙ ap (λ xs. old ++ xs) (sym (append-nil so_far) ∙ ap (λ b. so_far ++ cond b (x ∷ []) []) dead ∙ sym (live_more (λ r. is_live h r.seq) ks es i x lt there))
+    c.loop-position.invariant ∙ ap (λ xs. old ++ xs) (dead_next h ks es _ c.loop-position.position-index _ same c.loop-position-test.true c.in-Some.ensures (sym dead))
 
 pub loop-position-preserved : goal.loop-position-preserved
 loop-position-preserved c =
@@ -40,18 +34,15 @@ loop-position-preserved c =
     let h = c.args.view.now.history in
     let i = c.loop-position.position-index in
     let old = map (λ (e : Bor Registered). e.now) c.args.found.now.items in
-    let so_far = filter (λ r. is_live h r.seq) (map (λ (e : ℕ × Registered). e.1) (take i (placed_with ks es))) in
     let x = arc_value c.in-Some.entry.now in
     let same : c.deref-position-items.result.now ≡ places_with ks es = c.deref-position-items.ensures.value ∙ c.in_ok-find_positions.ensures in
-    let lt : i < length (places_with ks es) = omega (arith, ap length same, c.loop-position-test.true) in
-    let there = c.in-Some.ensures ∙ ap (λ ps. slice_get es (get_or ps i 0)) same in
     let alive = c.if-not-is_live.ensures ∙ ap (λ (r : Registered). is_live h r.seq) c.deref.ensures in
     ap (map (λ (e : Bor Registered). e.now)) c.in_ok-push.ensures.items
     ∙ map-append (λ (e : Bor Registered). e.now) c.loop-position.found.items _
     ∙ ap (λ xs. map (λ (e : Bor Registered). e.now) c.loop-position.found.items ++ xs ∷ []) c.deref-in-loop-position.ensures
     ∙ ap (λ xs. xs ++ x ∷ []) c.loop-position.invariant
-    ∙ append_assoc old so_far (x ∷ [])
-    ∙ ap (λ xs. old ++ xs) (ap (λ b. so_far ++ cond b (x ∷ []) []) alive ∙ sym (live_more (λ r. is_live h r.seq) ks es i x lt there))
+    ∙ append_assoc old (live_front h ks es i) (x ∷ [])
+    ∙ ap (λ xs. old ++ xs) (live_next h ks es _ i x same c.loop-position-test.true c.in-Some.ensures (sym alive))
 
 pub returns : goal.returns
 returns c =

@@ -1,10 +1,10 @@
 use Rattle.std.proofs.Common.{◌≡◌, sym, ap, ◌∙◌, is_some, true, None}
+use Rattle.std.proofs.lemmas.Bool.{false≢true}
 use Rattle.std.specs.Option.{option_map, option_copied_mut}
 use Rattle.std.specs.Arc.{arc_value}
 use Rattle.std.specs.FinMap as finite
 use Rattle.clip_model.specs.ById.{map_of}
 use Rattle.clip_registry.specs.declared.by_id.ById.TheInside.{Inside}
-use Rattle.clip_model.proofs.ById.{false_true}
 use Rattle.clip_model.proofs.ById.{get_shown, set_shown}
 use Rattle.clip_registry.proofs.by_id.ById.put_back.Goals as goal
 use Rattle.clip_registry.proofs.by_id.ById.put_back.Goals.{in-Some, in_default}
@@ -19,5 +19,5 @@ returns c =
           ∙ ap (λ m. finite.insert m c.args.id.now c.args.entry.value) c.self.view_is
       | in_default w ↦
           let none : finite.get (map_of arc_value c.self.inside.entries) c.args.id.now ≡ None = sym (get_shown arc_value c.args.id.now c.self.inside.entries) ∙ ap (option_map arc_value) (sym c.get_mut.ensures.value ∙ ap option_copied_mut w.in_default.is) in
-          absurd (false_true (sym (ap is_some none) ∙ there))
+          absurd (false≢true (sym (ap is_some none) ∙ there))
     ]
