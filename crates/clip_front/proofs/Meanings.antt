@@ -1,5 +1,5 @@
 -- What a line means, by its outline.
-use Rattle.std.proofs.Common.{◌≡◌, ℕ, List, [], ◌∷◌, map, Bool, true, false, cond, Option, Some, None, refl, sym, ap, ◌∙◌}
+use Rattle.std.proofs.Common.{◌≡◌, ℕ, List, Bool, true, false, cond, Option, Some, None, refl, sym, ap, ◌∙◌}
 use Rattle.serde_json.specs.Data.{Data}
 use Rattle.clip_model.specs.History.{History}
 use Rattle.clip_front.specs.declared.refusal.Refusal.TheVariants.{Long, Json, Shape, Limit, Query, Full}

@@ -1,5 +1,5 @@
 -- An input has one reply text.
-use Rattle.std.proofs.Common.{◌≡◌, ◌≢◌, ◌⊎◌, ℕ, zero, suc, List, [], ◌∷◌, ◌++◌, map, Bool, true, false, Some, None, refl, sym, ap, ap₂, ◌∙◌, subst, inl, inr}
+use Rattle.std.proofs.Common.{◌≡◌, ◌⊎◌, ℕ, zero, suc, List, [], ◌∷◌, ◌++◌, Bool, true, false, None, refl, sym, ap, ap₂, ◌∙◌, subst, inl, inr}
 use Rattle.std.proofs.lemmas.Str.{IsUtf8-from_is_utf8}
 use Rattle.std.specs.Str.{is_utf8}
 use Rattle.std.specs.Prelude.{Option}
@@ -10,8 +10,8 @@ use Rattle.clip_grammar.specs.Tree.{Tree}
 use Rattle.clip_model.specs.Standing.{Standing}
 use Rattle.clip_model.specs.History.{History, Register, Delete, Clear}
 use Rattle.clip_front.specs.declared.refusal.Refusal.TheVariants.{Query}
-use Rattle.clip_front.specs.Request.{Listing, register, delete, clear, count, show, match}
-use Rattle.clip_front.specs.LineMeaning.{Meaning, nothing, refusal, refusal_at, counting, showing, matching, IsQuery, IsReadAs, AreReadAs, FirstRefused, judged, MeansRequest, Means, after}
+use Rattle.clip_front.specs.Request.{Listing, register}
+use Rattle.clip_front.specs.LineMeaning.{Meaning, nothing, refusal, refusal_at, counting, showing, matching, IsQuery, IsReadAs, AreReadAs, FirstRefused, judged, MeansRequest, after}
 use Rattle.clip_front.specs.Reply.{reply, AreReplies}
 use Rattle.clip_front.specs.Steps.Outline.{Outline, blank, refused, registers, deletes, clears, counts, shows, matches, outline, MeansOutline}
 use Rattle.clip_front.proofs.Meanings.{means_from, means_to}

@@ -9,7 +9,7 @@ use Rattle.clip_stream.specs.Device.{AppendsFront, HandsOver}
 use Rattle.clip_stream.specs.Lines.{lines_of, onto_first}
 use Rattle.clip_stream.specs.Steps.Reading.{first_line, after_line, has_feed, cut, FindsKnownLine}
 use Rattle.clip_stream.specs.declared.limits.TheConstants.{MOST_LINE_BYTES}
-use Rattle.clip_front.specs.LineMeaning.{is_long, is_blank, json_of, Means, after}
+use Rattle.clip_front.specs.LineMeaning.{is_long, is_blank, json_of, Means}
 use Rattle.clip_front.specs.Reply.{reply, reply_text, AreReplies, IsText, WritesFront}
 use Rattle.clip_front.specs.Steps.Answers.{Answers}
 use Rattle.clip_front.specs.Steps.Outline.{outline, blank, outline_of_value, MeansOutline}

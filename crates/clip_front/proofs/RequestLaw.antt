@@ -10,10 +10,10 @@ use Rattle.std.specs.declared.cmp.Ordering.{Ordering}
 use Rattle.std.specs.declared.cmp.Ordering.TheVariants.{Less, Equal, Greater}
 use Rattle.serde_json.specs.Data.{Data, null, boolean, number, string, array, object, Items, no_items, item, Members, no_members, member}
 use Rattle.serde_json.specs.Events.{members_len}
-use Rattle.serde_json.specs.Find.{get, get_member, as_str, as_array, as_object}
+use Rattle.serde_json.specs.Find.{get, as_str, as_array, as_object}
 use Rattle.serde_json.specs.View.{items_of}
-use Rattle.clip_front.specs.Request.{Listing, Draft, Request, register, delete, clear, count, show, match, members_from, object_of, array_of, listing_value, field_value, draft_value, value_of}
-use Rattle.clip_front.specs.Steps.Outline.{take_member, when_none_left, then_take, two_members, all_of, fields_of, listing_by, listing_of, draft_by, draft_of, operation_of, operation_in, has_one_member, counts_members, register_of, delete_of, show_of, match_of, request_by, request_of}
+use Rattle.clip_front.specs.Request.{Listing, Draft, Request, register, delete, clear, count, show, match, members_from, object_of, listing_value, field_value, draft_value, value_of}
+use Rattle.clip_front.specs.Steps.Outline.{take_member, when_none_left, two_members, all_of, fields_of, listing_of, draft_of, operation_of, operation_in, has_one_member, counts_members, register_of, delete_of, show_of, match_of, request_by, request_of}
 use Rattle.clip_front.specs.declared.request.Operation.{Operation}
 use Rattle.clip_front.specs.declared.request.Operation.TheVariants as operation
 

@@ -1,8 +1,8 @@
 -- What each kind of line leaves.
-use Rattle.std.proofs.Common.{◌≡◌, ℕ, List, [], ◌∷◌, ◌++◌, map, Bool, true, false, cond, refl, sym, ap, ap₂, ◌∙◌}
+use Rattle.std.proofs.Common.{◌≡◌, ℕ, List, [], ◌∷◌, map, true, refl, sym, ap, ◌∙◌}
 use Rattle.clip_meaning.specs.Article.{ArticleValue}
 use Rattle.clip_model.specs.History.{History, Command, Register, Delete, Clear, has_room, applied}
-use Rattle.clip_match.specs.Alerts.{AlertsValue, alerts_due}
+use Rattle.clip_match.specs.Alerts.{alerts_due}
 use Rattle.clip_registry.specs.Command.{answer_of}
 use Rattle.clip_registry.specs.RegistryState.{RegistryState, state_after}
 use Rattle.clip_registry.specs.declared.command.Applied.{Applied}

@@ -1,4 +1,4 @@
-use Rattle.std.proofs.Common.{◌≡◌, sym, ◌∙◌, true≢false}
+use Rattle.std.proofs.Common.{sym, ◌∙◌, true≢false}
 use Rattle.clip_front.proofs.ObjectMembers.{two_members-taken, when_none_left-some}
 use Rattle.clip_front.proofs.members.two_members.Goals as goal
 
