@@ -22,6 +22,15 @@ pub fn spelled(alloc: Global, pieces: &[(&str, usize)]) -> Result<String, AllocE
     Ok(text)
 }
 
+/// Owned texts.
+pub fn owned(alloc: Global, texts: &[&str]) -> Result<Vec<String>, AllocError> {
+    let mut owned = Vec::new(alloc);
+    for text in texts {
+        owned.push(String::from_str(alloc, text)?)?;
+    }
+    Ok(owned)
+}
+
 /// A shared standing query without a listener.
 pub fn standing(alloc: Global, id: &str, text: &str) -> Result<Arc<Standing>, Fail> {
     Ok(Arc::new(alloc, Standing::read(alloc, id, text, None)?)?)

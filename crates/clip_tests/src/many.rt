@@ -1,8 +1,7 @@
 //! The candidates of articles among ten thousand queries.
-use crate::making::{article, standing};
-use crate::script::answer;
-use clip_presearch::candidates;
-use clip_registry::{Command, Registrar};
+use crate::making::standing;
+use crate::script::{answer, candidates_of};
+use clip_registry::{Command, Registrar, View};
 use std::alloc::{AllocError, Global};
 use std::test::Fail;
 
@@ -85,11 +84,9 @@ fn wanted_numbers(alloc: Global, short: &[u64], long: &[u64]) -> Result<Vec<u64>
 }
 
 /// The numbers of the queries that are candidates of the article of a text.
-fn found_numbers(alloc: Global, registrar: &Registrar, text: &str) -> Result<Vec<u64>, Fail> {
+fn found_numbers(alloc: Global, view: &View, text: &str) -> Result<Vec<u64>, Fail> {
     let mut found = Vec::new(alloc);
-    let article = article(alloc, "a1", &[("text", text)])?;
-    let view = registrar.view()?;
-    for entry in candidates(alloc, &view, &article)?.iter() {
+    for entry in candidates_of(alloc, view, text)?.iter() {
         found.push(entry.seq().wrapping_sub(1))?;
     }
     Ok(found)
@@ -112,8 +109,9 @@ fn ten_thousand_queries_have_just_the_candidates_worked_by_hand(
 ) -> Result<(), Fail> {
     let mut registrar = Registrar::new(rt.alloc());
     register_all(rt.alloc(), &mut registrar)?;
+    let view = registrar.view()?;
     for (text, short, long) in &ROWS {
-        let found = found_numbers(rt.alloc(), &registrar, text)?;
+        let found = found_numbers(rt.alloc(), &view, text)?;
         let wanted = wanted_numbers(rt.alloc(), short, long)?;
         assert!(rt; found.as_slice() == wanted.as_slice(), "{text}");
     }

@@ -1,5 +1,5 @@
 //! Articles, and what holds of them: worked examples.
-use crate::making::{article, spelled};
+use crate::making::article;
 use clip_meaning::{Article, ArticleFault, Field, holds};
 use clip_syntax::read_query;
 use std::alloc::{AllocError, Global};
@@ -89,7 +89,7 @@ fn a_query_holds_of_just_the_articles_that_it_means(rt: HostRuntime) -> Result<(
 
 /// Each an id, fields, and the article or why it is refused: its id, and of each field the name, the words, and the
 /// postings, each a word and its position.
-static ARTICLES: [(&str, Fields, &str); 17] = [
+static ARTICLES: [(&str, Fields, &str); 19] = [
     (
         "a1",
         &[("title", "Green Tea"), ("body", "tea, TEA and milk")],
@@ -111,6 +111,23 @@ static ARTICLES: [(&str, Fields, &str); 17] = [
     ("a1", &[("_", "tea")], "a1 [_: tea; tea@0]"),
     ("a1", &[("A_z", "tea")], "a1 [A_z: tea; tea@0]"),
     ("a1", &[("a", "tea"), ("b", "tea"), ("a", "milk")], "Twice"),
+    // a name of 64 letters and digits, and of 65
+    (
+        "a1",
+        &[(
+            "a234567890123456789012345678901234567890123456789012345678901234",
+            "tea",
+        )],
+        "a1 [a234567890123456789012345678901234567890123456789012345678901234: tea; tea@0]",
+    ),
+    (
+        "a1",
+        &[(
+            "a2345678901234567890123456789012345678901234567890123456789012345",
+            "tea",
+        )],
+        "Field",
+    ),
     // the order of refusals
     ("", &[("9a", "")], "Id"),
     ("a1", &[("a", "tea"), ("a", "tea"), ("9", "tea")], "Field"),
@@ -234,18 +251,5 @@ fn an_article_has_the_words_and_the_postings_of_each_field_by_name(
         let told = article_or_fault(rt.alloc(), id, fields)?;
         assert!(rt; told.as_str() == *wanted, "{told}");
     }
-    Ok(())
-}
-
-/// Whether a field may have a name of so many letters.
-fn takes_name(alloc: Global, length: usize) -> Result<bool, AllocError> {
-    let name = spelled(alloc, &[("a", length)])?;
-    Ok(article(alloc, "a1", &[(name.as_str(), "tea")]).is_ok())
-}
-
-#[test]
-fn a_name_of_a_field_has_at_most_64_letters(rt: HostRuntime) -> Result<(), Fail> {
-    assert!(rt; takes_name(rt.alloc(), 64)?);
-    assert!(rt; !takes_name(rt.alloc(), 65)?);
     Ok(())
 }

@@ -176,20 +176,10 @@ fn a_view_that_is_held_stays_while_the_registrar_goes_on(rt: HostRuntime) -> Res
     Ok(())
 }
 
-/// Whether a register of so many queries fits.
-fn list_fits(alloc: Global, count: usize) -> Result<bool, Fail> {
-    let shared = standing(alloc, "q1", "tea")?;
-    let mut list = Vec::new(alloc);
-    for _ in 0..count {
-        list.push(shared.clone()?)?;
-    }
-    Ok(Command::Register(list).fits())
-}
-
 #[test]
 fn a_list_of_1024_fits_and_of_1025_does_not(rt: HostRuntime) -> Result<(), Fail> {
-    assert!(rt; list_fits(rt.alloc(), 1024)?);
-    assert!(rt; !list_fits(rt.alloc(), 1025)?);
+    assert!(rt; numbered(rt.alloc(), 0, 1024)?.fits());
+    assert!(rt; !numbered(rt.alloc(), 0, 1025)?.fits());
     Ok(())
 }
 

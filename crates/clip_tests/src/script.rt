@@ -1,11 +1,11 @@
 //! Scripts: steps with a registrar, and what each is to give.
-use crate::making::{article, standing};
+use crate::making::{article, owned, standing};
 use clip_match::{Alerts, match_article, match_batch};
 use clip_meaning::Article;
 use clip_model::MOST_CALLERS;
 use clip_presearch::candidates;
 use clip_registry::{Command, Registrar, View};
-use clip_segment::{Segment, Standing};
+use clip_segment::{Entry, Segment, Standing};
 use std::alloc::{AllocError, Global};
 use std::process::Abort;
 use std::sync::Arc;
@@ -69,15 +69,6 @@ fn listening(alloc: Global, id: &str, text: &str, name: &str) -> Result<Vec<Arc<
     Ok(vec![in alloc; Arc::new(alloc, standing)?]?)
 }
 
-/// Owned texts.
-fn owned(alloc: Global, texts: &[&str]) -> Result<Vec<String>, AllocError> {
-    let mut owned = Vec::new(alloc);
-    for text in texts {
-        owned.push(String::from_str(alloc, text)?)?;
-    }
-    Ok(owned)
-}
-
 /// How many commands were accepted, and how many queries are there.
 fn count(alloc: Global, view: &View) -> Result<String, AllocError> {
     let (place, count) = (view.place(), view.count());
@@ -120,11 +111,20 @@ fn article_of(alloc: Global, id: &str, text: &str) -> Result<Article, Fail> {
     Ok(article(alloc, id, &[("text", text)])?)
 }
 
+/// The candidates of the article of a text.
+pub fn candidates_of<'a>(
+    alloc: Global,
+    view: &'a View,
+    text: &str,
+) -> Result<Vec<&'a Entry>, Fail> {
+    let article = article_of(alloc, "a1", text)?;
+    Ok(candidates(alloc, view, &article)?)
+}
+
 /// The ids of the candidates of the article of a text, each with a space after it.
 fn candidate_ids(alloc: Global, view: &View, text: &str) -> Result<String, Fail> {
     let mut ids = String::new(alloc);
-    let article = article_of(alloc, "a1", text)?;
-    for entry in candidates(alloc, view, &article)?.iter() {
+    for entry in candidates_of(alloc, view, text)?.iter() {
         ids.push_str(entry.standing().id())?;
         ids.push_str(" ")?;
     }

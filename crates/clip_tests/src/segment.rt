@@ -1,7 +1,7 @@
 //! Standing queries, entries and segments: worked examples and limits.
 ghost use Rattle.std.specs.Prelude.{◌≡◌, IfOk};
 
-use crate::making::{article, spelled, standing};
+use crate::making::{article, owned, spelled, standing};
 use crate::showing::tree;
 use clip_extract::Key;
 use clip_registry::Command;
@@ -62,12 +62,6 @@ static IDS: [(&[(&str, usize)], bool); 6] = [
     (&[("é", 127), ("a", 3)], false),
 ];
 
-/// Whether a delete of an id fits.
-fn delete_takes(alloc: Global, id: &str) -> Result<bool, AllocError> {
-    let ids = vec![in alloc; String::from_str(alloc, id)?]?;
-    Ok(Command::Delete(ids).fits())
-}
-
 #[test]
 fn an_id_has_1_to_256_bytes(rt: HostRuntime) -> Result<(), Fail> {
     for (pieces, wanted) in &IDS {
@@ -75,7 +69,7 @@ fn an_id_has_1_to_256_bytes(rt: HostRuntime) -> Result<(), Fail> {
         assert!(rt; is_id(&id) == *wanted);
         assert!(rt; article(rt.alloc(), &id, &[]).is_ok() == *wanted);
         assert!(rt; Standing::read(rt.alloc(), &id, "tea", None).is_ok() == *wanted);
-        assert!(rt; delete_takes(rt.alloc(), &id)? == *wanted);
+        assert!(rt; Command::Delete(owned(rt.alloc(), &[id.as_str()])?).fits() == *wanted);
     }
     Ok(())
 }

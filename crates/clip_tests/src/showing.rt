@@ -61,7 +61,7 @@ fn show_words(words: &[ArcStr], text: &mut String) -> Result<(), AllocError> {
         if place > 0 {
             text.push(' ')?;
         }
-        write!(text, "{word}")?;
+        text.push_str(word)?;
     }
     text.push_str("\"")
 }
