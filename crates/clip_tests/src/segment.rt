@@ -62,14 +62,29 @@ static IDS: [(&[(&str, usize)], bool); 6] = [
     (&[("é", 127), ("a", 3)], false),
 ];
 
+/// Whether a delete of an id fits.
+fn delete_takes(alloc: Global, id: &str) -> Result<bool, AllocError> {
+    Ok(Command::Delete(owned(alloc, &[id])?).fits())
+}
+
+/// Whether a standing query may have an id.
+fn standing_takes(alloc: Global, id: &str) -> bool {
+    Standing::read(alloc, id, "tea", None).is_ok()
+}
+
+/// Whether an article may have an id.
+fn article_takes(alloc: Global, id: &str) -> bool {
+    article(alloc, id, &[]).is_ok()
+}
+
 #[test]
 fn an_id_has_1_to_256_bytes(rt: HostRuntime) -> Result<(), Fail> {
     for (pieces, wanted) in &IDS {
         let id = spelled(rt.alloc(), pieces)?;
         assert!(rt; is_id(&id) == *wanted);
-        assert!(rt; article(rt.alloc(), &id, &[]).is_ok() == *wanted);
-        assert!(rt; Standing::read(rt.alloc(), &id, "tea", None).is_ok() == *wanted);
-        assert!(rt; Command::Delete(owned(rt.alloc(), &[id.as_str()])?).fits() == *wanted);
+        assert!(rt; article_takes(rt.alloc(), &id) == *wanted);
+        assert!(rt; standing_takes(rt.alloc(), &id) == *wanted);
+        assert!(rt; delete_takes(rt.alloc(), &id)? == *wanted);
     }
     Ok(())
 }

@@ -5,6 +5,7 @@ use clip_grammar::fault::QueryFault;
 use clip_syntax::read_query;
 use clip_words::NoMemory;
 use std::alloc::{AllocError, Global};
+use std::process::Abort;
 use std::test::Fail;
 
 /// A fault as text.
@@ -208,13 +209,18 @@ static ROWS: [(&str, &str); 164] = [
     ("(& a", "Structure"),
 ];
 
-#[test]
-fn each_text_has_its_tree_or_its_fault(rt: HostRuntime) -> Result<(), Fail> {
-    for (text, wanted) in &ROWS {
-        let told = tree_or_fault(rt.alloc(), text)?;
+/// Each text is read as the tree or the fault beside it.
+fn expect(rt: &impl Abort, alloc: Global, rows: &[(&str, &str)]) -> Result<(), Fail> {
+    for (text, wanted) in rows {
+        let told = tree_or_fault(alloc, text)?;
         assert!(rt; told.as_str() == *wanted, "{text}: {told}");
     }
     Ok(())
+}
+
+#[test]
+fn each_text_has_its_tree_or_its_fault(rt: HostRuntime) -> Result<(), Fail> {
+    expect(&rt, rt.alloc(), &ROWS)
 }
 
 /// Pieces of a text, each so many times.
