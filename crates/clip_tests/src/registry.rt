@@ -1,234 +1,223 @@
-//! The registry: worked examples and limits.
-use clip_model::MOST_CALLERS;
-use clip_registry::{Applied, Command, Refused, Registrar, View};
-use clip_segment::Standing;
+//! The registry, candidates and alerts: scripts worked by hand, and limits.
+use crate::making::standing;
+use crate::script::{Step, answer, play};
+use clip_registry::{Command, Registrar};
 use std::alloc::Global;
 use std::process::Abort;
-use std::sync::Arc;
 use std::test::Fail;
 
-/// A shared standing query with no listener.
-fn standing(alloc: Global, id: &str, text: &str) -> Result<Arc<Standing>, Fail> {
-    Ok(Arc::new(alloc, Standing::read(alloc, id, text, None)?)?)
-}
+/// A query takes the place of the one with its id.
+static REPLACING: [(Step, &str); 14] = [
+    (Step::Count, "0 0"),
+    (Step::Segments, ""),
+    (Step::Text("q1"), "none"),
+    (Step::History, ""),
+    (Step::Register(&[("q1", "tea")]), "Registered(1)"),
+    (Step::Count, "1 1"),
+    (Step::Segments, "1/1 "),
+    (Step::Text("q1"), "tea"),
+    (
+        Step::Register(&[("q2", "milk"), ("q1", "mat"), ("q1", "coffee")]),
+        "Registered(2)",
+    ),
+    (Step::Count, "2 2"),
+    (Step::Segments, "1/0 2/2 "),
+    (Step::Text("q1"), "coffee"),
+    (Step::Text("q2"), "milk"),
+    (Step::Text("q9"), "none"),
+];
 
-/// A register of one query.
-fn one(alloc: Global, id: &str, text: &str) -> Result<Command, Fail> {
-    Ok(Command::Register(vec![in alloc; standing(alloc, id, text)?]?))
-}
+/// A delete counts the distinct ids that are there, and a clear all queries.
+static DELETING: [(Step, &str); 10] = [
+    (Step::Register(&[("q1", "tea")]), "Registered(1)"),
+    (Step::Delete(&["q1", "q1", "q9"]), "Deleted(1)"),
+    (Step::Delete(&["q1", "q1", "q9"]), "Deleted(0)"),
+    (Step::Segments, "1/0 "),
+    (Step::Clear(1), "Cleared(0)"),
+    (Step::Segments, ""),
+    (Step::Register(&[("q1", "tea")]), "Registered(1)"),
+    (Step::Segments, "1/1 "),
+    (Step::Clear(1), "Cleared(1)"),
+    (Step::Count, "6 0"),
+];
 
-/// The answer to a command, which fits.
-fn answer(
-    rt: &impl Abort,
-    registrar: &mut Registrar,
-    caller: u32,
-    command: Command,
-) -> Result<Applied, Refused> {
-    let fits = command.fits();
-    assert!(rt; fits && caller > 0 && caller <= MOST_CALLERS);
-    match registrar.apply(caller, command) {
-        Ok(applied) => Ok(applied),
-        Err((_command, refused)) => Err(refused),
-    }
-}
+/// Commands are numbered by caller.
+static NUMBERING: [(Step, &str); 5] = [
+    (Step::Clear(1), "Cleared(0)"),
+    (Step::Clear(64), "Cleared(0)"),
+    (Step::Register(&[]), "Registered(0)"),
+    (Step::Clear(65), "does not fit"),
+    (Step::History, "1/1 64/1 1/2 "),
+];
 
-/// The lengths of a view's segments, and how many of their entries are live.
-fn segments_of(alloc: Global, view: &View) -> Result<Vec<(usize, usize)>, Fail> {
-    let mut lengths = Vec::new(alloc);
-    for segment in view.segments() {
-        let mut live = 0usize;
-        for entry in segment.entries() {
-            if view.is_live(entry) {
-                live = live.saturating_add(1);
-            }
-        }
-        lengths.push((segment.len(), live))?;
-    }
-    Ok(lengths)
+/// Just the live queries that share a key are candidates, by seq.
+static SHARING: [(Step, &str); 8] = [
+    (
+        Step::Register(&[("q1", "tea"), ("q2", "coffee"), ("q3", "+tea +milk")]),
+        "Registered(3)",
+    ),
+    (Step::Candidates("tea"), "q1 "),
+    (Step::Register(&[("q0", "-spam tea milk")]), "Registered(1)"),
+    (Step::Candidates("milk tea"), "q1 q3 q0 "),
+    (Step::Register(&[("q1", "coffee")]), "Registered(1)"),
+    (Step::Candidates("milk tea"), "q3 q0 "),
+    (Step::Candidates("coffee"), "q2 q1 "),
+    (Step::Candidates(""), ""),
+];
+
+/// The candidates are asked, and those that hold are alerted by id.
+static ALERTING: [(Step, &str); 6] = [
+    (Step::Listen("q9", "tea", "desk"), "Registered(1)"),
+    (
+        Step::Register(&[
+            ("q2", "coffee"),
+            ("q10", "+tea -milk"),
+            ("q3", "+tea +milk"),
+        ]),
+        "Registered(3)",
+    ),
+    (
+        Step::Batch(&[
+            ("b", "tea"),
+            ("a", "Tea, milk"),
+            ("b", ""),
+            ("a", "coffee tea"),
+        ]),
+        "b 2 2 q10/b/- q9/b/desk. a 2 3 q3/a/- q9/a/desk. b 2 0. a 2 3 q10/a/- q2/a/- q9/a/desk. ",
+    ),
+    (Step::Match("b", "tea"), "b 2 2 q10/b/- q9/b/desk. "),
+    (Step::Match("a", "Tea, milk"), "a 2 3 q3/a/- q9/a/desk. "),
+    (Step::Batch(&[]), ""),
+];
+
+/// A query that was replaced, deleted or cleared is not alerted.
+static LETTING_GO: [(Step, &str); 8] = [
+    (
+        Step::Register(&[("q1", "tea"), ("q2", "tea")]),
+        "Registered(2)",
+    ),
+    (
+        Step::Batch(&[("a1", "tea"), ("a2", "coffee")]),
+        "a1 1 2 q1/a1/- q2/a1/-. a2 1 0. ",
+    ),
+    (Step::Register(&[("q1", "coffee")]), "Registered(1)"),
+    (
+        Step::Batch(&[("a1", "tea"), ("a2", "coffee")]),
+        "a1 2 1 q2/a1/-. a2 2 1 q1/a2/-. ",
+    ),
+    (Step::Delete(&["q2"]), "Deleted(1)"),
+    (
+        Step::Batch(&[("a1", "tea"), ("a2", "coffee")]),
+        "a1 3 0. a2 3 1 q1/a2/-. ",
+    ),
+    (Step::Clear(1), "Cleared(1)"),
+    (
+        Step::Batch(&[("a1", "tea"), ("a2", "coffee")]),
+        "a1 4 0. a2 4 0. ",
+    ),
+];
+
+/// Plays a script with a new registrar.
+fn play_anew(rt: &impl Abort, alloc: Global, script: &[(Step, &str)]) -> Result<(), Fail> {
+    let mut registrar = Registrar::new(alloc);
+    play(rt, alloc, &mut registrar, script)
 }
 
 #[test]
 fn a_query_takes_the_place_of_the_one_with_its_id(rt: HostRuntime) -> Result<(), Fail> {
-    let alloc = rt.alloc();
-    let mut registrar = Registrar::new(alloc);
-    let before = registrar.view()?;
-    assert_eq!(rt; before.count(), 0);
-    assert_eq!(rt; before.place(), 0);
-    assert_eq!(rt; before.text_of("q1"), None);
-    assert!(rt; before.segments().is_empty());
-    assert!(rt; registrar.history().is_empty());
-
-    assert_eq!(rt;
-        answer(&rt, &mut registrar, 1, one(alloc, "q1", "tea")?),
-        Ok(Applied::Registered(1))
-    );
-    let first = registrar.view()?;
-    let list = vec![in alloc;
-        standing(alloc, "q2", "milk")?,
-        standing(alloc, "q1", "mat")?,
-        standing(alloc, "q1", "coffee")?,
-    ]?;
-    assert_eq!(rt;
-        answer(&rt, &mut registrar, 1, Command::Register(list)),
-        Ok(Applied::Registered(2))
-    );
-    let second = registrar.view()?;
-
-    assert_eq!(rt; first.count(), 1);
-    assert_eq!(rt; first.place(), 1);
-    assert_eq!(rt; first.text_of("q1"), Some("tea"));
-    assert_eq!(rt; segments_of(alloc, &first)?.as_slice(), [(1, 1)].as_slice());
-    assert_eq!(rt; second.count(), 2);
-    assert_eq!(rt; second.place(), 2);
-    assert_eq!(rt; second.text_of("q1"), Some("coffee"));
-    assert_eq!(rt; second.text_of("q9"), None);
-    assert_eq!(rt;
-        segments_of(alloc, &second)?.as_slice(),
-        [(1, 0), (2, 2)].as_slice()
-    );
-    Ok(())
+    play_anew(&rt, rt.alloc(), &REPLACING)
 }
 
 #[test]
 fn a_delete_counts_the_distinct_ids_that_are_there_and_a_clear_all_queries(
     rt: HostRuntime,
 ) -> Result<(), Fail> {
-    let alloc = rt.alloc();
-    let mut registrar = Registrar::new(alloc);
-    assert_eq!(rt;
-        answer(&rt, &mut registrar, 1, one(alloc, "q1", "tea")?),
-        Ok(Applied::Registered(1))
-    );
-    for deleted in [1, 0] {
-        let ids = vec![in alloc;
-            String::from_str(alloc, "q1")?,
-            String::from_str(alloc, "q1")?,
-            String::from_str(alloc, "q9")?,
-        ]?;
-        assert_eq!(rt;
-            answer(&rt, &mut registrar, 1, Command::Delete(ids)),
-            Ok(Applied::Deleted(deleted))
-        );
-    }
-    assert_eq!(rt;
-        segments_of(alloc, &registrar.view()?)?.as_slice(),
-        [(1, 0)].as_slice()
-    );
-    assert_eq!(rt;
-        answer(&rt, &mut registrar, 1, Command::Clear),
-        Ok(Applied::Cleared(0))
-    );
-    assert!(rt; registrar.view()?.segments().is_empty());
-    assert_eq!(rt;
-        answer(&rt, &mut registrar, 1, one(alloc, "q1", "tea")?),
-        Ok(Applied::Registered(1))
-    );
-    assert_eq!(rt;
-        segments_of(alloc, &registrar.view()?)?.as_slice(),
-        [(1, 1)].as_slice()
-    );
-    assert_eq!(rt;
-        answer(&rt, &mut registrar, 1, Command::Clear),
-        Ok(Applied::Cleared(1))
-    );
-    assert_eq!(rt; registrar.view()?.count(), 0);
-    Ok(())
+    play_anew(&rt, rt.alloc(), &DELETING)
 }
 
 #[test]
 fn commands_are_numbered_by_caller(rt: HostRuntime) -> Result<(), Fail> {
-    let alloc = rt.alloc();
-    let mut registrar = Registrar::new(alloc);
-    let nothing = Command::Register(Vec::new(alloc));
-    assert_eq!(rt;
-        answer(&rt, &mut registrar, 1, Command::Clear),
-        Ok(Applied::Cleared(0))
-    );
-    assert_eq!(rt;
-        answer(&rt, &mut registrar, 64, nothing),
-        Ok(Applied::Registered(0))
-    );
-    assert_eq!(rt;
-        answer(&rt, &mut registrar, 1, one(alloc, "q1", "tea")?),
-        Ok(Applied::Registered(1))
-    );
-    let wanted = [(1, 1), (64, 1), (1, 2)];
-    assert_eq!(rt; registrar.history().len(), wanted.len());
-    for (entry, (caller, number)) in registrar.history().iter().zip(wanted.iter()) {
-        assert_eq!(rt; entry.caller, *caller);
-        assert_eq!(rt; entry.number, *number);
-    }
+    play_anew(&rt, rt.alloc(), &NUMBERING)
+}
+
+#[test]
+fn just_the_live_queries_that_share_a_key_are_candidates_by_seq(
+    rt: HostRuntime,
+) -> Result<(), Fail> {
+    play_anew(&rt, rt.alloc(), &SHARING)
+}
+
+#[test]
+fn the_candidates_are_asked_and_those_that_hold_are_alerted_by_id(
+    rt: HostRuntime,
+) -> Result<(), Fail> {
+    play_anew(&rt, rt.alloc(), &ALERTING)
+}
+
+#[test]
+fn a_query_that_was_replaced_or_deleted_or_cleared_is_not_alerted(
+    rt: HostRuntime,
+) -> Result<(), Fail> {
+    play_anew(&rt, rt.alloc(), &LETTING_GO)
+}
+
+#[test]
+fn a_view_that_is_held_stays_while_the_registrar_goes_on(rt: HostRuntime) -> Result<(), Fail> {
+    let mut registrar = Registrar::new(rt.alloc());
+    play(&rt, rt.alloc(), &mut registrar, &REPLACING)?;
+    let held = registrar.view()?;
+    play(
+        &rt,
+        rt.alloc(),
+        &mut registrar,
+        &[(Step::Clear(1), "Cleared(2)")],
+    )?;
+    assert!(rt; held.count() == 2);
     Ok(())
 }
 
 #[test]
-fn a_list_of_1024_fits_and_of_1025_does_not_and_an_id_is_1_to_256_bytes_long(
-    rt: HostRuntime,
-) -> Result<(), Fail> {
-    let alloc = rt.alloc();
-    let shared = standing(alloc, "q1", "tea")?;
-    let mut list = Vec::new(alloc);
-    for _ in 0..1024 {
-        list.push(shared.clone()?)?;
-    }
-    assert!(rt; Command::Register(list.clone()?).fits());
-    list.push(shared)?;
-    assert!(rt; !Command::Register(list).fits());
-    let mut id = String::new(alloc);
-    assert!(rt; !Command::Delete(vec![in alloc; id.clone()?]?).fits());
-    for _ in 0..256 {
-        id.push('q')?;
-    }
-    assert!(rt; Command::Delete(vec![in alloc; id.clone()?]?).fits());
-    id.push('q')?;
-    assert!(rt; !Command::Delete(vec![in alloc; id]?).fits());
+fn a_list_of_1024_fits_and_of_1025_does_not(rt: HostRuntime) -> Result<(), Fail> {
+    assert!(rt; numbered(rt.alloc(), 0, 1024)?.fits());
+    assert!(rt; !numbered(rt.alloc(), 0, 1025)?.fits());
     Ok(())
 }
 
 /// A register of queries with the ids of these numbers.
-fn many(alloc: Global, from: u32, to: u32) -> Result<Command, Fail> {
+fn numbered(alloc: Global, from: u32, to: u32) -> Result<Command, Fail> {
     let mut list = Vec::new(alloc);
     for number in from..to {
         let id = format!(in alloc; "{number}")?;
-        list.push(standing(alloc, id.as_str(), "tea")?)?;
+        list.push(standing(alloc, &id, "tea")?)?;
     }
     Ok(Command::Register(list))
 }
 
+/// Registers the queries of these numbers: the answer.
+fn register(alloc: Global, registrar: &mut Registrar, from: u32, to: u32) -> Result<String, Fail> {
+    let command = numbered(alloc, from, to)?;
+    Ok(answer(alloc, registrar, 1, command)?)
+}
+
+/// What a registry of 999,424 queries gives once 576 more are registered.
+static FULL: [(Step, &str); 7] = [
+    (Step::Count, "977 1000000"),
+    (Step::Register(&[("new", "tea")]), "Full"),
+    (Step::Count, "977 1000000"),
+    (Step::Text("new"), "none"),
+    (Step::Register(&[("7", "mat")]), "Registered(1)"),
+    (Step::Count, "978 1000000"),
+    (Step::Text("7"), "mat"),
+];
+
 #[test]
 fn a_million_queries_fill_the_registry(rt: HostRuntime) -> Result<(), Fail> {
-    let alloc = rt.alloc();
-    let mut registrar = Registrar::new(alloc);
+    let mut registrar = Registrar::new(rt.alloc());
     for list in 0..976u32 {
-        let command = many(alloc, list * 1024, list * 1024 + 1024)?;
-        assert_eq!(rt;
-            answer(&rt, &mut registrar, 1, command),
-            Ok(Applied::Registered(1024))
-        );
+        let told = register(rt.alloc(), &mut registrar, list * 1024, list * 1024 + 1024)?;
+        assert!(rt; told.as_str() == "Registered(1024)", "{told}");
     }
-    assert_eq!(rt;
-        answer(&rt, &mut registrar, 1, many(alloc, 999_424, 1_000_000)?),
-        Ok(Applied::Registered(576))
-    );
-    assert_eq!(rt; registrar.view()?.count(), 1_000_000);
-    assert_eq!(rt;
-        answer(&rt, &mut registrar, 1, one(alloc, "new", "tea")?),
-        Err(Refused::Full)
-    );
-    let view = registrar.view()?;
-    assert_eq!(rt; view.count(), 1_000_000);
-    assert_eq!(rt; view.place(), 977);
-    assert_eq!(rt; view.text_of("new"), None);
-    assert_eq!(rt; view.segments().len(), 977);
-    assert_eq!(rt; registrar.history().len(), 977);
-    drop(view);
-    assert_eq!(rt;
-        answer(&rt, &mut registrar, 1, one(alloc, "7", "mat")?),
-        Ok(Applied::Registered(1))
-    );
-    let after = registrar.view()?;
-    assert_eq!(rt; after.count(), 1_000_000);
-    assert_eq!(rt; after.place(), 978);
-    assert_eq!(rt; after.text_of("7"), Some("mat"));
-    Ok(())
+    let told = register(rt.alloc(), &mut registrar, 999_424, 1_000_000)?;
+    assert!(rt; told.as_str() == "Registered(576)", "{told}");
+    play(&rt, rt.alloc(), &mut registrar, &FULL)
 }

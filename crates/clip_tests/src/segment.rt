@@ -1,102 +1,128 @@
 //! Standing queries, entries and segments: worked examples and limits.
 ghost use Rattle.std.specs.Prelude.{◌≡◌, IfOk};
 
+use crate::making::{article, owned, spelled, standing};
+use crate::showing::tree;
 use clip_extract::Key;
-use clip_grammar::fault::QueryFault;
-use clip_grammar::query::{Occur, Query};
+use clip_registry::Command;
 use clip_segment::{Entry, Segment, Standing, StandingFault};
-use std::alloc::Global;
+use clip_words::is_id;
+use std::alloc::{AllocError, Global};
 use std::sync::{Arc, ArcStr};
 use std::test::Fail;
 
-/// A word of the field `text` as a key.
-fn word_key(alloc: Global, word: &str) -> Result<Key, Fail> {
-    Ok(Key::Word(
-        ArcStr::from_str(alloc, "text")?,
-        ArcStr::from_str(alloc, word)?,
-    ))
+/// Each an id and a query's text, and the standing query or why it is refused.
+static STANDINGS: [(&str, &str, &str); 6] = [
+    ("q1", "+Tea", "q1 `+Tea` (+text=tea) desk"),
+    ("", "tea", "Id"),
+    ("", "", "Id"),
+    ("q1", "", "Query(Structure)"),
+    ("q1", "tea~", "Query(LeftOut)"),
+    ("q1", "tea \"", "Query(Lexical(4))"),
+];
+
+/// A standing query as text.
+fn show(alloc: Global, standing: &Standing) -> Result<String, AllocError> {
+    let query = tree(alloc, standing.query())?;
+    let (id, text) = (standing.id(), standing.text());
+    let listener = standing.listener().unwrap_or("-");
+    format!(in alloc; "{id} `{text}` {query} {listener}")
+}
+
+/// A fault as text.
+fn fault_text(alloc: Global, fault: StandingFault) -> Result<String, AllocError> {
+    format!(in alloc; "{fault:?}")
+}
+
+/// The standing query of an id and a text for the listener `desk`, or why it is refused.
+fn standing_or_fault(alloc: Global, id: &str, text: &str) -> Result<String, AllocError> {
+    let listener = String::from_str(alloc, "desk")?;
+    match Standing::read(alloc, id, text, Some(listener)) {
+        Ok(standing) => show(alloc, &standing),
+        Err(fault) => fault_text(alloc, fault),
+    }
+}
+
+#[test]
+fn a_standing_query_is_read_or_its_first_refusal_is_answered(rt: HostRuntime) -> Result<(), Fail> {
+    for (id, text, wanted) in &STANDINGS {
+        let told = standing_or_fault(rt.alloc(), id, text)?;
+        assert!(rt; told.as_str() == *wanted, "{told}");
+    }
+    Ok(())
+}
+
+/// Pieces of an id, each so many times, and whether it is one.
+static IDS: [(&[(&str, usize)], bool); 6] = [
+    (&[], false),
+    (&[("a", 1)], true),
+    (&[("a", 256)], true),
+    (&[("a", 257)], false),
+    (&[("é", 127), ("a", 2)], true),
+    (&[("é", 127), ("a", 3)], false),
+];
+
+/// Whether a delete of an id fits.
+fn delete_takes(alloc: Global, id: &str) -> Result<bool, AllocError> {
+    Ok(Command::Delete(owned(alloc, &[id])?).fits())
+}
+
+/// Whether a standing query may have an id.
+fn standing_takes(alloc: Global, id: &str) -> bool {
+    Standing::read(alloc, id, "tea", None).is_ok()
+}
+
+/// Whether an article may have an id.
+fn article_takes(alloc: Global, id: &str) -> bool {
+    article(alloc, id, &[]).is_ok()
+}
+
+#[test]
+fn an_id_has_1_to_256_bytes(rt: HostRuntime) -> Result<(), Fail> {
+    for (pieces, wanted) in &IDS {
+        let id = spelled(rt.alloc(), pieces)?;
+        assert!(rt; is_id(&id) == *wanted);
+        assert!(rt; article_takes(rt.alloc(), &id) == *wanted);
+        assert!(rt; standing_takes(rt.alloc(), &id) == *wanted);
+        assert!(rt; delete_takes(rt.alloc(), &id)? == *wanted);
+    }
+    Ok(())
 }
 
 /// The entry of a query's text under a number.
 fn entry(alloc: Global, seq: u64, text: &str) -> Result<Arc<Entry>, Fail>
     ensures { IfOk result (λ entry. entry.value.seq ≡ seq) }
 {
-    let standing = Standing::read(alloc, "q1", text, None)?;
-    let standing = Arc::new(alloc, standing)?;
+    let standing = standing(alloc, "q1", text)?;
     Ok(Arc::new(alloc, Entry::new(alloc, seq, standing)?)?)
 }
 
-/// The query of one word that must be there.
-fn must(alloc: Global, word: &str) -> Result<Query, Fail> {
-    let term = Query::Term {
-        field: ArcStr::from_str(alloc, "text")?,
-        word: ArcStr::from_str(alloc, word)?,
-    };
-    Ok(Query::Group(vec![in alloc; (Occur::Must, term)]?))
-}
-
-#[test]
-fn a_standing_query_keeps_its_id_text_query_and_listener(rt: HostRuntime) -> Result<(), Fail> {
-    let alloc = rt.alloc();
-    let listener = String::from_str(alloc, "desk")?;
-    let standing = Standing::read(alloc, "q1", "+Tea", Some(listener))?;
-    assert_eq!(rt; standing.id(), "q1");
-    assert_eq!(rt; standing.shared_id().as_str(), "q1");
-    assert_eq!(rt; standing.text(), "+Tea");
-    assert_eq!(rt; standing.listener(), Some("desk"));
-    assert_eq!(rt; standing.query(), &must(alloc, "tea")?);
-    let unheard = Standing::read(alloc, "q2", "tea", None)?;
-    assert_eq!(rt; unheard.listener(), None);
-    assert!(rt; unheard.shared_listener().is_none());
-    Ok(())
-}
-
-#[test]
-fn the_first_refusal_is_answered(rt: HostRuntime) -> Result<(), Fail> {
-    let alloc = rt.alloc();
-    let mut id = String::new(alloc);
-    for _ in 0..256 {
-        id.push('q')?;
-    }
-    assert!(rt; Standing::read(alloc, &id, "tea", None).is_ok());
-    assert!(rt; Standing::read(alloc, "q", "tea", None).is_ok());
-    id.push('q')?;
-    let cases = [
-        (id.as_str(), "tea", StandingFault::Id),
-        ("", "tea", StandingFault::Id),
-        ("", "", StandingFault::Id),
-        ("q1", "", StandingFault::Query(QueryFault::Structure)),
-        ("q1", "tea~", StandingFault::Query(QueryFault::LeftOut)),
-        ("q1", "tea \"", StandingFault::Query(QueryFault::Lexical(4))),
-    ];
-    for (id, text, wanted) in cases.iter() {
-        assert_eq!(rt; Standing::read(alloc, id, text, None).err(), Some(*wanted));
-    }
-    Ok(())
-}
-
-#[test]
-fn a_segment_finds_the_holders_of_a_key(rt: HostRuntime) -> Result<(), Fail> {
-    let alloc = rt.alloc();
+/// The segment of two entries.
+fn segment(alloc: Global) -> Result<Segment, Fail> {
     let entries = vec![in alloc;
         entry(alloc, 1, "tea coffee")?,
         entry(alloc, 2, "+tea +coffee")?,
     ]?;
-    assert_eq!(rt; entries[0].keys().len(), 2);
-    assert_eq!(rt; entries[1].keys().len(), 1);
-    assert_eq!(rt; entries[1].seq(), 2);
-    assert_eq!(rt; entries[1].standing().text(), "+tea +coffee");
-    let segment = Segment::build(alloc, entries)?;
-    assert_eq!(rt;
-        segment.with_key(&word_key(alloc, "coffee")?),
-        [0, 1].as_slice()
-    );
-    assert_eq!(rt; segment.with_key(&word_key(alloc, "tea")?), [0].as_slice());
-    assert!(rt; segment.with_key(&Key::Any).is_empty());
-    assert_eq!(rt; segment.len(), 2);
-    assert!(rt; !segment.is_empty());
-    assert!(rt; segment.entry(1).is_some());
-    assert!(rt; segment.entry(2).is_none());
-    assert_eq!(rt; segment.entries().len(), 2);
+    Ok(Segment::build(alloc, entries)?)
+}
+
+/// The positions of the entries that hold a word of the field `text`, each with a space after it.
+fn positions(alloc: Global, segment: &Segment, word: &str) -> Result<String, AllocError> {
+    let field = ArcStr::from_str(alloc, "text")?;
+    let key = Key::Word(field, ArcStr::from_str(alloc, word)?);
+    let mut text = String::new(alloc);
+    for position in segment.with_key(&key) {
+        write!(text, "{position} ")?;
+    }
+    Ok(text)
+}
+
+#[test]
+fn a_segment_finds_the_holders_of_a_key(rt: HostRuntime) -> Result<(), Fail> {
+    let segment = segment(rt.alloc())?;
+    for (word, wanted) in [("coffee", "0 1 "), ("tea", "0 "), ("milk", "")] {
+        let told = positions(rt.alloc(), &segment, word)?;
+        assert!(rt; told.as_str() == wanted, "{word}: {told}");
+    }
     Ok(())
 }

@@ -1,85 +1,27 @@
 //! Query texts with their trees, or their faults, worked out by hand.
+use crate::making::spelled;
+use crate::showing::tree;
 use clip_grammar::fault::QueryFault;
-use clip_grammar::query::{Bound, Occur, Query};
 use clip_syntax::read_query;
 use clip_words::NoMemory;
 use std::alloc::{AllocError, Global};
-use std::sync::ArcStr;
+use std::process::Abort;
 use std::test::Fail;
 
-/// A query as text, for comparison: `field=word`, `field="a phrase"`, `field=front*`, `field=['low' TO 'high'}`,
-/// `*:*`, and a group in parentheses, its clauses with `+` or `-` before them.
-fn show(query: &Query, text: &mut String) -> Result<(), AllocError> {
-    match query {
-        Query::Term { field, word } => write!(text, "{field}={word}"),
-        Query::Phrase { field, words } => {
-            write!(text, "{field}=")?;
-            show_words(words, text)
-        }
-        Query::Prefix { field, front } => write!(text, "{field}={front}*"),
-        Query::Span { field, low, high } => {
-            write!(text, "{field}=")?;
-            show_span(low, high, text)
-        }
-        Query::All => text.push_str("*:*"),
-        Query::Group(clauses) => {
-            text.push('(')?;
-            for (place, (occur, clause)) in clauses.iter().enumerate() {
-                if place > 0 {
-                    text.push(' ')?;
-                }
-                text.push_str(show_occur(*occur))?;
-                show(clause, text)?;
-            }
-            text.push_str(")")
-        }
-    }
-}
-
-fn show_occur(occur: Occur) -> &'static str {
-    match occur {
-        Occur::Must => "+",
-        Occur::Should => "",
-        Occur::MustNot => "-",
-    }
-}
-
-fn show_words(words: &[ArcStr], text: &mut String) -> Result<(), AllocError> {
-    text.push('"')?;
-    for (place, word) in words.iter().enumerate() {
-        if place > 0 {
-            text.push(' ')?;
-        }
-        write!(text, "{word}")?;
-    }
-    text.push_str("\"")
-}
-
-fn show_span(low: &Bound, high: &Bound, text: &mut String) -> Result<(), AllocError> {
-    match low {
-        Bound::Free => text.push_str("[* TO ")?,
-        Bound::With(low) => write!(text, "['{low}' TO ")?,
-        Bound::Without(low) => write!(text, "{{'{low}' TO ")?,
-    }
-    match high {
-        Bound::Free => text.push_str("*]"),
-        Bound::With(high) => write!(text, "'{high}']"),
-        Bound::Without(high) => write!(text, "'{high}'}}"),
-    }
+/// A fault as text.
+fn fault_text(alloc: Global, fault: QueryFault) -> Result<String, AllocError> {
+    format!(in alloc; "{fault:?}")
 }
 
 /// The tree of the text, or its fault.
-fn tree_or_fault(alloc: Global, text: &str) -> Result<String, Fail> {
+fn tree_or_fault(alloc: Global, text: &str) -> Result<String, AllocError> {
     match read_query(alloc, text) {
-        Ok(query) => {
-            let mut found = String::new(alloc);
-            show(&query, &mut found)?;
-            Ok(found)
-        }
-        Err(fault) => Ok(format!(in alloc; "{fault:?}")?),
+        Ok(query) => tree(alloc, &query),
+        Err(fault) => fault_text(alloc, fault),
     }
 }
 
+/// Each a text and its tree or its fault.
 static ROWS: [(&str, &str); 164] = [
     // words and blanks
     ("tea", "(text=tea)"),
@@ -267,109 +209,71 @@ static ROWS: [(&str, &str); 164] = [
     ("(& a", "Structure"),
 ];
 
+/// Each text is read as the tree or the fault beside it.
+fn expect(rt: &impl Abort, alloc: Global, rows: &[(&str, &str)]) -> Result<(), Fail> {
+    for (text, wanted) in rows {
+        let told = tree_or_fault(alloc, text)?;
+        assert!(rt; told.as_str() == *wanted, "{text}: {told}");
+    }
+    Ok(())
+}
+
 #[test]
 fn each_text_has_its_tree_or_its_fault(rt: HostRuntime) -> Result<(), Fail> {
-    for (text, wanted) in &ROWS {
-        assert_eq!(rt;
-            tree_or_fault(rt.alloc(), text)?.as_str(),
-            *wanted,
-            "{text}"
-        );
+    expect(&rt, rt.alloc(), &ROWS)
+}
+
+/// Pieces of a text, each so many times.
+type Pieces = &'static [(&'static str, usize)];
+
+/// Texts at the limits, each with its tree or its fault.
+static LIMITS: [(Pieces, Pieces); 11] = [
+    // 65,536 bytes
+    (&[("a", 65_536)], &[("(text=", 1), ("a", 65_536), (")", 1)]),
+    (&[("a", 65_537)], &[("TooLong", 1)]),
+    (&[("é", 32_769)], &[("TooLong", 1)]),
+    // 4,096 nodes
+    (
+        &[("a ", 4_095)],
+        &[("(text=a", 1), (" text=a", 4_094), (")", 1)],
+    ),
+    (&[("a ", 4_096)], &[("TooBig", 1)]),
+    (&[("*:* ", 4_096)], &[("TooBig", 1)]),
+    // 64 open parentheses
+    (
+        &[("(", 64), ("a", 1), (")", 64)],
+        &[("(", 65), ("text=a", 1), (")", 65)],
+    ),
+    (&[("(", 65), ("a", 1), (")", 65)], &[("TooBig", 1)]),
+    (&[("(", 30_000), ("a", 1), (")", 30_000)], &[("TooBig", 1)]),
+    (
+        &[("(", 30_000), ("a", 1), (")", 30_001)],
+        &[("Structure", 1)],
+    ),
+    (&[("(", 65_536)], &[("Structure", 1)]),
+];
+
+/// Whether the spelled text has the spelled tree or fault.
+fn is_read_as(alloc: Global, text: Pieces, wanted: Pieces) -> Result<bool, AllocError> {
+    let text = spelled(alloc, text)?;
+    Ok(tree_or_fault(alloc, &text)? == spelled(alloc, wanted)?)
+}
+
+#[test]
+fn a_query_has_at_most_65_536_bytes_and_4_096_nodes_and_64_open_parentheses(
+    rt: HostRuntime,
+) -> Result<(), Fail> {
+    for (place, (text, wanted)) in LIMITS.iter().enumerate() {
+        assert!(rt; is_read_as(rt.alloc(), text, wanted)?, "row {place}");
     }
     Ok(())
 }
 
-/// The text, so many times.
-fn repeated(alloc: Global, text: &str, count: usize) -> Result<String, AllocError> {
-    let mut whole = String::new(alloc);
-    for _ in 0..count {
-        whole.push_str(text)?;
-    }
-    Ok(whole)
-}
-
-/// Groups around `a`, with so many parentheses on each side.
-fn nested(alloc: Global, opening: usize, closing: usize) -> Result<String, AllocError> {
-    let mut whole = repeated(alloc, "(", opening)?;
-    whole.push('a')?;
-    whole.push_str(&repeated(alloc, ")", closing)?)?;
-    Ok(whole)
-}
-
 #[test]
-fn a_text_of_65_536_bytes_is_read_and_no_longer_one(rt: HostRuntime) -> Result<(), Fail> {
-    let alloc = rt.alloc();
-    let word = repeated(alloc, "a", 65_536)?;
-    let mut wanted = String::from_str(alloc, "(text=")?;
-    wanted.push_str(&word)?;
-    wanted.push(')')?;
-    assert!(rt; tree_or_fault(alloc, &word)? == wanted);
-    assert_eq!(rt;
-        read_query(alloc, &repeated(alloc, "a", 65_537)?),
-        Err(QueryFault::TooLong)
-    );
-    assert_eq!(rt;
-        read_query(alloc, &repeated(alloc, "é", 32_769)?),
-        Err(QueryFault::TooLong)
-    );
-    Ok(())
-}
-
-#[test]
-fn a_tree_of_4_096_nodes_is_read_and_no_larger_one(rt: HostRuntime) -> Result<(), Fail> {
-    let alloc = rt.alloc();
-    let query = read_query(alloc, &repeated(alloc, "a ", 4_095)?)?;
-    let Query::Group(clauses) = &query else {
-        return Err(Fail::from("no group"));
-    };
-    assert_eq!(rt; clauses.len(), 4_095);
-    assert_eq!(rt;
-        read_query(alloc, &repeated(alloc, "a ", 4_096)?),
-        Err(QueryFault::TooBig)
-    );
-    assert_eq!(rt;
-        read_query(alloc, &repeated(alloc, "*:* ", 4_096)?),
-        Err(QueryFault::TooBig)
-    );
-    Ok(())
-}
-
-#[test]
-fn sixty_four_open_parentheses_are_read_and_no_more(rt: HostRuntime) -> Result<(), Fail> {
-    let alloc = rt.alloc();
-    let mut wanted = repeated(alloc, "(", 65)?;
-    wanted.push_str("text=a")?;
-    wanted.push_str(&repeated(alloc, ")", 65)?)?;
-    assert_eq!(rt;
-        tree_or_fault(alloc, &nested(alloc, 64, 64)?)?.as_str(),
-        wanted.as_str()
-    );
-    assert_eq!(rt;
-        read_query(alloc, &nested(alloc, 65, 65)?),
-        Err(QueryFault::TooBig)
-    );
-    assert_eq!(rt;
-        read_query(alloc, &nested(alloc, 30_000, 30_000)?),
-        Err(QueryFault::TooBig)
-    );
-    assert_eq!(rt;
-        read_query(alloc, &nested(alloc, 30_000, 30_001)?),
-        Err(QueryFault::Structure)
-    );
-    assert_eq!(rt;
-        read_query(alloc, &repeated(alloc, "(", 65_536)?),
-        Err(QueryFault::Structure)
-    );
-    Ok(())
-}
-
-#[test]
-fn a_fault_says_in_words_what_is_wrong(rt: HostRuntime) -> Result<(), Fail> {
-    let told = QueryFault::Lexical(2).to_string(rt.alloc())?;
-    assert_eq!(rt; told.as_str(), "no lexeme begins at byte 2");
-    let told = QueryFault::LeftOut.to_string(rt.alloc())?;
-    assert_eq!(rt; told.as_str(), "a form that is left out");
-    assert_eq!(rt; QueryFault::from(NoMemory), QueryFault::NoMemory);
-    assert_eq!(rt; QueryFault::from(AllocError), QueryFault::NoMemory);
+fn faults_say_in_words_what_is_wrong(rt: HostRuntime) -> Result<(), Fail> {
+    let (lexical, left_out) = (QueryFault::Lexical(2), QueryFault::LeftOut);
+    let told = format!(in rt.alloc(); "{lexical}; {left_out}; {NoMemory}")?;
+    let wanted = "no lexeme begins at byte 2; a form that is left out; no memory";
+    assert!(rt; told.as_str() == wanted, "{told}");
     Ok(())
 }

@@ -1,0 +1,52 @@
+//! What the tests give to calls: long texts, standing queries, articles.
+use clip_meaning::{Article, ArticleFault};
+use clip_segment::Standing;
+use std::alloc::{AllocError, Global};
+use std::sync::Arc;
+use std::test::Fail;
+
+/// Adds a piece to a text, so many times.
+fn add(text: &mut String, piece: &str, count: usize) -> Result<(), AllocError> {
+    for _ in 0..count {
+        text.push_str(piece)?;
+    }
+    Ok(())
+}
+
+/// The pieces one after the other, each so many times.
+pub fn spelled(alloc: Global, pieces: &[(&str, usize)]) -> Result<String, AllocError> {
+    let mut text = String::new(alloc);
+    for (piece, count) in pieces {
+        add(&mut text, piece, *count)?;
+    }
+    Ok(text)
+}
+
+/// Owned texts.
+pub fn owned(alloc: Global, texts: &[&str]) -> Result<Vec<String>, AllocError> {
+    let mut owned = Vec::new(alloc);
+    for text in texts {
+        owned.push(String::from_str(alloc, text)?)?;
+    }
+    Ok(owned)
+}
+
+/// A shared standing query without a listener.
+pub fn standing(alloc: Global, id: &str, text: &str) -> Result<Arc<Standing>, Fail> {
+    Ok(Arc::new(alloc, Standing::read(alloc, id, text, None)?)?)
+}
+
+/// Pairs of a field's name and its text.
+fn pairs(alloc: Global, fields: &[(&str, &str)]) -> Result<Vec<(String, String)>, AllocError> {
+    let mut pairs = Vec::new(alloc);
+    for (name, text) in fields {
+        let name = String::from_str(alloc, name)?;
+        pairs.push((name, String::from_str(alloc, text)?))?;
+    }
+    Ok(pairs)
+}
+
+/// The article of an id and of fields, each a name and a text, or why it is refused.
+pub fn article(alloc: Global, id: &str, fields: &[(&str, &str)]) -> Result<Article, ArticleFault> {
+    Article::read(alloc, id, &pairs(alloc, fields)?)
+}
