@@ -22,7 +22,8 @@ pub trait Listener: Drop {
 
     /// Hears an alert and says it in its style.
     ///
-    /// `NoMemory` where an allocation failed, or where the listener has no memory of its own left; it hasn't heard it then.
+    /// `NoMemory` where an allocation failed, or where the listener has no memory of its own left; it hasn't heard the
+    /// alert then.
     fn hear(&mut self, alloc: Global, alert: &Alert) -> Result<String, NoMemory>
         ensures text { IfOk result (λ said. string_bytes said ≡ text_of (style self.old) (alert_value alert.now)) }
         ensures style { style self.new ≡ style self.old }

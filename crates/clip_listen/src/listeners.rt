@@ -141,12 +141,20 @@ fn hear_at(
     alert: &Alert,
 ) -> Result<String, NoMemory>
     requires once { distinct (names_of parts.old.items) ≡ true }
-    requires place { position_from (bytes_eq (arc_str_bytes name.now)) 0 (names_of parts.old.items) ≡ Some at }
+    requires place { position_from (bytes_eq (arc_str_bytes name.now)) 0 (names_of parts.old.items)
+        ≡ Some at }
     requires own { (alert_value alert.now).listener ≡ Some (arc_str_bytes name.now) }
     ensures names { names_of parts.new.items ≡ names_of parts.old.items }
-    ensures text { IfOk result (λ said. note_of (map (hearer style heard) parts.old.items) (alert_value alert.now) ≡ Some (record { listener = arc_str_bytes name.now; query = (alert_value alert.now).query; text = string_bytes said })) }
-    ensures ok { OnOk result (map (hearer style heard) parts.new.items ≡ told_all (alert_value alert.now ∷ []) (map (hearer style heard) parts.old.items)) }
-    ensures err { OnErr result (map (hearer style heard) parts.new.items ≡ map (hearer style heard) parts.old.items) }
+    ensures text { IfOk result (λ said. note_of (map (hearer style heard) parts.old.items) (alert_value alert.now)
+        ≡ Some (record {
+          listener = arc_str_bytes name.now;
+          query = (alert_value alert.now).query;
+          text = string_bytes said;
+        })) }
+    ensures ok { OnOk result (map (hearer style heard) parts.new.items
+        ≡ told_all (alert_value alert.now ∷ []) (map (hearer style heard) parts.old.items)) }
+    ensures err { OnErr result (map (hearer style heard) parts.new.items
+        ≡ map (hearer style heard) parts.old.items) }
 {
     hear_by(alloc, &mut parts[at].1, alert)
 }
@@ -157,9 +165,11 @@ fn hear_by(
     listener: &mut Box<dyn Listener + Send>,
     alert: &Alert,
 ) -> Result<String, NoMemory>
-    ensures text { IfOk result (λ said. string_bytes said ≡ text_of (style listener.old) (alert_value alert.now)) }
+    ensures text { IfOk result (λ said. string_bytes said
+        ≡ text_of (style listener.old) (alert_value alert.now)) }
     ensures style { style listener.new ≡ style listener.old }
-    ensures ok { OnOk result (heard listener.new ≡ heard_then (heard listener.old) (alert_value alert.now ∷ [])) }
+    ensures ok { OnOk result (heard listener.new
+        ≡ heard_then (heard listener.old) (alert_value alert.now ∷ [])) }
     ensures err { OnErr result (heard listener.new ≡ heard listener.old) }
 {
     listener.hear(alloc, alert)
@@ -185,7 +195,8 @@ impl Listeners {
     ///
     /// `Twice`, with the listeners, just where a name repeats. Cost: each name is compared with those after it.
     pub fn new(parts: Vec<Named>) -> Result<Listeners, Twice>
-        ensures ok { IfOk result (λ it. ⟦<Listeners as Audience>⟧.hearers it ≡ map (hearer style heard) parts.items) }
+        ensures ok { IfOk result (λ it. ⟦<Listeners as Audience>⟧.hearers it
+            ≡ map (hearer style heard) parts.items) }
         ensures once { OnOk result (distinct (names_of parts.items) ≡ true) }
         ensures twice { OnErr result (distinct (names_of parts.items) ≡ false) }
         ensures back { IfErr result (λ e. e.parts.items ≡ parts.items) }
