@@ -4,6 +4,10 @@
 #[cfg(test)]
 mod extract;
 #[cfg(test)]
+mod ledger;
+#[cfg(test)]
+mod listen;
+#[cfg(test)]
 mod matching;
 #[cfg(test)]
 mod meaning;
