@@ -1,10 +1,12 @@
 //! Tests of the crates below the front, by their public calls: worked examples, limits, and each call that takes memory once.
-//!
-//! An example is a row of a table: what a call is given, and as text what it is to give, worked out by hand.
 #![tactic(auto)]
 
 #[cfg(test)]
 mod extract;
+#[cfg(test)]
+mod ledger;
+#[cfg(test)]
+mod listen;
 #[cfg(test)]
 mod making;
 #[cfg(test)]

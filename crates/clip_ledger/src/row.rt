@@ -1,0 +1,64 @@
+//! A row of the ledger.
+ghost use Rattle.std.specs.Prelude.{◌≡◌, IfOk, option_map};
+ghost use Rattle.std.specs.Option.{option_copied};
+ghost use Rattle.std.specs.Arc.{arc_str_bytes};
+ghost use Rattle.clip_match.specs.Alerts.{alert_value};
+ghost use Rattle.clip_ledger.specs.Rows.{row_with, row_value, is_of};
+
+use clip_match::Alert;
+use clip_words::NoMemory;
+use std::sync::ArcStr;
+
+/// An alert of a line, with what its listener said of it. Its texts are shared.
+#[derive(Debug, Drop)]
+pub struct Row {
+    /// The number of the line that the article came in.
+    pub line: u64,
+    /// The article's id.
+    pub article: ArcStr,
+    /// The query's id.
+    pub query: ArcStr,
+    /// The name of the query's listener, if it has one.
+    pub listener: Option<ArcStr>,
+    /// What that listener said, if it is here.
+    pub text: Option<ArcStr>,
+}
+
+/// Another owner of a text.
+fn shared(text: Option<&ArcStr>) -> Result<Option<ArcStr>, NoMemory>
+    ensures { IfOk result (λ copy. option_map arc_str_bytes copy
+        ≡ option_map arc_str_bytes (option_copied text.entry)) }
+{
+    match text {
+        Some(text) => Ok(Some(text.clone()?)),
+        None => Ok(None),
+    }
+}
+
+impl Row {
+    /// The row of an alert, with what its listener said.
+    pub(crate) fn of(line: u64, alert: &Alert, text: Option<&ArcStr>) -> Result<Row, NoMemory>
+        ensures { IfOk result (λ row. row_value row
+            ≡ row_with line (alert_value alert.now) (option_map arc_str_bytes (option_copied text.entry))) }
+    {
+        let listener = shared(alert.listener.as_ref())?;
+        let text = shared(text)?;
+        Ok(Row {
+            line,
+            article: alert.article.clone()?,
+            query: alert.query.clone()?,
+            listener,
+            text,
+        })
+    }
+
+    /// Whether its listener has the name.
+    pub(crate) fn is_of(&self, name: &str) -> bool
+        ensures { result ≡ is_of name.now (row_value self.now) }
+    {
+        match &self.listener {
+            Some(listener) => listener.as_str() == name,
+            None => false,
+        }
+    }
+}

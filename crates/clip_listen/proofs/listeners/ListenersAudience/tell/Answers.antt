@@ -1,0 +1,18 @@
+use Rattle.std.proofs.Common.{sym, refl, ap, option_map}
+use Rattle.clip_match.specs.Alerts.{alert_value}
+use Rattle.clip_listen.proofs.Hearing.{unnamed}
+use Rattle.std.specs.Arc.{arc_str_bytes}
+use Rattle.clip_listen.proofs.Parts.{not_here}
+use Rattle.clip_listen.proofs.listeners.ListenersAudience.tell.Goals as goal
+
+pub returns-in_default-clause-note : goal.returns-in_default-clause-note
+returns-in_default-clause-note g c = sym (unnamed (alert_value c.args.alert.now) _ (ap (option_map arc_str_bytes) c.in_default.is)).1
+
+pub returns-in_default-clause-ok : goal.returns-in_default-clause-ok
+returns-in_default-clause-ok g c = sym (unnamed (alert_value c.args.alert.now) _ (ap (option_map arc_str_bytes) c.in_default.is)).0
+
+pub returns-in_default-place-clause-note : goal.returns-in_default-place-clause-note
+returns-in_default-place-clause-note g c = sym (not_here _ (λ _. refl) (alert_value c.args.alert.now) _ _ c.args.self.now.parts.items c.deref.result.now (sym (ap (option_map arc_str_bytes) c.in-Some.is)) c.as_str.ensures.value c.deref.ensures.value c.in_default-place.ensures).1
+
+pub returns-in_default-place-clause-ok : goal.returns-in_default-place-clause-ok
+returns-in_default-place-clause-ok g c = sym (not_here _ (λ _. refl) (alert_value c.args.alert.now) _ _ c.args.self.now.parts.items c.deref.result.now (sym (ap (option_map arc_str_bytes) c.in-Some.is)) c.as_str.ensures.value c.deref.ensures.value c.in_default-place.ensures).0
