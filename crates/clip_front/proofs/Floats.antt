@@ -1,5 +1,5 @@
 -- No reply holds a float.
-use Rattle.std.proofs.Common.{◌≡◌, ℕ, List, [], ◌∷◌, ◌||◌, map, false, Option, Some, None, refl, ap, ap₂}
+use Rattle.std.proofs.Common.{◌≡◌, ℕ, List, [], ◌∷◌, ◌||◌, map, false, Option, Some, None, refl, ap₂}
 use Rattle.serde_json.specs.Data.{string}
 use Rattle.serde_json.specs.View.{items_of}
 use Rattle.serde_json.specs.Written.{has_float, items_have_float}
@@ -27,4 +27,4 @@ has_float-reply_value n (deleted k) = refl
 has_float-reply_value n (cleared k) = refl
 has_float-reply_value n (counted k) = refl
 has_float-reply_value n (shown text) = no_float_text text
-has_float-reply_value n (matched found) = ap (λ b. b || false) (no_float_alerts found)
+has_float-reply_value n (matched found notes) = ap₂ (λ x y. x || (y || false)) (no_float_alerts found) (no_float_texts notes)

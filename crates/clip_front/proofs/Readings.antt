@@ -1,18 +1,18 @@
 -- Lists of texts that were read as queries.
-use Rattle.std.proofs.Common.{◌≡◌, ◌≢◌, ℕ, suc, List, [], ◌∷◌, length, Bool, true, false, ◌&&◌, refl, sym, ap, true≢false}
+use Rattle.std.proofs.Common.{◌≡◌, ◌≢◌, ℕ, suc, List, [], ◌∷◌, length, Bool, true, false, ◌&&◌, refl, sym, ap, true≢false, arith}
 use Rattle.clip_grammar.specs.Reading.{IsFault}
 use Rattle.clip_grammar.specs.Tree.{Tree}
 use Rattle.clip_grammar.specs.declared.fault.QueryFault.{QueryFault}
 use Rattle.clip_grammar.specs.declared.fault.QueryFault.TheVariants.{NoMemory}
 use Rattle.clip_model.specs.Standing.{Standing}
 use Rattle.clip_front.specs.Request.{Listing}
-use Rattle.clip_front.specs.LineMeaning.{IsQuery, AreReadAs}
+use Rattle.clip_front.specs.LineMeaning.{IsQuery, AreTakenAs}
 
-pub length-AreReadAs : (ls : List Listing) (ss : List Standing) → AreReadAs ls ss → length ss ≡ length ls
-length-AreReadAs [] [] r = refl
-length-AreReadAs [] (s ∷ ss) r = absurd r
-length-AreReadAs (l ∷ ls) [] r = absurd r
-length-AreReadAs (l ∷ ls) (s ∷ ss) r = ap suc (length-AreReadAs ls ss r.1)
+pub length-AreTakenAs : (names : List (List ℕ)) (ls : List Listing) (ss : List Standing) → AreTakenAs names ls ss → length ss ≡ length ls
+length-AreTakenAs names [] [] r = refl
+length-AreTakenAs names [] (s ∷ ss) r = absurd r
+length-AreTakenAs names (l ∷ ls) [] r = absurd r
+length-AreTakenAs names (l ∷ ls) (s ∷ ss) r = ap suc (length-AreTakenAs names ls ss r.1)
 
 -- a text with a fault is no query
 pub no_query : (text : List ℕ) (f : QueryFault) → f ≢ NoMemory → IsFault text f → (tree : Tree) → ¬ (IsQuery text tree)
@@ -27,3 +27,9 @@ first_of false b e = e
 pub second_of : (a b : Bool) → (a && b) ≡ true → b ≡ true
 second_of true b e = e
 second_of false b e = absurd (true≢false (sym e))
+
+-- ---- lists
+
+pub none_left : {X : Type 0} (xs : List X) → length xs ≡ 0 → xs ≡ []
+none_left [] e = refl
+none_left (x ∷ xs) e = absurd (omega (arith, e))

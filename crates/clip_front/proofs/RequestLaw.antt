@@ -13,7 +13,7 @@ use Rattle.serde_json.specs.Events.{members_len}
 use Rattle.serde_json.specs.Find.{get, as_str, as_array, as_object}
 use Rattle.serde_json.specs.View.{items_of}
 use Rattle.clip_front.specs.Request.{Listing, Draft, Request, register, delete, clear, count, show, match, members_from, object_of, listing_value, field_value, draft_value, value_of}
-use Rattle.clip_front.specs.Steps.Outline.{take_member, when_none_left, two_members, all_of, fields_of, listing_of, draft_of, operation_of, operation_in, has_one_member, counts_members, register_of, delete_of, show_of, match_of, request_by, request_of}
+use Rattle.clip_front.specs.Steps.Outline.{take_member, when_none_left, two_of, two_members, three_members, all_of, fields_of, plain_listing_of, heard_listing_of, listing_of, draft_of, operation_of, operation_in, has_members, counts_members, register_of, delete_of, show_of, match_of, request_by, request_of}
 use Rattle.clip_front.specs.declared.request.Operation.{Operation}
 use Rattle.clip_front.specs.declared.request.Operation.TheVariants as operation
 
@@ -28,16 +28,20 @@ fields_of-map : (fs : List (List ℕ × List ℕ)) → fields_of (members_from (
 fields_of-map [] = refl
 fields_of-map (f ∷ fs) = ap (option_map (λ gs. f ∷ gs)) (fields_of-map fs)
 
+value_by : (id query : List ℕ) (listener : Option (List ℕ)) → listing_of (listing_value (record { id = id; query = query; listener = listener })) ≡ Some (record { id = id; query = query; listener = listener })
+unfolding listing_of plain_listing_of heard_listing_of has_members
+value_by id query None = refl
+value_by id query (Some name) = refl
+
 listing_of-value : (l : Listing) → listing_of (listing_value l) ≡ Some l
-unfolding listing_of
-listing_of-value l = refl
+listing_of-value l = value_by l.id l.query l.listener
 
 draft_of-value : (d : Draft) → draft_of (draft_value d) ≡ Some d
 unfolding draft_of
 draft_of-value d = ap (λ o. option_map (λ fields. record { id = d.id; fields = fields }) o) (fields_of-map d.fields)
 
 pub request_of-value_of : (r : Request) → request_of (value_of r) ≡ Some r
-unfolding request_of operation_in operation_of register_of delete_of show_of match_of has_one_member
+unfolding request_of operation_in operation_of register_of delete_of show_of match_of has_members
 request_of-value_of (register listings) = ap (option_map register) (all_of-map listing_value listing_of listing_of-value listings)
 request_of-value_of (delete ids) = ap (option_map delete) (all_of-map string as_str (λ s. refl) ids)
 request_of-value_of clear = refl
@@ -97,14 +101,25 @@ none_left : {A : Type 0} (x y : A) (ms : Members) → when_none_left x ms ≡ So
 none_left x y no_members e = (refl, cc)
 none_left x y (member k d ms) e = absurd (none_is_some y e)
 
+two_are_of : (first second : List ℕ) (ms : Members) (p : Data × Data) → two_of first second ms ≡ Some p → ms ≡ members_from ((first, p.0) ∷ (second, p.1) ∷ [])
+two_are_of first second ms p e =
+    let one = led (take_member first ms) _ p e in
+    let two = led (take_member second one.0.1) _ p one.2 in
+    let left = none_left _ p two.0.1 two.2 in
+    taken_is first ms one.0 one.1 ∙ ap (member first one.0.0) (taken_is second one.0.1 two.0 two.1 ∙ ap (member second two.0.0) left.0) ∙ ap (λ q. members_from ((first, q.0) ∷ (second, q.1) ∷ [])) left.1
+
 two_are : (first second : List ℕ) (d : Data) (p : Data × Data) → two_members first second d ≡ Some p → d ≡ object_of ((first, p.0) ∷ (second, p.1) ∷ [])
 two_are first second d p e =
     let o = led (as_object d) _ p e in
+    object_is d o.0 o.1 ∙ ap object (two_are_of first second o.0 p o.2)
+
+three_are : (first second third : List ℕ) (d : Data) (p : Data × (Data × Data)) → three_members first second third d ≡ Some p → d ≡ object_of ((first, p.0) ∷ (second, p.1.0) ∷ (third, p.1.1) ∷ [])
+three_are first second third d p e =
+    let o = led (as_object d) _ p e in
     let one = led (take_member first o.0) _ p o.2 in
-    let two = led (take_member second one.0.1) _ p one.2 in
-    let left = none_left _ p two.0.1 two.2 in
+    let rest = mapped (two_of second third one.0.1) _ p one.2 in
     object_is d o.0 o.1 ∙ ap object
-    (taken_is first o.0 one.0 one.1 ∙ ap (member first one.0.0) (taken_is second one.0.1 two.0 two.1 ∙ ap (member second two.0.0) left.0)) ∙ ap (λ q. object_of ((first, q.0) ∷ (second, q.1) ∷ [])) left.1
+    (taken_is first o.0 one.0 one.1 ∙ ap (member first one.0.0) (two_are_of second third one.0.1 rest.0 rest.1)) ∙ ap (λ q. object_of ((first, q.0) ∷ (second, q.1.0) ∷ (third, q.1.1) ∷ [])) rest.2
 
 all_are : {A : Type 0} (value : A → Data) (f : Data → Option A) → ((d : Data) (x : A) → f d ≡ Some x → d ≡ value x) → (ds : Items) (xs : List A) → all_of f ds ≡ Some xs → ds ≡ items_of (map value xs)
 all_are value f one no_items xs e = let none : [] ≡ xs = cc in ap (λ ys. items_of (map value ys)) none
@@ -120,13 +135,32 @@ fields_are (member k d ms) fs e =
     let rest = mapped (fields_of ms) _ fs first.2 in
     ap₂ (member k) (text_is d first.0 first.1) (fields_are ms rest.0 rest.1) ∙ ap (λ gs. members_from (map field_value gs)) rest.2
 
-listing_is : (d : Data) (l : Listing) → listing_of d ≡ Some l → d ≡ listing_value l
-unfolding listing_of
-listing_is d l e =
+plain_is : (d : Data) (l : Listing) → plain_listing_of d ≡ Some l → d ≡ listing_value l
+unfolding plain_listing_of
+plain_is d l e =
     let p = led (two_members (codes "id") (codes "query") d) _ l e in
     let id = led (as_str p.0.0) _ l p.2 in
     let text = mapped (as_str p.0.1) _ l id.2 in
     two_are (codes "id") (codes "query") d p.0 p.1 ∙ ap₂ (λ x y. object_of ((codes "id", x) ∷ (codes "query", y) ∷ [])) (text_is p.0.0 id.0 id.1) (text_is p.0.1 text.0 text.1) ∙ ap listing_value text.2
+
+heard_is : (d : Data) (l : Listing) → heard_listing_of d ≡ Some l → d ≡ listing_value l
+unfolding heard_listing_of
+heard_is d l e =
+    let p = led (three_members (codes "id") (codes "listener") (codes "query") d) _ l e in
+    let id = led (as_str p.0.0) _ l p.2 in
+    let name = led (as_str p.0.1.0) _ l id.2 in
+    let text = mapped (as_str p.0.1.1) _ l name.2 in
+    three_are (codes "id") (codes "listener") (codes "query") d p.0 p.1
+    ∙ ap₂ (λ x y. object_of ((codes "id", x) ∷ (codes "listener", y) ∷ (codes "query", p.0.1.1) ∷ [])) (text_is p.0.0 id.0 id.1) (text_is p.0.1.0 name.0 name.1)
+    ∙ ap (λ y. object_of ((codes "id", string id.0) ∷ (codes "listener", string name.0) ∷ (codes "query", y) ∷ [])) (text_is p.0.1.1 text.0 text.1) ∙ ap listing_value text.2
+
+either_is : (b : Bool) (d : Data) (l : Listing) → cond b (heard_listing_of d) (plain_listing_of d) ≡ Some l → d ≡ listing_value l
+either_is true d l e = heard_is d l e
+either_is false d l e = plain_is d l e
+
+listing_is : (d : Data) (l : Listing) → listing_of d ≡ Some l → d ≡ listing_value l
+unfolding listing_of
+listing_is d l e = either_is (has_members 3 d) d l e
 
 draft_is : (d : Data) (a : Draft) → draft_of d ≡ Some a → d ≡ draft_value a
 unfolding draft_of
@@ -187,8 +221,8 @@ met Less x y e = absurd (none_is_some y e)
 met Equal x y e = (refl, cc)
 met Greater x y e = absurd (none_is_some y e)
 
-lone_is : (d : Data) (o : Operation) → has_one_member d ≡ true → operation_in d ≡ Some o → d ≡ object_of ((codes "op", string (name_of o)) ∷ [])
-unfolding has_one_member operation_in
+lone_is : (d : Data) (o : Operation) → has_members 1 d ≡ true → operation_in d ≡ Some o → d ≡ object_of ((codes "op", string (name_of o)) ∷ [])
+unfolding has_members operation_in
 lone_is d o one e =
     let lone = lone_by (as_object d) one in
     let shape = object_is d _ lone.2 in
@@ -216,8 +250,8 @@ request_is d operation.Delete r op e =
     let shape = two_are (codes "ids") (codes "op") d p.0 p.1 in
     let word = name_text d p.0.1 operation.Delete (ap (get (codes "op")) shape) op in
     shape ∙ ap₂ (λ x y. object_of ((codes "ids", x) ∷ (codes "op", y) ∷ [])) (array_is p.0.0 items.0 items.1 ∙ ap array (all_are string as_str text_is items.0 all.0 items.2)) word ∙ ap value_of all.2
-request_is d operation.Clear r op e = let w = when (has_one_member d) clear r e in lone_is d operation.Clear w.0 op ∙ ap value_of w.1
-request_is d operation.Count r op e = let w = when (has_one_member d) count r e in lone_is d operation.Count w.0 op ∙ ap value_of w.1
+request_is d operation.Clear r op e = let w = when (has_members 1 d) clear r e in lone_is d operation.Clear w.0 op ∙ ap value_of w.1
+request_is d operation.Count r op e = let w = when (has_members 1 d) count r e in lone_is d operation.Count w.0 op ∙ ap value_of w.1
 request_is d operation.Show r op e =
     let id = mapped _ show r e in
     let p = led (two_members (codes "id") (codes "op") d) _ id.0 id.1 in

@@ -2,4 +2,5 @@ pub mod Refusal
 pub mod Request
 pub mod LineMeaning
 pub mod Reply
+pub mod Outcome
 pub mod Steps

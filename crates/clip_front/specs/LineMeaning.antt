@@ -1,6 +1,6 @@
 -- What a line means after a history.
-use Rattle.std.specs.Prelude.{◌≡◌, ◌⊎◌, ℕ, zero, suc, List, [], ◌∷◌, map, length, Bool, true, false, nat_lt, if◌then◌else◌, ◌==◌, ⊤, Option, Some, None}
-use Rattle.std.specs.List.{list_all}
+use Rattle.std.specs.Prelude.{◌≡◌, ◌⊎◌, ℕ, zero, suc, List, [], ◌∷◌, map, length, Bool, true, false, nat_lt, if◌then◌else◌, ◌==◌, ⊤, Option, Some, None, bytes_eq}
+use Rattle.std.specs.List.{list_all, list_any}
 use Rattle.std.specs.Str.{is_utf8}
 use Rattle.serde_json.specs.Data.{Data}
 use Rattle.serde_json.specs.Read.{read}
@@ -49,6 +49,7 @@ Says line (refused reason.Json) = IsFilled line × (json_of line ≡ None)
 Says line (refused reason.Shape) = IsFilled line × (d : Data) × (json_of line ≡ Some d) × ((r : Request) → ¬ (d ≡ value_of r))
 Says line (refused reason.Limit) = IsFilled line × (r : Request) × (json_of line ≡ Some (value_of r)) × (within r ≡ false)
 Says line (refused reason.Query) = ⊥
+Says line (refused reason.Listener) = ⊥
 Says line (refused reason.Full) = ⊥
 Says line (asks r) = IsFilled line × (json_of line ≡ Some (value_of r)) × (within r ≡ true)
 
@@ -69,25 +70,48 @@ pub record IsQuery (text : List ℕ) (tree : Tree) : Type 0 where
   pub reads : Reads text tree
   pub kept : HasNoFault text
 
--- the listed query is this standing one, which has no listener
+abbrev pub IsAQuery : List ℕ → Type 0
+IsAQuery text = (tree : Tree) × IsQuery text tree
+
+-- one of these names is that of the listener, or there is none to hear
+abbrev pub is_here : List (List ℕ) → Option (List ℕ) → Bool
+is_here names None = true
+is_here names (Some name) = list_any (bytes_eq name) names
+
+-- the listed query is this standing one
 pub record IsReadAs (l : Listing) (s : Standing) : Type 0 where
   pub id : s.id ≡ l.id
   pub text : s.text ≡ l.query
-  pub listener : s.listener ≡ None
+  pub listener : s.listener ≡ l.listener
   pub query : IsQuery l.query s.tree
 
--- each in order
-abbrev pub AreReadAs : List Listing → List Standing → Type 0
-AreReadAs [] [] = ⊤
-AreReadAs (l ∷ ls) (s ∷ ss) = IsReadAs l s × AreReadAs ls ss
-AreReadAs [] (s ∷ ss) = ⊥
-AreReadAs (l ∷ ls) [] = ⊥
+-- and its listener is here
+pub record IsTakenAs (names : List (List ℕ)) (l : Listing) (s : Standing) : Type 0 where
+  pub read : IsReadAs l s
+  pub here : is_here names l.listener ≡ true
 
--- the text at this place is no query, and each before it is one
-abbrev pub FirstRefused : List Listing → ℕ → Type 0
-FirstRefused [] k = ⊥
-FirstRefused (l ∷ ls) zero = (tree : Tree) → ¬ (IsQuery l.query tree)
-FirstRefused (l ∷ ls) (suc k) = ((tree : Tree) × IsQuery l.query tree) × FirstRefused ls k
+-- each in order
+abbrev pub AreTakenAs : List (List ℕ) → List Listing → List Standing → Type 0
+AreTakenAs names [] [] = ⊤
+AreTakenAs names (l ∷ ls) (s ∷ ss) = IsTakenAs names l s × AreTakenAs names ls ss
+AreTakenAs names [] (s ∷ ss) = ⊥
+AreTakenAs names (l ∷ ls) [] = ⊥
+
+-- why a listed query is refused: its text is no query, or it is one and its listener is not here
+abbrev pub IsRefusedFor : List (List ℕ) → Listing → Refusal → Type 0
+IsRefusedFor names l reason.Query = (tree : Tree) → ¬ (IsQuery l.query tree)
+IsRefusedFor names l reason.Listener = IsAQuery l.query × (is_here names l.listener ≡ false)
+IsRefusedFor names l reason.Long = ⊥
+IsRefusedFor names l reason.Json = ⊥
+IsRefusedFor names l reason.Shape = ⊥
+IsRefusedFor names l reason.Limit = ⊥
+IsRefusedFor names l reason.Full = ⊥
+
+-- the query at this place is refused for this reason, and none before it is refused
+abbrev pub FirstRefused : List (List ℕ) → List Listing → Refusal → ℕ → Type 0
+FirstRefused names [] r k = ⊥
+FirstRefused names (l ∷ ls) r zero = IsRefusedFor names l r
+FirstRefused names (l ∷ ls) r (suc k) = IsAQuery l.query × (is_here names l.listener ≡ true) × FirstRefused names ls r k
 
 -- the command, where the history has room for it
 abbrev pub judged : History → Command → Meaning
@@ -96,25 +120,26 @@ judged h c = if has_room h c then command c else refusal reason.Full
 abbrev pub article_of : Draft → ArticleValue
 article_of d = article_value d.id d.fields
 
-abbrev pub MeansRequest : History → Request → Meaning → Type 0
-MeansRequest h (request.register listings) m =
-    ((k : ℕ) × FirstRefused listings k × (m ≡ refusal_at reason.Query k)) ⊎ ((ss : List Standing) × AreReadAs listings ss × (m ≡ judged h (Register ss)))
-MeansRequest h (request.delete ids) m = m ≡ judged h (Delete ids)
-MeansRequest h request.clear m = m ≡ judged h Clear
-MeansRequest h request.count m = m ≡ counting
-MeansRequest h (request.show id) m = m ≡ showing id
-MeansRequest h (request.match drafts) m = m ≡ matching (map article_of drafts)
+-- what a request means after a history, where the listeners of these names are here
+abbrev pub MeansRequest : List (List ℕ) → History → Request → Meaning → Type 0
+MeansRequest names h (request.register listings) m =
+    ((r : Refusal) × (k : ℕ) × FirstRefused names listings r k × (m ≡ refusal_at r k)) ⊎ ((ss : List Standing) × AreTakenAs names listings ss × (m ≡ judged h (Register ss)))
+MeansRequest names h (request.delete ids) m = m ≡ judged h (Delete ids)
+MeansRequest names h request.clear m = m ≡ judged h Clear
+MeansRequest names h request.count m = m ≡ counting
+MeansRequest names h (request.show id) m = m ≡ showing id
+MeansRequest names h (request.match drafts) m = m ≡ matching (map article_of drafts)
 
-abbrev pub MeansLine : History → Line → Meaning → Type 0
-MeansLine h blank m = m ≡ nothing
-MeansLine h (refused r) m = m ≡ refusal r
-MeansLine h (asks r) m = MeansRequest h r m
+abbrev pub MeansLine : List (List ℕ) → History → Line → Meaning → Type 0
+MeansLine names h blank m = m ≡ nothing
+MeansLine names h (refused r) m = m ≡ refusal r
+MeansLine names h (asks r) m = MeansRequest names h r m
 
--- the line means this after the history
-pub record Means (h : History) (line : List ℕ) (m : Meaning) : Type 0 where
+-- the line means this after the history, where the listeners of these names are here
+pub record Means (names : List (List ℕ)) (h : History) (line : List ℕ) (m : Meaning) : Type 0 where
   pub says : Line
   pub is_said : Says line says
-  pub means : MeansLine h says m
+  pub means : MeansLine names h says m
 
 -- the history after it, all of whose commands are caller 1's
 abbrev pub after : History → Meaning → History

@@ -1,22 +1,21 @@
--- The reply to a line, and to the whole input.
-use Rattle.std.specs.Prelude.{◌≡◌, ℕ, suc, map, List, [], ◌∷◌, ◌++◌, Option, Some, None, option_map, codes}
+-- The reply to a line.
+use Rattle.std.specs.Prelude.{ℕ, map, flat_map, List, [], ◌∷◌, ◌++◌, Option, Some, None, option_map, codes}
 use Rattle.std.specs.FinMap as finite
 use Rattle.serde_json.specs.Data.{Data, null, number, unsigned, string}
 use Rattle.serde_json.specs.Written.{compact_text}
 use Rattle.clip_meaning.specs.Article.{ArticleValue}
 use Rattle.clip_model.specs.History.{History, Command, Register, Delete, Clear, replay, applied}
-use Rattle.clip_model.specs.Alerts.{alerts}
-use Rattle.clip_stream.specs.Device.{AppendsFront}
-use Rattle.clip_stream.specs.Lines.{lines_of}
+use Rattle.clip_model.specs.Alerts.{Alert, alerts}
+use Rattle.clip_listen.specs.Heard.{Hearer, notes_of}
 use Rattle.clip_front.specs.LineMeaning as line
-use Rattle.clip_front.specs.LineMeaning.{Meaning, Means, after}
+use Rattle.clip_front.specs.LineMeaning.{Meaning}
 use Rattle.clip_front.specs.Refusal.{word_of}
 use Rattle.clip_front.specs.Request.{object_of, array_of}
 use Rattle.clip_front.specs.declared.refusal.Refusal.{Refusal}
 
 -- ---- one line
 
--- what is answered, to a blank line nothing; of each article its id and the ids of queries
+-- what is answered, to a blank line nothing; to a match of each article its id and the ids of queries, and the texts of the notes
 pub data Reply : Type 0 where
   nothing : Reply
   refused : Refusal → Reply
@@ -26,7 +25,7 @@ pub data Reply : Type 0 where
   cleared : ℕ → Reply
   counted : ℕ → Reply
   shown : Option (List ℕ) → Reply
-  matched : List (List ℕ × List (List ℕ)) → Reply
+  matched : List (List ℕ × List (List ℕ)) → List (List ℕ) → Reply
 
 -- a command that counts n
 abbrev pub accepted : Command → ℕ → Reply
@@ -38,15 +37,23 @@ accepted Clear n = cleared n
 abbrev pub alerts_shown : History → ArticleValue → List ℕ × List (List ℕ)
 alerts_shown h article = (article.id, map (λ a. a.query) (alerts h article))
 
--- what is answered to a line that means this after the history
-abbrev pub answer_to : History → Meaning → Reply
-answer_to h line.nothing = nothing
-answer_to h (line.refusal r) = refused r
-answer_to h (line.refusal_at r k) = refused_at r k
-answer_to h (line.command c) = accepted c (applied h c)
-answer_to h line.counting = counted (finite.len (replay h))
-answer_to h (line.showing id) = shown (option_map (λ r. r.standing.text) (finite.get (replay h) id))
-answer_to h (line.matching articles) = matched (map (alerts_shown h) articles)
+-- the alerts of each article, in order
+abbrev pub alerts_of_all : History → List ArticleValue → List Alert
+alerts_of_all h articles = flat_map (alerts h) articles
+
+-- what these listeners say of the alerts
+abbrev pub texts_said : List Hearer → List Alert → List (List ℕ)
+texts_said hearers alerts = map (λ n. n.text) (notes_of hearers alerts)
+
+-- what is answered to a line that means this after the history, where these listeners are here
+abbrev pub answer_to : List Hearer → History → Meaning → Reply
+answer_to hearers h line.nothing = nothing
+answer_to hearers h (line.refusal r) = refused r
+answer_to hearers h (line.refusal_at r k) = refused_at r k
+answer_to hearers h (line.command c) = accepted c (applied h c)
+answer_to hearers h line.counting = counted (finite.len (replay h))
+answer_to hearers h (line.showing id) = shown (option_map (λ r. r.standing.text) (finite.get (replay h) id))
+answer_to hearers h (line.matching articles) = matched (map (alerts_shown h) articles) (texts_said hearers (alerts_of_all h articles))
 
 -- ---- its text
 
@@ -70,8 +77,8 @@ reply_value n (deleted k) = object_of ((codes "deleted", number_of k) ∷ (codes
 reply_value n (cleared k) = object_of ((codes "cleared", number_of k) ∷ (codes "line", number_of n) ∷ [])
 reply_value n (counted k) = object_of ((codes "count", number_of k) ∷ (codes "line", number_of n) ∷ [])
 reply_value n (shown text) = object_of ((codes "line", number_of n) ∷ (codes "query", text_or_null text) ∷ [])
-reply_value n (matched found) =
-    object_of ((codes "alerts", array_of (map alerts_data found)) ∷ (codes "line", number_of n) ∷ (codes "notes", array_of []) ∷ [])
+reply_value n (matched found notes) =
+    object_of ((codes "alerts", array_of (map alerts_data found)) ∷ (codes "line", number_of n) ∷ (codes "notes", array_of (map string notes)) ∷ [])
 
 -- the value as compact JSON, and a line feed
 unfoldable pub printed : Data → List ℕ
@@ -83,20 +90,5 @@ reply_text n nothing = []
 reply_text n r = printed (reply_value n r)
 
 -- the reply to line n, which means this after the history
-abbrev pub reply : ℕ → History → Meaning → List ℕ
-reply n h m = reply_text n (answer_to h m)
-
--- ---- the whole input
-
--- the replies to the lines, of which the first is line n and comes after the history
-abbrev pub AreReplies : ℕ → History → List (List ℕ) → List ℕ → Type 0
-AreReplies n h [] text = text ≡ []
-AreReplies n h (line ∷ lines) text = (m : Meaning) × (rest : List ℕ) × Means h line m × (text ≡ reply n h m ++ rest) × AreReplies (suc n) (after h m) lines rest
-
--- the reply text of the input
-abbrev pub IsText : List ℕ → List ℕ → Type 0
-IsText input text = AreReplies 1 [] (lines_of input) text
-
--- what was written is a front of the reply text of some of the first lines
-abbrev pub WritesFront : List ℕ → Option (List ℕ) → Option (List ℕ) → Type 0
-WritesFront input old new = (lines later : List (List ℕ)) × (text : List ℕ) × (lines_of input ≡ lines ++ later) × AreReplies 1 [] lines text × AppendsFront old new text
+abbrev pub reply : List Hearer → ℕ → History → Meaning → List ℕ
+reply hearers n h m = reply_text n (answer_to hearers h m)

@@ -1,5 +1,5 @@
 -- What a line may ask for, and the JSON value by which it asks.
-use Rattle.std.specs.Prelude.{ℕ, ◌&&◌, List, [], ◌∷◌, length, map, Bool, true, nat_le, codes}
+use Rattle.std.specs.Prelude.{ℕ, ◌&&◌, List, [], ◌∷◌, length, map, Bool, true, nat_le, codes, Option, Some, None}
 use Rattle.std.specs.List.{list_all}
 use Rattle.serde_json.specs.Data.{Data, string, array, object, Members, no_members, member}
 use Rattle.serde_json.specs.View.{items_of}
@@ -8,10 +8,11 @@ use Rattle.clip_model.specs.declared.limits.TheConstants.{MOST_LISTED}
 use Rattle.clip_words.specs.Ids.{is_id}
 use Rattle.clip_front.specs.declared.limits.TheConstants.{MOST_ARTICLES}
 
--- a query that a register lists
+-- a query that a register lists, with the name of its listener, if it has one
 pub record Listing : Type 0 where
   pub id : List ℕ
   pub query : List ℕ
+  pub listener : Option (List ℕ)
 
 -- an article that a match lists: its id, and of each field the name and the text, in the byte order of the names
 pub record Draft : Type 0 where
@@ -39,8 +40,13 @@ object_of ms = object (members_from ms)
 abbrev pub array_of : List Data → Data
 array_of ds = array (items_of ds)
 
+-- the member for a listener, if there is one, before the others
+abbrev pub with_listener : Option (List ℕ) → List (List ℕ × Data) → List (List ℕ × Data)
+with_listener None ms = ms
+with_listener (Some name) ms = (codes "listener", string name) ∷ ms
+
 abbrev pub listing_value : Listing → Data
-listing_value l = object_of ((codes "id", string l.id) ∷ (codes "query", string l.query) ∷ [])
+listing_value l = object_of ((codes "id", string l.id) ∷ with_listener l.listener ((codes "query", string l.query) ∷ []))
 
 abbrev pub field_value : List ℕ × List ℕ → List ℕ × Data
 field_value f = (f.0, string f.1)

@@ -2,6 +2,8 @@
 #![tactic(auto)]
 
 mod answer;
+mod books;
+mod deliver;
 mod limits;
 mod line;
 mod members;
@@ -9,6 +11,8 @@ mod refusal;
 mod reply;
 mod request;
 mod session;
+mod settings;
 
 pub use limits::MOST_ARTICLES;
-pub use session::{Ended, one_text, run};
+pub use session::{Ended, one_outcome, run};
+pub use settings::Settings;

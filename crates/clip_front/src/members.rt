@@ -1,8 +1,8 @@
 //! JSON values taken apart, their texts moved out and not copied.
-ghost use Rattle.std.specs.Prelude.{◌≡◌, option_map, string_bytes};
+ghost use Rattle.std.specs.Prelude.{◌≡◌, option_map, option_and_then, string_bytes};
 ghost use Rattle.serde_json.specs.Find.{as_str, as_array, as_object};
 ghost use Rattle.serde_json.specs.View.{view, items_view, members_view};
-ghost use Rattle.clip_front.specs.Steps.Outline.{has_one_member, take_member, two_members};
+ghost use Rattle.clip_front.specs.Steps.Outline.{has_members, take_member, two_of, two_members, three_members};
 
 use serde_json::{Map, Value};
 
@@ -36,13 +36,13 @@ pub fn members_of(value: Value) -> Option<Map<String, Value>>
     }
 }
 
-/// Whether a value is an object of just one member.
-#[tactic(auto, unfolding(crate::specs::Steps::Outline::has_one_member))]
-pub fn has_one_member(value: &Value) -> bool
-    ensures { result ≡ has_one_member (view value.now) }
+/// Whether a value is an object of just so many members.
+#[tactic(auto, unfolding(crate::specs::Steps::Outline::has_members))]
+pub fn has_members(value: &Value, count: usize) -> bool
+    ensures { result ≡ has_members count (view value.now) }
 {
     match value.as_object() {
-        Some(members) => members.len() == 1,
+        Some(members) => members.len() == count,
         None => false,
     }
 }
@@ -64,11 +64,10 @@ fn take_member(members: &mut Map<String, Value>, name: &str) -> Option<Value>
     }
 }
 
-/// The values of an object of just these two members, whose names are in byte order.
-pub fn two_members(value: Value, first: &str, second: &str) -> Option<(Value, Value)>
-    ensures { option_map (λ p. (view p.0, view p.1)) result ≡ two_members first.now second.now (view value) }
+/// The values of just these two members, whose names are in byte order.
+fn two_of(mut members: Map<String, Value>, first: &str, second: &str) -> Option<(Value, Value)>
+    ensures { option_map (λ p. (view p.0, view p.1)) result ≡ two_of first.now second.now (members_view members.entries) }
 {
-    let mut members = members_of(value)?;
     let first = take_member(&mut members, first)?;
     let second = take_member(&mut members, second)?;
     if members.is_empty() {
@@ -76,4 +75,27 @@ pub fn two_members(value: Value, first: &str, second: &str) -> Option<(Value, Va
     } else {
         None
     }
+}
+
+/// The values of an object of just these two members, whose names are in byte order.
+pub fn two_members(value: Value, first: &str, second: &str) -> Option<(Value, Value)>
+    ensures { option_map (λ p. (view p.0, view p.1)) result ≡ two_members first.now second.now (view value) }
+{
+    two_of(members_of(value)?, first, second)
+}
+
+/// The values of an object of just these three members, whose names are in byte order.
+pub fn three_members(
+    value: Value,
+    first: &str,
+    second: &str,
+    third: &str,
+) -> Option<(Value, Value, Value)>
+    ensures { option_map (λ p. (view p.0, (view p.1, view p.2))) result
+        ≡ three_members first.now second.now third.now (view value) }
+{
+    let mut members = members_of(value)?;
+    let first = take_member(&mut members, first)?;
+    let (second, third) = two_of(members, second, third)?;
+    Some((first, second, third))
 }

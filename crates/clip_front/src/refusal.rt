@@ -6,7 +6,7 @@ use clip_words::NoMemory as OutOfMemory;
 use std::alloc::{AllocError, AllocFailed};
 
 /// Why a line is refused, in the order in which these are judged.
-#[derive(Clone, Copy, Debug, PartialEq, Eq)]
+#[derive(Clone, Copy)]
 pub enum Refusal {
     /// It has over 1,048,576 bytes.
     Long,
@@ -18,6 +18,8 @@ pub enum Refusal {
     Limit,
     /// A listed query's text is refused.
     Query,
+    /// A listed query's listener is not here.
+    Listener,
     /// The registry has no room for the change.
     Full,
 }
@@ -33,13 +35,14 @@ impl Refusal {
             Refusal::Shape => "shape",
             Refusal::Limit => "limit",
             Refusal::Query => "query",
+            Refusal::Listener => "listener",
             Refusal::Full => "full",
         }
     }
 }
 
-/// Why no request was read.
-#[derive(Clone, Copy, Debug, PartialEq, Eq)]
+/// Why no request, or no query of a list, was read.
+#[derive(Clone, Copy)]
 pub enum Unread {
     /// There is none to read.
     Refused(Refusal),

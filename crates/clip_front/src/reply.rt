@@ -1,5 +1,6 @@
 //! Replies, and their text.
 ghost use Rattle.std.specs.Prelude.{◌≡◌, ℕ, false, IfOk, Some, None, map, string_bytes};
+ghost use Rattle.std.specs.Arc.{arc_str_bytes};
 ghost use Rattle.serde_json.specs.Data.{string};
 ghost use Rattle.serde_json.specs.View.{view};
 ghost use Rattle.serde_json.specs.Written.{has_float};
@@ -9,6 +10,7 @@ ghost use Rattle.clip_front.specs.Reply.{printed as printed_text, alerts_data, r
 ghost use Rattle.clip_front.specs.Steps.Views.{alerts_ids};
 
 use crate::refusal::Refusal;
+use clip_listen::Note;
 use clip_match::{Alert, Alerts};
 use clip_words::NoMemory;
 use serde_json::{Value, json};
@@ -33,8 +35,8 @@ pub enum Reply {
     Counted(u64),
     /// The text of a query, where one is registered under the id.
     Shown(Option<String>),
-    /// The alerts of each article.
-    Matched(Vec<Alerts>),
+    /// The alerts of each article, and what the listeners said of them.
+    Matched(Vec<Alerts>, Vec<Note>),
 }
 
 /// The value as compact JSON, and a line feed.
@@ -78,6 +80,18 @@ fn all_alerts_json(alloc: Global, found: &[Alerts]) -> Result<Vec<Value>, NoMemo
         all.push(alerts_json(alloc, alerts)?)?;
     }
     Ok(all)
+}
+
+/// What the listeners said, as JSON.
+fn notes_json(alloc: Global, notes: &[Note]) -> Result<Vec<Value>, NoMemory>
+    ensures { IfOk result (λ texts. map view texts.items
+        ≡ map string (map (λ n. arc_str_bytes n.text) notes.now)) }
+{
+    let mut texts = Vec::with_capacity(alloc, notes.len())?;
+    for note in notes {
+        texts.push(Value::String(String::from_str(alloc, note.text.as_str())?))?;
+    }
+    Ok(texts)
 }
 
 /// The value that stands for no reply, and is never printed.
@@ -159,12 +173,18 @@ fn not_shown_json(alloc: Global, number: u64) -> Result<Value, NoMemory>
 
 /// The reply to a match.
 #[tactic(auto, unfolding(crate::specs::Reply::reply_value))]
-fn matched_json(alloc: Global, number: u64, found: &[Alerts]) -> Result<Value, NoMemory>
-    ensures { IfOk result (λ v. view v
-        ≡ reply_value number (reply.matched (map alerts_ids (map alerts_value found.now)))) }
+fn matched_json(
+    alloc: Global,
+    number: u64,
+    found: &[Alerts],
+    notes: &[Note],
+) -> Result<Value, NoMemory>
+    ensures { IfOk result (λ v. view v ≡ reply_value number
+        (reply.matched (map alerts_ids (map alerts_value found.now)) (map (λ n. arc_str_bytes n.text) notes.now))) }
 {
     let alerts = all_alerts_json(alloc, found)?;
-    Ok(json!(in alloc; {"alerts": alerts, "line": number, "notes": []})?)
+    let notes = notes_json(alloc, notes)?;
+    Ok(json!(in alloc; {"alerts": alerts, "line": number, "notes": notes})?)
 }
 
 impl Reply {
@@ -187,7 +207,7 @@ impl Reply {
             Reply::Counted(count) => counted_json(alloc, number, count),
             Reply::Shown(Some(text)) => shown_json(alloc, number, text),
             Reply::Shown(None) => not_shown_json(alloc, number),
-            Reply::Matched(found) => matched_json(alloc, number, &found),
+            Reply::Matched(found, notes) => matched_json(alloc, number, &found, &notes),
         }
     }
 

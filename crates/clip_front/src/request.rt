@@ -2,25 +2,27 @@
 ghost use Rattle.std.specs.Prelude.{◌≡◌, option_map, map, string_bytes};
 ghost use Rattle.serde_json.specs.Find.{as_str};
 ghost use Rattle.serde_json.specs.View.{view, items_view, members_view};
-ghost use Rattle.clip_front.specs.Steps.Outline.{ReadsAs, all_of, fields_of, listing_of, draft_of, operation_of, operation_in};
+ghost use Rattle.clip_front.specs.Steps.Outline.{ReadsAs, all_of, fields_of, plain_listing_of, heard_listing_of, listing_of, draft_of, operation_of, operation_in};
 ghost use Rattle.clip_front.specs.Steps.Views.{fields_view, listing_view, draft_view};
 
-use crate::members::{has_one_member, items_of, members_of, text_of, two_members};
+use crate::members::{has_members, items_of, members_of, text_of, three_members, two_members};
 use crate::refusal::{Refusal, UNSHAPED, Unread};
 use serde_json::{Map, Value};
 use std::alloc::Global;
 
 /// A query that a register lists.
-#[derive(Debug, Drop)]
+#[derive(Drop)]
 pub struct Listing {
     /// The id under which it is to stand.
     pub id: String,
     /// Its text.
     pub query: String,
+    /// The name of its listener, if it has one.
+    pub listener: Option<String>,
 }
 
 /// An article that a match lists, before its limits are judged.
-#[derive(Debug, Drop)]
+#[derive(Drop)]
 pub struct Draft {
     /// Its id.
     pub id: String,
@@ -29,7 +31,7 @@ pub struct Draft {
 }
 
 /// What a line may ask for.
-#[derive(Debug, Drop)]
+#[derive(Drop)]
 pub enum Request {
     /// Register these queries.
     Register(Vec<Listing>),
@@ -46,7 +48,7 @@ pub enum Request {
 }
 
 /// The operations, by which requests are told apart.
-#[derive(Clone, Copy, Debug, PartialEq, Eq)]
+#[derive(Clone, Copy)]
 enum Operation {
     Register,
     Delete,
@@ -88,15 +90,47 @@ impl Operation {
     }
 }
 
+/// The query without a listener that a value lists.
+#[tactic(auto, unfolding(crate::specs::Steps::Outline::plain_listing_of))]
+fn plain_listing_of(value: Value) -> Option<Listing>
+    ensures { option_map listing_view result ≡ plain_listing_of (view value) }
+{
+    let (id, query) = two_members(value, "id", "query")?;
+    let id = text_of(id)?;
+    let query = text_of(query)?;
+    Some(Listing {
+        id,
+        query,
+        listener: None,
+    })
+}
+
+/// The query with a listener that a value lists.
+#[tactic(auto, unfolding(crate::specs::Steps::Outline::heard_listing_of))]
+fn heard_listing_of(value: Value) -> Option<Listing>
+    ensures { option_map listing_view result ≡ heard_listing_of (view value) }
+{
+    let (id, listener, query) = three_members(value, "id", "listener", "query")?;
+    let id = text_of(id)?;
+    let listener = text_of(listener)?;
+    let query = text_of(query)?;
+    Some(Listing {
+        id,
+        query,
+        listener: Some(listener),
+    })
+}
+
 /// The query that a value lists.
 #[tactic(auto, unfolding(crate::specs::Steps::Outline::listing_of))]
 fn listing_of(value: Value) -> Option<Listing>
     ensures { option_map listing_view result ≡ listing_of (view value) }
 {
-    let (id, query) = two_members(value, "id", "query")?;
-    let id = text_of(id)?;
-    let query = text_of(query)?;
-    Some(Listing { id, query })
+    if has_members(&value, 3) {
+        heard_listing_of(value)
+    } else {
+        plain_listing_of(value)
+    }
 }
 
 /// The queries that values list.
@@ -227,7 +261,7 @@ impl Request {
     fn alone(self, value: &Value) -> Result<Request, Unread>
         ensures { ReadsAs Refusal.Shape request_view (alone (request_view self) (view value.now)) result }
     {
-        if has_one_member(value) {
+        if has_members(value, 1) {
             Ok(self)
         } else {
             Err(UNSHAPED)

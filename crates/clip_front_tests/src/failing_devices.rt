@@ -1,7 +1,6 @@
 //! Runs in pieces, and over devices that fail.
 use crate::devices::{Failing, MANY, blank_tape, script_of};
-use crate::runs::{PRESS, PRESSED, text_of};
-use clip_front::run;
+use crate::runs::{PRESS, PRESSED, run_unheard, text_of};
 use clip_stream::{RunFault, StdSink, StdSource};
 use std::io;
 use std::io::{ErrorKind, Read, Write};
@@ -14,7 +13,7 @@ fn answers_in_pieces(rt: HostRuntime) -> Result<(), Fail> {
     for piece in 1..200usize {
         let mut source = script_of(input.as_bytes(), piece, MANY);
         let mut sink = blank_tape(rt.alloc(), piece, Failing::Write, MANY);
-        let ended = run(rt.alloc(), &mut source, &mut sink)?;
+        let ended = run_unheard(rt.alloc(), &mut source, &mut sink)?;
         assert_eq!(rt; ended.lines, 2);
         assert!(rt; sink.taken.as_slice() == wanted.as_bytes(), "at {piece}");
     }
@@ -29,8 +28,8 @@ fn a_failed_read_is_a_read_fault(rt: HostRuntime) -> Result<(), Fail> {
     for (well, taken) in [(0, ""), (5, ""), (6, first.as_str()), (13, first.as_str())] {
         let mut source = script_of(input.as_bytes(), 10, well);
         let mut sink = blank_tape(rt.alloc(), 10, Failing::Write, MANY);
-        let outcome = run(rt.alloc(), &mut source, &mut sink);
-        assert_eq!(rt; outcome, Err(RunFault::Read), "at {well}");
+        let outcome = run_unheard(rt.alloc(), &mut source, &mut sink);
+        assert_eq!(rt; outcome.err(), Some(RunFault::Read), "at {well}");
         assert!(rt; sink.taken.as_slice() == taken.as_bytes(), "at {well}");
     }
     Ok(())
@@ -45,8 +44,8 @@ fn a_failed_write_is_a_write_fault(rt: HostRuntime) -> Result<(), Fail> {
         for (well, written) in [(0, 0), (1, 10), (9, 90)] {
             let mut source = script_of(input.as_bytes(), 1000, MANY);
             let mut sink = blank_tape(rt.alloc(), 10, failing, well);
-            let outcome = run(rt.alloc(), &mut source, &mut sink);
-            assert_eq!(rt; outcome, Err(RunFault::Write), "at {well}");
+            let outcome = run_unheard(rt.alloc(), &mut source, &mut sink);
+            assert_eq!(rt; outcome.err(), Some(RunFault::Write), "at {well}");
             assert_eq!(rt; sink.taken.len(), written);
             assert!(rt; wanted.as_bytes().starts_with(&sink.taken), "at {well}");
         }
@@ -60,8 +59,8 @@ fn a_failed_flush_is_a_write_fault(rt: HostRuntime) -> Result<(), Fail> {
     for (well, taken) in [(0, 0), (1, 93)] {
         let mut source = script_of(input.as_bytes(), 1000, MANY);
         let mut sink = blank_tape(rt.alloc(), 1000, Failing::Flush, well);
-        let outcome = run(rt.alloc(), &mut source, &mut sink);
-        assert_eq!(rt; outcome, Err(RunFault::Write), "at {well}");
+        let outcome = run_unheard(rt.alloc(), &mut source, &mut sink);
+        assert_eq!(rt; outcome.err(), Some(RunFault::Write), "at {well}");
         assert_eq!(rt; sink.taken.len(), taken, "at {well}");
     }
     Ok(())
@@ -117,7 +116,7 @@ fn an_interrupted_call_is_made_again(rt: HostRuntime) -> Result<(), Fail> {
     let mut taken = Interrupted::new(Vec::new(rt.alloc()));
     let mut source = StdSource::new(Interrupted::new(input.as_bytes()));
     let mut sink = StdSink::new(&mut taken);
-    assert_eq!(rt; run(rt.alloc(), &mut source, &mut sink)?.lines, 2);
+    assert_eq!(rt; run_unheard(rt.alloc(), &mut source, &mut sink)?.lines, 2);
     assert!(rt; taken.inner.as_slice() == wanted.as_bytes());
     Ok(())
 }

@@ -6,6 +6,8 @@ mod devices;
 #[cfg(test)]
 mod failing_devices;
 #[cfg(test)]
+mod heard;
+#[cfg(test)]
 mod lines;
 #[cfg(test)]
 mod replies_on_a_pipe;

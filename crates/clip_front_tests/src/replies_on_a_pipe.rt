@@ -2,8 +2,7 @@
 ghost use Rattle.std.specs.Prelude.{None, false};
 
 use crate::devices::{Failing, MANY, blank_tape, script_of};
-use crate::runs::{PRESS, text_of};
-use clip_front::run;
+use crate::runs::{PRESS, run_unheard, text_of};
 use clip_stream::{Failed, Sink, Source, StdSink, StdSource};
 use std::cell::Cell;
 use std::io;
@@ -15,7 +14,7 @@ fn ten_lines_of_one_read_are_answered_by_one_write(rt: HostRuntime) -> Result<()
     let input = text_of(rt.alloc(), &[r#"{"op":"count"}"#; 10])?;
     let mut source = script_of(input.as_bytes(), 1000, MANY);
     let mut sink = blank_tape(rt.alloc(), 1000, Failing::Write, MANY);
-    let ended = run(rt.alloc(), &mut source, &mut sink)?;
+    let ended = run_unheard(rt.alloc(), &mut source, &mut sink)?;
     assert_eq!(rt; ended.lines, 10);
     assert_eq!(rt; sink.writes, 1);
     Ok(())
@@ -116,7 +115,7 @@ fn a_client_that_waits_for_each_reply_gets_it(rt: HostRuntime) -> Result<(), Fai
         replies: &replies,
         flushed: false,
     };
-    let ended = run(rt.alloc(), &mut client, &mut ear)?;
+    let ended = run_unheard(rt.alloc(), &mut client, &mut ear)?;
     assert_eq!(rt; ended.lines, 4);
     assert_eq!(rt; replies.get(), 4);
     Ok(())
@@ -150,7 +149,7 @@ fn a_flush_reaches_the_writer_of_std(rt: HostRuntime) -> Result<(), Fail> {
         held: 0,
         sent: &sent,
     });
-    assert_eq!(rt; run(rt.alloc(), &mut source, &mut sink)?.lines, 2);
+    assert_eq!(rt; run_unheard(rt.alloc(), &mut source, &mut sink)?.lines, 2);
     // The replies have 93 bytes.
     assert_eq!(rt; sent.get(), 93);
     Ok(())

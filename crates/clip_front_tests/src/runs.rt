@@ -1,6 +1,10 @@
 //! Whole runs over devices in memory.
+ghost use Rattle.std.specs.Prelude.{◌≡◌, false};
+
 use crate::devices::{Failing, MANY, blank_tape, script_of};
-use clip_front::run;
+use clip_front::{Ended, Settings, run};
+use clip_listen::Listeners;
+use clip_stream::{RunFault, Sink, Source};
 use std::alloc::Global;
 use std::process::Abort;
 use std::test::Fail;
@@ -15,6 +19,23 @@ pub fn text_of(alloc: Global, lines: &[&str]) -> Result<String, Fail> {
     Ok(text)
 }
 
+/// A run that no listener hears and that keeps no rows.
+pub fn run_unheard<R: Source, W: Sink>(
+    alloc: Global,
+    reader: &mut R,
+    writer: &mut W,
+) -> Result<Ended, RunFault>
+    requires unread { R.reads reader.old ≡ 0 }
+    requires reader_well { R.has_failed reader.old ≡ false }
+    requires writer_well { W.has_failed writer.old ≡ false }
+{
+    let Ok(mut listeners) = Listeners::new(Vec::new(alloc)) else {
+        return Err(RunFault::NoMemory);
+    };
+    let settings = Settings { keeps_rows: false };
+    run(alloc, reader, writer, &mut listeners, settings)
+}
+
 /// The bytes are answered by these replies, in `count` lines.
 pub fn is_answered<R: Abort + AllocGlobal>(
     rt: &R,
@@ -24,7 +45,7 @@ pub fn is_answered<R: Abort + AllocGlobal>(
 ) -> Result<(), Fail> {
     let mut source = script_of(input, 1000, MANY);
     let mut sink = blank_tape(rt.alloc(), 1000, Failing::Write, MANY);
-    let ended = run(rt.alloc(), &mut source, &mut sink)?;
+    let ended = run_unheard(rt.alloc(), &mut source, &mut sink)?;
     assert_eq!(rt; ended.lines, count);
     let wanted = text_of(rt.alloc(), replies)?;
     assert_eq!(rt; sink.taken.as_slice(), wanted.as_bytes(), "wanted {wanted}");

@@ -108,17 +108,28 @@ somebody alert n (x ∷ xs) (suc k) l e once h at name is =
     length_names [] = refl
     length_names (l ∷ ls) = ap suc (length_names ls)
 
--- first some alerts, then one more
-pub told_more : (front : List Alert) (alert : Alert) (hearers : List Hearer) → told_all (alert ∷ []) (told_all front hearers) ≡ told_all (front ++ alert ∷ []) hearers
-told_more front alert [] = refl
-told_more front alert (l ∷ ls) =
-    ap (λ x. x ∷ told_all (alert ∷ []) (told_all front ls)) (ap (with_heard l) (then_more l.heard (filter (is_for l.name) front) (filter (is_for l.name) (alert ∷ [])) ∙ ap (heard_then l.heard) (sym (filter-append (is_for l.name) front (alert ∷ [])))))
-    ∙ ap (λ xs. told (front ++ alert ∷ []) l ∷ xs) (told_more front alert ls)
+-- first some alerts, then more
+pub told_more : (front more : List Alert) (hearers : List Hearer) → told_all more (told_all front hearers) ≡ told_all (front ++ more) hearers
+told_more front more [] = refl
+told_more front more (l ∷ ls) =
+    ap (λ x. x ∷ told_all more (told_all front ls)) (ap (with_heard l) (then_more l.heard (filter (is_for l.name) front) (filter (is_for l.name) more) ∙ ap (heard_then l.heard) (sym (filter-append (is_for l.name) front more))))
+    ∙ ap (λ xs. told (front ++ more) l ∷ xs) (told_more front more ls)
 
 -- what was heard changes no note
 pub notes_kept : (front : List Alert) (alert : Alert) (hearers : List Hearer) → note_of (told_all front hearers) alert ≡ note_of hearers alert
 notes_kept front alert [] = refl
 notes_kept front alert (l ∷ ls) = elim (is_for l.name alert) as (λ v. option_map (note_by alert) (cond v (Some (told front l)) (find (λ l. is_for l.name alert) (told_all front ls))) ≡ option_map (note_by alert) (cond v (Some l) (find (λ l. is_for l.name alert) ls))) [ true ↦ refl | false ↦ notes_kept front alert ls ]
+
+pub all_notes_kept : (front alerts : List Alert) (hearers : List Hearer) → notes_of (told_all front hearers) alerts ≡ notes_of hearers alerts
+all_notes_kept front [] hearers = refl
+all_notes_kept front (alert ∷ alerts) hearers =
+    ap (λ note. cons_option note (notes_of (told_all front hearers) alerts)) (notes_kept front alert hearers)
+    ∙ ap (cons_option (note_of hearers alert)) (all_notes_kept front alerts hearers)
+
+-- nor a name
+pub names_told : (front : List Alert) (hearers : List Hearer) → map (λ l. l.name) (told_all front hearers) ≡ map (λ l. l.name) hearers
+names_told front [] = refl
+names_told front (l ∷ ls) = ap (λ names. l.name ∷ names) (names_told front ls)
 
 pub notes_more : (hearers : List Hearer) (front : List Alert) (alert : Alert) → notes_of hearers (front ++ alert ∷ []) ≡ notes_of hearers front ++ cons_option (note_of hearers alert) []
 notes_more hearers front alert = filter_map-append (note_of hearers) front (alert ∷ [])
@@ -131,7 +142,7 @@ told_none (l ∷ ls) = ap (λ x. x ∷ told_all [] ls) (ap (with_heard l) (then_
 -- the alert at a place, after those before it
 pub told_next : (alerts : List Alert) (i : ℕ) (alert : Alert) (old now : List Hearer) → i < length alerts → alert ≡ get_or alerts i alert → now ≡ told_all (take i alerts) old → told_all (alert ∷ []) now ≡ told_all (take (i + 1) alerts) old
 told_next alerts i alert old now below is h =
-    ap (told_all (alert ∷ [])) h ∙ told_more (take i alerts) alert old
+    ap (told_all (alert ∷ [])) h ∙ told_more (take i alerts) (alert ∷ []) old
     ∙ ap (λ a. told_all (take i alerts ++ a ∷ []) old) is ∙ ap (λ xs. told_all xs old) (sym (take_more alerts i alert below))
 
 pub notes_next : (alerts : List Alert) (i : ℕ) (alert : Alert) (old now : List Hearer) (notes : List NoteValue) → i < length alerts → alert ≡ get_or alerts i alert → now ≡ told_all (take i alerts) old → notes ≡ notes_of old (take i alerts) → notes ++ cons_option (note_of now alert) [] ≡ notes_of old (take (i + 1) alerts)
@@ -148,8 +159,27 @@ pub refused_front : (alerts : List Alert) (i : ℕ) (alert : Alert) (old before 
 refused_front alerts i alert old before now below is h (inl e) = heard_front alerts i old now (e ∙ h)
 refused_front alerts i alert old before now below is h (inr e) = heard_front alerts (i + 1) old now (e ∙ told_next alerts i alert old before below is h)
 
--- the alert of an element, in the list of alerts of a list
-pub element : {X : Type 0} (value : X → Alert) (list looked : List X) (i : ℕ) (x : X) → looked ≡ list → i < length looked → x ≡ get_or looked i x → (i < length (map value list)) × (value x ≡ get_or (map value list) i (value x))
+-- the value of an element, in the list of values of a list
+pub element : {X Y : Type 0} (value : X → Y) (list looked : List X) (i : ℕ) (x : X) → looked ≡ list → i < length looked → x ≡ get_or looked i x → (i < length (map value list)) × (value x ≡ get_or (map value list) i (value x))
 element value list looked i x same below is =
     subst (λ xs. (i < length (map value xs)) × (value x ≡ get_or (map value xs) i (value x))) same
     (omega (arith, length-map looked value, below), ap value is ∙ sym (get_or-map value looked i x (value x) below))
+
+-- ---- fronts
+
+pub no_front : (alerts : List Alert) (hearers : List Hearer) → HearsFront alerts hearers hearers
+no_front alerts hearers = record { front = []; rest = alerts; cut = refl; heard = sym (told_none hearers) }
+
+-- a front of more alerts, after some
+pub front_after : (done more : List Alert) (first old new : List Hearer) → old ≡ told_all done first → HearsFront more old new → HearsFront (done ++ more) first new
+front_after done more first old new e h = record {
+  front = done ++ h.front;
+  rest = h.rest;
+  cut = ap (λ xs. done ++ xs) h.cut ∙ sym (append_assoc done h.front h.rest);
+  heard = h.heard ∙ ap (told_all h.front) e ∙ told_more done h.front first;
+}
+
+-- a front is one of more alerts
+pub front_of_more : (alerts more : List Alert) (old new : List Hearer) → HearsFront alerts old new → HearsFront (alerts ++ more) old new
+front_of_more alerts more old new h =
+    record { front = h.front; rest = h.rest ++ more; cut = ap (λ xs. xs ++ more) h.cut ∙ append_assoc h.front h.rest more; heard = h.heard }

@@ -26,12 +26,11 @@ pub names_stay : {L : Type 0} (parts : List (String Global × L)) (k : ℕ) (par
 names_stay {L} parts k part is l = map-set_same (λ (p : String Global × L). string_bytes p.0) parts k (part.0, l) part (ap (λ (p : String Global × L). string_bytes p.0) is)
 
 -- no listener has the alert's name
-pub not_here : {L : Type 0} (f : String Global × L → Hearer) → ((part : String Global × L) → (f part).name ≡ string_bytes part.0) → (alert : Alert) (name sought : List ℕ) (parts looked : List (String Global × L)) → Some name ≡ alert.listener → sought ≡ name → looked ≡ parts → None ≡ position_from (bytes_eq sought) 0 (names_of looked) → (told_all (alert ∷ []) (map f parts) ≡ map f parts) × (note_of (map f parts) alert ≡ None)
-not_here f same alert name sought parts looked own n p none =
+pub not_here : {L : Type 0} (f : String Global × L → Hearer) → ((part : String Global × L) → (f part).name ≡ string_bytes part.0) → (alert : Alert) (name sought : List ℕ) (parts : List (String Global × L)) → Some name ≡ alert.listener → sought ≡ name → None ≡ position_from (bytes_eq sought) 0 (names_of parts) → (told_all (alert ∷ []) (map f parts) ≡ map f parts) × (note_of (map f parts) alert ≡ None)
+not_here f same alert name sought parts own n none =
     nobody alert name (map f parts) (sym own)
     (ap (list_any (bytes_eq name)) (names_kept f same parts)
-    ∙ sym (ap (λ ns. list_any (bytes_eq ns) (names_of parts)) n) ∙ sym (ap (λ ps. list_any (bytes_eq sought) (names_of ps)) p)
-    ∙ sym (found-any (bytes_eq sought) 0 (names_of looked)) ∙ ap is_some (sym none))
+    ∙ sym (ap (λ ns. list_any (bytes_eq ns) (names_of parts)) n) ∙ sym (found-any (bytes_eq sought) 0 (names_of parts)) ∙ ap is_some (sym none))
 
 module _ {L : Type 0} (style : L → StyleValue) (heard : L → Option (List Alert)) (parts : List (String Global × L)) (k : ℕ) (part : String Global × L) (is : part ≡ get_or parts k part) where
   -- nothing was heard

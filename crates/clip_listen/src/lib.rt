@@ -4,6 +4,7 @@
 mod listener;
 mod listeners;
 mod note;
+mod places;
 mod render;
 mod style;
 

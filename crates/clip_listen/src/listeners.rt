@@ -1,12 +1,15 @@
 //! Listeners by name, and the delivery of alerts to them.
-ghost use Rattle.std.specs.Prelude.{◌≡◌, [], ◌∷◌, ◌++◌, map, option_map, IsTrue, not, true, false, bytes_eq, Some, IfOk, OnOk, OnErr, IfErr, string_bytes};
+ghost use Rattle.std.specs.Prelude.{◌≡◌, [], ◌∷◌, ◌++◌, map, option_map, IsTrue, true, false, bytes_eq, Some, IfOk, OnOk, OnErr, IfErr, string_bytes};
 ghost use Rattle.std.specs.Arc.{arc_str_bytes};
 ghost use Rattle.std.specs.List.{position_from, cons_option};
+ghost use Rattle.std.specs.Option.{ForSome};
 ghost use Rattle.clip_match.specs.Alerts.{alert_value};
 ghost use Rattle.clip_listen.specs.Heard.{hearer, text_of, told_all, note_of, notes_of, note_value, alerts_of, HearsFront, distinct, names_of, heard_then};
+ghost use Rattle.clip_listen.specs.Steps.Index.{Indexes};
 
 use crate::listener::Listener;
 use crate::note::Note;
+use crate::places::{Index, index_of, place_by_walk, repeats};
 use clip_match::{Alert, Alerts};
 use clip_words::NoMemory;
 use std::alloc::Global;
@@ -75,11 +78,14 @@ fn keep(notes: &mut Vec<Note>, note: Option<Note>) -> Result<(), NoMemory>
     Ok(())
 }
 
-/// Listeners by name; no name stands twice.
+/// Listeners by name; no name stands twice. An index has a copy of each name with its place, where there was memory for
+/// one.
 #[derive(Drop)]
 pub struct Listeners {
     parts: Vec<Named>,
+    index: Option<Index>,
     ghost once: { IsTrue (distinct (names_of parts.items)) },
+    ghost indexed: { ForSome index (λ index. Indexes index 0 (names_of parts.items)) },
 }
 
 impl Audience for Listeners {
@@ -87,17 +93,18 @@ impl Audience for Listeners {
 
     ghost hearers = { λ l. map (λ p. record { name = string_bytes p.0; style = (Listener-box p.1).style p.1.value; heard = (Listener-box p.1).heard p.1.value }) l.parts.items };
 
-    /// Whether a listener has the name. Cost: a walk over the names.
+    /// Whether a listener has the name. Cost: one search among the names; a walk over them where there is no index.
     fn has(&self, name: &str) -> bool {
-        place(&self.parts, name).is_some()
+        self.place(name).is_some()
     }
 
-    /// Tells the alert to its listener, if it is here. Cost: a walk over the names, and what the listener takes.
+    /// Tells the alert to its listener, if it is here. Cost: one search among the names, or a walk over them where
+    /// there is no index, and what the listener takes.
     fn tell(&mut self, alloc: Global, alert: &Alert) -> Result<Option<Note>, NoMemory> {
         let Some(name) = &alert.listener else {
             return Ok(None);
         };
-        let Some(at) = place(&self.parts, name.as_str()) else {
+        let Some(at) = self.place(name.as_str()) else {
             return Ok(None);
         };
         let listener = name.clone()?;
@@ -116,20 +123,6 @@ impl Audience for Listeners {
 pub struct Twice {
     /// The listeners, as they were handed in.
     pub parts: Vec<Named>,
-}
-
-/// Where the listener of a name stands.
-fn place(parts: &[Named], name: &str) -> Option<usize>
-    ensures { result ≡ position_from (bytes_eq name.now) 0 (names_of parts.now) }
-{
-    let mut at = 0;
-    for part in parts {
-        if name == part.0.as_str() {
-            return Some(at);
-        }
-        at += 1;
-    }
-    None
 }
 
 /// The listener at a place hears an alert of its name.
@@ -175,25 +168,12 @@ fn hear_by(
     listener.hear(alloc, alert)
 }
 
-/// Whether two of the listeners have one name.
-#[tactic(auto, using(crate::proofs::Names::again, crate::proofs::Names::once))]
-fn repeats(parts: &[Named]) -> bool
-    ensures { result ≡ not (distinct (names_of parts.now)) }
-{
-    let mut rest = parts;
-    while let Some((part, after)) = rest.split_first() {
-        if place(after, part.0.as_str()).is_some() {
-            return true;
-        }
-        rest = after;
-    }
-    false
-}
-
 impl Listeners {
-    /// Keeps the listeners under their names. Takes no memory.
+    /// Keeps the listeners under their names, with an index of a copy of each name. Where memory for that is refused,
+    /// they are kept without an index.
     ///
-    /// `Twice`, with the listeners, just where a name repeats. Cost: each name is compared with those after it.
+    /// `Twice`, with the listeners, just where a name repeats. Cost: one search among the names for each of them; where
+    /// memory was refused, each name is compared with those after it.
     pub fn new(parts: Vec<Named>) -> Result<Listeners, Twice>
         ensures ok { IfOk result (λ it. ⟦<Listeners as Audience>⟧.hearers it
             ≡ map (hearer style heard) parts.items) }
@@ -201,16 +181,33 @@ impl Listeners {
         ensures twice { OnErr result (distinct (names_of parts.items) ≡ false) }
         ensures back { IfErr result (λ e. e.parts.items ≡ parts.items) }
     {
-        if repeats(&parts) {
-            return Err(Twice { parts });
+        let index = match index_of(*parts.allocator(), &parts) {
+            Ok(Some(index)) => Some(index),
+            Ok(None) => return Err(Twice { parts }),
+            Err(NoMemory) => {
+                if repeats(&parts) {
+                    return Err(Twice { parts });
+                }
+                None
+            }
+        };
+        Ok(Listeners { parts, index })
+    }
+
+    /// Where the listener of a name stands. Cost: one search among the names; a walk over them where there is no index.
+    fn place(&self, name: &str) -> Option<usize>
+        ensures { result ≡ position_from (bytes_eq name.now) 0 (names_of self.now.parts.items) }
+    {
+        match &self.index {
+            Some(index) => index.get(name).copied(),
+            None => place_by_walk(&self.parts, name),
         }
-        Ok(Listeners { parts })
     }
 
     /// Tells each alert, in order, to its listener and to no other, and answers what the listeners said.
     ///
     /// `NoMemory` where an allocation failed or a listener answers it; the listeners have heard some first ones of the
-    /// alerts then. Cost: a walk over the names for each alert that has a listener, and what the listener takes.
+    /// alerts then. Cost: that of `tell` for each alert.
     pub fn deliver(&mut self, alloc: Global, alerts: &Alerts) -> Result<Vec<Note>, NoMemory>
         ensures notes { IfOk result (λ notes. map note_value notes.items
             ≡ notes_of (⟦<Listeners as Audience>⟧.hearers self.old) (alerts_of alerts.now)) }
@@ -226,7 +223,7 @@ impl Listeners {
     pub fn into_parts(self) -> Vec<Named>
         ensures { map (hearer style heard) result.items ≡ ⟦<Listeners as Audience>⟧.hearers self }
     {
-        let Listeners { parts } = self;
+        let Listeners { parts, index: _ } = self;
         parts
     }
 }

@@ -78,10 +78,13 @@ fn register(
     let entries = numbered_entries(alloc, listed, standings)?;
     let mut fresh = Roster::new(alloc, listed);
     fresh.insert_all(alloc, &entries, None)?;
-    let segment = Segment::build(alloc, live_entries(alloc, &fresh, &entries)?)?;
+    let count = fresh.len();
+    let live = live_entries(alloc, &fresh, &entries)?;
+    drop(fresh);
+    let segment = Segment::build(alloc, live)?;
     segments.push(Arc::new(alloc, segment)?)?;
     match roster.insert_all(alloc, &entries, Some(MOST_LIVE)) {
-        Ok(()) => Ok(Applied::Registered(fresh.len())),
+        Ok(()) => Ok(Applied::Registered(count)),
         Err(refused) => {
             let _ = segments.pop();
             Err(refused)

@@ -88,6 +88,32 @@ impl Model for Standing {
     ghost invariant = { λ s. IsStanding (standing_of s) };
 }
 
+/// The name of a listener, as a text that a `clone` shares.
+fn shared_name(listener: Option<String>) -> Result<Option<ArcStr>, NoMemory>
+    ensures { IfOk result (λ name. option_map arc_str_bytes name ≡ option_map string_bytes listener) }
+{
+    match listener {
+        Some(name) => Ok(Some(ArcStr::from_string(name)?)),
+        None => Ok(None),
+    }
+}
+
+/// The texts of a standing query, as texts that a `clone` shares.
+fn shared_texts(
+    alloc: Global,
+    id: &str,
+    text: &str,
+    listener: Option<String>,
+) -> Result<(ArcStr, ArcStr, Option<ArcStr>), NoMemory>
+    ensures id { IfOk result (λ texts. arc_str_bytes texts.0 ≡ id.now) }
+    ensures text { IfOk result (λ texts. arc_str_bytes texts.1 ≡ text.now) }
+    ensures listener { IfOk result (λ texts. option_map arc_str_bytes texts.2 ≡ option_map string_bytes listener) }
+{
+    let listener = shared_name(listener)?;
+    let id = ArcStr::from_str(alloc, id)?;
+    Ok((id, ArcStr::from_str(alloc, text)?, listener))
+}
+
 impl Standing {
     /// Reads the text as a query, which stands under the id, with the name of a listener or none.
     ///
@@ -113,13 +139,10 @@ impl Standing {
             return Err(StandingFault::Id);
         }
         let query = read_query(alloc, text)?;
-        let listener = match listener {
-            Some(name) => Some(ArcStr::from_string(name)?),
-            None => None,
-        };
+        let (id, text, listener) = shared_texts(alloc, id, text, listener)?;
         Ok(Standing {
-            id: ArcStr::from_str(alloc, id)?,
-            text: ArcStr::from_str(alloc, text)?,
+            id,
+            text,
             query,
             listener,
         })

@@ -2,6 +2,7 @@
 use crate::making::article;
 use crate::showing::show_keys;
 use clip_extract::{keys, weight};
+use clip_grammar::query::Query;
 use clip_presearch::article_keys;
 use clip_syntax::read_query;
 use std::alloc::Global;
@@ -42,13 +43,18 @@ static ROWS: [(&str, &str); 21] = [
     ("+ééé +abc", "text:ééé 3"),
 ];
 
+/// The keys and the weight of a query.
+fn shown(alloc: Global, query: &Query) -> Result<String, Fail> {
+    let mut told = show_keys(alloc, &keys(alloc, query)?)?;
+    let heavy = weight(query);
+    write!(told, "{heavy}")?;
+    Ok(told)
+}
+
 /// The keys and the weight of the query of a text.
 fn keys_and_weight(alloc: Global, text: &str) -> Result<String, Fail> {
     let query = read_query(alloc, text)?;
-    let mut told = show_keys(alloc, &keys(alloc, &query)?)?;
-    let heavy = weight(&query);
-    write!(told, "{heavy}")?;
-    Ok(told)
+    shown(alloc, &query)
 }
 
 #[test]

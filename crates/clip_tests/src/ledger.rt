@@ -2,6 +2,7 @@
 use clip_ledger::{Ledger, Row};
 use clip_listen::Note;
 use clip_match::{Alert, Alerts};
+use clip_words::NoMemory;
 use std::alloc::{AllocError, Global};
 use std::sync::ArcStr;
 use std::test::Fail;
@@ -64,48 +65,94 @@ fn lines(alloc: Global, rows: &[Row]) -> Result<String, AllocError> {
     Ok(text)
 }
 
-#[test]
-fn each_alert_has_a_row_with_what_its_listener_said(rt: HostRuntime) -> Result<(), Fail> {
-    let alloc = rt.alloc();
-    let queries = [("q1", Some("mail")), ("q2", Some("feed")), ("q3", None)];
-    let said = [
-        ("mail", "q1", "mail: q1 in a1"),
-        ("feed", "q2", "feed q2/a1"),
-    ];
-    let mut ledger = Ledger::new(alloc);
-    ledger.post(2, &alerts(alloc, &queries)?, &notes(alloc, &said)?)?;
-    let wanted = "\
-2 a1 q1 mail mail: q1 in a1
-2 a1 q2 feed feed q2/a1
-2 a1 q3 - -
-";
-    assert_eq!(rt; lines(alloc, ledger.rows())?.as_str(), wanted);
-    assert_eq!(rt; ledger.total("mail"), 1);
-    assert_eq!(rt; ledger.total("feed"), 1);
-    assert_eq!(rt; ledger.total("fax"), 0);
+/// Adds how many alerts the listeners have, as a line each.
+fn add_totals(text: &mut String, ledger: &Ledger) -> Result<(), AllocError> {
+    for listener in ["mail", "feed", "fax"] {
+        let total = ledger.total(listener);
+        write!(text, "{listener} {total}\n")?;
+    }
     Ok(())
 }
 
-#[test]
-fn a_row_has_the_first_note_of_its_query_in_any_order(rt: HostRuntime) -> Result<(), Fail> {
-    let alloc = rt.alloc();
-    let queries = [("q2", Some("fax")), ("q1", None), ("q9", Some("fax"))];
-    let said = [
-        ("fax", "q9", "late"),
-        ("mail", "q1", "one"),
-        ("fax", "q9", "later"),
-        ("fax", "q1", "two"),
-    ];
+/// Queries, each with the name of its listener or none.
+type Queries = &'static [(&'static str, Option<&'static str>)];
+
+/// Notes, each of a listener, a query and a text.
+type Notes = &'static [(&'static str, &'static str, &'static str)];
+
+/// The number of a line, the queries of its alerts, and its notes.
+type Post = (u64, Queries, Notes);
+
+/// Adds the rows of a post to the ledger.
+fn post(alloc: Global, ledger: &mut Ledger, posted: &Post) -> Result<(), NoMemory> {
+    let (line, queries, said) = posted;
+    ledger.post(*line, &alerts(alloc, queries)?, &notes(alloc, said)?)
+}
+
+/// The rows of a ledger of these posts, and what each listener has.
+fn told(alloc: Global, posts: &[Post]) -> Result<String, NoMemory> {
     let mut ledger = Ledger::new(alloc);
-    ledger.post(7, &alerts(alloc, &queries)?, &notes(alloc, &said)?)?;
-    ledger.post(8, &alerts(alloc, &[("q1", Some("fax"))])?, &[])?;
-    let wanted = "\
+    for posted in posts {
+        post(alloc, &mut ledger, posted)?;
+    }
+    let mut text = lines(alloc, ledger.rows())?;
+    add_totals(&mut text, &ledger)?;
+    Ok(text)
+}
+
+/// Posts, and the rows and the totals of a ledger of them.
+static LEDGERS: [(&[Post], &str); 2] = [
+    // each alert has a row with what its listener said
+    (
+        &[(
+            2,
+            &[("q1", Some("mail")), ("q2", Some("feed")), ("q3", None)],
+            &[
+                ("mail", "q1", "mail: q1 in a1"),
+                ("feed", "q2", "feed q2/a1"),
+            ],
+        )],
+        "\
+2 a1 q1 mail mail: q1 in a1
+2 a1 q2 feed feed q2/a1
+2 a1 q3 - -
+mail 1
+feed 1
+fax 0
+",
+    ),
+    // a row has the first note of its query, in any order
+    (
+        &[
+            (
+                7,
+                &[("q2", Some("fax")), ("q1", None), ("q9", Some("fax"))],
+                &[
+                    ("fax", "q9", "late"),
+                    ("mail", "q1", "one"),
+                    ("fax", "q9", "later"),
+                    ("fax", "q1", "two"),
+                ],
+            ),
+            (8, &[("q1", Some("fax"))], &[]),
+        ],
+        "\
 7 a1 q2 fax -
 7 a1 q1 - one
 7 a1 q9 fax late
 8 a1 q1 fax -
-";
-    assert_eq!(rt; lines(alloc, ledger.rows())?.as_str(), wanted);
-    assert_eq!(rt; ledger.total("fax"), 3);
+mail 0
+feed 0
+fax 3
+",
+    ),
+];
+
+#[test]
+fn each_alert_has_a_row_with_the_first_note_of_its_query(rt: HostRuntime) -> Result<(), Fail> {
+    for (posts, wanted) in &LEDGERS {
+        let told = told(rt.alloc(), posts)?;
+        assert!(rt; told.as_str() == *wanted, "{told}");
+    }
     Ok(())
 }

@@ -37,25 +37,15 @@ fn alerts(alloc: Global, queries: &[(&str, Option<&str>)]) -> Result<Alerts, All
     })
 }
 
-/// A style of these texts.
-fn style(alloc: Global, head: &str, middle: &str) -> Result<Style, AllocError>
-    ensures { IfOk result (λ style. style_value style ≡ record { head = head.now; middle = middle.now }) }
-{
-    Ok(Style {
-        head: ArcStr::from_str(alloc, head)?,
-        middle: ArcStr::from_str(alloc, middle)?,
-    })
-}
-
 /// A folder of the style of these texts.
 fn folder(alloc: Global, head: &str, middle: &str) -> Result<Folder<Style>, NoMemory> {
-    let render = Render::in_style(style(alloc, head, middle)?)?;
+    let render = Render::in_style(Style::new(alloc, head, middle)?)?;
     Ok(Folder::new(alloc, render))
 }
 
 /// A teller of the style of these texts.
 fn teller(alloc: Global, head: &str, middle: &str) -> Result<Teller<Style>, NoMemory> {
-    let render = Render::in_style(style(alloc, head, middle)?)?;
+    let render = Render::in_style(Style::new(alloc, head, middle)?)?;
     Ok(Teller::new(render))
 }
 
@@ -110,8 +100,8 @@ impl Wording for Once {
 }
 
 /// A folder whose wording refuses its second call.
-fn folder_of_once(alloc: Global) -> Result<Folder<Once>, AllocError> {
-    let style = style(alloc, "x", "")?;
+fn folder_of_once(alloc: Global) -> Result<Folder<Once>, NoMemory> {
+    let style = Style::new(alloc, "x", "")?;
     let wording = Once {
         called: Cell::new(false),
     };
@@ -206,6 +196,33 @@ fn a_name_that_repeats_hands_the_listeners_back(rt: HostRuntime) -> Result<(), F
     assert_eq!(rt; twice.parts.len(), 2);
     assert!(rt; twice.parts[0].1.heard().is_some());
     assert!(rt; twice.parts[1].1.heard().is_none());
+    Ok(())
+}
+
+#[test]
+fn among_many_listeners_each_alert_is_heard_by_its_own(rt: HostRuntime) -> Result<(), Fail> {
+    let alloc = rt.alloc();
+    let mut parts: Vec<Named> = Vec::new(alloc);
+    for number in 0..300 {
+        let head = format!(in alloc; "{number}: ")?;
+        let desk = Box::new(alloc, teller(alloc, head.as_str(), " in ")?)?;
+        parts.push((format!(in alloc; "desk{number}")?, desk))?;
+    }
+    let mut listeners = Listeners::new(parts).ok().ok_or("a name repeats")?;
+    let queries = [
+        ("q1", Some("desk299")),
+        ("q2", Some("desk300")),
+        ("q3", Some("desk0")),
+        ("q4", Some("desk17")),
+    ];
+    let notes = listeners.deliver(alloc, &alerts(alloc, &queries)?)?;
+    let wanted = "desk299 q1 299: q1 in a1\ndesk0 q3 0: q3 in a1\ndesk17 q4 17: q4 in a1\n";
+    assert_eq!(rt; lines(alloc, &notes)?.as_str(), wanted);
+    let mut parts = listeners.into_parts();
+    let last = Box::new(alloc, teller(alloc, "", "")?)?;
+    parts.push((String::from_str(alloc, "desk0")?, last))?;
+    let twice = Listeners::new(parts).err().ok_or("both names were taken")?;
+    assert_eq!(rt; twice.parts.len(), 301);
     Ok(())
 }
 

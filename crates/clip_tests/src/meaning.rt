@@ -1,5 +1,6 @@
 //! Articles, and what holds of them: worked examples.
 use crate::making::article;
+use clip_grammar::fault::QueryFault;
 use clip_meaning::{Article, ArticleFault, Field, holds};
 use clip_syntax::read_query;
 use std::alloc::{AllocError, Global};
@@ -72,10 +73,15 @@ static HOLDING: [(&str, Fields, bool); 32] = [
     ),
 ];
 
+/// Whether the query of a text holds of an article.
+fn query_holds(alloc: Global, query: &str, article: &Article) -> Result<bool, QueryFault> {
+    Ok(holds(&read_query(alloc, query)?, article))
+}
+
 /// Whether the query of a text holds of the article of these fields.
 fn holds_of(alloc: Global, query: &str, fields: Fields) -> Result<bool, Fail> {
     let article = article(alloc, "a1", fields)?;
-    Ok(holds(&read_query(alloc, query)?, &article))
+    Ok(query_holds(alloc, query, &article)?)
 }
 
 #[test]

@@ -161,17 +161,15 @@ fn a_query_that_was_replaced_or_deleted_or_cleared_is_not_alerted(
     play_anew(&rt, rt.alloc(), &LETTING_GO)
 }
 
+/// A clear of two queries.
+static CLEARED: [(Step, &str); 1] = [(Step::Clear(1), "Cleared(2)")];
+
 #[test]
 fn a_view_that_is_held_stays_while_the_registrar_goes_on(rt: HostRuntime) -> Result<(), Fail> {
     let mut registrar = Registrar::new(rt.alloc());
     play(&rt, rt.alloc(), &mut registrar, &REPLACING)?;
     let held = registrar.view()?;
-    play(
-        &rt,
-        rt.alloc(),
-        &mut registrar,
-        &[(Step::Clear(1), "Cleared(2)")],
-    )?;
+    play(&rt, rt.alloc(), &mut registrar, &CLEARED)?;
     assert!(rt; held.count() == 2);
     Ok(())
 }
@@ -193,10 +191,16 @@ fn numbered(alloc: Global, from: u32, to: u32) -> Result<Command, Fail> {
     Ok(Command::Register(list))
 }
 
-/// Registers the queries of these numbers: the answer.
-fn register(alloc: Global, registrar: &mut Registrar, from: u32, to: u32) -> Result<String, Fail> {
+/// Registers the queries of these numbers: whether this is the answer.
+fn registers(
+    alloc: Global,
+    registrar: &mut Registrar,
+    from: u32,
+    to: u32,
+    wanted: &str,
+) -> Result<bool, Fail> {
     let command = numbered(alloc, from, to)?;
-    Ok(answer(alloc, registrar, 1, command)?)
+    Ok(answer(alloc, registrar, 1, command)?.as_str() == wanted)
 }
 
 /// What a registry of 999,424 queries gives once 576 more are registered.
@@ -210,14 +214,18 @@ static FULL: [(Step, &str); 7] = [
     (Step::Text("7"), "mat"),
 ];
 
+/// Registers a million queries.
+fn fill(rt: &impl Abort, alloc: Global, registrar: &mut Registrar) -> Result<(), Fail> {
+    for list in 0..976u32 {
+        let (from, to) = (list * 1024, list * 1024 + 1024);
+        assert!(rt; registers(alloc, registrar, from, to, "Registered(1024)")?);
+    }
+    assert!(rt; registers(alloc, registrar, 999_424, 1_000_000, "Registered(576)")?);
+    play(rt, alloc, registrar, &FULL)
+}
+
 #[test]
 fn a_million_queries_fill_the_registry(rt: HostRuntime) -> Result<(), Fail> {
     let mut registrar = Registrar::new(rt.alloc());
-    for list in 0..976u32 {
-        let told = register(rt.alloc(), &mut registrar, list * 1024, list * 1024 + 1024)?;
-        assert!(rt; told.as_str() == "Registered(1024)", "{told}");
-    }
-    let told = register(rt.alloc(), &mut registrar, 999_424, 1_000_000)?;
-    assert!(rt; told.as_str() == "Registered(576)", "{told}");
-    play(&rt, rt.alloc(), &mut registrar, &FULL)
+    fill(&rt, rt.alloc(), &mut registrar)
 }

@@ -77,14 +77,17 @@ fn article_takes(alloc: Global, id: &str) -> bool {
     article(alloc, id, &[]).is_ok()
 }
 
+/// Whether a text is an id, and whether an article, a standing query and a delete may have it as one.
+fn taken(alloc: Global, id: &str) -> Result<[bool; 4], AllocError> {
+    let (article, standing) = (article_takes(alloc, id), standing_takes(alloc, id));
+    Ok([is_id(id), article, standing, delete_takes(alloc, id)?])
+}
+
 #[test]
 fn an_id_has_1_to_256_bytes(rt: HostRuntime) -> Result<(), Fail> {
     for (pieces, wanted) in &IDS {
         let id = spelled(rt.alloc(), pieces)?;
-        assert!(rt; is_id(&id) == *wanted);
-        assert!(rt; article_takes(rt.alloc(), &id) == *wanted);
-        assert!(rt; standing_takes(rt.alloc(), &id) == *wanted);
-        assert!(rt; delete_takes(rt.alloc(), &id)? == *wanted);
+        assert!(rt; taken(rt.alloc(), &id)? == [*wanted; 4]);
     }
     Ok(())
 }

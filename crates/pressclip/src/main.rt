@@ -1,12 +1,15 @@
-//! `pressclip run`: requests on standard input, replies on standard output.
+//! `pressclip run`: requests on standard input, replies on standard output, and two listeners, `mail` and `feed`.
 #![tactic(auto)]
 
 mod command_line;
+mod listeners;
 mod mode;
 
-use clip_front::run;
+use clip_front::{Ended, Settings, run};
+use clip_listen::Listeners;
 use clip_stream::{RunFault, StdSink, StdSource};
 use command_line::ending;
+use listeners::{feed, mail, named};
 use mode::Mode;
 use std::io::ErrorKind;
 use std::process::ExitCode;
@@ -32,11 +35,23 @@ fn end_with<R: Eprint>(rt: &R, status: u8, text: &str) -> ExitCode {
     ExitCode::from(status)
 }
 
-/// Runs over the standard streams.
-fn serve<R: Input + Print + Eprint + AllocGlobal>(rt: &R) -> ExitCode {
+/// Runs over the standard streams, with the program's listeners. No rows are kept.
+fn run_heard<R: Input + Print + AllocGlobal>(rt: &R) -> Result<Ended, RunFault> {
+    let alloc = rt.alloc();
+    let mail = Box::new(alloc, mail(alloc)?)?;
+    let feed = Box::new(alloc, feed(alloc)?)?;
+    let Ok(mut listeners) = Listeners::new(named(alloc, mail, feed)?) else {
+        unreachable!()
+    };
     let mut source = StdSource::new(rt.reader());
     let mut sink = StdSink::new(io::writer(rt));
-    let (status, text) = ending(&run(rt.alloc(), &mut source, &mut sink));
+    let settings = Settings { keeps_rows: false };
+    run(alloc, &mut source, &mut sink, &mut listeners, settings)
+}
+
+/// Runs, says how the run ended, and gives the status.
+fn serve<R: Input + Print + Eprint + AllocGlobal>(rt: &R) -> ExitCode {
+    let (status, text) = ending(&run_heard(rt));
     end_with(rt, status, text)
 }
 

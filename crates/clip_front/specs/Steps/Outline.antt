@@ -33,17 +33,31 @@ when_none_left x (member k d ms) = None
 abbrev pub then_take : List ℕ → Data × Members → Option (Data × Data)
 then_take second p = option_and_then (λ q. when_none_left (p.0, q.0) q.1) (take_member second p.1)
 
+-- the values of just these two members
+abbrev pub two_of : List ℕ → List ℕ → Members → Option (Data × Data)
+two_of first second ms = option_and_then (then_take second) (take_member first ms)
+
 -- the values of an object of just these two members
 abbrev pub two_members : List ℕ → List ℕ → Data → Option (Data × Data)
-two_members first second d = option_and_then (λ ms. option_and_then (then_take second) (take_member first ms)) (as_object d)
+two_members first second d = option_and_then (two_of first second) (as_object d)
+
+abbrev pub then_two : List ℕ → List ℕ → Data × Members → Option (Data × (Data × Data))
+then_two second third p = option_map (λ q. (p.0, q)) (two_of second third p.1)
+
+abbrev pub three_of : List ℕ → List ℕ → List ℕ → Members → Option (Data × (Data × Data))
+three_of first second third ms = option_and_then (then_two second third) (take_member first ms)
+
+-- the values of an object of just these three members
+abbrev pub three_members : List ℕ → List ℕ → List ℕ → Data → Option (Data × (Data × Data))
+three_members first second third d = option_and_then (three_of first second third) (as_object d)
 
 abbrev pub counts_members : ℕ → Option Members → Bool
 counts_members n None = false
 counts_members n (Some ms) = members_len ms == n
 
--- an object of just one member
-unfoldable pub has_one_member : Data → Bool
-has_one_member d = counts_members 1 (as_object d)
+-- an object of so many members
+unfoldable pub has_members : ℕ → Data → Bool
+has_members n d = counts_members n (as_object d)
 
 -- ---- requests
 
@@ -56,11 +70,23 @@ abbrev pub fields_of : Members → Option (List (List ℕ × List ℕ))
 fields_of no_members = Some []
 fields_of (member k d ms) = option_and_then (λ text. option_map (λ fs. (k, text) ∷ fs) (fields_of ms)) (as_str d)
 
-abbrev pub listing_by : Data × Data → Option Listing
-listing_by p = option_and_then (λ id. option_map (λ text. record { id = id; query = text }) (as_str p.1)) (as_str p.0)
+abbrev pub plain_by : Data × Data → Option Listing
+plain_by p = option_and_then (λ id. option_map (λ text. record { id = id; query = text; listener = None }) (as_str p.1)) (as_str p.0)
+
+-- a query without a listener
+unfoldable pub plain_listing_of : Data → Option Listing
+plain_listing_of d = option_and_then plain_by (two_members (codes "id") (codes "query") d)
+
+abbrev pub heard_by : Data × (Data × Data) → Option Listing
+heard_by p =
+    option_and_then (λ id. option_and_then (λ name. option_map (λ text. record { id = id; query = text; listener = Some name }) (as_str p.1.1)) (as_str p.1.0)) (as_str p.0)
+
+-- a query with a listener
+unfoldable pub heard_listing_of : Data → Option Listing
+heard_listing_of d = option_and_then heard_by (three_members (codes "id") (codes "listener") (codes "query") d)
 
 unfoldable pub listing_of : Data → Option Listing
-listing_of d = option_and_then listing_by (two_members (codes "id") (codes "query") d)
+listing_of d = if has_members 3 d then heard_listing_of d else plain_listing_of d
 
 abbrev pub draft_by : Data × Data → Option Draft
 draft_by p = option_and_then (λ id. option_map (λ fields. record { id = id; fields = fields }) (option_and_then fields_of (as_object p.0))) (as_str p.1)
@@ -82,7 +108,7 @@ unfoldable pub operation_in : Data → Option Operation
 operation_in d = option_and_then operation_of (option_and_then as_str (get (codes "op") d))
 
 abbrev pub alone : Request → Data → Option Request
-alone r d = if has_one_member d then Some r else None
+alone r d = if has_members 1 d then Some r else None
 
 unfoldable pub register_of : Data → Option Request
 register_of d = option_map request.register (option_and_then (λ p. option_and_then (all_of listing_of) (as_array p.1)) (two_members (codes "op") (codes "queries") d))
@@ -149,15 +175,15 @@ is_within (registers listings) = nat_le (length listings) MOST_LISTED && list_al
 is_within (deletes ids) = nat_le (length ids) MOST_LISTED && list_all is_id ids
 is_within _ = true
 
-abbrev pub MeansOutline : History → Outline → Meaning → Type 0
-MeansOutline h blank m = m ≡ line.nothing
-MeansOutline h (refused r) m = m ≡ line.refusal r
-MeansOutline h (registers listings) m = MeansRequest h (request.register listings) m
-MeansOutline h (deletes ids) m = MeansRequest h (request.delete ids) m
-MeansOutline h clears m = MeansRequest h request.clear m
-MeansOutline h counts m = MeansRequest h request.count m
-MeansOutline h (shows id) m = MeansRequest h (request.show id) m
-MeansOutline h (matches articles) m = m ≡ line.matching articles
+abbrev pub MeansOutline : List (List ℕ) → History → Outline → Meaning → Type 0
+MeansOutline names h blank m = m ≡ line.nothing
+MeansOutline names h (refused r) m = m ≡ line.refusal r
+MeansOutline names h (registers listings) m = MeansRequest names h (request.register listings) m
+MeansOutline names h (deletes ids) m = MeansRequest names h (request.delete ids) m
+MeansOutline names h clears m = MeansRequest names h request.clear m
+MeansOutline names h counts m = MeansRequest names h request.count m
+MeansOutline names h (shows id) m = MeansRequest names h (request.show id) m
+MeansOutline names h (matches articles) m = m ≡ line.matching articles
 
 -- ---- what was read
 

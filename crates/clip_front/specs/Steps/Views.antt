@@ -1,5 +1,6 @@
 -- What contracts see of requests, lines and replies.
 use Rattle.std.specs.Prelude.{ℕ, List, map, String, string_bytes, option_map}
+use Rattle.std.specs.Arc.{arc_str_bytes}
 use Rattle.std.specs.declared.alloc.Global.{Global}
 use Rattle.clip_registry.specs.declared.command.Applied.{Applied}
 use Rattle.clip_registry.specs.declared.command.Applied.TheVariants as applied
@@ -21,7 +22,7 @@ abbrev pub fields_view : List (String Global × String Global) → List (List �
 fields_view = map (λ f. (string_bytes f.0, string_bytes f.1))
 
 abbrev pub listing_view : Listing → request.Listing
-listing_view l = record { id = string_bytes l.id; query = string_bytes l.query }
+listing_view l = record { id = string_bytes l.id; query = string_bytes l.query; listener = option_map string_bytes l.listener }
 
 abbrev pub draft_view : Draft → request.Draft
 draft_view d = record { id = string_bytes d.id; fields = fields_view d.fields.items }
@@ -59,7 +60,7 @@ reply_view (answered.Deleted count) = reply.deleted count
 reply_view (answered.Cleared count) = reply.cleared count
 reply_view (answered.Counted count) = reply.counted count
 reply_view (answered.Shown text) = reply.shown (option_map string_bytes text)
-reply_view (answered.Matched found) = reply.matched (map alerts_ids (map alerts_value found.items))
+reply_view (answered.Matched found notes) = reply.matched (map alerts_ids (map alerts_value found.items)) (map (λ n. arc_str_bytes n.text) notes.items)
 
 -- the reply to a command that was accepted
 abbrev pub applied_view : Applied → reply.Reply

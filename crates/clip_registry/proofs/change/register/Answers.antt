@@ -17,7 +17,7 @@ use Rattle.clip_registry.proofs.Registering.{insert_all-numbered, numbered_follo
 use Rattle.clip_registry.proofs.Rising.{rising_filter, numbered_rising}
 use Rattle.clip_registry.proofs.Whole.{length-numbered}
 use Rattle.clip_registry.proofs.change.register.Goals as goal
-use Rattle.clip_registry.proofs.change.register.Goals.{In_ok-entries, In_ok-live_entries}
+use Rattle.clip_registry.proofs.change.register.Goals.{In_ok-entries, In_ok-live}
 
 no_length : (n : ℕ) → true ≡ (n == 0) → n ≡ 0
 no_length n h = grind (arith, nat_tests)
@@ -30,15 +30,15 @@ entered : (c : In_ok-entries) → map arc_value c.in_ok-entries.entries.items �
 entered c = c.in_ok-entries.ensures ∙ ap (λ k. numbered k (map arc_value c.args.standings.now)) c.listed-listed.ensures.listed
 
 -- the roster of this list alone holds what the list registers
-alone : (c : In_ok-live_entries) → c.insert_all.new.self.registry ≡ register_all c.args.roster.now.listed (map arc_value c.args.standings.now) finite.empty
+alone : (c : In_ok-live) → c.insert_all.new.self.registry ≡ register_all c.args.roster.now.listed (map arc_value c.args.standings.now) finite.empty
 alone c = fresh_registry c.args.roster.now.listed (map arc_value c.args.standings.now) c.new-fresh.result c.insert_all.new.self (map arc_value c.deref.result.now)
     (ap (λ (r : Roster). r.registry) c.new-fresh.ensures) c.in_ok-insert_all.ensures.inserted
     (ap (map arc_value) c.deref.ensures.value ∙ c.in_ok-entries.ensures ∙ ap (λ k. numbered k (map arc_value c.args.standings.now)) c.listed-listed.ensures.listed)
 
 -- and its live entries are those that stand after the register
-stand : (c : In_ok-live_entries) → map arc_value c.in_ok-live_entries.field-0.items ≡ standing_after c.args.roster.now.listed (map arc_value c.args.standings.now) c.args.roster.now.registry
-stand c = live_registered c.args.roster.now.listed (map arc_value c.args.standings.now) c.args.roster.now.registry c.insert_all.new.self (map arc_value c.in_ok-live_entries.field-0.items) (map arc_value c.deref-2.result.now)
-    c.in_ok-live_entries.ensures (alone c)
+stand : (c : In_ok-live) → map arc_value c.in_ok-live.live.items ≡ standing_after c.args.roster.now.listed (map arc_value c.args.standings.now) c.args.roster.now.registry
+stand c = live_registered c.args.roster.now.listed (map arc_value c.args.standings.now) c.args.roster.now.registry c.insert_all.new.self (map arc_value c.in_ok-live.live.items) (map arc_value c.deref-2.result.now)
+    c.in_ok-live.ensures (alone c)
     (ap (map arc_value) c.deref-2.ensures.value ∙ c.in_ok-entries.ensures ∙ ap (λ k. numbered k (map arc_value c.args.standings.now)) c.listed-listed.ensures.listed) c.listed-listed.ensures.numbered
 
 pub returns-then-is_empty-clause-changed : goal.returns-then-is_empty-clause-changed
@@ -56,16 +56,16 @@ pub build-requires-clause-short : goal.build-requires-clause-short
 build-requires-clause-short c =
     let ss = map arc_value c.args.standings.now in
     let n = c.args.roster.now.listed in
-    let live = ap length (stand (goal.at.build-requires-clause-short c).In_ok-live_entries) in
+    let live = ap length (stand (goal.at.build-requires-clause-short c).In_ok-live) in
     let fewer = filter_fewer (λ r. is_live_in (register_all n ss c.args.roster.now.registry) r.seq) (numbered n ss) in
     let same = length-numbered n ss in
-    let a = length-map c.in_ok-live_entries.field-0.items arc_value in
+    let a = length-map c.in_ok-live.live.items arc_value in
     let b = length-map c.args.standings.now arc_value in
     let d = c.requires.fits in
     omega arith
 
 pub build-requires-clause-rising : goal.build-requires-clause-rising
-build-requires-clause-rising c = subst IsRising (sym (stand (goal.at.build-requires-clause-rising c).In_ok-live_entries)) (rising_filter _ _ (numbered_rising c.args.roster.now.listed (map arc_value c.args.standings.now)))
+build-requires-clause-rising c = subst IsRising (sym (stand (goal.at.build-requires-clause-rising c).In_ok-live)) (rising_filter _ _ (numbered_rising c.args.roster.now.listed (map arc_value c.args.standings.now)))
 
 pub insert_all-requires-2 : goal.insert_all-requires-2
 insert_all-requires-2 c =
@@ -83,10 +83,10 @@ returns-in-Ok-clause-changed c =
       listed = ap (λ (r : Roster). r.listed) c.in-Ok.ensures.inserted ∙ ap (λ (rs : List Registered). n + length rs) all ∙ ap (λ k. n + k) (length-numbered n ss);
       segments = ap (map arc_value) c.in_ok-push.ensures.items
           ∙ map-append arc_value c.args.segments.now.items (c.in_ok-new.field-0 ∷ [])
-          ∙ ap (λ (s : List Registered). map arc_value c.args.segments.now.items ++ s ∷ []) (c.in_ok-new.ensures.ok ∙ c.in_ok-segment.ensures ∙ stand here.In_ok-live_entries)
+          ∙ ap (λ (s : List Registered). map arc_value c.args.segments.now.items ++ s ∷ []) (c.in_ok-new.ensures.ok ∙ c.in_ok-segment.ensures ∙ stand here.In_ok-live)
           ∙ sym (segments_register (map arc_value c.args.segments.now.items) n c.args.roster.now.registry ss some);
       small = let room = c.in-Ok.ensures.room in omega arith;
-      answer = ap applied.Registered (c.len.ensures ∙ ap finite.len (alone here.In_ok-live_entries) ∙ len_register n ss);
+      answer = ap applied.Registered (c.len-count.ensures ∙ ap finite.len (alone here.In_ok-live) ∙ len_register n ss);
     }
 
 pub returns-clause-unchanged : goal.returns-clause-unchanged

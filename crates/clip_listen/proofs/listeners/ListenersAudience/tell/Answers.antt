@@ -12,7 +12,7 @@ pub returns-in_default-clause-ok : goal.returns-in_default-clause-ok
 returns-in_default-clause-ok g c = sym (unnamed (alert_value c.args.alert.now) _ (ap (option_map arc_str_bytes) c.in_default.is)).0
 
 pub returns-in_default-place-clause-note : goal.returns-in_default-place-clause-note
-returns-in_default-place-clause-note g c = sym (not_here _ (λ _. refl) (alert_value c.args.alert.now) _ _ c.args.self.now.parts.items c.deref.result.now (sym (ap (option_map arc_str_bytes) c.in-Some.is)) c.as_str.ensures.value c.deref.ensures.value c.in_default-place.ensures).1
+returns-in_default-place-clause-note g c = sym (not_here _ (λ _. refl) (alert_value c.args.alert.now) _ _ c.args.self.now.parts.items (sym (ap (option_map arc_str_bytes) c.in-Some.is)) c.as_str.ensures.value c.in_default-place.ensures).1
 
 pub returns-in_default-place-clause-ok : goal.returns-in_default-place-clause-ok
-returns-in_default-place-clause-ok g c = sym (not_here _ (λ _. refl) (alert_value c.args.alert.now) _ _ c.args.self.now.parts.items c.deref.result.now (sym (ap (option_map arc_str_bytes) c.in-Some.is)) c.as_str.ensures.value c.deref.ensures.value c.in_default-place.ensures).0
+returns-in_default-place-clause-ok g c = sym (not_here _ (λ _. refl) (alert_value c.args.alert.now) _ _ c.args.self.now.parts.items (sym (ap (option_map arc_str_bytes) c.in-Some.is)) c.as_str.ensures.value c.in_default-place.ensures).0

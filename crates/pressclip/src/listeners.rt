@@ -1,0 +1,39 @@
+//! The listeners of the program: each says its alerts in its style and keeps nothing.
+ghost use Rattle.std.specs.Prelude.{◌≡◌, [], ◌∷◌, codes, IfOk};
+ghost use Rattle.clip_listen.specs.Heard.{names_of};
+
+use clip_listen::{Listener, Named, Render, Style, Teller};
+use clip_words::NoMemory;
+use std::alloc::Global;
+
+/// The listener `mail`, which says `mail: `, the query's id, ` in ` and the article's.
+pub fn mail(alloc: Global) -> Result<Teller<Style>, NoMemory>
+    ensures { IfOk result (λ teller. ⟦<Teller<Style> as Listener>⟧.style teller
+        ≡ record { head = codes "mail: "; middle = codes " in " }) }
+{
+    let style = Style::new(alloc, "mail: ", " in ")?;
+    Ok(Teller::new(Render::in_style(style)?))
+}
+
+/// The listener `feed`, which says `feed `, the query's id, `/` and the article's.
+pub fn feed(alloc: Global) -> Result<Teller<Style>, NoMemory>
+    ensures { IfOk result (λ teller. ⟦<Teller<Style> as Listener>⟧.style teller
+        ≡ record { head = codes "feed "; middle = codes "/" }) }
+{
+    let style = Style::new(alloc, "feed ", "/")?;
+    Ok(Teller::new(Render::in_style(style)?))
+}
+
+/// The two under their names.
+pub fn named(
+    alloc: Global,
+    mail: Box<dyn Listener + Send>,
+    feed: Box<dyn Listener + Send>,
+) -> Result<Vec<Named>, NoMemory>
+    ensures { IfOk result (λ parts. names_of parts.items ≡ codes "mail" ∷ codes "feed" ∷ []) }
+{
+    let mut parts: Vec<Named> = Vec::new(alloc);
+    parts.push((String::from_str(alloc, "mail")?, mail))?;
+    parts.push((String::from_str(alloc, "feed")?, feed))?;
+    Ok(parts)
+}
