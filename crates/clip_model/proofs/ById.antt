@@ -14,7 +14,7 @@ use Rattle.std.proofs.lemmas.Map.Keys.{sorted_head, sorted_tail}
 use Rattle.std.specs.declared.cmp.Ordering.TheVariants.{Less, Equal, Greater}
 use Rattle.std.specs.declared.alloc.Global.{Global}
 use Rattle.std.specs.FinMap as finite
-use Rattle.std.specs.FinMap.{slice_cmp-IsAntisymmetric, nat_cmp-IsAntisymmetric, same_map, get-from_entries, get-from_sorted, get-insert, get-remove, len-entries, entries-from_sorted}
+use Rattle.std.specs.FinMap.{same_map, get-from_entries, get-from_sorted, get-insert, get-remove, len-entries, entries-from_sorted}
 use Rattle.std.specs.FinMap.Entries.{find, put, find-put, by_order, is_sorted, below_all}
 use Rattle.std.proofs.lemmas.Bool.{false≢true}
 use Rattle.clip_words.specs.Order.{bytes_cmp}

@@ -9,3 +9,4 @@ pub mod Numbering
 pub mod Counting
 pub mod Seqs
 pub mod Rows
+pub mod Dead

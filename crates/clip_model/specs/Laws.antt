@@ -1,5 +1,5 @@
 -- Laws of histories.
-use Rattle.std.specs.Prelude.{◌≡◌, ℕ, ◌-◌, ◌≤◌, ◌<◌, List, [], ◌∷◌, ◌++◌, length, slice_get, Some, true, IsTrue}
+use Rattle.std.specs.Prelude.{◌≡◌, ℕ, ◌-◌, ◌≤◌, ◌<◌, List, [], ◌∷◌, ◌++◌, length, slice_get, Some, true, false, IsTrue}
 use Rattle.std.specs.FinMap as finite
 use Rattle.clip_model.specs.declared.limits.TheConstants.{MOST_CALLERS}
 use Rattle.clip_model.specs.History.{History, HistoryEntry, Command, Registered, IsLegal, replay, listed, listed_queries, after_command, is_live, with_command, has_room, fits}
@@ -41,3 +41,7 @@ pub record IsOfOne (h : History) (seq : ℕ) : Type 0 where
 
 abbrev pub SeqsAreListed : Type 0
 SeqsAreListed = (h : History) (seq : ℕ) → is_live h seq ≡ true → IsOfOne h seq
+
+-- A seq that was given and is not live stays so, however the history goes on.
+abbrev pub DeadStaysDead : Type 0
+DeadStaysDead = (h more : History) (seq : ℕ) → seq ≤ listed h → is_live h seq ≡ false → is_live (h ++ more) seq ≡ false

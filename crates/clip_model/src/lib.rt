@@ -2,7 +2,7 @@
 //! alerts that are due to an article. Limits, definitions and laws alone.
 #![tactic(auto)]
 
-ghost use Rattle.clip_model.specs.Laws.{ReplaysOn, FrontsAreLegal, GoesOn, ListedAreCounted, RegisteredAreListed, SeqsAreListed};
+ghost use Rattle.clip_model.specs.Laws.{ReplaysOn, FrontsAreLegal, GoesOn, ListedAreCounted, RegisteredAreListed, SeqsAreListed, DeadStaysDead};
 
 mod limits;
 
@@ -16,4 +16,5 @@ pub fn laws_of_histories()
     ensures listed_are_counted { ListedAreCounted }
     ensures registered_are_listed { RegisteredAreListed }
     ensures seqs_are_listed { SeqsAreListed }
+    ensures dead_stays_dead { DeadStaysDead }
 {}

@@ -5,9 +5,9 @@ use Rattle.std.proofs.lemmas.List.Elements.{All-filter, All-contains_itself, fil
 use Rattle.std.proofs.lemmas.List.Kept.{AllPairs-filter}
 use Rattle.clip_meaning.specs.Article.{ArticleValue}
 use Rattle.clip_model.specs.History.{is_live}
-use Rattle.clip_segment.specs.Segment.{IsRising}
+use Rattle.clip_segment.specs.Segment.{IsRising, all_entries}
 use Rattle.clip_registry.proofs.Rising.{contains_filter}
-use Rattle.clip_registry.specs.RegistryState.{RegistryState, IsWhole, all_entries}
+use Rattle.clip_registry.specs.RegistryState.{RegistryState, IsWhole}
 use Rattle.clip_extract.specs.Covering.{Covers}
 use Rattle.clip_presearch.specs.Candidates.{is_candidate, candidates_of, MissesNone, AreRegistered}
 

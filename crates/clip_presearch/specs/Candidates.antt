@@ -7,7 +7,8 @@ use Rattle.clip_model.specs.History.{History, Registered, replay, is_live}
 use Rattle.clip_extract.specs.Keys.{share}
 use Rattle.clip_extract.specs.Extraction.{query_keys}
 use Rattle.clip_extract.specs.Covering.{article_keys}
-use Rattle.clip_registry.specs.RegistryState.{RegistryState, all_entries}
+use Rattle.clip_registry.specs.RegistryState.{RegistryState}
+use Rattle.clip_segment.specs.Segment.{all_entries}
 
 -- an entry that is live, and whose query has a key in common with the article
 abbrev pub is_candidate : History → Fields → Registered → Bool

@@ -6,12 +6,12 @@ use Rattle.std.specs.List.{All, Contains}
 use Rattle.std.specs.FinMap as finite
 use Rattle.std.specs.FinMap.{get-empty}
 use Rattle.clip_words.specs.Order.{bytes_cmp}
-use Rattle.clip_segment.specs.Segment.{IsRising}
+use Rattle.clip_segment.specs.Segment.{IsRising, all_entries}
 use Rattle.clip_model.specs.Standing.{Standing}
 use Rattle.clip_model.specs.History.{Command, Register, Delete, Clear, Registered, Registry, register_all, remove_all, after_command, replay, listed, lists, is_live_in, with_command, next_entry}
 use Rattle.clip_model.proofs.Replay.{replays_on, listed_on}
 use Rattle.clip_model.specs.Steps.Numbered.{IsNumbered}
-use Rattle.clip_registry.specs.RegistryState.{RegistryState, IsWhole, all_entries, numbered, standing_after, segments_after, state_after, beginning}
+use Rattle.clip_registry.specs.RegistryState.{RegistryState, IsWhole, numbered, standing_after, segments_after, state_after, beginning}
 use Rattle.clip_model.proofs.Live.{live_given, given_live}
 use Rattle.clip_model.proofs.Numbering.{numbered_empty, numbered_register, numbered_removed, replay_numbered}
 use Rattle.clip_registry.proofs.Registering.{insert_all-numbered, inserted_or_old, removed_was}

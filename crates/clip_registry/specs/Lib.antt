@@ -1,3 +1,4 @@
+pub mod Merging
 pub mod Command
 pub mod Steps
 pub mod RegistryState

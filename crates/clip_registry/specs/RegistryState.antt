@@ -4,7 +4,7 @@ use Rattle.std.specs.FinMap as finite
 use Rattle.std.specs.Coded.{Coded, code_by, coded×, coded_list}
 use Rattle.clip_model.specs.Standing.{Standing}
 use Rattle.clip_model.specs.History.{History, Command, Register, Delete, Clear, Registered, Registry, replay, listed, is_live, is_live_in, after_command, with_command, history_code, registered_code}
-use Rattle.clip_segment.specs.Segment.{IsRising}
+use Rattle.clip_segment.specs.Segment.{IsRising, all_entries}
 
 -- segments, each as its list of entries, and the history of accepted commands
 pub record RegistryState : Type 0 where
@@ -17,11 +17,6 @@ state_code = code_by (List (List Registered) × History) (coded× (coded_list (c
 -- no segment and no command yet
 abbrev pub beginning : RegistryState
 beginning = record { segments = []; history = [] }
-
--- the entries of all segments, in order
-abbrev pub all_entries : List (List Registered) → List Registered
-all_entries [] = []
-all_entries (segment ∷ segments) = segment ++ all_entries segments
 
 -- Seqs rise through all segments, none is above those listed, and the live entries are, by id, exactly the registered queries.
 pub record IsWhole (state : RegistryState) : Type 0 where

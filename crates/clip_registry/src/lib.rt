@@ -6,11 +6,13 @@ ghost use Rattle.std.specs.Prelude.{◌≡◌};
 mod by_id;
 mod change;
 mod command;
+mod merging;
 mod registrar;
 mod roster;
 mod state;
 mod view;
 
 pub use command::{Applied, Command, HistoryEntry, Refused};
+pub use merging::{Installed, MergeJob, Merged};
 pub use registrar::Registrar;
 pub use view::View;

@@ -1,11 +1,14 @@
 //! The registrar: it applies commands one by one.
-ghost use Rattle.std.specs.Prelude.{◌≡◌, ◌<◌, ◌≤◌, map, IfOk, IfErr, OnOk, OnErr, IsTrue, IsFalse};
+ghost use Rattle.std.specs.Prelude.{◌≡◌, ◌<◌, ◌≤◌, ℕ, Ok, None, map, IfOk, IfErr, IfSome, OnOk, OnErr, IsTrue, IsFalse};
+ghost use Rattle.clip_merge.specs.Plan.{IsRun};
 ghost use Rattle.clip_model.specs.History.{fits, has_room, applied, IsLegal};
 ghost use Rattle.clip_registry.specs.Command.{command_of, answer_of, shared_entry};
+ghost use Rattle.clip_registry.specs.Merging.{IsBegun, IsInstalled, IsStale, purged};
 ghost use Rattle.clip_registry.specs.RegistryState.{IsWhole, beginning, state_after};
 ghost use Rattle.clip_registry.specs.declared.command.Refused.TheVariants as refused;
 
 use crate::command::{Applied, Command, HistoryEntry, Refused};
+use crate::merging::{Installed, MergeJob, Merged};
 use crate::state::State;
 use crate::view::View;
 use clip_model::MOST_CALLERS;
@@ -87,6 +90,46 @@ impl Registrar {
             Ok(applied) => Ok(applied),
             Err(refused) => Err((command, refused)),
         }
+    }
+
+    /// Begins a merge: a job over the oldest four neighbouring segments of one level, which it shares, and which of their
+    /// entries are live; `None` where there are no such four. `NoMemory` where an allocation failed.
+    ///
+    /// Cost: a step for each segment, and one for each entry of the four.
+    pub fn begin(&self) -> Result<Option<MergeJob>, NoMemory>
+        ensures begun { IfOk result (λ job. IfSome job (IsBegun self.now)) }
+        ensures nothing { result ≡ Ok None → (first : ℕ) → IsRun self.now.segments first → ⊥ }
+    {
+        Err(NoMemory)
+    }
+
+    /// Installs a merge, on whichever registrar it was begun: its segment takes the place of the four sources, or they just
+    /// go where it has no entries. `Stale` exactly where the sources don't stand, as no four neighbouring segments have
+    /// the same lists of entries, or where an entry of theirs that is live now is missing from the merge, which can't
+    /// be where it was begun on this registrar. The history is kept, and so is what is registered.
+    ///
+    /// `NoMemory` where an allocation failed, with nothing changed and the merge dropped.
+    ///
+    /// Cost: a step for each segment and one for each entry of the four, whose texts are compared; and a copy of the
+    /// registry's lists and maps while a view of it as it stands is held.
+    pub fn install(&mut self, merged: Merged) -> Result<Installed, NoMemory>
+        ensures done { result ≡ Ok Installed.Done → IsInstalled self.old self.new merged }
+        ensures stale { result ≡ Ok Installed.Stale → IsStale self.old merged }
+        ensures unchanged { (result ≡ Ok Installed.Done → ⊥) → self.new ≡ self.old }
+    {
+        Err(NoMemory)
+    }
+
+    /// Leaves each segment with just its live entries, and takes the empty ones away. The history is kept, and so is what
+    /// is registered. `NoMemory` where an allocation failed, with nothing changed.
+    ///
+    /// Cost: a step for each entry, and that of `clip_merge::purge` for each segment with an entry that is dead; and a
+    /// copy of the registry's lists and maps while a view of it as it stands is held.
+    pub fn purge(&mut self) -> Result<(), NoMemory>
+        ensures purged { OnOk result (self.new ≡ purged self.old) }
+        ensures unchanged { OnErr result (self.new ≡ self.old) }
+    {
+        Err(NoMemory)
     }
 
     /// The registry as it stands, or `NoMemory` where the count of its holders is at its end. Constant time.

@@ -1,5 +1,5 @@
 -- The positions at which the entries of a segment hold a key.
-use Rattle.std.specs.Prelude.{ℕ, ◌<◌, Bool, List, map, filter}
+use Rattle.std.specs.Prelude.{ℕ, ◌<◌, Bool, List, [], ◌∷◌, ◌++◌, map, filter}
 use Rattle.std.specs.List.{enumerate_from, list_any, AllPairs}
 use Rattle.clip_extract.specs.Extraction.{query_keys}
 use Rattle.clip_extract.specs.Keys.{KeyValue, is_same}
@@ -16,3 +16,8 @@ positions_with key entries = map (λ e. e.0) (filter (λ e. holds_key key e.1) (
 -- each seq is above those before it
 pub record IsRising (entries : List Registered) : Type 0 where
   pub rises : AllPairs (λ e f. e.seq < f.seq) entries
+
+-- the entries of all segments, in order
+abbrev pub all_entries : List (List Registered) → List Registered
+all_entries [] = []
+all_entries (segment ∷ segments) = segment ++ all_entries segments

@@ -4,7 +4,7 @@ use Rattle.std.proofs.lemmas.List.{append-nil, drop_all}
 use Rattle.clip_extract.specs.Keys.{key_of}
 use Rattle.clip_model.specs.History.{Registered}
 use Rattle.clip_segment.specs.Segment.{IsRising}
-use Rattle.clip_registry.specs.RegistryState.{all_entries}
+use Rattle.clip_segment.specs.Segment.{all_entries}
 use Rattle.clip_presearch.specs.Candidates.{candidates_of, MissesNone, AreRegistered}
 use Rattle.clip_presearch.specs.Steps.Places.{live_with}
 use Rattle.clip_presearch.proofs.Whole.{misses_none, candidates_registered, candidates_rise}

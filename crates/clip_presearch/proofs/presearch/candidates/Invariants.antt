@@ -1,7 +1,7 @@
 use Rattle.std.proofs.Common.{◌≡◌, ◌++◌, map, drop}
 use Rattle.std.specs.Arc.{arc_value}
 use Rattle.clip_extract.specs.Keys.{key_of}
-use Rattle.clip_registry.specs.RegistryState.{all_entries}
+use Rattle.clip_segment.specs.Segment.{all_entries}
 use Rattle.clip_presearch.specs.Steps.Places.{live_with}
 use Rattle.clip_presearch.proofs.presearch.candidates.Given as goal
 

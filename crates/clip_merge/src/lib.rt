@@ -1,0 +1,8 @@
+//! Merging: which neighbouring segments are merged next, and segments with just the live entries of others.
+#![tactic(auto)]
+
+mod live;
+mod merging;
+
+pub use live::Live;
+pub use merging::{merge, purge};

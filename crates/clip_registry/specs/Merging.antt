@@ -1,0 +1,90 @@
+-- Merges: what a job and a merge hold, and what installing and purging do.
+use Rattle.std.specs.Prelude.{◌≡◌, ℕ, ◌+◌, Bool, true, false, List, [], ◌∷◌, ◌++◌, map, filter, take, drop, length, Contains, IsTrue, refl}
+use Rattle.std.specs.Coded.{Coded, code_by, coded×, coded_ℕ, coded_list}
+use Rattle.clip_model.specs.History.{History, Registered, registered_code, is_live}
+use Rattle.clip_segment.specs.Segment.{all_entries}
+use Rattle.clip_merge.specs.Live.{AreRising, named}
+use Rattle.clip_merge.specs.Plan.{IsOldestRun, run_at}
+use Rattle.clip_registry.specs.RegistryState.{RegistryState, IsWhole}
+
+-- ---- jobs
+
+-- neighbouring segments, and the seqs of their entries that were live when the job was begun
+pub record Job : Type 0 where
+  pub sources : List (List Registered)
+  pub live : List ℕ
+
+abbrev pub job_code : Coded Job
+job_code = code_by (List (List Registered) × List ℕ) (coded× (coded_list (coded_list registered_code)) (coded_list coded_ℕ)) (λ j. (j.sources, j.live)) (λ p. record { sources = p.0; live = p.1 }) (λ _. refl)
+
+-- the entries that are live in the registry
+abbrev pub live_of : RegistryState → List Registered → List Registered
+live_of state entries = filter (λ r. is_live state.history r.seq) entries
+
+-- The job is over the oldest run of the registry, and holds which of its entries are live.
+pub record IsBegun (state : RegistryState) (job : Job) : Type 0 where
+  pub first : ℕ
+  pub oldest : IsOldestRun state.segments first
+  pub sources : job.sources ≡ run_at state.segments first
+  pub live : job.live ≡ map (λ r. r.seq) (live_of state (all_entries job.sources))
+
+-- ---- merges
+
+-- the sources of a merge, and the entries of theirs that it has
+pub record Merge : Type 0 where
+  pub sources : List (List Registered)
+  pub entries : List Registered
+
+abbrev pub merge_code : Coded Merge
+merge_code = code_by (List (List Registered) × List Registered) (coded× (coded_list (coded_list registered_code)) (coded_list registered_code)) (λ m. (m.sources, m.entries)) (λ p. record { sources = p.0; entries = p.1 }) (λ _. refl)
+
+-- what a job gives: the entries of its sources that were live when it was begun
+abbrev pub merge_of : Job → Merge
+merge_of job = record { sources = job.sources; entries = named job.live (all_entries job.sources) }
+
+-- ---- installing
+
+-- from this place on the segments are the sources
+abbrev pub StandsAt : List (List Registered) → List (List Registered) → ℕ → Type 0
+StandsAt segments sources first = run_at segments first ≡ sources
+
+-- an entry of the sources that is live in the registry is not in the merge
+pub record Misses (state : RegistryState) (merge : Merge) : Type 0 where
+  pub entry : Registered
+  pub among : Contains (all_entries merge.sources) entry
+  pub live : IsTrue (is_live state.history entry.seq)
+  pub missing : Contains merge.entries entry → ⊥
+
+-- The sources stand nowhere, or a live entry of theirs is missing.
+pub data IsStale (state : RegistryState) (merge : Merge) : Type 0 where
+  gone : ((first : ℕ) → StandsAt state.segments merge.sources first → ⊥) → IsStale state merge
+  misses : Misses state merge → IsStale state merge
+
+-- a segment in its place, or none where it has no entries
+abbrev pub shelf : List Registered → List (List Registered)
+shelf [] = []
+shelf (r ∷ rs) = (r ∷ rs) ∷ []
+
+-- The sources stood, no live entry of theirs was missing, and the merge is in their place.
+pub record IsInstalled (old new : RegistryState) (merge : Merge) : Type 0 where
+  pub first : ℕ
+  pub stood : StandsAt old.segments merge.sources first
+  pub complete : Misses old merge → ⊥
+  pub segments : new.segments ≡ take first old.segments ++ shelf merge.entries ++ drop (first + 4) old.segments
+  pub history : new.history ≡ old.history
+
+-- ---- purging
+
+abbrev pub has_entries : List Registered → Bool
+has_entries [] = false
+has_entries (r ∷ rs) = true
+
+-- each segment with just its live entries, and none that is empty
+abbrev pub purged : RegistryState → RegistryState
+purged state = record { segments = filter has_entries (map (live_of state) state.segments); history = state.history }
+
+-- ---- late merges
+
+-- However the history went on since a job was begun, its merge misses no live entry.
+abbrev pub LateMergesMissNothing : Type 0
+LateMergesMissNothing = (begun later : RegistryState) (more : History) (job : Job) → IsWhole begun → IsBegun begun job → later.history ≡ begun.history ++ more → Misses later (merge_of job) → ⊥
