@@ -26,8 +26,8 @@ pub fn plan(segments: &[Arc<Segment>]) -> Option<(usize, usize)>
     ensures run { IfSome result (λ at. IsOldestRun (map arc_value segments.now) at.0 × (at.1 ≡ at.0 + 4)) }
     ensures none { result ≡ None → (first : ℕ) → IsRun (map arc_value segments.now) first → ⊥ }
 {
-    let mut last = 0;
-    let mut count = 0;
+    // The level of the last segment, and how many neighbours up to it have that level.
+    let (mut last, mut count) = (0, 0);
     for (at, segment) in segments.iter().enumerate() {
         let here = level(segment.len());
         count = if here == last { count + 1 } else { 1 };

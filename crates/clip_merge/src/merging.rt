@@ -34,11 +34,11 @@ pub fn merge(alloc: Global, segments: &[Arc<Segment>], live: &Live) -> Result<Se
     requires short { length (named live.now (all_entries (map arc_value segments.now))) ≤ MOST_POSITIONS }
     ensures { IfOk result (λ segment. segment ≡ named live.now (all_entries (map arc_value segments.now))) }
 {
-    let mut kept = Vec::new(alloc);
+    let mut merged = Vec::new(alloc);
     for segment in segments {
-        add_live(&mut kept, segment.entries(), live)?;
+        add_live(&mut merged, segment.entries(), live)?;
     }
-    Segment::build(alloc, kept)
+    Segment::build(alloc, merged)
 }
 
 /// A segment of just the live entries of this one, in order, which it shares.

@@ -8,7 +8,7 @@ overflow_add-level c =
     omega arith
 
 pub loop-rest-preserved : goal.loop-rest-preserved
-loop-rest-preserved c = divided_more c.args.len c.loop-rest.level c.loop-rest.rest c.loop-rest.invariant c.loop-rest-test.true
+loop-rest-preserved c = divided_more c.args.len c.loop-rest.level c.loop-rest.rest c.loop-rest.invariant (omega arith)
 
 pub returns : goal.returns
-returns c = divided_is_level c.args.len c.loop-rest.level c.loop-rest.rest c.loop-rest.invariant c.loop-rest-test.false
+returns c = divided_is_level c.args.len c.loop-rest.level c.loop-rest.rest c.loop-rest.invariant (omega arith)

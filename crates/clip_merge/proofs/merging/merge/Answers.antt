@@ -11,7 +11,7 @@ loop-segment-preserved c =
     let segments = c.args.segments.now in
     let live = c.args.live.now in
     c.in_ok-add_live.ensures
-    ∙ ap (λ es. map arc_value c.loop-segment.kept.items ++ named live es) (c.entries.ensures.value ∙ c.deref.ensures ∙ ap arc_value c.segment-item.is)
+    ∙ ap (λ es. map arc_value c.loop-segment.merged.items ++ named live es) (c.entries.ensures.value ∙ c.deref.ensures ∙ ap arc_value c.segment-item.is)
     ∙ ap (λ es. es ++ named live (arc_value (get_or segments c.loop-segment.segment-index c.segment-item.result))) c.loop-segment.invariant
     ∙ sym (named_more arc_value live segments c.loop-segment.segment-index c.segment-item.result c.loop-segment-test.true)
 
