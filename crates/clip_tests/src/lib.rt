@@ -14,6 +14,8 @@ mod many;
 #[cfg(test)]
 mod meaning;
 #[cfg(test)]
+mod merge;
+#[cfg(test)]
 mod random;
 #[cfg(test)]
 mod registry;
