@@ -1,3 +1,4 @@
 pub mod Answers
 pub mod Outline
+pub mod Serving
 pub mod Views
