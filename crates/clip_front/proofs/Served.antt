@@ -17,6 +17,7 @@ use Rattle.clip_front.specs.LineMeaning.{Meaning, is_long, is_blank, json_of, Me
 use Rattle.clip_front.specs.Reply.{reply_text}
 use Rattle.clip_front.specs.Outcome.{Outcome, nothing_given, followed_by, given, names_in, kept_rows, Gives, GivesAll, GivesFront}
 use Rattle.clip_front.specs.Steps.Answers.{Held, Answers, held_after, alerts_outlined}
+use Rattle.clip_front.specs.Steps.Desk.{AnswersIn, BreaksIn}
 use Rattle.clip_front.specs.Steps.Outline.{outline, blank, outline_of_value, MeansOutline}
 use Rattle.clip_front.specs.Steps.Serving.{Answering, Breaking, Serves, StopsAt, ServesAll, ServesFront}
 use Rattle.clip_front.proofs.Delivering.{none_posted}
@@ -55,14 +56,7 @@ outline-cut : (line : List ℕ) → outline (cut line) ≡ outline line
 unfolding cut
 outline-cut line = outline_at line (take (suc MOST_LINE_BYTES) line) (cut_at MOST_LINE_BYTES (suc MOST_LINE_BYTES) line refl) (cut_within MOST_LINE_BYTES (suc MOST_LINE_BYTES) line refl)
 
--- ---- the path of a server, of which this is seen
-
-abbrev AnswersIn : {S : Type 0} → (S → Held) → Answering S
-AnswersIn view s t n line text = Answers (view s) (view t) n line text
-
-abbrev BreaksIn : {S : Type 0} → (S → Held) → Breaking S
-BreaksIn view s t n line = HearsFront (alerts_outlined (view s).history (outline line)) (view s).hearers (view t).hearers
-
+-- ---- the path of a server
 -- what was heard before changes nothing that is given
 gives_kept : (front : List Alert) (hearers : List Hearer) (n : ℕ) (h : History) (lines : List (List ℕ)) (o : Outcome) → Gives (told_all front hearers) n h lines o → Gives hearers n h lines o
 gives_kept front hearers n h [] o g = g

@@ -32,15 +32,11 @@ struct Desk {
 }
 
 impl<A: Audience> Server<A> for Desk {
-    ghost use Rattle.clip_listen.specs.Heard.{HearsFront};
-    ghost use Rattle.clip_front.specs.Steps.Answers.{Answers, held, alerts_outlined};
-    ghost use Rattle.clip_front.specs.Steps.Outline.{outline};
+    ghost use Rattle.clip_front.specs.Steps.Desk.{held_at, AnswersIn, BreaksIn};
 
-    ghost answers = { λ s t n line text. Answers (held s.0.registrar (A.hearers s.1) s.0.books)
-        (held t.0.registrar (A.hearers t.1) t.0.books) n line text };
+    ghost answers = { AnswersIn (held_at A.hearers) };
 
-    ghost breaks_off = { λ s t n line. HearsFront (alerts_outlined s.0.registrar.history (outline line))
-        (A.hearers s.1) (A.hearers t.1) };
+    ghost breaks_off = { BreaksIn (held_at A.hearers) };
 
     fn answer(
         &mut self,

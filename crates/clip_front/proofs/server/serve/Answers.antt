@@ -1,7 +1,7 @@
 use Rattle.std.proofs.Common.{◌+◌, refl, sym, ◌∙◌, arith, true≢false}
 use Rattle.std.specs.Io.KnownBytes.{prepend_known}
 use Rattle.clip_stream.proofs.Fuel.{fuel_new}
-use Rattle.clip_front.proofs.Progress.{progress_first, progress_handed, progress_line, progress_end, progress_count, prepend_nothing, fault_first, fault_handing, fault_held, fault_broken, on_err}
+use Rattle.clip_front.proofs.Progress.{progress_first, progress_handed, progress_line, progress_end, prepend_nothing, fault_first, fault_handing, fault_held, fault_broken, on_err}
 use Rattle.clip_front.proofs.server.serve.Goals as goal
 
 pub lines-init : goal.lines-init
