@@ -1,7 +1,7 @@
-use Rattle.std.proofs.Common.{◌+◌, refl, sym, ◌∙◌, arith, true≢false}
+use Rattle.std.proofs.Common.{◌+◌, ◌++◌, refl, sym, ◌∙◌, arith, true≢false}
 use Rattle.std.specs.Io.KnownBytes.{prepend_known}
 use Rattle.clip_stream.proofs.Fuel.{fuel_new}
-use Rattle.clip_front.proofs.Progress.{progress_first, progress_handed, progress_line, progress_end, prepend_nothing, fault_first, fault_handing, fault_held, fault_broken, on_err}
+use Rattle.clip_front.proofs.Progress.{progress_first, progress_handed, progress_line, progress_end, progress_count, prepend_nothing, fault_first, fault_handing, fault_held, fault_broken, on_err}
 use Rattle.clip_front.proofs.server.serve.Goals as goal
 
 pub lines-init : goal.lines-init
@@ -34,7 +34,7 @@ lines-preserved g c =
       reader_well = c.in_ok-next_line.ensures.failed ∙ c.lines.invariant.reader_well;
       writer_well = c.in_ok-hand_over.ensures.well ∙ c.lines.invariant.writer_well;
       fuel_left = omega (arith, less, c.lines.invariant.fuel_left);
-      progress = progress_line g.S.Server.answers (c.args.server.now, c.args.lent.now) (c.lines.server, c.lines.lent) (c.answer.new.self, c.answer.new.lent) input _ _ c.next_line.new.line.items c.in_ok-text.text.items (taken c.args.writer.now) (taken c.hand_over.new.writer) c.hand_over.new.self c.gather.new.self c.lines.count (c.lines.count + 1) handed found refl answered gathered;
+      progress = progress_line g.S.Server.answers (c.args.server.now, c.args.lent.now) (c.lines.server, c.lines.lent) (c.answer.new.self, c.answer.new.lent) input (prepend_known c.lines.lines.pending (g.R.Source.left c.lines.reader)) (prepend_known c.next_line.new.self.pending (g.R.Source.left c.next_line.new.reader)) c.next_line.new.line.items c.in_ok-text.text.items (taken c.args.writer.now) (taken c.hand_over.new.writer) c.hand_over.new.self c.gather.new.self c.lines.count (c.lines.count + 1) handed found refl answered gathered;
     }
 
 pub returns-in_err-lines-clause-front : goal.returns-in_err-lines-clause-front
@@ -63,17 +63,19 @@ returns-in_err-text-clause-front g c =
     let taken = g.W.Sink.taken in
     let handed = progress_handed g.S.Server.answers (c.args.server.now, c.args.lent.now) (c.lines.server, c.lines.lent) input (prepend_known c.lines.lines.pending (g.R.Source.left c.lines.reader)) (taken c.args.writer.now) (taken c.lines.writer) (taken c.hand_over.new.writer) c.lines.outbox c.hand_over.new.self c.lines.count c.lines.invariant.progress c.in_ok-hand_over.ensures.moved in
     on_err c.from_residual-in_err-text.result
-    (fault_broken g.S.Server.answers g.S.Server.breaks_off (c.args.server.now, c.args.lent.now) (c.lines.server, c.lines.lent) (c.answer.new.self, c.answer.new.lent) input _ _ c.next_line.new.line.items (taken c.args.writer.now) (taken c.hand_over.new.writer) c.hand_over.new.self c.lines.count (c.lines.count + 1) handed found refl broken)
+    (fault_broken g.S.Server.answers g.S.Server.breaks_off (c.args.server.now, c.args.lent.now) (c.lines.server, c.lines.lent) (c.answer.new.self, c.answer.new.lent) input (prepend_known c.lines.lines.pending (g.R.Source.left c.lines.reader)) (prepend_known c.next_line.new.self.pending (g.R.Source.left c.next_line.new.reader)) c.next_line.new.line.items (taken c.args.writer.now) (taken c.hand_over.new.writer) c.hand_over.new.self c.lines.count (c.lines.count + 1) handed found refl broken)
 
 pub returns-in_err-gather-clause-front : goal.returns-in_err-gather-clause-front
 returns-in_err-gather-clause-front g c =
     let found = rw c.if-not-branch.false at c.in_ok-next_line.ensures.line in
     let answered = rw c.deref.ensures.value at c.in_ok-text.ensures.ok in
     let input = g.R.Source.left c.args.reader.now in
+    let rest = prepend_known c.next_line.new.self.pending (g.R.Source.left c.next_line.new.reader) in
+    let more = c.hand_over.new.self ++ c.in_ok-text.text.items in
     let taken = g.W.Sink.taken in
     let handed = progress_handed g.S.Server.answers (c.args.server.now, c.args.lent.now) (c.lines.server, c.lines.lent) input (prepend_known c.lines.lines.pending (g.R.Source.left c.lines.reader)) (taken c.args.writer.now) (taken c.lines.writer) (taken c.hand_over.new.writer) c.lines.outbox c.hand_over.new.self c.lines.count c.lines.invariant.progress c.in_ok-hand_over.ensures.moved in
-    let done = progress_line g.S.Server.answers (c.args.server.now, c.args.lent.now) (c.lines.server, c.lines.lent) (c.answer.new.self, c.answer.new.lent) input _ _ c.next_line.new.line.items c.in_ok-text.text.items (taken c.args.writer.now) (taken c.hand_over.new.writer) c.hand_over.new.self _ c.lines.count (c.lines.count + 1) handed found refl answered refl in
-    on_err c.from_residual-in_err-gather.result (fault_held g.S.Server.answers g.S.Server.breaks_off (c.args.server.now, c.args.lent.now) (c.answer.new.self, c.answer.new.lent) input _ (taken c.args.writer.now) (taken c.hand_over.new.writer) _ (c.lines.count + 1) done)
+    let done = progress_line g.S.Server.answers (c.args.server.now, c.args.lent.now) (c.lines.server, c.lines.lent) (c.answer.new.self, c.answer.new.lent) input (prepend_known c.lines.lines.pending (g.R.Source.left c.lines.reader)) rest c.next_line.new.line.items c.in_ok-text.text.items (taken c.args.writer.now) (taken c.hand_over.new.writer) c.hand_over.new.self more c.lines.count (c.lines.count + 1) handed found refl answered refl in
+    on_err c.from_residual-in_err-gather.result (fault_held g.S.Server.answers g.S.Server.breaks_off (c.args.server.now, c.args.lent.now) (c.answer.new.self, c.answer.new.lent) input rest (taken c.args.writer.now) (taken c.hand_over.new.writer) more (c.lines.count + 1) done)
 
 pub returns-then-not-branch-clause-served : goal.returns-then-not-branch-clause-served
 returns-then-not-branch-clause-served g c =
@@ -81,4 +83,11 @@ returns-then-not-branch-clause-served g c =
     let input = g.R.Source.left c.args.reader.now in
     let taken = g.W.Sink.taken in
     let handed = progress_handed g.S.Server.answers (c.args.server.now, c.args.lent.now) (c.lines.server, c.lines.lent) input (prepend_known c.lines.lines.pending (g.R.Source.left c.lines.reader)) (taken c.args.writer.now) (taken c.lines.writer) (taken c.hand_over.new.writer) c.lines.outbox c.hand_over.new.self c.lines.count c.lines.invariant.progress c.in_ok-hand_over.ensures.moved in
-    progress_end g.S.Server.answers (c.args.server.now, c.args.lent.now) (c.lines.server, c.lines.lent) input (g.R.Source.left c.lines.reader) _ c.lines.lines.pending c.next_line.new.line.items (taken c.args.writer.now) (taken c.hand_over.new.writer) c.hand_over.new.self c.lines.count handed found (λ none. c.in_ok-hand_over.ensures.none_held (c.has_line.ensures ∙ none))
+    progress_end g.S.Server.answers (c.args.server.now, c.args.lent.now) (c.lines.server, c.lines.lent) input (g.R.Source.left c.lines.reader) (prepend_known c.next_line.new.self.pending (g.R.Source.left c.next_line.new.reader)) c.lines.lines.pending c.next_line.new.line.items (taken c.args.writer.now) (taken c.hand_over.new.writer) c.hand_over.new.self c.lines.count handed found (λ none. c.in_ok-hand_over.ensures.none_held (c.has_line.ensures ∙ none))
+
+pub returns-then-not-branch-clause-lines : goal.returns-then-not-branch-clause-lines
+returns-then-not-branch-clause-lines g c =
+    let found = rw c.if-not-branch.true at c.in_ok-next_line.ensures.line in
+    let taken = g.W.Sink.taken in
+    progress_count g.S.Server.answers (c.args.server.now, c.args.lent.now) (c.lines.server, c.lines.lent) (g.R.Source.left c.args.reader.now) (prepend_known c.lines.lines.pending (g.R.Source.left c.lines.reader)) (prepend_known c.next_line.new.self.pending (g.R.Source.left c.next_line.new.reader)) c.next_line.new.line.items (taken c.args.writer.now) (taken c.lines.writer) c.lines.outbox c.lines.count
+    c.lines.invariant.progress found
