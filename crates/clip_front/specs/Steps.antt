@@ -1,3 +1,5 @@
 pub mod Answers
+pub mod Desk
 pub mod Outline
+pub mod Serving
 pub mod Views
