@@ -12,7 +12,7 @@ use std::fs;
 use std::fs::Files;
 
 /// The examples: of each the requests stand in NAME.jsonl, and the replies in NAME.out.
-const EXAMPLES: [&str; 13] = [
+const EXAMPLES: [&str; 14] = [
     "alerts",
     "changes",
     "clippings",
@@ -22,6 +22,7 @@ const EXAMPLES: [&str; 13] = [
     "limits",
     "listeners",
     "meaning",
+    "purging",
     "ranges",
     "refusals",
     "shapes",
