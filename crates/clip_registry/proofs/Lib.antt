@@ -8,3 +8,4 @@ pub mod Undoing
 pub mod Entering
 pub mod Alone
 pub mod Keeping
+pub mod Kept

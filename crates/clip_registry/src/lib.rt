@@ -9,6 +9,7 @@ mod command;
 mod merging;
 mod registrar;
 mod roster;
+mod same;
 mod state;
 mod view;
 

@@ -1,10 +1,12 @@
 -- Jobs and merges as their fields hold them.
-use Rattle.std.specs.Prelude.{◌≡◌, ℕ, ◌≤◌, List, map, length}
+use Rattle.std.specs.Prelude.{◌≡◌, ℕ, ◌≤◌, List, map, length, Contains, IsTrue}
 use Rattle.std.specs.Arc.{arc_value}
 use Rattle.clip_segment.specs.Segment.{IsRising, all_entries}
 use Rattle.clip_segment.specs.declared.segment.TheConstants.{MOST_POSITIONS}
 use Rattle.clip_merge.specs.Live.{named}
+use Rattle.clip_model.specs.History.{Registered, is_live}
 use Rattle.clip_registry.specs.Merging.{Job, Merge}
+use Rattle.clip_registry.specs.RegistryState.{RegistryState}
 use Rattle.clip_registry.specs.declared.merging.MergeJob.TheInside as job
 use Rattle.clip_registry.specs.declared.merging.Merged.TheInside as merged
 
@@ -32,3 +34,9 @@ pub record IsMerged (m : Merge) : Type 0 where
 
 abbrev pub IsMergedInside : merged.Inside → Type 0
 IsMergedInside m = IsMerged (merged_inside m)
+
+-- The seqs of these segments rise, their entries are some of the registry's, and each of those that is live is among them.
+pub record AreKept (state : RegistryState) (segments : List (List Registered)) : Type 0 where
+  pub rising : IsRising (all_entries segments)
+  pub some : (r : Registered) → Contains (all_entries segments) r → Contains (all_entries state.segments) r
+  pub live : (r : Registered) → Contains (all_entries state.segments) r → IsTrue (is_live state.history r.seq) → Contains (all_entries segments) r
