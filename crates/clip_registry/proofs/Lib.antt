@@ -9,3 +9,4 @@ pub mod Entering
 pub mod Alone
 pub mod Keeping
 pub mod Kept
+pub mod Equal
