@@ -10,3 +10,5 @@ pub mod Alone
 pub mod Keeping
 pub mod Kept
 pub mod Equal
+pub mod Missing
+pub mod Naming

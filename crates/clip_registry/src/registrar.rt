@@ -9,6 +9,7 @@ ghost use Rattle.clip_registry.specs.declared.command.Refused.TheVariants as ref
 
 use crate::command::{Applied, Command, HistoryEntry, Refused};
 use crate::merging::{Installed, MergeJob, Merged};
+use crate::purging::live_segments;
 use crate::state::State;
 use crate::view::View;
 use clip_model::MOST_CALLERS;
@@ -117,7 +118,15 @@ impl Registrar {
         ensures stale { result ≡ Ok Installed.Stale → IsStale self.old merged }
         ensures unchanged { (result ≡ Ok Installed.Done → ⊥) → self.new ≡ self.old }
     {
-        Err(NoMemory)
+        let Some(shared) = &mut self.state else {
+            return Ok(Installed::Stale);
+        };
+        let Some(first) = merged.place_in(shared) else {
+            return Ok(Installed::Stale);
+        };
+        let segments = merged.put_in(self.alloc, &shared.segments, first)?;
+        Arc::make_mut(shared)?.set_segments(segments);
+        Ok(Installed::Done)
     }
 
     /// Leaves each segment with just its live entries, and takes the empty ones away. The history is kept, and so is what
@@ -129,7 +138,12 @@ impl Registrar {
         ensures purged { OnOk result (self.new ≡ purged self.old) }
         ensures unchanged { OnErr result (self.new ≡ self.old) }
     {
-        Err(NoMemory)
+        let Some(shared) = &mut self.state else {
+            return Ok(());
+        };
+        let segments = live_segments(self.alloc, &shared.roster, &shared.segments)?;
+        Arc::make_mut(shared)?.set_segments(segments);
+        Ok(())
     }
 
     /// The registry as it stands, or `NoMemory` where the count of its holders is at its end. Constant time.

@@ -1,0 +1,16 @@
+use Rattle.std.proofs.Common.{◌≡◌, sym, ap, ◌∙◌, arith}
+use Rattle.std.specs.Arc.{arc_value}
+use Rattle.std.specs.List.{list_all}
+use Rattle.clip_registry.specs.Steps.Merging.{has_seq_if_live}
+use Rattle.clip_registry.proofs.Missing.{list_all-all_entries, passes_more, fails_at}
+use Rattle.clip_registry.proofs.merging.misses_none.Goals as goal
+
+pub returns-then-not-misses_none_of : goal.returns-then-not-misses_none_of
+returns-then-not-misses_none_of c =
+    let test = has_seq_if_live c.args.roster.now.registry c.args.live.now in
+    sym (list_all-all_entries test _
+    ∙ fails_at (list_all test) arc_value c.args.segments.now c.loop-segment.segment-index c.segment-item.result (omega arith) c.segment-item.is
+    (ap (list_all test) (sym c.deref.ensures ∙ sym c.entries.ensures.value) ∙ sym c.if-not-misses_none_of.ensures))
+
+pub returns : goal.returns
+returns c = let a = c.loop-segment.invariant in let b = c.loop-segment-test.false in let d = c.loop-segment.auto in ?
