@@ -20,7 +20,13 @@ returns-then-len c =
     let m = c.args.roster.now.registry in
     let rs = c.args.segment.now.value in
     let many : length (live_in m rs) ≡ length rs =
-    sym (length-map (live_in m rs) (λ (r : Registered). r.seq)) ∙ sym (ap length (seqs (goal.at.returns-then-len c).In_ok-add_live_seqs)) ∙ sym c.len.ensures ∙ c.if-len.true ∙ c.len-2.ensures ∙ ap length c.deref-2.ensures in
+    let same = length-map (live_in m rs) (λ (r : Registered). r.seq) in
+    let all = ap length (seqs (goal.at.returns-then-len c).In_ok-add_live_seqs) in
+    let held = c.add_live_seqs.new.seqs.ok.0 in
+    let counted = c.len.ensures in
+    let has = c.len-2.ensures ∙ ap length c.deref-2.ensures in
+    let equal = c.if-len.true in
+    omega arith in
     c.in_ok-clone.ensures.cases ∙ sym (filter_all (λ r. is_live_in m r.seq) rs many)
 
 pub of-live-requires : goal.of-live-requires
