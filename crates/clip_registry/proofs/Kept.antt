@@ -9,6 +9,7 @@ use Rattle.clip_model.specs.Steps.Numbered.{IsNumbered}
 use Rattle.clip_model.proofs.Live.{given_live}
 use Rattle.clip_model.proofs.Numbering.{replay_numbered}
 use Rattle.clip_merge.specs.Plan.{run_at}
+use Rattle.clip_merge.proofs.Named.{all_entries-append}
 use Rattle.clip_registry.specs.Merging.{StandsAt, has_entries, purged, shelf}
 use Rattle.clip_registry.specs.RegistryState.{RegistryState, IsWhole}
 use Rattle.clip_registry.specs.Steps.Merging.{AreKept, replaced}
@@ -97,10 +98,6 @@ rising_middle p (x ∷ xs) ys zs is =
     (rising_middle p xs ys zs (rising_tail x (xs ++ (ys ++ zs)) is))
 
 -- ---- purging
-
-pub all_entries-append : (xs ys : List (List Registered)) → all_entries (xs ++ ys) ≡ all_entries xs ++ all_entries ys
-all_entries-append [] ys = refl
-all_entries-append (x ∷ xs) ys = ap (λ es. x ++ es) (all_entries-append xs ys) ∙ sym (append_assoc x (all_entries xs) (all_entries ys))
 
 entries_shown : (es : List Registered) (segments : List (List Registered)) → all_entries (cond (has_entries es) (es ∷ segments) segments) ≡ es ++ all_entries segments
 entries_shown [] segments = refl

@@ -12,3 +12,4 @@ pub mod Kept
 pub mod Equal
 pub mod Missing
 pub mod Naming
+pub mod Counted

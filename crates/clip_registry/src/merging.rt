@@ -5,7 +5,7 @@ ghost use Rattle.std.specs.List.{list_all};
 ghost use Rattle.clip_segment.specs.Segment.{IsRising, all_entries};
 ghost use Rattle.clip_model.specs.declared.limits.TheConstants.{MOST_LIVE};
 ghost use Rattle.clip_registry.specs.Merging.{IsStale, Misses, StandsAt, merge_of};
-ghost use Rattle.clip_registry.specs.Steps.Merging.{AreKept, has_seq_if_live, replaced};
+ghost use Rattle.clip_registry.specs.Steps.Merging.{AreKept, has_seq_if_live, job_over, replaced};
 ghost use Rattle.clip_registry.specs.Steps.Roster.{live_in};
 
 use crate::purging::add_live_seqs;
@@ -104,6 +104,32 @@ fn misses_none(segments: &[Arc<Segment>], roster: &Roster, live: &Live) -> bool
 }
 
 impl MergeJob {
+    /// A job over four segments, which it shares, with those of their entries that are live. `NoMemory` where an
+    /// allocation failed.
+    pub(crate) fn over(
+        alloc: Global,
+        sources: &[Arc<Segment>],
+        roster: &Roster,
+    ) -> Result<MergeJob, NoMemory>
+        requires four { length sources.now ≡ 4 }
+        requires rising { IsRising (all_entries (map arc_value sources.now)) }
+        requires few { length (live_in roster.now.registry (all_entries (map arc_value sources.now))) ≤ MOST_LIVE }
+        ensures { IfOk result (λ job. job ≡ job_over roster.now.registry (map arc_value sources.now)) }
+    {
+        let mut seqs = Vec::new(alloc);
+        for source in sources {
+            add_live_seqs(roster, source.entries(), &mut seqs)?;
+        }
+        let mut shared = Vec::with_capacity(alloc, sources.len())?;
+        shared.extend_with_clones(sources)?;
+        let live = Arc::new(alloc, Live::of(seqs))?;
+        Ok(MergeJob {
+            alloc,
+            sources: shared,
+            live,
+        })
+    }
+
     /// One segment of the entries of its sources that were live when it was begun. It shares them.
     ///
     /// `NoMemory` where an allocation failed. Cost: that of `clip_merge::merge`, so a search by halves among the live

@@ -12,6 +12,7 @@ use crate::merging::{Installed, MergeJob, Merged};
 use crate::purging::live_segments;
 use crate::state::State;
 use crate::view::View;
+use clip_merge::plan;
 use clip_model::MOST_CALLERS;
 use clip_words::NoMemory;
 use std::alloc::Global;
@@ -101,7 +102,15 @@ impl Registrar {
         ensures begun { IfOk result (λ job. IfSome job (IsBegun self.now)) }
         ensures nothing { result ≡ Ok None → (first : ℕ) → IsRun self.now.segments first → ⊥ }
     {
-        Err(NoMemory)
+        let Some(state) = &self.state else {
+            return Ok(None);
+        };
+        let Some((first, end)) = plan(&state.segments) else {
+            return Ok(None);
+        };
+        let sources = &state.segments[first..end];
+        let job = MergeJob::over(self.alloc, sources, &state.roster)?;
+        Ok(Some(job))
     }
 
     /// Installs a merge, on whichever registrar it was begun: its segment takes the place of the four sources, or they just

@@ -7,6 +7,7 @@ use Rattle.clip_merge.specs.Live.{named, names}
 use Rattle.clip_model.specs.History.{Registered, Registry, is_live, is_live_in}
 use Rattle.clip_registry.specs.Merging.{Job, Merge, shelf}
 use Rattle.clip_registry.specs.RegistryState.{RegistryState}
+use Rattle.clip_registry.specs.Steps.Roster.{live_in}
 use Rattle.clip_registry.specs.declared.merging.MergeJob.TheInside as job
 use Rattle.clip_registry.specs.declared.merging.Merged.TheInside as merged
 
@@ -21,6 +22,10 @@ pub record IsJob (j : Job) : Type 0 where
 
 abbrev pub IsJobInside : job.Inside → Type 0
 IsJobInside j = IsJob (job_inside j)
+
+-- the job over these sources, where this is registered
+abbrev pub job_over : Registry → List (List Registered) → Job
+job_over registry sources = record { sources = sources; live = map (λ r. r.seq) (live_in registry (all_entries sources)) }
 
 abbrev pub merged_inside : merged.Inside → Merge
 merged_inside m = record { sources = map arc_value m.sources.items; entries = m.segment.value }
