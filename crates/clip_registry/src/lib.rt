@@ -15,6 +15,6 @@ mod state;
 mod view;
 
 pub use command::{Applied, Command, HistoryEntry, Refused};
-pub use merging::{Installed, MergeJob, Merged};
+pub use merging::{Installed, MergeJob, Merged, late_merges_miss_nothing};
 pub use registrar::Registrar;
 pub use view::View;

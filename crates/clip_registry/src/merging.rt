@@ -4,7 +4,7 @@ ghost use Rattle.std.specs.Arc.{arc_value};
 ghost use Rattle.std.specs.List.{list_all};
 ghost use Rattle.clip_segment.specs.Segment.{IsRising, all_entries};
 ghost use Rattle.clip_model.specs.declared.limits.TheConstants.{MOST_LIVE};
-ghost use Rattle.clip_registry.specs.Merging.{IsStale, Misses, StandsAt, merge_of};
+ghost use Rattle.clip_registry.specs.Merging.{IsStale, LateMergesMissNothing, Misses, StandsAt, merge_of};
 ghost use Rattle.clip_registry.specs.Steps.Merging.{AreKept, has_seq_if_live, job_over, replaced};
 ghost use Rattle.clip_registry.specs.Steps.Roster.{live_in};
 
@@ -185,3 +185,8 @@ impl Merged {
         Ok(list)
     }
 }
+
+/// However late a merge is installed on the registrar on which it was begun, it misses no live entry.
+pub fn late_merges_miss_nothing()
+    ensures { LateMergesMissNothing }
+{}
