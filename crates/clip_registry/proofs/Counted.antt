@@ -1,11 +1,10 @@
 -- How many live entries there are.
-use Rattle.std.proofs.Common.{◌≡◌, ℕ, zero, suc, ◌+◌, ◌-◌, ◌<◌, ◌≤◌, Bool, true, false, cond, List, [], ◌∷◌, ◌++◌, length, take, drop, refl, sym, ap, subst, ◌∙◌, arith, Some, is_some, IsTrue}
-use Rattle.std.proofs.lemmas.Bool.{false≢true}
+use Rattle.std.proofs.Common.{◌≡◌, ℕ, zero, suc, ◌-◌, ◌<◌, ◌≤◌, true, false, cond, List, [], ◌∷◌, ◌++◌, length, take, drop, refl, sym, ap, subst, ◌∙◌, arith, Some, is_some}
 use Rattle.std.proofs.lemmas.Cmp.{nat_list_cmp_total}
 use Rattle.std.proofs.lemmas.List.{take-append-drop}
 use Rattle.std.proofs.lemmas.List.Elements.{All-contains, Contains-append_left, Contains-append_right}
 use Rattle.std.proofs.lemmas.Option.{none-some, same_Some}
-use Rattle.std.specs.List.{Contains, filter}
+use Rattle.std.specs.List.{Contains}
 use Rattle.std.specs.Ordering.{eq_by_cmp}
 use Rattle.std.specs.FinMap as finite
 use Rattle.std.specs.FinMap.{get-empty, len-remove, empty_of_len}
@@ -59,7 +58,7 @@ few_given [] m is given = omega arith
 few_given (r ∷ rs) m is given =
     let fewer = one_fewer m r.standing.id r (given r (contains_head r rs)) in
     let rest : length rs ≤ finite.len (finite.remove m r.standing.id) = few_given rs (finite.remove m r.standing.id) (rising_tail r rs is) (λ t h.
-        removed_else m r.standing.id t.standing.id (apart m r t rs is given h) ∙ given t (contains_later r t rs h)) in
+    removed_else m r.standing.id t.standing.id (apart m r t rs is given h) ∙ given t (contains_later r t rs h)) in
     omega arith
 
 -- the segments of a run are part of all segments
@@ -81,6 +80,7 @@ run_rises segments first is =
     rising_right : (xs ys : List Registered) → IsRising (xs ++ ys) → IsRising ys
     rising_right [] ys is = is
     rising_right (x ∷ xs) ys is = rising_right xs ys (rising_tail x (xs ++ ys) is)
+
     rising_left : (xs ys : List Registered) → IsRising (xs ++ ys) → IsRising xs
     rising_left [] ys is = rising_nil
     rising_left (x ∷ xs) ys is =
@@ -92,5 +92,5 @@ few_live state first whole =
     let run = all_entries (run_at state.segments first) in
     let live = λ (r : Registered). is_live state.history r.seq in
     few_given (live_of state run) (replay state.history) (rising_filter live run (run_rises state.segments first whole.rising)) (λ r h.
-        let among = contains_of_filter live r run h in
-        (whole.live_entries r).1 (run_among state.segments first r among.0, among.1))
+    let among = contains_of_filter live r run h in
+    (whole.live_entries r).1 (run_among state.segments first r among.0, among.1))

@@ -1,11 +1,10 @@
 -- A registry stays whole where its segments keep each live entry.
-use Rattle.std.proofs.Common.{◌≡◌, ℕ, suc, ◌+◌, ◌<◌, ◌≤◌, Bool, true, false, cond, List, [], ◌∷◌, ◌++◌, length, get_or, take, drop, map, refl, sym, ap, subst, ◌∙◌, inl, inr, arith, IsTrue, append_assoc, append-nil, add_comm}
+use Rattle.std.proofs.Common.{◌≡◌, ℕ, ◌+◌, ◌≤◌, Bool, true, false, cond, List, [], ◌∷◌, ◌++◌, length, get_or, take, drop, map, refl, sym, ap, subst, ◌∙◌, inl, inr, arith, IsTrue, append_assoc, append-nil}
 use Rattle.std.proofs.lemmas.List.{take-append-drop, drop-drop, get_or_default, length-take, length-drop}
-use Rattle.std.proofs.lemmas.List.Elements.{All-contains, All-contains_itself, Contains-append_left, Contains-append_right, Contains-append_cases, filter-append}
+use Rattle.std.proofs.lemmas.List.Elements.{All-contains, Contains-append_left, Contains-append_right, Contains-append_cases, filter-append}
 use Rattle.std.specs.List.{All, Contains, filter}
 use Rattle.clip_segment.specs.Segment.{IsRising, all_entries}
-use Rattle.clip_model.specs.History.{Registered, Registry, replay, listed, is_live}
-use Rattle.clip_model.specs.Steps.Numbered.{IsNumbered}
+use Rattle.clip_model.specs.History.{Registered, replay, listed, is_live}
 use Rattle.clip_model.proofs.Live.{given_live}
 use Rattle.clip_model.proofs.Numbering.{replay_numbered}
 use Rattle.clip_merge.specs.Plan.{run_at}
@@ -16,7 +15,7 @@ use Rattle.clip_registry.specs.Steps.Merging.{AreKept, replaced}
 use Rattle.clip_registry.specs.Steps.Roster.{Roster}
 use Rattle.clip_registry.specs.Steps.State.{IsConsistent}
 use Rattle.clip_registry.proofs.Rising.{Below, rising_cons, rising_head, rising_tail, rising_filter, contains_head, contains_later, contains_cases, contains_filter}
-use Rattle.clip_registry.proofs.Whole.{IsShelved, shelved, whole_from}
+use Rattle.clip_registry.proofs.Whole.{shelved, whole_from}
 
 -- the registry with other segments
 abbrev pub with_segments : RegistryState → List (List Registered) → RegistryState

@@ -1,14 +1,13 @@
 -- A merge misses nothing, however late it is installed.
-use Rattle.std.proofs.Common.{◌≡◌, ℕ, ◌≤◌, true, ◌++◌, List, map, length, take, drop, sym, ap, subst, ◌∙◌}
+use Rattle.std.proofs.Common.{◌≡◌, ◌≤◌, true, ap, subst, ◌∙◌}
 use Rattle.std.proofs.lemmas.List.Elements.{All-contains}
 use Rattle.std.specs.List.{Contains}
-use Rattle.clip_merge.specs.Live.{named, names}
+use Rattle.clip_merge.specs.Live.{names}
 use Rattle.clip_merge.specs.Plan.{run_at}
 use Rattle.clip_segment.specs.Segment.{all_entries}
-use Rattle.clip_model.specs.History.{History, Registered, listed, replay, is_live, is_live_in}
+use Rattle.clip_model.specs.History.{History, listed, is_live}
 use Rattle.clip_model.proofs.Dead.{live_before}
-use Rattle.clip_registry.specs.Merging.{Job, IsBegun, LateMergesMissNothing, live_of}
-use Rattle.clip_registry.specs.RegistryState.{RegistryState}
+use Rattle.clip_registry.specs.Merging.{LateMergesMissNothing, live_of}
 use Rattle.clip_registry.proofs.Counted.{run_among}
 use Rattle.clip_registry.proofs.Naming.{names_member}
 use Rattle.clip_registry.proofs.Rising.{contains_filter}

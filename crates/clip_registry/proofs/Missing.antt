@@ -1,14 +1,11 @@
 -- Whether a merge misses live entries.
-use Rattle.std.proofs.Common.{◌≡◌, ℕ, ◌+◌, ◌<◌, get_or, take, Bool, true, false, cond, ◌&&◌, ◌||◌, not, List, [], ◌∷◌, ◌++◌, map, length, refl, sym, ap, subst, ◌∙◌, IsTrue, ◌==◌}
+use Rattle.std.proofs.Common.{◌≡◌, ℕ, ◌+◌, ◌<◌, get_or, take, Bool, true, false, ◌&&◌, ◌||◌, not, List, [], ◌∷◌, map, length, refl, sym, ap, subst, ◌∙◌}
 use Rattle.std.proofs.lemmas.Bool.{false≢true}
 use Rattle.std.proofs.lemmas.List.Elements.{All-contains}
 use Rattle.std.proofs.lemmas.List.Folds.{list_all-append, list_all-map, list_all_more, list_all_at}
 use Rattle.std.proofs.lemmas.List.Sums.{AllPass-from_list_all}
-use Rattle.std.specs.Arc.{arc_value}
-use Rattle.std.specs.List.{Contains, filter, list_all}
-use Rattle.std.specs.declared.alloc.Global.{Global}
-use Rattle.std.specs.declared.sync.Arc.{Arc}
-use Rattle.clip_merge.specs.Live.{named, names}
+use Rattle.std.specs.List.{Contains, list_all}
+use Rattle.clip_merge.specs.Live.{names}
 use Rattle.clip_segment.specs.Segment.{all_entries}
 use Rattle.clip_model.specs.History.{Registered, Registry, replay, is_live_in}
 use Rattle.clip_registry.specs.Merging.{Merge, Misses, StandsAt}

@@ -3,7 +3,7 @@ use Rattle.std.proofs.Math.Seq.{take-length}
 use Rattle.std.specs.Arc.{arc_value}
 use Rattle.std.specs.List.{list_all}
 use Rattle.clip_registry.specs.Steps.Merging.{has_seq_if_live}
-use Rattle.clip_registry.proofs.Missing.{list_all-all_entries, passes_more, fails_at}
+use Rattle.clip_registry.proofs.Missing.{list_all-all_entries, fails_at}
 use Rattle.clip_registry.proofs.merging.misses_none.Goals as goal
 
 pub returns-then-not-misses_none_of : goal.returns-then-not-misses_none_of

@@ -1,7 +1,7 @@
-use Rattle.std.proofs.Common.{◌≡◌, sym, ap, ◌∙◌, arith}
+use Rattle.std.proofs.Common.{sym, ap, ◌∙◌, arith}
 use Rattle.std.specs.Arc.{arc_value}
 use Rattle.clip_registry.specs.Steps.Merging.{has_seq_if_live}
-use Rattle.clip_registry.proofs.Missing.{passes_more, fails_at}
+use Rattle.clip_registry.proofs.Missing.{fails_at}
 use Rattle.clip_registry.proofs.merging.misses_none_of.Goals as goal
 
 pub returns-then-not-is_named_if_live : goal.returns-then-not-is_named_if_live

@@ -1,4 +1,4 @@
-use Rattle.std.proofs.Common.{◌≡◌, ◌<◌, ℕ, map}
+use Rattle.std.proofs.Common.{◌<◌, ℕ, map}
 use Rattle.std.specs.Arc.{arc_value}
 use Rattle.clip_registry.specs.Merging.{StandsAt}
 use Rattle.clip_registry.proofs.same.place_of.Given as goal

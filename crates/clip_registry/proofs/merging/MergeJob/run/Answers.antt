@@ -3,7 +3,7 @@ use Rattle.std.specs.Arc.{arc_value}
 use Rattle.clip_merge.specs.Live.{named}
 use Rattle.clip_segment.specs.Segment.{IsRising, all_entries}
 use Rattle.clip_model.specs.History.{Registered}
-use Rattle.clip_registry.specs.Merging.{Job, merge_of}
+use Rattle.clip_registry.specs.Merging.{merge_of}
 use Rattle.clip_registry.proofs.Clones.{map_shared}
 use Rattle.clip_registry.proofs.merging.MergeJob.run.Goals as goal
 

@@ -1,10 +1,9 @@
-use Rattle.std.proofs.Common.{◌≡◌, List, length, map, sym, ap, subst, ◌∙◌}
+use Rattle.std.proofs.Common.{◌≡◌, map, sym, ap, subst, ◌∙◌}
 use Rattle.std.specs.Arc.{arc_value}
 use Rattle.std.specs.List.{list_all}
 use Rattle.clip_merge.specs.Plan.{run_at}
 use Rattle.clip_segment.specs.Segment.{all_entries}
-use Rattle.clip_model.specs.History.{Registered}
-use Rattle.clip_registry.specs.Merging.{IsStale, Merge, StandsAt}
+use Rattle.clip_registry.specs.Merging.{Merge, StandsAt}
 use Rattle.clip_registry.specs.Merging.IsStale.{misses}
 use Rattle.clip_registry.specs.RegistryState.{RegistryState}
 use Rattle.clip_registry.specs.Steps.Merging.{IsMerged, has_seq_if_live}

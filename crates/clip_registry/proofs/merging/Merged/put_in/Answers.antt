@@ -1,4 +1,4 @@
-use Rattle.std.proofs.Common.{◌≡◌, append-nil, ◌+◌, ◌++◌, ◌∷◌, [], true, false, ◌==◌, List, length, map, take, drop, refl, sym, ap, subst, ◌∙◌, arith}
+use Rattle.std.proofs.Common.{◌≡◌, append-nil, ◌+◌, ◌++◌, ◌∷◌, [], true, false, ◌==◌, List, length, map, take, drop, refl, sym, ap, ◌∙◌, arith}
 use Rattle.std.proofs.lemmas.Bool.Decides.{nat_tests}
 use Rattle.std.proofs.lemmas.List.{map-append, take-map, drop-map, drop-drop}
 use Rattle.std.specs.Arc.{arc_value}

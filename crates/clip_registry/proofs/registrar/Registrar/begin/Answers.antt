@@ -1,7 +1,6 @@
-use Rattle.std.proofs.Common.{◌≡◌, ◌+◌, ◌-◌, ◌≤◌, List, [], ◌∷◌, length, map, take, drop, sym, ap, refl, subst, ◌∙◌, arith, append-nil}
+use Rattle.std.proofs.Common.{◌≡◌, ◌-◌, ◌≤◌, List, [], length, map, take, drop, sym, ap, refl, subst, ◌∙◌, arith, append-nil}
 use Rattle.std.proofs.lemmas.List.{take-map, drop-map}
 use Rattle.std.specs.Arc.{arc_value}
-use Rattle.std.specs.FinMap as finite
 use Rattle.clip_merge.specs.Plan.{IsRun, IsOldestRun, run_at}
 use Rattle.clip_segment.specs.Segment.{IsRising, all_entries}
 use Rattle.clip_model.specs.declared.limits.TheConstants.{MOST_LIVE}

@@ -1,6 +1,5 @@
 use Rattle.std.proofs.Common.{◌≡◌, map, filter, sym, ap, subst, ◌∙◌, inl, inr}
 use Rattle.std.specs.Arc.{arc_value}
-use Rattle.clip_model.specs.History.{replay}
 use Rattle.clip_registry.specs.Merging.{has_entries, live_of, purged}
 use Rattle.clip_registry.specs.RegistryState.{RegistryState}
 use Rattle.clip_registry.specs.Steps.Merging.{AreKept}

@@ -1,4 +1,4 @@
-use Rattle.std.proofs.Common.{◌≡◌, subst, sym, ap, map}
+use Rattle.std.proofs.Common.{subst, sym, map}
 use Rattle.std.specs.Arc.{arc_value}
 use Rattle.clip_registry.specs.RegistryState.{RegistryState}
 use Rattle.clip_registry.specs.Steps.Merging.{AreKept}
