@@ -9,8 +9,10 @@ ghost use Rattle.clip_registry.specs.declared.command.Refused.TheVariants as ref
 
 use crate::command::{Applied, Command, HistoryEntry, Refused};
 use crate::merging::{Installed, MergeJob, Merged};
+use crate::purging::live_segments;
 use crate::state::State;
 use crate::view::View;
+use clip_merge::plan;
 use clip_model::MOST_CALLERS;
 use clip_words::NoMemory;
 use std::alloc::Global;
@@ -100,7 +102,15 @@ impl Registrar {
         ensures begun { IfOk result (λ job. IfSome job (IsBegun self.now)) }
         ensures nothing { result ≡ Ok None → (first : ℕ) → IsRun self.now.segments first → ⊥ }
     {
-        Err(NoMemory)
+        let Some(state) = &self.state else {
+            return Ok(None);
+        };
+        let Some((first, end)) = plan(&state.segments) else {
+            return Ok(None);
+        };
+        let sources = &state.segments[first..end];
+        let job = MergeJob::over(self.alloc, sources, &state.roster)?;
+        Ok(Some(job))
     }
 
     /// Installs a merge, on whichever registrar it was begun: its segment takes the place of the four sources, or they just
@@ -117,7 +127,15 @@ impl Registrar {
         ensures stale { result ≡ Ok Installed.Stale → IsStale self.old merged }
         ensures unchanged { (result ≡ Ok Installed.Done → ⊥) → self.new ≡ self.old }
     {
-        Err(NoMemory)
+        let Some(shared) = &mut self.state else {
+            return Ok(Installed::Stale);
+        };
+        let Some(first) = merged.place_in(shared) else {
+            return Ok(Installed::Stale);
+        };
+        let segments = merged.put_in(self.alloc, &shared.segments, first)?;
+        Arc::make_mut(shared)?.set_segments(segments);
+        Ok(Installed::Done)
     }
 
     /// Leaves each segment with just its live entries, and takes the empty ones away. The history is kept, and so is what
@@ -129,7 +147,12 @@ impl Registrar {
         ensures purged { OnOk result (self.new ≡ purged self.old) }
         ensures unchanged { OnErr result (self.new ≡ self.old) }
     {
-        Err(NoMemory)
+        let Some(shared) = &mut self.state else {
+            return Ok(());
+        };
+        let segments = live_segments(self.alloc, &shared.roster, &shared.segments)?;
+        Arc::make_mut(shared)?.set_segments(segments);
+        Ok(())
     }
 
     /// The registry as it stands, or `NoMemory` where the count of its holders is at its end. Constant time.
