@@ -1,6 +1,4 @@
 //! A long run of random requests, against a plain filter.
-ghost use Rattle.std.specs.Prelude.{◌<◌};
-
 use crate::runs::is_answered_by;
 use std::alloc::{AllocError, Global};
 use std::test::Fail;
