@@ -26,13 +26,13 @@ pub struct Ended {
 
 /// The registry of a run and its books. They answer requests, with an audience to which alerts are told.
 #[derive(Drop)]
-struct Desk {
+struct RunServer {
     registrar: Registrar,
     books: Books,
 }
 
-impl<A: Audience> Server<A> for Desk {
-    ghost use Rattle.clip_front.specs.Steps.Desk.{held_at, AnswersIn, BreaksIn};
+impl<A: Audience> Server<A> for RunServer {
+    ghost use Rattle.clip_front.specs.Steps.RunServer.{held_at, AnswersIn, BreaksIn};
 
     ghost answers = { AnswersIn (held_at A.hearers) };
 
@@ -111,14 +111,14 @@ pub fn run<R: Source, W: Sink, A: Audience>(
     ensures front { OnErr result (IfSome (R.left reader.old)
         (GivesFront (A.hearers audience.old) (A.hearers audience.new) (W.taken writer.old) (W.taken writer.new))) }
 {
-    let mut desk = Desk {
+    let mut server = RunServer {
         registrar: Registrar::new(alloc),
         books: Books::new(alloc, settings),
     };
-    let lines = serve(alloc, reader, writer, audience, &mut desk)?;
+    let lines = serve(alloc, reader, writer, audience, &mut server)?;
     Ok(Ended {
         lines,
-        ledger: desk.books.ledger,
+        ledger: server.books.ledger,
     })
 }
 
