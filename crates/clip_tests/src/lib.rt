@@ -14,6 +14,8 @@ mod many;
 #[cfg(test)]
 mod meaning;
 #[cfg(test)]
+mod merging;
+#[cfg(test)]
 mod registry;
 #[cfg(test)]
 mod script;
