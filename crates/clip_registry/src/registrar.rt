@@ -97,7 +97,8 @@ impl Registrar {
     /// Begins a merge: a job over the oldest four neighbouring segments of one level, which it shares, and which of their
     /// entries are live; `None` where there are no such four. `NoMemory` where an allocation failed.
     ///
-    /// Cost: a step for each segment, and one for each entry of the four.
+    /// Cost: that of `clip_merge::plan`, so a step for each segment and each of its levels, and a step for each entry of
+    /// the four.
     pub fn begin(&self) -> Result<Option<MergeJob>, NoMemory>
         ensures begun { IfOk result (λ job. IfSome job (IsBegun self.now)) }
         ensures nothing { result ≡ Ok None → (first : ℕ) → IsRun self.now.segments first → ⊥ }
@@ -120,8 +121,9 @@ impl Registrar {
     ///
     /// `NoMemory` where an allocation failed, with nothing changed and the merge dropped.
     ///
-    /// Cost: a step for each segment and one for each entry of the four, whose texts are compared; and a copy of the
-    /// registry's lists and maps while a view of it as it stands is held.
+    /// Cost: a step for each segment, each of which is shared by a new list; for each entry of the four a comparison of
+    /// its seq and texts, and where it is live a search by halves; and a copy of the registry's lists and maps while a
+    /// view of it as it stands is held. A stale merge copies nothing.
     pub fn install(&mut self, merged: Merged) -> Result<Installed, NoMemory>
         ensures done { result ≡ Ok Installed.Done → IsInstalled self.old self.new merged }
         ensures stale { result ≡ Ok Installed.Stale → IsStale self.old merged }
@@ -141,8 +143,9 @@ impl Registrar {
     /// Leaves each segment with just its live entries, and takes the empty ones away. The history is kept, and so is what
     /// is registered. `NoMemory` where an allocation failed, with nothing changed.
     ///
-    /// Cost: a step for each entry, and that of `clip_merge::purge` for each segment with an entry that is dead; and a
-    /// copy of the registry's lists and maps while a view of it as it stands is held.
+    /// Cost: a step for each entry, and that of `clip_merge::purge` for each segment with an entry that is dead; the
+    /// others are shared by a new list. And a copy of the registry's lists and maps while a view of it as it stands is
+    /// held.
     pub fn purge(&mut self) -> Result<(), NoMemory>
         ensures purged { OnOk result (self.new ≡ purged self.old) }
         ensures unchanged { OnErr result (self.new ≡ self.old) }

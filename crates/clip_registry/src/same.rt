@@ -10,6 +10,7 @@ use std::sync::Arc;
 fn is_same_standing(a: &Standing, b: &Standing) -> bool
     ensures { IsTrue result ↔ (a.now ≡ b.now) }
 {
+    // Each query is the reading of its text.
     let _ = a.query();
     let _ = b.query();
     a.id() == b.id() && a.text() == b.text() && a.listener() == b.listener()
@@ -54,8 +55,8 @@ fn are_same_segments(a: &[Arc<Segment>], b: &[Arc<Segment>]) -> bool
 
 /// The first place at which four segments stand as the sources.
 ///
-/// Cost: a step for each segment, and one for each entry of the four, whose texts are compared; lists of other lengths
-/// are told apart by these, and others by their first seqs, mostly.
+/// Cost: a step for each segment, and for each entry of the four a comparison of its seq and texts. At other places the
+/// segments mostly differ in their lengths or their first seqs, and no text is read.
 pub fn place_of(segments: &[Arc<Segment>], sources: &[Arc<Segment>]) -> Option<usize>
     requires { length sources.now ≡ 4 }
     ensures stands { IfSome result (λ first. StandsAt (map arc_value segments.now) (map arc_value sources.now) first) }

@@ -16,6 +16,8 @@ mod meaning;
 #[cfg(test)]
 mod merge;
 #[cfg(test)]
+mod merging;
+#[cfg(test)]
 mod random;
 #[cfg(test)]
 mod registry;
