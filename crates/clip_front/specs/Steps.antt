@@ -1,3 +1,4 @@
 pub mod Answers
 pub mod Outline
+pub mod TraceOutline
 pub mod Views

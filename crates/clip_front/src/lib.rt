@@ -12,6 +12,7 @@ mod reply;
 mod request;
 mod session;
 mod settings;
+mod trace_request;
 
 pub use limits::MOST_ARTICLES;
 pub use session::{Ended, one_outcome, run};
