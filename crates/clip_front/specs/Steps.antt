@@ -1,4 +1,6 @@
 pub mod Answers
+pub mod Desk
 pub mod Outline
+pub mod Serving
 pub mod TraceOutline
 pub mod Views

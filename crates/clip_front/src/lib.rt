@@ -10,6 +10,7 @@ mod members;
 mod refusal;
 mod reply;
 mod request;
+mod server;
 mod session;
 mod settings;
 mod trace_request;

@@ -6,11 +6,13 @@ ghost use Rattle.clip_front.specs.Outcome.{Outcome, IsOutcome, GivesAll, GivesFr
 
 use crate::answer::answer;
 use crate::books::Books;
+use crate::server::{Server, serve};
 use crate::settings::Settings;
 use clip_ledger::Ledger;
 use clip_listen::Audience;
 use clip_registry::Registrar;
-use clip_stream::{LineReader, MOST_READS, Outbox, RunFault, Sink, Source};
+use clip_stream::{MOST_READS, RunFault, Sink, Source};
+use clip_words::NoMemory;
 use std::alloc::Global;
 
 /// What a run did.
@@ -20,6 +22,38 @@ pub struct Ended {
     pub lines: u64,
     /// A row for each alert, in the order of lines, articles and ids, where rows are kept.
     pub ledger: Ledger,
+}
+
+/// The registry of a run and its books. They answer requests, with an audience to which alerts are told.
+#[derive(Drop)]
+struct Desk {
+    registrar: Registrar,
+    books: Books,
+}
+
+impl<A: Audience> Server<A> for Desk {
+    ghost use Rattle.clip_front.specs.Steps.Desk.{held_at, AnswersIn, BreaksIn};
+
+    ghost answers = { AnswersIn (held_at A.hearers) };
+
+    ghost breaks_off = { BreaksIn (held_at A.hearers) };
+
+    fn answer(
+        &mut self,
+        alloc: Global,
+        audience: &mut A,
+        number: u64,
+        bytes: &[u8],
+    ) -> Result<Vec<u8>, NoMemory> {
+        answer(
+            alloc,
+            &mut self.registrar,
+            audience,
+            &mut self.books,
+            number,
+            bytes,
+        )
+    }
 }
 
 /// Reads requests, a JSON object a line, and writes the replies in the order of the lines. Each alert of a match is told
@@ -70,24 +104,15 @@ pub fn run<R: Source, W: Sink, A: Audience>(
     ensures front { OnErr result (IfSome (R.left reader.old)
         (GivesFront (A.hearers audience.old) (A.hearers audience.new) (W.taken writer.old) (W.taken writer.new))) }
 {
-    let mut lines = LineReader::new(alloc)?;
-    let mut registrar = Registrar::new(alloc);
-    let mut books = Books::new(alloc, settings);
-    let mut outbox = Outbox::new(alloc);
-    let mut line = Vec::new(alloc);
-    let mut count = 0u64;
-    'lines: loop {
-        outbox.hand_over(writer, lines.has_line())?;
-        if !lines.next_line(reader, &mut line)? {
-            return Ok(Ended {
-                lines: count,
-                ledger: books.ledger,
-            });
-        }
-        count += 1;
-        let reply = answer(alloc, &mut registrar, audience, &mut books, count, &line)?;
-        outbox.gather(&reply)?;
-    }
+    let mut desk = Desk {
+        registrar: Registrar::new(alloc),
+        books: Books::new(alloc, settings),
+    };
+    let lines = serve(alloc, reader, writer, audience, &mut desk)?;
+    Ok(Ended {
+        lines,
+        ledger: desk.books.ledger,
+    })
 }
 
 /// Each input has exactly one outcome, so there is one for `run` to give, and it gives no other.

@@ -2,9 +2,8 @@ use Rattle.std.proofs.Common.{◌≡◌, ◌+◌, ◌≤◌, true, false}
 use Rattle.std.specs.Io.KnownBytes.{prepend_known, IsAtEnd}
 use Rattle.clip_stream.specs.Steps.Reading.{fuel}
 use Rattle.clip_stream.specs.declared.limits.TheConstants.{MOST_READS}
-use Rattle.clip_front.specs.Steps.Answers.{held}
 use Rattle.clip_front.proofs.Progress.{Progress}
-use Rattle.clip_front.proofs.session.run.Given as goal
+use Rattle.clip_front.proofs.server.serve.Given as goal
 
 abbrev pub invariant-lines : goal.invariant-lines
 invariant-lines g l = record {
@@ -14,8 +13,7 @@ invariant-lines g l = record {
   reader_well : g.R.Source.has_failed l.reader ≡ false;
   writer_well : g.W.Sink.has_failed l.writer ≡ false;
   fuel_left : l.count + fuel l.lines ≤ 72057594037927937;
-  keeps : l.books.keeps_rows ≡ l.fn.settings.keeps_rows;
-  progress : Progress (g.A.Audience.hearers l.fn.audience) (g.R.Source.left l.fn.reader) (prepend_known l.lines.pending (g.R.Source.left l.reader)) (g.W.Sink.taken l.fn.writer) (g.W.Sink.taken l.writer) l.outbox l.count (held l.registrar (g.A.Audience.hearers l.audience) l.books);
+  progress : Progress g.S.Server.answers (l.fn.server, l.fn.lent) (l.server, l.lent) (g.R.Source.left l.fn.reader) (prepend_known l.lines.pending (g.R.Source.left l.reader)) (g.W.Sink.taken l.fn.writer) (g.W.Sink.taken l.writer) l.outbox l.count;
 }
 
 abbrev pub decreases-lines : goal.decreases-lines

@@ -1,0 +1,204 @@
+-- What a run gives, by the answers to its lines.
+use Rattle.std.proofs.Common.{◌≡◌, ℕ, zero, suc, ◌≤◌, List, [], ◌∷◌, ◌++◌, length, take, drop, Bool, true, false, cond, Option, Some, None, refl, sym, ap, ap₂, ◌∙◌, subst, arith, append_assoc, append-nil, true≢false, if◌then◌else◌, inl, inr}
+use Rattle.std.specs.Prelude.{⊤, IfSome, OnErr, nat_lt}
+use Rattle.std.specs.Io.KnownBytes.{Appends}
+use Rattle.std.proofs.Math.Seq.{take-append_seam}
+use Rattle.std.proofs.lemmas.Bool.Decides.{nat_tests}
+use Rattle.std.proofs.lemmas.List.{length-take, take-append-drop}
+use Rattle.clip_stream.specs.Device.{AppendsFront}
+use Rattle.clip_stream.specs.Lines.{lines_of}
+use Rattle.clip_stream.specs.Steps.Reading.{cut}
+use Rattle.clip_stream.specs.declared.limits.TheConstants.{MOST_LINE_BYTES}
+use Rattle.clip_model.specs.Alerts.{Alert}
+use Rattle.clip_model.specs.History.{History}
+use Rattle.clip_listen.specs.Heard.{Hearer, told_all, HearsFront}
+use Rattle.clip_listen.proofs.Hearing.{told_none, told_more, names_told, front_after}
+use Rattle.clip_front.specs.LineMeaning.{Meaning, is_long, is_blank, json_of, Means, after}
+use Rattle.clip_front.specs.Reply.{reply_text}
+use Rattle.clip_front.specs.Outcome.{Outcome, nothing_given, followed_by, given, names_in, kept_rows, Gives, GivesAll, GivesFront}
+use Rattle.clip_front.specs.Steps.Answers.{Held, Answers, held_after, alerts_outlined}
+use Rattle.clip_front.specs.Steps.Desk.{AnswersIn, BreaksIn}
+use Rattle.clip_front.specs.Steps.Outline.{outline, blank, outline_of_value, MeansOutline}
+use Rattle.clip_front.specs.Steps.Serving.{Answering, Breaking, Serves, StopsAt, ServesAll, ServesFront}
+use Rattle.clip_front.proofs.Delivering.{none_posted}
+use Rattle.clip_front.proofs.Meanings.{means_from}
+use Rattle.clip_front.proofs.OneOutcome.{outline_some}
+use Rattle.clip_front.proofs.Outcomes.{followed_nothing, kept_append, given_kept, told-outlined}
+
+-- ---- a line that is cut says no other thing
+
+take_nothing : (k : ℕ) → take {A = ℕ} k [] ≡ []
+take_nothing zero = refl
+take_nothing (suc k) = refl
+
+take_all : (n : ℕ) (xs : List ℕ) → length xs ≤ n → take n xs ≡ xs
+take_all n [] h = take_nothing n
+take_all zero (x ∷ xs) h = absurd (omega arith)
+take_all (suc n) (x ∷ xs) h = ap (λ ys. x ∷ ys) (take_all n xs (omega arith))
+
+choose : {A : Type 0} (s t : Bool) (u x y : A) → s ≡ t → (s ≡ false → x ≡ y) → cond s u x ≡ cond t u y
+choose true true u x y e h = refl
+choose false false u x y e h = h refl
+choose true false u x y e h = absurd (true≢false e)
+choose false true u x y e h = absurd (true≢false (sym e))
+
+cut_at : (limit k : ℕ) (line : List ℕ) → k ≡ suc limit → nat_lt limit (length (take k line)) ≡ nat_lt limit (length line)
+cut_at limit k line e = let len = length-take k line in grind (arith, nat_tests, len, e)
+
+cut_within : (limit k : ℕ) (line : List ℕ) → k ≡ suc limit → nat_lt limit (length (take k line)) ≡ false → take k line ≡ line
+cut_within limit k line e h = take_all k line (let len = length-take k line in grind (arith, nat_tests, len, e, h))
+
+outline_at : (line kept : List ℕ) → is_long kept ≡ is_long line → (is_long kept ≡ false → kept ≡ line) → outline kept ≡ outline line
+unfolding outline
+outline_at line kept same whole = choose _ _ _ _ _ same (λ e. ap (λ l. if is_blank l then blank else outline_of_value (json_of l)) (whole e))
+
+outline-cut : (line : List ℕ) → outline (cut line) ≡ outline line
+unfolding cut
+outline-cut line = outline_at line (take (suc MOST_LINE_BYTES) line) (cut_at MOST_LINE_BYTES (suc MOST_LINE_BYTES) line refl) (cut_within MOST_LINE_BYTES (suc MOST_LINE_BYTES) line refl)
+
+-- ---- the path of a server
+-- what was heard before changes nothing that is given
+gives_kept : (front : List Alert) (hearers : List Hearer) (n : ℕ) (h : History) (lines : List (List ℕ)) (o : Outcome) → Gives (told_all front hearers) n h lines o → Gives hearers n h lines o
+gives_kept front hearers n h [] o g = g
+gives_kept front hearers n h (line ∷ lines) o g =
+    (g.0, g.1, subst (λ ns. Means ns h line g.0) (names_told front hearers) g.2, g.3 ∙ ap (λ x. followed_by x g.1) (given_kept front hearers n h g.0), gives_kept front hearers (suc n) (after h g.0) lines g.1 g.4)
+
+-- ---- one line and those after it
+
+-- what the line gives
+abbrev given_now : (s t : Held) (n : ℕ) (line text : List ℕ) → Answers s t n line text → Outcome
+given_now s t n line text answers = given s.hearers n s.history answers.responds.meaning
+
+heard_now : (s t : Held) (n : ℕ) (line text : List ℕ) (a : Answers s t n line text) → t.hearers ≡ told_all (given_now s t n line text a).alerts s.hearers
+heard_now s t n line text a = ap (λ x. x.hearers) a.responds.goes_on
+
+text_now : (s t : Held) (n : ℕ) (line text : List ℕ) (a : Answers s t n line text) → (given_now s t n line text a).text ≡ text
+text_now s t n line text a = sym (a.printed ∙ ap (reply_text n) a.responds.reply)
+
+gives_first : (s t : Held) (n : ℕ) (line text : List ℕ) (lines : List (List ℕ)) (rest : Outcome) (a : Answers s t n (cut line) text) → Gives t.hearers (suc n) t.history lines rest → Gives s.hearers n s.history (line ∷ lines) (followed_by (given_now s t n (cut line) text a) rest)
+gives_first s t n line text lines rest a gives =
+    let m = a.responds.meaning in
+    let said = subst (λ o. MeansOutline (names_in s.hearers) s.history o m) (outline-cut line) a.responds.means in
+    let now = given_now s t n (cut line) text a in
+    (m, rest, means_from (names_in s.hearers) s.history line m said, refl, gives_kept now.alerts s.hearers (suc n) (after s.history m) lines rest (subst (λ x. Gives x.hearers (suc n) x.history lines rest) a.responds.goes_on gives))
+
+-- ---- all lines were answered
+
+record GivenBy (s t : Held) (n : ℕ) (lines : List (List ℕ)) (text : List ℕ) : Type 0 where
+  outcome : Outcome
+  gives : Gives s.hearers n s.history lines outcome
+  printed : outcome.text ≡ text
+  heard : t.hearers ≡ told_all outcome.alerts s.hearers
+  rows : t.rows ≡ s.rows ++ kept_rows s.keeps outcome.rows
+
+given_first : (s t u : Held) (n : ℕ) (line first rest text : List ℕ) (lines : List (List ℕ)) → Answers s t n (cut line) first → text ≡ first ++ rest → GivenBy t u (suc n) lines rest → GivenBy s u n (line ∷ lines) text
+given_first s t u n line first rest text lines a e more =
+    let now = given_now s t n (cut line) first a in
+    record {
+      outcome = followed_by now more.outcome;
+      gives = gives_first s t n line first lines more.outcome a more.gives;
+      printed = ap₂ (λ x y. x ++ y) (text_now s t n (cut line) first a) more.printed ∙ sym e;
+      heard = more.heard ∙ ap (told_all more.outcome.alerts) (heard_now s t n (cut line) first a) ∙ told_more now.alerts more.outcome.alerts s.hearers;
+      rows =
+          more.rows ∙ ap (λ x. x.rows ++ kept_rows x.keeps more.outcome.rows) a.responds.goes_on
+          ∙ append_assoc s.rows (kept_rows s.keeps now.rows) (kept_rows s.keeps more.outcome.rows) ∙ ap (λ xs. s.rows ++ xs) (kept_append s.keeps now.rows more.outcome.rows);
+    }
+
+given_by : {S : Type 0} (view : S → Held) (s t : S) (n : ℕ) (lines : List (List ℕ)) (text : List ℕ) → Serves (AnswersIn view) s t n lines text → GivenBy (view s) (view t) n lines text
+given_by view s t n [] text p = record {
+  outcome = nothing_given;
+  gives = refl;
+  printed = sym p.1;
+  heard = ap (λ x. (view x).hearers) p.0 ∙ sym (told_none (view s).hearers);
+  rows = ap (λ x. (view x).rows) p.0 ∙ none_posted (view s).keeps (view s).rows;
+}
+given_by view s t n (line ∷ lines) text p = given_first (view s) (view p.0) (view t) n line p.1 p.2 text lines p.3 p.4 (given_by view p.0 t (suc n) lines p.2 p.5)
+
+pub run_gives : {S : Type 0} (view : S → Held) (s t : S) (keeps : Bool) (input taken_first taken : Option (List ℕ)) → (view s).history ≡ [] → (view s).rows ≡ [] → (view s).keeps ≡ keeps → IfSome input (ServesAll (AnswersIn view) s t taken_first taken)
+    → IfSome input (GivesAll (view s).hearers (view t).hearers keeps taken_first taken (view t).rows)
+run_gives view s t keeps None taken_first taken start none same p = tt
+run_gives view s t keeps (Some input) taken_first taken start none same p =
+    let g = given_by view s t 1 (lines_of input) p.text p.served in
+    record {
+      outcome = g.outcome;
+      is = subst (λ h. Gives (view s).hearers 1 h (lines_of input) g.outcome) start g.gives;
+      replies = subst (Appends taken_first taken) (sym g.printed) p.written;
+      told = g.heard;
+      rows = g.rows ∙ ap₂ (λ xs k. xs ++ kept_rows k g.outcome.rows) none same;
+    }
+
+-- ---- some first lines were answered, and the next was begun at most
+
+-- the outcome of these lines, of whose text the front was answered
+record BegunBy (s t : Held) (n : ℕ) (lines : List (List ℕ)) (text : List ℕ) : Type 0 where
+  outcome : Outcome
+  gives : Gives s.hearers n s.history lines outcome
+  more : List ℕ
+  printed : outcome.text ≡ text ++ more
+  heard : HearsFront outcome.alerts s.hearers t.hearers
+
+begun_here : (s t : Held) (n : ℕ) (line : List ℕ) → HearsFront (alerts_outlined s.history (outline (cut line))) s.hearers t.hearers → BegunBy s t n (line ∷ []) []
+begun_here s t n line heard =
+    let m = outline_some (names_in s.hearers) s.history (outline line) in
+    let now = given s.hearers n s.history m.0 in
+    let same : alerts_outlined s.history (outline (cut line)) ≡ now.alerts = ap (alerts_outlined s.history) (outline-cut line) ∙ sym (told-outlined (names_in s.hearers) s.history (outline line) m.0 m.1) in
+    record {
+      outcome = now;
+      gives = (m.0, nothing_given, means_from (names_in s.hearers) s.history line m.0 m.1, sym (followed_nothing now), refl);
+      more = now.text;
+      printed = refl;
+      heard = subst (λ xs. HearsFront xs s.hearers t.hearers) same heard;
+    }
+
+begun_first : (s t u : Held) (n : ℕ) (line first rest text : List ℕ) (lines : List (List ℕ)) → Answers s t n (cut line) first → text ≡ first ++ rest → BegunBy t u (suc n) lines rest → BegunBy s u n (line ∷ lines) text
+begun_first s t u n line first rest text lines a e later =
+    let now = given_now s t n (cut line) first a in
+    record {
+      outcome = followed_by now later.outcome;
+      gives = gives_first s t n line first lines later.outcome a later.gives;
+      more = later.more;
+      printed = ap₂ (λ x y. x ++ y) (text_now s t n (cut line) first a) later.printed ∙ sym (append_assoc first rest later.more) ∙ ap (λ x. x ++ later.more) (sym e);
+      heard = front_after now.alerts later.outcome.alerts s.hearers t.hearers u.hearers (heard_now s t n (cut line) first a) later.heard;
+    }
+
+begun_by : {S : Type 0} (view : S → Held) (s t u : S) (n k : ℕ) (lines : List (List ℕ)) (line text : List ℕ) → Serves (AnswersIn view) s t n lines text → BreaksIn view t u k (cut line) → BegunBy (view s) (view u) n (lines ++ line ∷ []) text
+begun_by view s t u n k [] line text p broken =
+    subst (BegunBy (view s) (view u) n (line ∷ [])) (sym p.1) (begun_here (view s) (view u) n line (subst (λ x. BreaksIn view x u k (cut line)) p.0 broken))
+begun_by view s t u n k (l ∷ lines) line text p broken = begun_first (view s) (view p.0) (view u) n l p.1 p.2 text (lines ++ line ∷ []) p.3 p.4 (begun_by view p.0 t u (suc n) k lines line p.2 p.5 broken)
+
+ended_by : {S : Type 0} (view : S → Held) (s t : S) (n : ℕ) (lines : List (List ℕ)) (text : List ℕ) → Serves (AnswersIn view) s t n lines text → BegunBy (view s) (view t) n lines text
+ended_by view s t n lines text p =
+    let g = given_by view s t n lines text p in
+    record { outcome = g.outcome; gives = g.gives; more = []; printed = g.printed ∙ sym (append-nil text); heard = record { front = g.outcome.alerts; rest = []; cut = sym (append-nil g.outcome.alerts); heard = g.heard } }
+
+-- a front of a text is one of a longer text
+front_longer : (old new : Option (List ℕ)) (text more : List ℕ) → AppendsFront old new text → AppendsFront old new (text ++ more)
+front_longer old new text more f =
+    let there : take f.0 text ++ (drop f.0 text ++ more) ≡ text ++ more = sym (append_assoc (take f.0 text) (drop f.0 text) more) ∙ ap (λ x. x ++ more) (take-append-drop f.0 text) in
+    (length (take f.0 text), subst (Appends old new) (sym (take-append_seam (take f.0 text) (drop f.0 text ++ more)) ∙ ap (take (length (take f.0 text))) there) f.1)
+
+front_given : (s t : Held) (taken_first taken : Option (List ℕ)) (input text : List ℕ) (lines later : List (List ℕ)) → s.history ≡ [] → lines_of input ≡ lines ++ later → BegunBy s t 1 lines text → AppendsFront taken_first taken text
+    → GivesFront s.hearers t.hearers taken_first taken input
+front_given s t taken_first taken input text lines later start parts b written = record {
+  lines = lines;
+  later = later;
+  outcome = b.outcome;
+  cut = parts;
+  gives = subst (λ h. Gives s.hearers 1 h lines b.outcome) start b.gives;
+  replies = subst (AppendsFront taken_first taken) (sym b.printed) (front_longer taken_first taken text b.more written);
+  told = b.heard;
+}
+
+front_at : {S : Type 0} (view : S → Held) (s t u : S) (taken_first taken : Option (List ℕ)) (input text : List ℕ) (lines later : List (List ℕ)) → (view s).history ≡ [] → lines_of input ≡ lines ++ later → Serves (AnswersIn view) s t 1 lines text
+    → StopsAt (BreaksIn view) t u (suc (length lines)) later → AppendsFront taken_first taken text → GivesFront (view s).hearers (view u).hearers taken_first taken input
+front_at view s t u taken_first taken input text lines [] start parts p same written =
+    front_given (view s) (view u) taken_first taken input text lines [] start parts (ended_by view s u 1 lines text (subst (λ x. Serves (AnswersIn view) s x 1 lines text) (sym same) p)) written
+front_at view s t u taken_first taken input text lines (line ∷ later) start parts p (inl same) written =
+    front_given (view s) (view u) taken_first taken input text lines (line ∷ later) start parts (ended_by view s u 1 lines text (subst (λ x. Serves (AnswersIn view) s x 1 lines text) (sym same) p)) written
+front_at view s t u taken_first taken input text lines (line ∷ later) start parts p (inr broken) written =
+    front_given (view s) (view u) taken_first taken input text (lines ++ line ∷ []) later start (parts ∙ sym (append_assoc lines (line ∷ []) later)) (begun_by view s t u 1 (suc (length lines)) lines line text p broken) written
+
+pub run_gives_front : {S : Type 0} (view : S → Held) (s t : S) (input taken_first taken : Option (List ℕ)) → (view s).history ≡ [] → IfSome input (ServesFront (AnswersIn view) (BreaksIn view) s t taken_first taken)
+    → IfSome input (GivesFront (view s).hearers (view t).hearers taken_first taken)
+run_gives_front view s t None taken_first taken start p = tt
+run_gives_front view s t (Some input) taken_first taken start p = front_at view s p.between t taken_first taken input p.text p.lines p.later start p.parts p.served p.stops p.written

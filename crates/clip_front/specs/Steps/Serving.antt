@@ -1,0 +1,42 @@
+-- How lines are answered one after the other, whatever answers them.
+use Rattle.std.specs.Prelude.{◌≡◌, ◌⊎◌, ℕ, suc, List, [], ◌∷◌, ◌++◌, length, Option}
+use Rattle.std.specs.Io.KnownBytes.{Appends}
+use Rattle.clip_stream.specs.Device.{AppendsFront}
+use Rattle.clip_stream.specs.Lines.{lines_of}
+use Rattle.clip_stream.specs.Steps.Reading.{cut}
+
+-- from one state to the other by answering the line of this number with this text
+abbrev pub Answering : Type 0 → Type 1
+Answering S = S → S → ℕ → List ℕ → List ℕ → Type 0
+
+-- from one state to the other by an answering of the line of this number that was broken off
+abbrev pub Breaking : Type 0 → Type 1
+Breaking S = S → S → ℕ → List ℕ → Type 0
+
+-- from one state to the other by answering the lines, of which the first is line n, with this text
+abbrev pub Serves : {S : Type 0} → Answering S → S → S → ℕ → List (List ℕ) → List ℕ → Type 0
+Serves answers s t n [] text = (t ≡ s) × (text ≡ [])
+Serves {S = S} answers s t n (line ∷ lines) text =
+    (u : S) × (first : List ℕ) × (rest : List ℕ) × answers s u n (cut line) first × (text ≡ first ++ rest) × Serves answers u t (suc n) lines rest
+
+-- nothing more was done, or the answering of the next line, of number n, was broken off
+abbrev pub StopsAt : {S : Type 0} → Breaking S → S → S → ℕ → List (List ℕ) → Type 0
+StopsAt breaks s t n [] = t ≡ s
+StopsAt breaks s t n (line ∷ lines) = (t ≡ s) ⊎ breaks s t n (cut line)
+
+-- All lines were answered, and the answers were written.
+pub record ServesAll {S : Type 0} (answers : Answering S) (old new : S) (taken_old taken_new : Option (List ℕ)) (input : List ℕ) : Type 0 where
+  pub text : List ℕ
+  pub served : Serves answers old new 1 (lines_of input) text
+  pub written : Appends taken_old taken_new text
+
+-- Some of the first lines were answered, the next was begun at most, and a front of the answers was written.
+pub record ServesFront {S : Type 0} (answers : Answering S) (breaks : Breaking S) (old new : S) (taken_old taken_new : Option (List ℕ)) (input : List ℕ) : Type 0 where
+  pub between : S
+  pub lines : List (List ℕ)
+  pub later : List (List ℕ)
+  pub text : List ℕ
+  pub parts : lines_of input ≡ lines ++ later
+  pub served : Serves answers old between 1 lines text
+  pub stops : StopsAt breaks between new (suc (length lines)) later
+  pub written : AppendsFront taken_old taken_new text

@@ -1,0 +1,84 @@
+//! The loop over the lines of an input, whatever answers them.
+ghost use Rattle.std.specs.Prelude.{◌≡◌, ◌≤◌, ◌⊎◌, length, true, false, IfOk, OnOk, OnErr, IfSome, Err};
+ghost use Rattle.clip_stream.specs.Lines.{lines_of};
+ghost use Rattle.clip_front.specs.Steps.Serving.{ServesAll, ServesFront};
+
+use clip_stream::{LineReader, MOST_READS, Outbox, RunFault, Sink, Source};
+use clip_words::NoMemory;
+use std::alloc::Global;
+
+/// What answers lines, with something that is lent to it.
+pub trait Server<L> {
+    ghost use Rattle.std.specs.Prelude.{ℕ, List, IfOk, OnErr};
+
+    /// From the first state to the second by answering the line of this number with this text.
+    ghost answers: { Self × L → Self × L → ℕ → List ℕ → List ℕ → Type 0 };
+
+    /// From the first state to the second by an answering of the line of this number that was broken off.
+    ghost breaks_off: { Self × L → Self × L → ℕ → List ℕ → Type 0 };
+
+    /// The text that answers the line of this number. `NoMemory` where the answering was broken off.
+    fn answer(
+        &mut self,
+        alloc: Global,
+        lent: &mut L,
+        number: u64,
+        bytes: &[u8],
+    ) -> Result<Vec<u8>, NoMemory>
+        ensures ok { IfOk result (λ text. answers (self.old, lent.old) (self.new, lent.new) number bytes.now text.items) }
+        ensures err { OnErr result (breaks_off (self.old, lent.old) (self.new, lent.new) number bytes.now) };
+}
+
+/// Answers the lines one after the other, and gives how many there were.
+///
+/// Before it asks the reader for more bytes, each answer to a line that was read whole is written and flushed; between
+/// two reads the answers are gathered, so that the writer gets few writes.
+///
+/// `Read` where a read failed, or 1,099,511,627,776 reads met no end; `Write` where a write or a flush failed, or a
+/// write took nothing; `NoMemory` where an allocation failed or the server answers it. After a fault nothing more is
+/// written.
+///
+/// Cost: that of the answers. Memory: one line, up to 64 KiB of gathered answers and one answer more.
+pub fn serve<R: Source, W: Sink, L, S: Server<L>>(
+    alloc: Global,
+    reader: &mut R,
+    writer: &mut W,
+    lent: &mut L,
+    server: &mut S,
+) -> Result<u64, RunFault>
+    requires unread { R.reads reader.old ≡ 0 }
+    requires reader_well { R.has_failed reader.old ≡ false }
+    requires writer_well { W.has_failed writer.old ≡ false }
+
+    // Where the bytes are known, the server has answered just their lines, in order, and the writer has taken the answers.
+    ensures served { OnOk result (IfSome (R.left reader.old) (ServesAll S.answers
+        (server.old, lent.old) (server.new, lent.new) (W.taken writer.old) (W.taken writer.new))) }
+    ensures flushed { OnOk result (W.is_flushed writer.new ≡ true) }
+    ensures lines { IfOk result (λ count. IfSome (R.left reader.old) (λ input. count ≡ length (lines_of input))) }
+
+    // No device has failed, where all went well, and each fault has its reason.
+    ensures ok { OnOk result ((R.has_failed reader.new ≡ false) × (W.has_failed writer.new ≡ false)) }
+    ensures read { result ≡ Err RunFault.Read → (R.has_failed reader.new ≡ true)
+        ⊎ ((R.reads reader.new ≡ MOST_READS) × (R.met_end reader.new ≡ R.met_end reader.old)) }
+    ensures write { result ≡ Err RunFault.Write → W.has_failed writer.new ≡ true }
+    ensures reads { R.reads reader.new ≤ MOST_READS }
+
+    // After a fault, the server has answered some first lines and begun one more at most, and the writer has taken a front
+    // of the answers.
+    ensures front { OnErr result (IfSome (R.left reader.old) (ServesFront S.answers S.breaks_off
+        (server.old, lent.old) (server.new, lent.new) (W.taken writer.old) (W.taken writer.new))) }
+{
+    let mut lines = LineReader::new(alloc)?;
+    let mut outbox = Outbox::new(alloc);
+    let mut line = Vec::new(alloc);
+    let mut count = 0u64;
+    'lines: loop {
+        outbox.hand_over(writer, lines.has_line())?;
+        if !lines.next_line(reader, &mut line)? {
+            return Ok(count);
+        }
+        count += 1;
+        let text = server.answer(alloc, lent, count, &line)?;
+        outbox.gather(&text)?;
+    }
+}
