@@ -5,4 +5,5 @@ pub mod Reply
 pub mod Outcome
 pub mod TraceRequest
 pub mod TraceLine
+pub mod TraceOutcome
 pub mod Steps

@@ -13,6 +13,8 @@ mod request;
 mod server;
 mod session;
 mod settings;
+mod trace_answer;
+mod trace_line;
 mod trace_request;
 
 pub use limits::MOST_ARTICLES;

@@ -1,18 +1,36 @@
 -- What a line of a trace says, found step by step.
-use Rattle.std.specs.Prelude.{◌≡◌, ℕ, ◌==◌, List, [], ◌∷◌, map, Bool, if◌then◌else◌, Option, Some, None, option_map, option_and_then, codes, bytes_eq, Result, Ok, Err, ⊤, String, string_bytes}
+use Rattle.std.specs.Prelude.{◌≡◌, ℕ, ◌==◌, List, [], ◌∷◌, map, Bool, if◌then◌else◌, ◌++◌, Option, Some, None, option_map, option_and_then, codes, bytes_eq, Result, Ok, Err, ⊤, String, string_bytes}
+use Rattle.std.specs.Arc.{arc_value}
 use Rattle.std.specs.declared.alloc.Global.{Global}
+use Rattle.std.specs.declared.sync.Arc.{Arc}
+use Rattle.std.specs.declared.vec.Vec.{Vec}
 use Rattle.serde_json.specs.Data.{Data, Members}
 use Rattle.serde_json.specs.Events.{members_len}
 use Rattle.serde_json.specs.Find.{get, as_number, as_u64, as_str, as_array, as_object}
+use Rattle.clip_model.specs.Standing.{Standing}
+use Rattle.clip_trace.specs.Event.{event_of}
+use Rattle.clip_trace.specs.Schedule.{Step, Stand, IsDue, stand}
+use Rattle.clip_front.specs.declared.answer.ListFault.{ListFault}
+use Rattle.clip_front.specs.declared.answer.ListFault.TheVariants as fault
 use Rattle.clip_front.specs.declared.refusal.Refusal.TheVariants as refusal
+use Rattle.clip_front.specs.declared.refusal.Unread.{Unread}
+use Rattle.clip_front.specs.declared.refusal.Unread.TheVariants as unread
+use Rattle.clip_front.specs.declared.trace_line.TraceLine.{TraceLine}
+use Rattle.clip_front.specs.declared.trace_line.TraceLine.TheVariants as line
 use Rattle.clip_front.specs.declared.trace_request.TraceOperation.{TraceOperation}
 use Rattle.clip_front.specs.declared.trace_request.TraceOperation.TheVariants as operation
 use Rattle.clip_front.specs.declared.trace_request.TraceRequest as code
 use Rattle.clip_front.specs.declared.trace_request.TraceRequest.TheVariants as asked
 use Rattle.clip_front.specs.LineMeaning.{Line, blank, refused, asks, is_long, is_blank, json_of}
+use Rattle.clip_front.specs.Reply.{Reply, reply_text}
+use Rattle.clip_front.specs.Request.{Listing}
+use Rattle.clip_front.specs.TraceLine as said
+use Rattle.clip_front.specs.TraceLine.{Said, SaysLine, AreReadAs, FirstUnread}
+use Rattle.clip_front.specs.TraceOutcome.{Replies}
 use Rattle.clip_front.specs.TraceRequest as request
 use Rattle.clip_front.specs.TraceRequest.{TraceRequest, trace_within}
 use Rattle.clip_front.specs.Steps.Outline.{take_member, two_of, two_members, three_members, has_members, all_of, listing_of, draft_of}
+use Rattle.clip_front.specs.Steps.Serving.{Answering, Breaking}
 use Rattle.clip_front.specs.Steps.Views.{listing_view, draft_view}
 
 -- ---- requests
@@ -106,3 +124,66 @@ trace_request_view asked.Purge = request.purge
 trace_request_view (asked.Look batch drafts) = request.look batch (map draft_view drafts.items)
 trace_request_view (asked.Piece batch) = request.piece batch
 trace_request_view (asked.Finish batch) = request.finish batch
+
+-- ---- lines
+
+abbrev pub limited : TraceRequest → Line TraceRequest
+limited r = if trace_within r then asks r else refused refusal.Limit
+
+abbrev pub asked_line : Option TraceRequest → Line TraceRequest
+asked_line None = refused refusal.Shape
+asked_line (Some r) = limited r
+
+abbrev pub value_line : Option Data → Line TraceRequest
+value_line None = refused refusal.Json
+value_line (Some d) = asked_line (trace_request_of d)
+
+unfoldable pub trace_line : List ℕ → Line TraceRequest
+trace_line bytes = if is_long bytes then refused refusal.Long else (if is_blank bytes then blank else value_line (json_of bytes))
+
+-- what contracts see of a line
+abbrev pub said_view : TraceLine → Said
+said_view line.Blank = said.nothing
+said_view (line.Refused reason) = said.refusal reason
+said_view (line.RefusedAt reason place) = said.refusal_at reason place
+said_view (line.Event event) = said.plays (event_of event)
+
+-- What was read is what the line says, or this is its refusal.
+abbrev pub ReadsTrace : Line TraceRequest → Result TraceLine Unread → Type 0
+ReadsTrace l (Ok read) = SaysLine l (said_view read)
+ReadsTrace l (Err (unread.Refused r)) = l ≡ refused r
+ReadsTrace l (Err unread.NoMemory) = ⊤
+
+-- The queries are read as these standing ones, or the text of the one at this place is the first that is no query.
+abbrev pub ReadsList : List Listing → Result (Vec (Arc Standing Global) Global) ListFault → Type 0
+ReadsList listings (Ok all) = AreReadAs listings (map arc_value all.items)
+ReadsList listings (Err (fault.Refused r k)) = (r ≡ refusal.Query) × FirstUnread listings k
+ReadsList listings (Err fault.NoMemory) = ⊤
+
+-- ---- answers
+
+-- Steps after which things stand so: where those before it are due, all are due.
+abbrev pub Plays : Stand → Stand → List Step → Type 0
+Plays old new steps = (before : List Step) → IsDue before → stand before ≡ old → IsDue (before ++ steps) × (stand (before ++ steps) ≡ new)
+
+-- a line that says this is answered by its steps
+pub record Responds (old new : Stand) (s : Said) (r : Reply) : Type 0 where
+  pub steps : List Step
+  pub replies : Replies s steps r
+  pub played : Plays old new steps
+
+-- the bytes are those of the reply to line n
+pub record AnswersTraced (old new : Stand) (n : ℕ) (line bytes : List ℕ) : Type 0 where
+  pub said : Said
+  pub says : SaysLine (trace_line line) said
+  pub answered : Reply
+  pub responds : Responds old new said answered
+  pub printed : bytes ≡ reply_text n answered
+
+-- the answering of each line by a tracer
+abbrev pub AnswersIn : {S : Type 0} → (S → Stand) → Answering S
+AnswersIn view s t n line text = AnswersTraced (view s) (view t) n line text
+
+-- nothing is told of an answering that was broken off
+abbrev pub BreaksIn : {S : Type 0} → Breaking S
+BreaksIn s t n line = ⊤
