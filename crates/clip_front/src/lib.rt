@@ -16,7 +16,9 @@ mod settings;
 mod trace_answer;
 mod trace_line;
 mod trace_request;
+mod trace_session;
 
 pub use limits::MOST_ARTICLES;
 pub use session::{Ended, one_outcome, run};
 pub use settings::Settings;
+pub use trace_session::run_trace;
