@@ -7,8 +7,8 @@ ghost use Rattle.clip_front.specs.Steps.TraceOutline.{ReadsList};
 ghost use Rattle.clip_front.specs.Steps.Views.{listing_view, draft_view};
 
 use crate::answer::{ListFault, read_listing};
-use crate::line::{are_ids, articles_of, have_ids, is_blank, json_of};
 use crate::limits::MOST_ARTICLES;
+use crate::line::{are_ids, articles_of, have_ids, is_blank, json_of};
 use crate::refusal::{Refusal, Unread};
 use crate::request::{Draft, Listing};
 use crate::trace_request::TraceRequest;
@@ -74,19 +74,30 @@ impl TraceLine {
     ghost use Rattle.clip_front.specs.Steps.TraceOutline.{ReadsTrace, limited, said_view, trace_line, trace_request_view};
 
     /// A caller registers a list of queries, each of whose ids may be one.
-    fn registering(alloc: Global, caller: u32, listings: Vec<Listing>) -> Result<TraceLine, NoMemory>
+    fn registering(
+        alloc: Global,
+        caller: u32,
+        listings: Vec<Listing>,
+    ) -> Result<TraceLine, NoMemory>
         requires { list_all (λ l. is_id l.id) (map listing_view listings.items) ≡ true }
         ensures { (told : _) → caller_told told ≡ caller
             → IfOk result (λ line. SaysRequest (request.register told (map listing_view listings.items)) (said_view line)) }
     {
         match read_all(alloc, listings) {
-            Ok(standings) => Ok(TraceLine::Event(Event::Accept(caller, Command::Register(standings)))),
+            Ok(standings) => Ok(TraceLine::Event(Event::Accept(
+                caller,
+                Command::Register(standings),
+            ))),
             Err(ListFault::Refused(reason, place)) => Ok(TraceLine::RefusedAt(reason, place)),
             Err(ListFault::NoMemory) => Err(NoMemory),
         }
     }
 
-    fn register(alloc: Global, caller: Option<u64>, listings: Vec<Listing>) -> Result<TraceLine, Unread>
+    fn register(
+        alloc: Global,
+        caller: Option<u64>,
+        listings: Vec<Listing>,
+    ) -> Result<TraceLine, Unread>
         ensures { ReadsTrace (limited (request.register caller (map listing_view listings.items))) result }
     {
         let Some(caller) = caller_of(caller) else {
@@ -133,7 +144,9 @@ impl TraceLine {
         ensures { ReadsTrace (limited (trace_request_view request)) result }
     {
         match request {
-            TraceRequest::Register(caller, listings) => TraceLine::register(alloc, caller, listings),
+            TraceRequest::Register(caller, listings) => TraceLine::register(
+                alloc, caller, listings,
+            ),
             TraceRequest::Delete(caller, ids) => TraceLine::delete(caller, ids),
             TraceRequest::Clear(caller) => TraceLine::clear(caller),
             TraceRequest::Begin(merge) => Ok(TraceLine::Event(Event::Begin(merge))),

@@ -4,7 +4,9 @@ ghost use Rattle.serde_json.specs.View.{view, members_view};
 ghost use Rattle.clip_front.specs.Steps.Outline.{ReadsAs};
 ghost use Rattle.clip_front.specs.Steps.TraceOutline.{take_caller, split_caller, called, numbered_of, operation_of, operation_in};
 
-use crate::members::{has_members, items_of, members_of, take_member, three_members, two_members, two_of};
+use crate::members::{
+    has_members, items_of, members_of, take_member, three_members, two_members, two_of,
+};
 use crate::refusal::{Refusal, UNSHAPED, Unread};
 use crate::request::{Draft, Listing, drafts_of, listings_of, texts_of};
 use serde_json::{Map, Value};
