@@ -48,7 +48,7 @@ means_from names h bytes m means = judged names h bytes m (is_long bytes) refl m
 
 -- ---- from what the line says to its outline
 
-abbrev outline_said : Line → Outline
+abbrev outline_said : Line Request → Outline
 outline_said line.blank = blank
 outline_said (line.refused r) = refused r
 outline_said (line.asks r) = requests r
@@ -62,7 +62,7 @@ asked_mean names h request.count m means = means
 asked_mean names h (request.show id) m means = means
 asked_mean names h (request.match drafts) m means = means
 
-said_mean : (names : List (List ℕ)) (h : History) (l : Line) (m : Meaning) → MeansLine names h l m → MeansOutline names h (outline_said l) m
+said_mean : (names : List (List ℕ)) (h : History) (l : Line Request) (m : Meaning) → MeansLine names h l m → MeansOutline names h (outline_said l) m
 said_mean names h line.blank m means = means
 said_mean names h (line.refused r) m means = means
 said_mean names h (line.asks r) m means = asked_mean names h r m means
@@ -78,7 +78,7 @@ of_filled bytes f = ap (λ b. cond b (refused Long) (cond (is_blank bytes) blank
 of_value : (bytes : List ℕ) (r : Request) → IsFilled bytes → json_of bytes ≡ Some (value_of r) → outline bytes ≡ outline_of_request r
 of_value bytes r f value = of_filled bytes f ∙ ap outline_of_value value ∙ ap outline_of_asked (request_of-value_of r)
 
-outline_says : (bytes : List ℕ) (l : Line) → Says bytes l → outline bytes ≡ outline_said l
+outline_says : (bytes : List ℕ) (l : Line Request) → Says bytes l → outline bytes ≡ outline_said l
 unfolding outline
 outline_says bytes line.blank says =
     ap (λ b. cond b (refused Long) (cond (is_blank bytes) blank (outline_of_value (json_of bytes)))) says.0 ∙ ap (λ b. cond b blank (outline_of_value (json_of bytes))) says.1

@@ -19,7 +19,7 @@ use Rattle.clip_front.specs.declared.request.Operation.TheVariants as operation
 
 -- ---- the value of a request is read as it
 
-all_of-map : {A : Type 0} (value : A → Data) (f : Data → Option A) → ((x : A) → f (value x) ≡ Some x) → (xs : List A) → all_of f (items_of (map value xs)) ≡ Some xs
+pub all_of-map : {A : Type 0} (value : A → Data) (f : Data → Option A) → ((x : A) → f (value x) ≡ Some x) → (xs : List A) → all_of f (items_of (map value xs)) ≡ Some xs
 all_of-map value f one [] = refl
 all_of-map value f one (x ∷ xs) =
     ap (option_and_then (λ y. option_map (λ ys. y ∷ ys) (all_of f (items_of (map value xs))))) (one x) ∙ ap (option_map (λ ys. x ∷ ys)) (all_of-map value f one xs)
@@ -33,10 +33,10 @@ unfolding listing_of plain_listing_of heard_listing_of has_members
 value_by id query None = refl
 value_by id query (Some name) = refl
 
-listing_of-value : (l : Listing) → listing_of (listing_value l) ≡ Some l
+pub listing_of-value : (l : Listing) → listing_of (listing_value l) ≡ Some l
 listing_of-value l = value_by l.id l.query l.listener
 
-draft_of-value : (d : Draft) → draft_of (draft_value d) ≡ Some d
+pub draft_of-value : (d : Draft) → draft_of (draft_value d) ≡ Some d
 unfolding draft_of
 draft_of-value d = ap (λ o. option_map (λ fields. record { id = d.id; fields = fields }) o) (fields_of-map d.fields)
 
@@ -56,19 +56,19 @@ pub none_is_some : {A : Type 0} (x : A) → None ≡ Some x → ⊥
 none_is_some x e = cc
 
 -- an option that leads on to something has something
-led : {A B : Type 0} (o : Option A) (f : A → Option B) (y : B) → option_and_then f o ≡ Some y → (x : A) × (o ≡ Some x) × (f x ≡ Some y)
+pub led : {A B : Type 0} (o : Option A) (f : A → Option B) (y : B) → option_and_then f o ≡ Some y → (x : A) × (o ≡ Some x) × (f x ≡ Some y)
 led None f y e = absurd (none_is_some y e)
 led (Some x) f y e = (x, refl, e)
 
-mapped : {A B : Type 0} (o : Option A) (f : A → B) (y : B) → option_map f o ≡ Some y → (x : A) × (o ≡ Some x) × (f x ≡ y)
+pub mapped : {A B : Type 0} (o : Option A) (f : A → B) (y : B) → option_map f o ≡ Some y → (x : A) × (o ≡ Some x) × (f x ≡ y)
 mapped None f y e = absurd (none_is_some y e)
 mapped (Some x) f y e = (x, refl, cc)
 
-when : {A : Type 0} (b : Bool) (x y : A) → cond b (Some x) None ≡ Some y → (b ≡ true) × (x ≡ y)
+pub when : {A : Type 0} (b : Bool) (x y : A) → cond b (Some x) None ≡ Some y → (b ≡ true) × (x ≡ y)
 when true x y e = (refl, cc)
 when false x y e = absurd (none_is_some y e)
 
-text_is : (d : Data) (s : List ℕ) → as_str d ≡ Some s → d ≡ string s
+pub text_is : (d : Data) (s : List ℕ) → as_str d ≡ Some s → d ≡ string s
 text_is null s e = absurd (none_is_some s e)
 text_is (boolean b) s e = absurd (none_is_some s e)
 text_is (number n) s e = absurd (none_is_some s e)
@@ -76,7 +76,7 @@ text_is (string t) s e = let same : t ≡ s = cc in ap string same
 text_is (array ds) s e = absurd (none_is_some s e)
 text_is (object ms) s e = absurd (none_is_some s e)
 
-array_is : (d : Data) (ds : Items) → as_array d ≡ Some ds → d ≡ array ds
+pub array_is : (d : Data) (ds : Items) → as_array d ≡ Some ds → d ≡ array ds
 array_is null ds e = absurd (none_is_some ds e)
 array_is (boolean b) ds e = absurd (none_is_some ds e)
 array_is (number n) ds e = absurd (none_is_some ds e)
@@ -84,7 +84,7 @@ array_is (string t) ds e = absurd (none_is_some ds e)
 array_is (array es) ds e = let same : es ≡ ds = cc in ap array same
 array_is (object ms) ds e = absurd (none_is_some ds e)
 
-object_is : (d : Data) (ms : Members) → as_object d ≡ Some ms → d ≡ object ms
+pub object_is : (d : Data) (ms : Members) → as_object d ≡ Some ms → d ≡ object ms
 object_is null ms e = absurd (none_is_some ms e)
 object_is (boolean b) ms e = absurd (none_is_some ms e)
 object_is (number n) ms e = absurd (none_is_some ms e)
@@ -92,7 +92,7 @@ object_is (string t) ms e = absurd (none_is_some ms e)
 object_is (array es) ms e = absurd (none_is_some ms e)
 object_is (object ns) ms e = let same : ns ≡ ms = cc in ap object same
 
-taken_is : (name : List ℕ) (ms : Members) (p : Data × Members) → take_member name ms ≡ Some p → ms ≡ member name p.0 p.1
+pub taken_is : (name : List ℕ) (ms : Members) (p : Data × Members) → take_member name ms ≡ Some p → ms ≡ member name p.0 p.1
 taken_is name no_members p e = absurd (none_is_some p e)
 taken_is name (member k d ms) p e =
     let w = when (bytes_eq k name) (d, ms) p e in
@@ -102,19 +102,19 @@ none_left : {A : Type 0} (x y : A) (ms : Members) → when_none_left x ms ≡ So
 none_left x y no_members e = (refl, cc)
 none_left x y (member k d ms) e = absurd (none_is_some y e)
 
-two_are_of : (first second : List ℕ) (ms : Members) (p : Data × Data) → two_of first second ms ≡ Some p → ms ≡ members_from ((first, p.0) ∷ (second, p.1) ∷ [])
+pub two_are_of : (first second : List ℕ) (ms : Members) (p : Data × Data) → two_of first second ms ≡ Some p → ms ≡ members_from ((first, p.0) ∷ (second, p.1) ∷ [])
 two_are_of first second ms p e =
     let one = led (take_member first ms) _ p e in
     let two = led (take_member second one.0.1) _ p one.2 in
     let left = none_left _ p two.0.1 two.2 in
     taken_is first ms one.0 one.1 ∙ ap (member first one.0.0) (taken_is second one.0.1 two.0 two.1 ∙ ap (member second two.0.0) left.0) ∙ ap (λ q. members_from ((first, q.0) ∷ (second, q.1) ∷ [])) left.1
 
-two_are : (first second : List ℕ) (d : Data) (p : Data × Data) → two_members first second d ≡ Some p → d ≡ object_of ((first, p.0) ∷ (second, p.1) ∷ [])
+pub two_are : (first second : List ℕ) (d : Data) (p : Data × Data) → two_members first second d ≡ Some p → d ≡ object_of ((first, p.0) ∷ (second, p.1) ∷ [])
 two_are first second d p e =
     let o = led (as_object d) _ p e in
     object_is d o.0 o.1 ∙ ap object (two_are_of first second o.0 p o.2)
 
-three_are : (first second third : List ℕ) (d : Data) (p : Data × (Data × Data)) → three_members first second third d ≡ Some p → d ≡ object_of ((first, p.0) ∷ (second, p.1.0) ∷ (third, p.1.1) ∷ [])
+pub three_are : (first second third : List ℕ) (d : Data) (p : Data × (Data × Data)) → three_members first second third d ≡ Some p → d ≡ object_of ((first, p.0) ∷ (second, p.1.0) ∷ (third, p.1.1) ∷ [])
 three_are first second third d p e =
     let o = led (as_object d) _ p e in
     let one = led (take_member first o.0) _ p o.2 in
@@ -122,7 +122,7 @@ three_are first second third d p e =
     object_is d o.0 o.1 ∙ ap object
     (taken_is first o.0 one.0 one.1 ∙ ap (member first one.0.0) (two_are_of second third one.0.1 rest.0 rest.1)) ∙ ap (λ q. object_of ((first, q.0) ∷ (second, q.1.0) ∷ (third, q.1.1) ∷ [])) rest.2
 
-all_are : {A : Type 0} (value : A → Data) (f : Data → Option A) → ((d : Data) (x : A) → f d ≡ Some x → d ≡ value x) → (ds : Items) (xs : List A) → all_of f ds ≡ Some xs → ds ≡ items_of (map value xs)
+pub all_are : {A : Type 0} (value : A → Data) (f : Data → Option A) → ((d : Data) (x : A) → f d ≡ Some x → d ≡ value x) → (ds : Items) (xs : List A) → all_of f ds ≡ Some xs → ds ≡ items_of (map value xs)
 all_are value f one no_items xs e = let none : [] ≡ xs = cc in ap (λ ys. items_of (map value ys)) none
 all_are value f one (item d ds) xs e =
     let first = led (f d) _ xs e in
@@ -159,11 +159,11 @@ either_is : (b : Bool) (d : Data) (l : Listing) → cond b (heard_listing_of d) 
 either_is true d l e = heard_is d l e
 either_is false d l e = plain_is d l e
 
-listing_is : (d : Data) (l : Listing) → listing_of d ≡ Some l → d ≡ listing_value l
+pub listing_is : (d : Data) (l : Listing) → listing_of d ≡ Some l → d ≡ listing_value l
 unfolding listing_of
 listing_is d l e = either_is (has_members 3 d) d l e
 
-draft_is : (d : Data) (a : Draft) → draft_of d ≡ Some a → d ≡ draft_value a
+pub draft_is : (d : Data) (a : Draft) → draft_of d ≡ Some a → d ≡ draft_value a
 unfolding draft_of
 draft_is d a e =
     let p = led (two_members (codes "fields") (codes "id") d) _ a e in
@@ -184,9 +184,13 @@ name_of operation.Count = codes "count"
 name_of operation.Show = codes "show"
 name_of operation.Match = codes "match"
 
+-- by names of the operations, where the first that is found has the word for its name
+pub named_by : {O : Type 0} (name : O → List ℕ) (b : Bool) (word : List ℕ) (o : O) (rest : Option O) (found : O) → (b ≡ true → word ≡ name o) → (rest ≡ Some found → word ≡ name found) → cond b (Some o) rest ≡ Some found → word ≡ name found
+named_by name true word o rest found is more e = let same : o ≡ found = cc in is refl ∙ ap name same
+named_by name false word o rest found is more e = more e
+
 named : (b : Bool) (word : List ℕ) (o : Operation) (rest : Option Operation) (found : Operation) → (b ≡ true → word ≡ name_of o) → (rest ≡ Some found → word ≡ name_of found) → cond b (Some o) rest ≡ Some found → word ≡ name_of found
-named true word o rest found is more e = let same : o ≡ found = cc in is refl ∙ ap name_of same
-named false word o rest found is more e = more e
+named = named_by name_of
 
 name_is : (word : List ℕ) (o : Operation) → operation_of word ≡ Some o → word ≡ name_of o
 unfolding operation_of name_of
@@ -200,17 +204,21 @@ name_is word o e =
     (named (bytes_eq word (codes "match")) word operation.Match None o (bytes_eq-Decides word (codes "match")).0 (λ none. absurd (none_is_some o none)))))))) e
 
 -- the value of the member by which the operation is told
+pub word_text : (d x : Data) (word : List ℕ) → get (codes "op") d ≡ Some x → option_and_then as_str (get (codes "op") d) ≡ Some word → x ≡ string word
+word_text d x word found e =
+    let value = led (get (codes "op") d) as_str word e in
+    let same : x ≡ value.0 = cc (found, value.1) in
+    same ∙ text_is value.0 word value.2
+
 name_text : (d x : Data) (o : Operation) → get (codes "op") d ≡ Some x → operation_in d ≡ Some o → x ≡ string (name_of o)
 unfolding operation_in
 name_text d x o found e =
     let word = led (option_and_then as_str (get (codes "op") d)) operation_of o e in
-    let value = led (get (codes "op") d) as_str word.0 word.1 in
-    let same : x ≡ value.0 = cc (found, value.1) in
-    same ∙ text_is value.0 word.0 value.2 ∙ ap string (name_is word.0 o word.2)
+    word_text d x word.0 found word.1 ∙ ap string (name_is word.0 o word.2)
 
 -- ---- objects of one member
 
-lone_members : (ms : Members) → (members_len ms == 1) ≡ true → (k : List ℕ) × (x : Data) × (ms ≡ member k x no_members)
+pub lone_members : (ms : Members) → (members_len ms == 1) ≡ true → (k : List ℕ) × (x : Data) × (ms ≡ member k x no_members)
 lone_members no_members e = absurd (true≢false (sym e))
 lone_members (member k x no_members) e = (k, x, refl)
 lone_members (member k x (member l y ms)) e = let two : suc (suc (members_len ms)) ≡ 1 = eqb-true _ _ e in absurd (omega (arith, two))
@@ -224,16 +232,21 @@ met Less x y e = absurd (none_is_some y e)
 met Equal x y e = (refl, cc)
 met Greater x y e = absurd (none_is_some y e)
 
-lone_is : (d : Data) (o : Operation) → has_members 1 d ≡ true → operation_in d ≡ Some o → d ≡ object_of ((codes "op", string (name_of o)) ∷ [])
-unfolding has_members operation_in
-lone_is d o one e =
+pub lone_word : (d : Data) (word : List ℕ) → has_members 1 d ≡ true → option_and_then as_str (get (codes "op") d) ≡ Some word → d ≡ object_of ((codes "op", string word) ∷ [])
+unfolding has_members
+lone_word d word one e =
     let lone = lone_by (as_object d) one in
     let shape = object_is d _ lone.2 in
-    let word = led (option_and_then as_str (get (codes "op") d)) operation_of o e in
-    let value = led (get (codes "op") d) as_str word.0 word.1 in
+    let value = led (get (codes "op") d) as_str word e in
     let here = met (slice_cmp nat_cmp (codes "op") lone.0) lone.1 value.0 (ap (get (codes "op")) (sym shape) ∙ value.1) in
     let key : codes "op" ≡ lone.0 = (bytes_eq-Decides (codes "op") lone.0).0 (sym (is_eq-slice_cmp (codes "op") lone.0) ∙ here.0) in
-    shape ∙ ap₂ (λ k x. object (member k x no_members)) (sym key) (here.1 ∙ text_is value.0 word.0 value.2 ∙ ap string (name_is word.0 o word.2))
+    shape ∙ ap₂ (λ k x. object (member k x no_members)) (sym key) (here.1 ∙ text_is value.0 word value.2)
+
+lone_is : (d : Data) (o : Operation) → has_members 1 d ≡ true → operation_in d ≡ Some o → d ≡ object_of ((codes "op", string (name_of o)) ∷ [])
+unfolding operation_in
+lone_is d o one e =
+    let word = led (option_and_then as_str (get (codes "op") d)) operation_of o e in
+    lone_word d word.0 one word.1 ∙ ap (λ w. object_of ((codes "op", string w) ∷ [])) (name_is word.0 o word.2)
 
 -- ---- the law
 

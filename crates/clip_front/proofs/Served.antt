@@ -36,7 +36,7 @@ take_all n [] h = take_nothing n
 take_all zero (x ∷ xs) h = absurd (omega arith)
 take_all (suc n) (x ∷ xs) h = ap (λ ys. x ∷ ys) (take_all n xs (omega arith))
 
-choose : {A : Type 0} (s t : Bool) (u x y : A) → s ≡ t → (s ≡ false → x ≡ y) → cond s u x ≡ cond t u y
+pub choose : {A : Type 0} (s t : Bool) (u x y : A) → s ≡ t → (s ≡ false → x ≡ y) → cond s u x ≡ cond t u y
 choose true true u x y e h = refl
 choose false false u x y e h = h refl
 choose true false u x y e h = absurd (true≢false e)
@@ -48,13 +48,17 @@ cut_at limit k line e = let len = length-take k line in grind (arith, nat_tests,
 cut_within : (limit k : ℕ) (line : List ℕ) → k ≡ suc limit → nat_lt limit (length (take k line)) ≡ false → take k line ≡ line
 cut_within limit k line e h = take_all k line (let len = length-take k line in grind (arith, nat_tests, len, e, h))
 
-outline_at : (line kept : List ℕ) → is_long kept ≡ is_long line → (is_long kept ≡ false → kept ≡ line) → outline kept ≡ outline line
-unfolding outline
-outline_at line kept same whole = choose _ _ _ _ _ same (λ e. ap (λ l. if is_blank l then blank else outline_of_value (json_of l)) (whole e))
+pub cut_is_long : (line : List ℕ) → is_long (cut line) ≡ is_long line
+unfolding cut
+cut_is_long line = cut_at MOST_LINE_BYTES (suc MOST_LINE_BYTES) line refl
+
+pub cut_is_whole : (line : List ℕ) → is_long (cut line) ≡ false → cut line ≡ line
+unfolding cut
+cut_is_whole line = cut_within MOST_LINE_BYTES (suc MOST_LINE_BYTES) line refl
 
 outline-cut : (line : List ℕ) → outline (cut line) ≡ outline line
-unfolding cut
-outline-cut line = outline_at line (take (suc MOST_LINE_BYTES) line) (cut_at MOST_LINE_BYTES (suc MOST_LINE_BYTES) line refl) (cut_within MOST_LINE_BYTES (suc MOST_LINE_BYTES) line refl)
+unfolding outline
+outline-cut line = choose _ _ _ _ _ (cut_is_long line) (λ e. ap (λ l. if is_blank l then blank else outline_of_value (json_of l)) (cut_is_whole line e))
 
 -- ---- the path of a server
 -- what was heard before changes nothing that is given

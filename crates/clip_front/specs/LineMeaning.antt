@@ -31,27 +31,31 @@ is_blank line = list_all is_blank_byte line
 unfoldable pub json_of : List ℕ → Option Data
 json_of line = if is_utf8 line then read line else None
 
-pub data Line : Type 0 where
-  blank : Line
-  refused : Refusal → Line
-  asks : Request → Line
+-- it is blank, refused, or asks for something, by requests of this type
+pub data Line (R : Type 0) : Type 0 where
+  blank : Line R
+  refused : Refusal → Line R
+  asks : R → Line R
 
 -- not too long, and not blank
 pub record IsFilled (line : List ℕ) : Type 0 where
   pub short : is_long line ≡ false
   pub some : is_blank line ≡ false
 
--- The line says this: the first that holds of too long, blank, no JSON value, no request's value, beyond the limits, and a request.
-abbrev pub Says : List ℕ → Line → Type 0
-Says line (refused reason.Long) = is_long line ≡ true
-Says line blank = (is_long line ≡ false) × (is_blank line ≡ true)
-Says line (refused reason.Json) = IsFilled line × (json_of line ≡ None)
-Says line (refused reason.Shape) = IsFilled line × (d : Data) × (json_of line ≡ Some d) × ((r : Request) → ¬ (d ≡ value_of r))
-Says line (refused reason.Limit) = IsFilled line × (r : Request) × (json_of line ≡ Some (value_of r)) × (within r ≡ false)
-Says line (refused reason.Query) = ⊥
-Says line (refused reason.Listener) = ⊥
-Says line (refused reason.Full) = ⊥
-Says line (asks r) = IsFilled line × (json_of line ≡ Some (value_of r)) × (within r ≡ true)
+-- The line says this, by requests with these values and within these limits: the first that holds of too long, blank, no JSON value, no request's value, beyond the limits, and a request.
+abbrev pub SaysBy : {R : Type 0} → (R → Data) → (R → Bool) → List ℕ → Line R → Type 0
+SaysBy value within line (refused reason.Long) = is_long line ≡ true
+SaysBy value within line blank = (is_long line ≡ false) × (is_blank line ≡ true)
+SaysBy value within line (refused reason.Json) = IsFilled line × (json_of line ≡ None)
+SaysBy value within line (refused reason.Shape) = IsFilled line × (d : Data) × (json_of line ≡ Some d) × ((r : _) → ¬ (d ≡ value r))
+SaysBy value within line (refused reason.Limit) = IsFilled line × (r : _) × (json_of line ≡ Some (value r)) × (within r ≡ false)
+SaysBy value within line (refused reason.Query) = ⊥
+SaysBy value within line (refused reason.Listener) = ⊥
+SaysBy value within line (refused reason.Full) = ⊥
+SaysBy value within line (asks r) = IsFilled line × (json_of line ≡ Some (value r)) × (within r ≡ true)
+
+abbrev pub Says : List ℕ → Line Request → Type 0
+Says line said = SaysBy value_of within line said
 
 -- ---- what it means after a history
 
@@ -132,14 +136,14 @@ MeansRequest names h request.count m = m ≡ counting
 MeansRequest names h (request.show id) m = m ≡ showing id
 MeansRequest names h (request.match drafts) m = m ≡ matching (map article_of drafts)
 
-abbrev pub MeansLine : List (List ℕ) → History → Line → Meaning → Type 0
+abbrev pub MeansLine : List (List ℕ) → History → Line Request → Meaning → Type 0
 MeansLine names h blank m = m ≡ nothing
 MeansLine names h (refused r) m = m ≡ refusal r
 MeansLine names h (asks r) m = MeansRequest names h r m
 
 -- the line means this after the history, where the listeners of these names are here
 pub record Means (names : List (List ℕ)) (h : History) (line : List ℕ) (m : Meaning) : Type 0 where
-  pub says : Line
+  pub says : Line Request
   pub is_said : Says line says
   pub means : MeansLine names h says m
 

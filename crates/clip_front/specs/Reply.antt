@@ -15,7 +15,7 @@ use Rattle.clip_front.specs.declared.refusal.Refusal.{Refusal}
 
 -- ---- one line
 
--- what is answered, to a blank line nothing; to a match of each article its id and the ids of queries, and the texts of the notes
+-- what is answered, to a blank line nothing; to a match of each article its id and the ids of queries, and the texts of the notes; to an event of a trace the word for its answer, and to the finish of a batch the ids as to a match
 pub data Reply : Type 0 where
   nothing : Reply
   refused : Refusal → Reply
@@ -27,6 +27,8 @@ pub data Reply : Type 0 where
   counted : ℕ → Reply
   shown : Option (List ℕ) → Reply
   matched : List (List ℕ × List (List ℕ)) → List (List ℕ) → Reply
+  stepped : List ℕ → Reply
+  finished : List (List ℕ × List (List ℕ)) → Reply
 
 -- a command that counts n
 abbrev pub accepted : Command → ℕ → Reply
@@ -82,6 +84,8 @@ reply_value n (counted k) = object_of ((codes "count", number_of k) ∷ (codes "
 reply_value n (shown text) = object_of ((codes "line", number_of n) ∷ (codes "query", text_or_null text) ∷ [])
 reply_value n (matched found notes) =
     object_of ((codes "alerts", array_of (map alerts_data found)) ∷ (codes "line", number_of n) ∷ (codes "notes", array_of (map string notes)) ∷ [])
+reply_value n (stepped word) = object_of ((codes "line", number_of n) ∷ (codes "step", string word) ∷ [])
+reply_value n (finished found) = object_of ((codes "alerts", array_of (map alerts_data found)) ∷ (codes "line", number_of n) ∷ [])
 
 -- the value as compact JSON, and a line feed
 unfoldable pub printed : Data → List ℕ

@@ -33,7 +33,7 @@ const CALLER: u32 = 1;
 
 /// Why a list of queries is not registered.
 #[derive(Clone, Copy)]
-enum ListFault {
+pub enum ListFault {
     /// The query at this place, from 0, is the first that is refused, for this reason.
     Refused(Refusal, u64),
     /// An allocation failed.
@@ -71,7 +71,7 @@ fn is_here<A: Audience>(audience: &A, listener: &Option<String>) -> bool
 }
 
 /// Reads a listed query.
-fn read_listing(alloc: Global, listing: Listing) -> Result<Arc<Standing>, Unread>
+pub fn read_listing(alloc: Global, listing: Listing) -> Result<Arc<Standing>, Unread>
     requires { is_id (listing_view listing).id ≡ true }
     ensures { ReadsListing (listing_view listing) result }
 {
@@ -128,7 +128,7 @@ fn take_all<A: Audience>(
 }
 
 /// The reply to a command that was accepted.
-fn accepted(applied: Applied) -> Reply
+pub fn accepted(applied: Applied) -> Reply
     ensures { reply_view result ≡ applied_view applied }
 {
     match applied {

@@ -14,7 +14,12 @@ mod request;
 mod server;
 mod session;
 mod settings;
+mod trace_answer;
+mod trace_line;
+mod trace_request;
+mod trace_session;
 
 pub use limits::MOST_ARTICLES;
 pub use session::{Ended, one_outcome, run};
 pub use settings::Settings;
+pub use trace_session::run_trace;

@@ -49,7 +49,7 @@ fn is_blank_byte(byte: u8) -> bool
 }
 
 /// Whether a line holds only such bytes.
-fn is_blank(line: &[u8]) -> bool
+pub fn is_blank(line: &[u8]) -> bool
     ensures { result ≡ is_blank line.now }
 {
     line.iter().all(|byte| is_blank_byte(*byte))
@@ -57,7 +57,7 @@ fn is_blank(line: &[u8]) -> bool
 
 /// The value that the bytes are, as `serde_json` reads them.
 #[tactic(auto, unfolding(crate::specs::LineMeaning::json_of))]
-fn json_of(alloc: Global, line: &[u8]) -> Result<Value, Unread>
+pub fn json_of(alloc: Global, line: &[u8]) -> Result<Value, Unread>
     ensures { ReadsAs Refusal.Json view (json_of line.now) result }
 {
     match Value::from_slice(alloc, line) {
@@ -73,7 +73,7 @@ fn json_of(alloc: Global, line: &[u8]) -> Result<Value, Unread>
 }
 
 /// Whether each query's id may be one.
-fn have_ids(listings: &[Listing]) -> bool
+pub fn have_ids(listings: &[Listing]) -> bool
     ensures { result ≡ list_all (λ l. is_id l.id) (map listing_view listings.now) }
 {
     for listing in listings {
@@ -85,7 +85,7 @@ fn have_ids(listings: &[Listing]) -> bool
 }
 
 /// Whether each id may be one.
-fn are_ids(ids: &[String]) -> bool
+pub fn are_ids(ids: &[String]) -> bool
     ensures { result ≡ list_all is_id (map string_bytes ids.now) }
 {
     for id in ids {
@@ -97,7 +97,7 @@ fn are_ids(ids: &[String]) -> bool
 }
 
 /// The articles, where each is within the limits of one.
-fn articles_of(alloc: Global, drafts: &[Draft]) -> Result<Vec<Article>, Unread>
+pub fn articles_of(alloc: Global, drafts: &[Draft]) -> Result<Vec<Article>, Unread>
     ensures { ReadsAs Refusal.Limit (λ all. all.items) (articles_in (map draft_view drafts.now)) result }
 {
     let mut all = Vec::with_capacity(alloc, drafts.len())?;

@@ -48,7 +48,7 @@ pub fn has_members(value: &Value, count: usize) -> bool
 }
 
 /// Takes the first member out, where it has the name.
-fn take_member(members: &mut Map<String, Value>, name: &str) -> Option<Value>
+pub fn take_member(members: &mut Map<String, Value>, name: &str) -> Option<Value>
     ensures { option_map (λ value. (view value, members_view members.new.entries)) result
         ≡ take_member name.now (members_view members.old.entries) }
 {
@@ -65,7 +65,7 @@ fn take_member(members: &mut Map<String, Value>, name: &str) -> Option<Value>
 }
 
 /// The values of just these two members, whose names are in byte order.
-fn two_of(mut members: Map<String, Value>, first: &str, second: &str) -> Option<(Value, Value)>
+pub fn two_of(mut members: Map<String, Value>, first: &str, second: &str) -> Option<(Value, Value)>
     ensures { option_map (λ p. (view p.0, view p.1)) result ≡ two_of first.now second.now (members_view members.entries) }
 {
     let first = take_member(&mut members, first)?;

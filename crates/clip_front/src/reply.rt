@@ -39,6 +39,10 @@ pub enum Reply {
     Shown(Option<String>),
     /// The alerts of each article, and what the listeners said of them.
     Matched(Vec<Alerts>, Vec<Note>),
+    /// The word for the answer to an event of a trace.
+    Stepped(&'static str),
+    /// The alerts of each article of a batch of a trace.
+    Finished(Vec<Alerts>),
 }
 
 /// The value as compact JSON, and a line feed.
@@ -197,6 +201,24 @@ fn matched_json(
     Ok(json!(in alloc; {"alerts": alerts, "line": number, "notes": notes})?)
 }
 
+/// The reply to an event of a trace.
+#[tactic(auto, unfolding(crate::specs::Reply::reply_value))]
+fn stepped_json(alloc: Global, number: u64, word: &str) -> Result<Value, NoMemory>
+    ensures { IfOk result (λ v. view v ≡ reply_value number (reply.stepped word.now)) }
+{
+    Ok(json!(in alloc; {"line": number, "step": word})?)
+}
+
+/// The reply to the finish of a batch.
+#[tactic(auto, unfolding(crate::specs::Reply::reply_value))]
+fn finished_json(alloc: Global, number: u64, found: &[Alerts]) -> Result<Value, NoMemory>
+    ensures { IfOk result (λ v. view v ≡ reply_value number
+        (reply.finished (map alerts_ids (map alerts_value found.now)))) }
+{
+    let alerts = all_alerts_json(alloc, found)?;
+    Ok(json!(in alloc; {"alerts": alerts, "line": number})?)
+}
+
 impl Reply {
     ghost use Rattle.std.specs.Prelude.{◌≡◌, IfOk};
     ghost use Rattle.serde_json.specs.View.{view};
@@ -219,6 +241,8 @@ impl Reply {
             Reply::Shown(Some(text)) => shown_json(alloc, number, text),
             Reply::Shown(None) => not_shown_json(alloc, number),
             Reply::Matched(found, notes) => matched_json(alloc, number, &found, &notes),
+            Reply::Stepped(word) => stepped_json(alloc, number, word),
+            Reply::Finished(found) => finished_json(alloc, number, &found),
         }
     }
 

@@ -139,7 +139,7 @@ fn listing_of(value: Value) -> Option<Listing>
 }
 
 /// The queries that values list.
-fn listings_of(alloc: Global, items: Vec<Value>) -> Result<Vec<Listing>, Unread>
+pub fn listings_of(alloc: Global, items: Vec<Value>) -> Result<Vec<Listing>, Unread>
     ensures { ReadsAs Refusal.Shape (λ all. map listing_view all.items) (all_of listing_of (items_view items.items)) result }
 {
     let mut all = Vec::with_capacity(alloc, items.len())?;
@@ -153,7 +153,7 @@ fn listings_of(alloc: Global, items: Vec<Value>) -> Result<Vec<Listing>, Unread>
 }
 
 /// The texts that values are.
-fn texts_of(alloc: Global, items: Vec<Value>) -> Result<Vec<String>, Unread>
+pub fn texts_of(alloc: Global, items: Vec<Value>) -> Result<Vec<String>, Unread>
     ensures { ReadsAs Refusal.Shape (λ all. map string_bytes all.items) (all_of as_str (items_view items.items)) result }
 {
     let mut all = Vec::with_capacity(alloc, items.len())?;
@@ -196,7 +196,7 @@ fn draft_of(alloc: Global, value: Value) -> Result<Draft, Unread>
 }
 
 /// The articles that values list.
-fn drafts_of(alloc: Global, items: Vec<Value>) -> Result<Vec<Draft>, Unread>
+pub fn drafts_of(alloc: Global, items: Vec<Value>) -> Result<Vec<Draft>, Unread>
     ensures { ReadsAs Refusal.Shape (λ all. map draft_view all.items) (all_of draft_of (items_view items.items)) result }
 {
     let mut all = Vec::with_capacity(alloc, items.len())?;

@@ -64,6 +64,8 @@ reply_view answered.Purged = reply.purged
 reply_view (answered.Counted count) = reply.counted count
 reply_view (answered.Shown text) = reply.shown (option_map string_bytes text)
 reply_view (answered.Matched found notes) = reply.matched (map alerts_ids (map alerts_value found.items)) (map (λ n. arc_str_bytes n.text) notes.items)
+reply_view (answered.Stepped word) = reply.stepped word.now
+reply_view (answered.Finished found) = reply.finished (map alerts_ids (map alerts_value found.items))
 
 -- the reply to a command that was accepted
 abbrev pub applied_view : Applied → reply.Reply
