@@ -41,16 +41,10 @@ static WORKED: [(Play, &str); 18] = [
     (Play::Install(1), "Installed"),
     (Play::Piece(1), "Matched"),
     (Play::Piece(1), "Unknown"),
-    (
-        Play::Finish(1),
-        "a1 6 4 q1/a1/- q3/a1/- q4/a1/- q5/a1/-. ",
-    ),
+    (Play::Finish(1), "a1 6 4 q1/a1/- q3/a1/- q4/a1/- q5/a1/-. "),
     (Play::Finish(1), "Unknown"),
     (Play::Look(2, &[("a1", "tea")]), "Looked"),
-    (
-        Play::Finish(2),
-        "a1 6 4 q1/a1/- q3/a1/- q4/a1/- q5/a1/-. ",
-    ),
+    (Play::Finish(2), "a1 6 4 q1/a1/- q3/a1/- q4/a1/- q5/a1/-. "),
 ];
 
 /// Of two merges of the same segments the second comes too late, and a batch is not changed by what comes after it.
@@ -143,12 +137,7 @@ fn run(rt: &impl Abort, alloc: Global, script: &[(Play, &str)]) -> Result<(), Fa
 }
 
 /// Plays an event: whether this is the answer.
-fn answers(
-    alloc: Global,
-    tracer: &mut Tracer,
-    event: Event,
-    wanted: &str,
-) -> Result<bool, Fail> {
+fn answers(alloc: Global, tracer: &mut Tracer, event: Event, wanted: &str) -> Result<bool, Fail> {
     let answer = tracer.step(event)?;
     Ok(told(alloc, &answer)?.as_str() == wanted)
 }
