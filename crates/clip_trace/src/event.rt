@@ -4,21 +4,34 @@ use clip_meaning::Article;
 use clip_registry::{Applied, Command};
 
 /// A step of the engine. Merges and batches go by numbers that the trace chooses.
+///
+/// Beside what is said here, an event costs a step for each open merge, or for each open batch, where it names one.
 #[derive(Drop)]
 pub enum Event {
-    /// A caller gives a command.
+    /// A caller gives a command: `Accepted`, or `Unknown` for a caller not from 1 to 64, `TooMany` for a command that
+    /// does not fit, and `Full` where there is no room for it. Cost: that of `Registrar::apply`, so the extraction of
+    /// the keys of each listed query, or a search for each listed id.
     Accept(u32, Command),
-    /// A merge is begun under this number.
+    /// A merge is begun under this number: `Begun`, or `Used` for a number of an open merge, `TooMany` where
+    /// `MOST_MERGES` are open, and `Nothing` where there is nothing to merge. Cost: that of `Registrar::begin`, so a step
+    /// for each segment and each entry of four.
     Begin(u64),
-    /// The merge of this number is run and installed.
+    /// The merge of this number is run and installed: `Installed` or `Stale`, or `Unknown` where none is open under the
+    /// number. Cost: that of `MergeJob::run` and `Registrar::install`, so a look-up for each key of each entry of four
+    /// segments, and a step for each segment.
     Install(u64),
-    /// Dead entries are purged.
+    /// Dead entries are purged: `Purged`. Cost: that of `Registrar::purge`, so a step for each entry, and a look-up for
+    /// each key in segments with dead entries.
     Purge,
-    /// A view is taken for a batch of articles, under this number.
+    /// A view is taken for a batch of articles, under this number: `Looked`, or `Used` for a number of an open batch, and
+    /// `TooMany` where `MOST_BATCHES` are open or there are more than `MOST_ARTICLES` articles. No article is read.
     Look(u64, Vec<Article>),
-    /// The first article of the batch that is not matched yet is matched, on its view.
+    /// The first article of the batch that is not matched yet is matched, on its view: `Matched`, or `Unknown` where none
+    /// is open under the number or none of its articles is left. Cost: that of `match_article`, so a step for each word
+    /// of the article, and a look-up in each segment for each of its keys.
     Piece(u64),
-    /// The rest of the batch is matched, and its alerts are given.
+    /// The rest of the batch is matched, and its alerts are given: `Finished`, or `Unknown` where none is open under the
+    /// number. Cost: that of `match_article` for each article that is left.
     Finish(u64),
 }
 

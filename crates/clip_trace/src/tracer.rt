@@ -39,7 +39,7 @@ impl Model for Tracer {
     ghost invariant = { IsTracerInside };
 }
 
-/// Where the number stands among the open merges or batches.
+/// Where the number stands among the open merges or batches. Cost: a step for each.
 fn place_of<T>(numbered: &[(u64, T)], number: u64) -> Option<usize>
     ensures { result ≡ position (λ n. n.0 == number) numbered.now }
 {
@@ -59,8 +59,9 @@ impl Tracer {
         }
     }
 
-    /// Plays an event, and gives the answer that is due to it. `NoMemory` where an allocation failed, with nothing
-    /// changed.
+    /// Plays an event, and gives the answer that is due to it, which may be a refusal: the first that holds of
+    /// `Unknown`, `Used`, `TooMany` and `Full`, with nothing changed. `NoMemory` where an allocation failed, with nothing
+    /// changed. Cost: that of the event.
     pub fn step(&mut self, event: Event) -> Result<TraceAnswer, NoMemory>
         ensures due { IfOk result (λ answer. IsDueTo self.old (event_of event) (answer_of answer)) }
         ensures stand { IfOk result (λ answer. self.new ≡ after self.old (event_of event) (answer_of answer)) }
@@ -72,7 +73,7 @@ impl Tracer {
         self.play(event)
     }
 
-    /// Plays an event.
+    /// Plays an event, by one method for each kind.
     fn play(&mut self, event: Event) -> Result<TraceAnswer, NoMemory>
         ensures due { IfOk result (λ answer. IsDueTo self.old (event_of event) (answer_of answer)) }
         ensures stand { IfOk result (λ answer. self.new ≡ after self.old (event_of event) (answer_of answer)) }
@@ -89,6 +90,7 @@ impl Tracer {
         }
     }
 
+    /// Plays a command of a caller.
     fn accept(&mut self, caller: u32, command: Command) -> Result<TraceAnswer, NoMemory>
         ensures due { IfOk result (λ answer. IsDueTo self.old (event.Accept caller (command_of command)) (answer_of answer)) }
         ensures stand { IfOk result (λ answer. self.new ≡ after self.old (event.Accept caller (command_of command)) (answer_of answer)) }
@@ -107,6 +109,7 @@ impl Tracer {
         }
     }
 
+    /// Begins a merge.
     fn begin(&mut self, merge: u64) -> Result<TraceAnswer, NoMemory>
         ensures due { IfOk result (λ answer. IsDueTo self.old (event.Begin merge) (answer_of answer)) }
         ensures stand { IfOk result (λ answer. self.new ≡ after self.old (event.Begin merge) (answer_of answer)) }
@@ -125,6 +128,7 @@ impl Tracer {
         Ok(TraceAnswer::Begun)
     }
 
+    /// Runs a merge and installs it. Its number stays in use where memory failed.
     fn install(&mut self, merge: u64) -> Result<TraceAnswer, NoMemory>
         ensures due { IfOk result (λ answer. IsDueTo self.old (event.Install merge) (answer_of answer)) }
         ensures stand { IfOk result (λ answer. self.new ≡ after self.old (event.Install merge) (answer_of answer)) }
@@ -142,6 +146,7 @@ impl Tracer {
         Ok(answer)
     }
 
+    /// Purges dead entries.
     fn purge(&mut self) -> Result<TraceAnswer, NoMemory>
         ensures due { IfOk result (λ answer. IsDueTo self.old event.Purge (answer_of answer)) }
         ensures stand { IfOk result (λ answer. self.new ≡ after self.old event.Purge (answer_of answer)) }
@@ -151,6 +156,7 @@ impl Tracer {
         Ok(TraceAnswer::Purged)
     }
 
+    /// Opens a batch on the registry as it stands.
     fn look(&mut self, batch: u64, articles: Vec<Article>) -> Result<TraceAnswer, NoMemory>
         ensures due { IfOk result (λ answer. IsDueTo self.old (event.Look batch articles.items) (answer_of answer)) }
         ensures stand { IfOk result (λ answer. self.new ≡ after self.old (event.Look batch articles.items) (answer_of answer)) }
@@ -167,6 +173,7 @@ impl Tracer {
         Ok(TraceAnswer::Looked)
     }
 
+    /// Matches the first article of a batch that is not matched yet.
     fn piece(&mut self, batch: u64) -> Result<TraceAnswer, NoMemory>
         ensures due { IfOk result (λ answer. IsDueTo self.old (event.Piece batch) (answer_of answer)) }
         ensures stand { IfOk result (λ answer. self.new ≡ after self.old (event.Piece batch) (answer_of answer)) }
@@ -182,6 +189,7 @@ impl Tracer {
         Ok(TraceAnswer::Matched)
     }
 
+    /// Matches the rest of a batch and takes it out. It stays open where memory failed.
     fn finish(&mut self, batch: u64) -> Result<TraceAnswer, NoMemory>
         ensures due { IfOk result (λ answer. IsDueTo self.old (event.Finish batch) (answer_of answer)) }
         ensures stand { IfOk result (λ answer. self.new ≡ after self.old (event.Finish batch) (answer_of answer)) }
@@ -196,7 +204,8 @@ impl Tracer {
     }
 }
 
-/// Plays events from the beginning, and gives their answers, in order. `NoMemory` where an allocation failed.
+/// Plays events from the beginning, and gives their answers, in order. `NoMemory` where an allocation failed. Cost: that
+/// of each event.
 pub fn trace(alloc: Global, events: Vec<Event>) -> Result<Vec<TraceAnswer>, NoMemory>
     ensures each { IfOk result (λ answers. length answers.items ≡ length events.items) }
     ensures due { IfOk result (λ answers. IsDue (zip (map event_of events.items) (map answer_of answers.items))) }
