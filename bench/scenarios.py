@@ -10,7 +10,7 @@ from dataclasses import dataclass, replace
 from typing import Callable
 
 from prose import Article
-from workload import Workload, match_lines, register_lines
+from workload import Workload, line_of, match_lines, register_lines
 
 PASSES = 10
 
@@ -95,9 +95,23 @@ def churn(workload: Workload, size: Size) -> Scenario:
     return replace(base, timed=cut(lines, PASSES), steady=False)
 
 
+def changes(workload: Workload, size: Size) -> Scenario:
+    """Before each article one query that is new is registered and one is deleted, each by a line of its own."""
+    base = full_lines(workload, size)
+    _, timed = articles_of(workload, size)
+    named = workload.named[:size.queries]
+    lines: list[bytes] = []
+    for turn, article in enumerate(timed):
+        place = turn * 7_919 % len(named)
+        lines += register_lines([(f"n{turn:07d}", named[place - len(named) // 2][1])])
+        lines += [line_of({"op": "delete", "ids": [named[place][0]]})] + match_lines([article])
+    return replace(base, timed=cut(lines, PASSES), steady=False)
+
+
 SCENARIOS: dict[str, Callable[[Workload, Size], Scenario]] = {
     "full-lines": full_lines,
     "batches": batches,
     "one-a-line": one_a_line,
     "churn": churn,
+    "changes": changes,
 }

@@ -3,7 +3,7 @@ use Rattle.std.proofs.Common.{◌≡◌, ℕ, List, [], ◌∷◌, ◌||◌, map
 use Rattle.serde_json.specs.Data.{string}
 use Rattle.serde_json.specs.View.{items_of}
 use Rattle.serde_json.specs.Written.{has_float, items_have_float}
-use Rattle.clip_front.specs.Reply.{Reply, nothing, refused, refused_at, registered, deleted, cleared, counted, shown, matched, stepped, finished, alerts_data, text_or_null, reply_value}
+use Rattle.clip_front.specs.Reply.{Reply, nothing, refused, refused_at, registered, deleted, cleared, purged, counted, shown, matched, stepped, finished, alerts_data, text_or_null, reply_value}
 
 no_float_texts : (texts : List (List ℕ)) → items_have_float (items_of (map string texts)) ≡ false
 no_float_texts [] = refl
@@ -25,6 +25,7 @@ has_float-reply_value n (refused_at r k) = refl
 has_float-reply_value n (registered k) = refl
 has_float-reply_value n (deleted k) = refl
 has_float-reply_value n (cleared k) = refl
+has_float-reply_value n purged = refl
 has_float-reply_value n (counted k) = refl
 has_float-reply_value n (shown text) = no_float_text text
 has_float-reply_value n (matched found notes) = ap₂ (λ x y. x || (y || false)) (no_float_alerts found) (no_float_texts notes)

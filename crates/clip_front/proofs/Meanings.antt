@@ -16,6 +16,7 @@ requests_mean : (names : List (List ℕ)) (h : History) (r : Request) (m : Meani
 requests_mean names h (request.register listings) m means = means
 requests_mean names h (request.delete ids) m means = means
 requests_mean names h request.clear m means = means
+requests_mean names h request.purge m means = means
 requests_mean names h request.count m means = means
 requests_mean names h (request.show id) m means = means
 requests_mean names h (request.match drafts) m means = means
@@ -56,6 +57,7 @@ asked_mean : (names : List (List ℕ)) (h : History) (r : Request) (m : Meaning)
 asked_mean names h (request.register listings) m means = means
 asked_mean names h (request.delete ids) m means = means
 asked_mean names h request.clear m means = means
+asked_mean names h request.purge m means = means
 asked_mean names h request.count m means = means
 asked_mean names h (request.show id) m means = means
 asked_mean names h (request.match drafts) m means = means

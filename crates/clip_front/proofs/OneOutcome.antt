@@ -12,10 +12,10 @@ use Rattle.clip_model.specs.History.{History, Register, Delete, Clear}
 use Rattle.clip_front.specs.declared.refusal.Refusal.{Refusal}
 use Rattle.clip_front.specs.declared.refusal.Refusal.TheVariants.{Long, Json, Shape, Limit, Query, Listener, Full}
 use Rattle.clip_front.specs.Request.{Listing, register}
-use Rattle.clip_front.specs.LineMeaning.{Meaning, nothing, refusal, refusal_at, counting, showing, matching, IsQuery, IsAQuery, is_here, IsReadAs, IsTakenAs, IsRefusedFor, AreTakenAs, FirstRefused, judged, MeansRequest, after}
+use Rattle.clip_front.specs.LineMeaning.{Meaning, nothing, refusal, refusal_at, purging, counting, showing, matching, IsQuery, IsAQuery, is_here, IsReadAs, IsTakenAs, IsRefusedFor, AreTakenAs, FirstRefused, judged, MeansRequest, after}
 use Rattle.clip_listen.specs.Heard.{Hearer}
 use Rattle.clip_front.specs.Outcome.{Outcome, nothing_given, followed_by, given, names_in, Gives}
-use Rattle.clip_front.specs.Steps.Outline.{Outline, blank, refused, registers, deletes, clears, counts, shows, matches, outline, MeansOutline}
+use Rattle.clip_front.specs.Steps.Outline.{Outline, blank, refused, registers, deletes, clears, purges, counts, shows, matches, outline, MeansOutline}
 use Rattle.clip_front.proofs.Meanings.{means_from, means_to}
 use Rattle.clip_front.proofs.Readings.{no_query}
 
@@ -152,6 +152,7 @@ outline_once names h (refused w) m n a b = a ∙ sym b
 outline_once names h (registers ls) m n a b = register_once names h ls m n a b
 outline_once names h (deletes ids) m n a b = a ∙ sym b
 outline_once names h clears m n a b = a ∙ sym b
+outline_once names h purges m n a b = a ∙ sym b
 outline_once names h counts m n a b = a ∙ sym b
 outline_once names h (shows id) m n a b = a ∙ sym b
 outline_once names h (matches articles) m n a b = a ∙ sym b
@@ -166,6 +167,7 @@ outline_some names h (refused w) = (refusal w, refl)
 outline_some names h (registers ls) = register_some names h ls (list_judged names ls)
 outline_some names h (deletes ids) = (judged h (Delete ids), refl)
 outline_some names h clears = (judged h Clear, refl)
+outline_some names h purges = (purging, refl)
 outline_some names h counts = (counting, refl)
 outline_some names h (shows id) = (showing id, refl)
 outline_some names h (matches articles) = (matching articles, refl)

@@ -8,11 +8,11 @@ use Rattle.clip_listen.specs.Heard.{Hearer, told_all}
 use Rattle.clip_listen.proofs.Hearing.{all_notes_kept}
 use Rattle.clip_ledger.specs.Rows.{RowValue, rows_of}
 use Rattle.clip_front.specs.declared.refusal.Refusal.{Refusal}
-use Rattle.clip_front.specs.LineMeaning.{Meaning, nothing, refusal, refusal_at, command, counting, showing, matching, judged}
+use Rattle.clip_front.specs.LineMeaning.{Meaning, nothing, refusal, refusal_at, command, purging, counting, showing, matching, judged}
 use Rattle.clip_front.specs.Reply.{matched, alerts_shown, alerts_of_all, reply_text, texts_said}
 use Rattle.clip_front.specs.Outcome.{Outcome, nothing_given, followed_by, given, alerts_told, rows_of_article, kept_rows}
 use Rattle.clip_front.specs.Steps.Answers.{alerts_outlined}
-use Rattle.clip_front.specs.Steps.Outline.{Outline, blank, refused, registers, deletes, clears, counts, shows, matches, MeansOutline}
+use Rattle.clip_front.specs.Steps.Outline.{Outline, blank, refused, registers, deletes, clears, purges, counts, shows, matches, MeansOutline}
 
 -- ---- one after the other
 
@@ -46,6 +46,7 @@ given_kept front hearers n h nothing = refl
 given_kept front hearers n h (refusal r) = refl
 given_kept front hearers n h (refusal_at r k) = refl
 given_kept front hearers n h (command c) = refl
+given_kept front hearers n h purging = refl
 given_kept front hearers n h counting = refl
 given_kept front hearers n h (showing id) = refl
 given_kept front hearers n h (matching articles) =
@@ -67,6 +68,7 @@ told-outlined names h (registers listings) m (inl f) = ap (alerts_told h) f.3
 told-outlined names h (registers listings) m (inr r) = told-judged h (Register r.0) m r.2
 told-outlined names h (deletes ids) m e = told-judged h (Delete ids) m e
 told-outlined names h clears m e = told-judged h Clear m e
+told-outlined names h purges m e = ap (alerts_told h) e
 told-outlined names h counts m e = ap (alerts_told h) e
 told-outlined names h (shows id) m e = ap (alerts_told h) e
 told-outlined names h (matches articles) m e = ap (alerts_told h) e

@@ -12,7 +12,7 @@ use Rattle.serde_json.specs.Data.{Data, null, boolean, number, string, array, ob
 use Rattle.serde_json.specs.Events.{members_len}
 use Rattle.serde_json.specs.Find.{get, as_str, as_array, as_object}
 use Rattle.serde_json.specs.View.{items_of}
-use Rattle.clip_front.specs.Request.{Listing, Draft, Request, register, delete, clear, count, show, match, members_from, object_of, listing_value, field_value, draft_value, value_of}
+use Rattle.clip_front.specs.Request.{Listing, Draft, Request, register, delete, clear, purge, count, show, match, members_from, object_of, listing_value, field_value, draft_value, value_of}
 use Rattle.clip_front.specs.Steps.Outline.{take_member, when_none_left, two_of, two_members, three_members, all_of, fields_of, plain_listing_of, heard_listing_of, listing_of, draft_of, operation_of, operation_in, has_members, counts_members, register_of, delete_of, show_of, match_of, request_by, request_of}
 use Rattle.clip_front.specs.declared.request.Operation.{Operation}
 use Rattle.clip_front.specs.declared.request.Operation.TheVariants as operation
@@ -45,6 +45,7 @@ unfolding request_of operation_in operation_of register_of delete_of show_of mat
 request_of-value_of (register listings) = ap (option_map register) (all_of-map listing_value listing_of listing_of-value listings)
 request_of-value_of (delete ids) = ap (option_map delete) (all_of-map string as_str (λ s. refl) ids)
 request_of-value_of clear = refl
+request_of-value_of purge = refl
 request_of-value_of count = refl
 request_of-value_of (show id) = refl
 request_of-value_of (match drafts) = ap (option_map match) (all_of-map draft_value draft_of draft_of-value drafts)
@@ -178,6 +179,7 @@ name_of : Operation → List ℕ
 name_of operation.Register = codes "register"
 name_of operation.Delete = codes "delete"
 name_of operation.Clear = codes "clear"
+name_of operation.Purge = codes "purge"
 name_of operation.Count = codes "count"
 name_of operation.Show = codes "show"
 name_of operation.Match = codes "match"
@@ -196,9 +198,10 @@ name_is word o e =
     named (bytes_eq word (codes "register")) word operation.Register _ o (bytes_eq-Decides word (codes "register")).0
     (named (bytes_eq word (codes "delete")) word operation.Delete _ o (bytes_eq-Decides word (codes "delete")).0
     (named (bytes_eq word (codes "clear")) word operation.Clear _ o (bytes_eq-Decides word (codes "clear")).0
+    (named (bytes_eq word (codes "purge")) word operation.Purge _ o (bytes_eq-Decides word (codes "purge")).0
     (named (bytes_eq word (codes "count")) word operation.Count _ o (bytes_eq-Decides word (codes "count")).0
     (named (bytes_eq word (codes "show")) word operation.Show _ o (bytes_eq-Decides word (codes "show")).0
-    (named (bytes_eq word (codes "match")) word operation.Match None o (bytes_eq-Decides word (codes "match")).0 (λ none. absurd (none_is_some o none))))))) e
+    (named (bytes_eq word (codes "match")) word operation.Match None o (bytes_eq-Decides word (codes "match")).0 (λ none. absurd (none_is_some o none)))))))) e
 
 -- the value of the member by which the operation is told
 pub word_text : (d x : Data) (word : List ℕ) → get (codes "op") d ≡ Some x → option_and_then as_str (get (codes "op") d) ≡ Some word → x ≡ string word
@@ -264,6 +267,7 @@ request_is d operation.Delete r op e =
     let word = name_text d p.0.1 operation.Delete (ap (get (codes "op")) shape) op in
     shape ∙ ap₂ (λ x y. object_of ((codes "ids", x) ∷ (codes "op", y) ∷ [])) (array_is p.0.0 items.0 items.1 ∙ ap array (all_are string as_str text_is items.0 all.0 items.2)) word ∙ ap value_of all.2
 request_is d operation.Clear r op e = let w = when (has_members 1 d) clear r e in lone_is d operation.Clear w.0 op ∙ ap value_of w.1
+request_is d operation.Purge r op e = let w = when (has_members 1 d) purge r e in lone_is d operation.Purge w.0 op ∙ ap value_of w.1
 request_is d operation.Count r op e = let w = when (has_members 1 d) count r e in lone_is d operation.Count w.0 op ∙ ap value_of w.1
 request_is d operation.Show r op e =
     let id = mapped _ show r e in

@@ -3,7 +3,7 @@ use Rattle.std.proofs.Common.{◌≡◌, ℕ, List, [], ◌∷◌, ◌++◌, map
 use Rattle.std.specs.Prelude.{flat_map}
 use Rattle.clip_meaning.specs.Article.{ArticleValue}
 use Rattle.clip_model.specs.Alerts.{alerts}
-use Rattle.clip_model.specs.History.{History, Command, Register, Delete, Clear, has_room, applied}
+use Rattle.clip_model.specs.History.{History, Command, Register, Delete, Clear, has_room, applied, with_command}
 use Rattle.clip_match.specs.Alerts.{AlertsValue, alerts_due}
 use Rattle.std.specs.Arc.{arc_str_bytes}
 use Rattle.clip_listen.specs.declared.note.Note.{Note}
@@ -11,15 +11,15 @@ use Rattle.clip_listen.specs.Heard.{Hearer, told_all, note_value}
 use Rattle.clip_listen.proofs.Hearing.{told_none}
 use Rattle.clip_ledger.specs.Rows.{RowValue}
 use Rattle.clip_registry.specs.Command.{answer_of}
-use Rattle.clip_registry.specs.RegistryState.{RegistryState, state_after}
+use Rattle.clip_registry.specs.RegistryState.{RegistryState}
 use Rattle.clip_registry.specs.declared.command.Applied.{Applied}
 use Rattle.clip_front.specs.declared.books.Books.{Books}
 use Rattle.clip_front.specs.declared.refusal.Refusal.{Refusal}
-use Rattle.clip_front.specs.LineMeaning.{Meaning, nothing, refusal, refusal_at, command, counting, showing, matching, judged, after}
-use Rattle.clip_front.specs.Reply.{Reply, accepted, alerts_shown, alerts_of_all, answer_to, matched, texts_said}
+use Rattle.clip_front.specs.LineMeaning.{Meaning, nothing, refusal, refusal_at, command, purging, counting, showing, matching, judged, after}
+use Rattle.clip_front.specs.Reply.{Reply, accepted, alerts_shown, alerts_of_all, answer_to, purged, matched, texts_said}
 use Rattle.clip_front.specs.Outcome.{alerts_told, rows_posted, rows_of_article, kept_rows, names_in}
 use Rattle.clip_front.specs.Steps.Answers.{Held, held, Responds, Settles, IsQuiet, Judges, told_in, rows_in}
-use Rattle.clip_front.specs.Steps.Outline.{Outline, MeansOutline, matches}
+use Rattle.clip_front.specs.Steps.Outline.{Outline, MeansOutline, purges, matches}
 use Rattle.clip_front.specs.Steps.Views.{alerts_ids, applied_view}
 
 -- ---- commands
@@ -32,11 +32,11 @@ applied_view-answer_of (Register standings) n = refl
 applied_view-answer_of (Delete ids) n = refl
 applied_view-answer_of Clear n = refl
 
-pub judges_accepted : (old new : RegistryState) (c : Command) (a : Applied) (r : Reply) → new ≡ state_after old 1 c → has_room old.history c ≡ true → a ≡ answer_of c (applied old.history c) → r ≡ applied_view a → Judges old new c r
+pub judges_accepted : (old new : RegistryState) (c : Command) (a : Applied) (r : Reply) → new.history ≡ with_command old.history 1 c → has_room old.history c ≡ true → a ≡ answer_of c (applied old.history c) → r ≡ applied_view a → Judges old new c r
 judges_accepted old new c a r is room answer shows =
     let accepts = judged-room old.history c room in
     record {
-      history = ap (λ s. s.history) is ∙ ap (after old.history) (sym accepts);
+      history = is ∙ ap (after old.history) (sym accepts);
       reply = λ hearers. shows ∙ ap applied_view answer ∙ applied_view-answer_of c _ ∙ ap (answer_to hearers old.history) (sym accepts);
     }
 
@@ -52,6 +52,9 @@ settles_judged names old new c o r means j = record { meaning = judged old.histo
 
 -- ---- lines that tell no alert
 
+pub settles_purged : (names : List (List ℕ)) (old new : RegistryState) → new.history ≡ old.history → Settles names old new purges purged
+settles_purged names old new same = record { meaning = purging; means = refl; quiet = tt; history = same; reply = λ hearers. refl }
+
 pub settles_still : (names : List (List ℕ)) (s : RegistryState) (o : Outline) (m : Meaning) (r : Reply) → MeansOutline names s.history o m → IsQuiet m → after s.history m ≡ s.history → ((hearers : List Hearer) → r ≡ answer_to hearers s.history m) → Settles names s s o r
 settles_still names s o m r means quiet same reply = record { meaning = m; means = means; quiet = quiet; history = sym same; reply = reply }
 
@@ -60,6 +63,7 @@ quiet_alerts h nothing q = refl
 quiet_alerts h (refusal r) q = refl
 quiet_alerts h (refusal_at r k) q = refl
 quiet_alerts h (command c) q = refl
+quiet_alerts h purging q = refl
 quiet_alerts h counting q = refl
 quiet_alerts h (showing id) q = refl
 quiet_alerts h (matching articles) q = absurd q
@@ -69,6 +73,7 @@ quiet_rows hearers n h nothing q = refl
 quiet_rows hearers n h (refusal r) q = refl
 quiet_rows hearers n h (refusal_at r k) q = refl
 quiet_rows hearers n h (command c) q = refl
+quiet_rows hearers n h purging q = refl
 quiet_rows hearers n h counting q = refl
 quiet_rows hearers n h (showing id) q = refl
 quiet_rows hearers n h (matching articles) q = absurd q

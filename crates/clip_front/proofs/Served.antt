@@ -17,7 +17,7 @@ use Rattle.clip_front.specs.LineMeaning.{Meaning, is_long, is_blank, json_of, Me
 use Rattle.clip_front.specs.Reply.{reply_text}
 use Rattle.clip_front.specs.Outcome.{Outcome, nothing_given, followed_by, given, names_in, kept_rows, Gives, GivesAll, GivesFront}
 use Rattle.clip_front.specs.Steps.Answers.{Held, Answers, held_after, alerts_outlined}
-use Rattle.clip_front.specs.Steps.Desk.{AnswersIn, BreaksIn}
+use Rattle.clip_front.specs.Steps.RunServer.{AnswersIn, BreaksIn}
 use Rattle.clip_front.specs.Steps.Outline.{outline, blank, outline_of_value, MeansOutline}
 use Rattle.clip_front.specs.Steps.Serving.{Answering, Breaking, Serves, StopsAt, ServesAll, ServesFront}
 use Rattle.clip_front.proofs.Delivering.{none_posted}

@@ -64,6 +64,7 @@ pub data Meaning : Type 0 where
   refusal : Refusal → Meaning
   refusal_at : Refusal → ℕ → Meaning
   command : Command → Meaning
+  purging : Meaning
   counting : Meaning
   showing : List ℕ → Meaning
   matching : List ArticleValue → Meaning
@@ -130,6 +131,7 @@ MeansRequest names h (request.register listings) m =
     ((r : Refusal) × (k : ℕ) × FirstRefused names listings r k × (m ≡ refusal_at r k)) ⊎ ((ss : List Standing) × AreTakenAs names listings ss × (m ≡ judged h (Register ss)))
 MeansRequest names h (request.delete ids) m = m ≡ judged h (Delete ids)
 MeansRequest names h request.clear m = m ≡ judged h Clear
+MeansRequest names h request.purge m = m ≡ purging
 MeansRequest names h request.count m = m ≡ counting
 MeansRequest names h (request.show id) m = m ≡ showing id
 MeansRequest names h (request.match drafts) m = m ≡ matching (map article_of drafts)
@@ -151,6 +153,7 @@ after h nothing = h
 after h (refusal r) = h
 after h (refusal_at r k) = h
 after h (command c) = with_command h 1 c
+after h purging = h
 after h counting = h
 after h (showing id) = h
 after h (matching articles) = h

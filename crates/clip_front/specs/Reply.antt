@@ -1,7 +1,7 @@
 -- The reply to a line.
-use Rattle.std.specs.Prelude.{ℕ, map, flat_map, List, [], ◌∷◌, ◌++◌, Option, Some, None, option_map, codes}
+use Rattle.std.specs.Prelude.{ℕ, map, flat_map, List, [], ◌∷◌, ◌++◌, Option, Some, None, option_map, codes, true}
 use Rattle.std.specs.FinMap as finite
-use Rattle.serde_json.specs.Data.{Data, null, number, unsigned, string}
+use Rattle.serde_json.specs.Data.{Data, null, boolean, number, unsigned, string}
 use Rattle.serde_json.specs.Written.{compact_text}
 use Rattle.clip_meaning.specs.Article.{ArticleValue}
 use Rattle.clip_model.specs.History.{History, Command, Register, Delete, Clear, replay, applied}
@@ -23,6 +23,7 @@ pub data Reply : Type 0 where
   registered : ℕ → Reply
   deleted : ℕ → Reply
   cleared : ℕ → Reply
+  purged : Reply
   counted : ℕ → Reply
   shown : Option (List ℕ) → Reply
   matched : List (List ℕ × List (List ℕ)) → List (List ℕ) → Reply
@@ -53,6 +54,7 @@ answer_to hearers h line.nothing = nothing
 answer_to hearers h (line.refusal r) = refused r
 answer_to hearers h (line.refusal_at r k) = refused_at r k
 answer_to hearers h (line.command c) = accepted c (applied h c)
+answer_to hearers h line.purging = purged
 answer_to hearers h line.counting = counted (finite.len (replay h))
 answer_to hearers h (line.showing id) = shown (option_map (λ r. r.standing.text) (finite.get (replay h) id))
 answer_to hearers h (line.matching articles) = matched (map (alerts_shown h) articles) (texts_said hearers (alerts_of_all h articles))
@@ -77,6 +79,7 @@ reply_value n (refused_at r k) = object_of ((codes "line", number_of n) ∷ (cod
 reply_value n (registered k) = object_of ((codes "line", number_of n) ∷ (codes "registered", number_of k) ∷ [])
 reply_value n (deleted k) = object_of ((codes "deleted", number_of k) ∷ (codes "line", number_of n) ∷ [])
 reply_value n (cleared k) = object_of ((codes "cleared", number_of k) ∷ (codes "line", number_of n) ∷ [])
+reply_value n purged = object_of ((codes "line", number_of n) ∷ (codes "purged", boolean true) ∷ [])
 reply_value n (counted k) = object_of ((codes "count", number_of k) ∷ (codes "line", number_of n) ∷ [])
 reply_value n (shown text) = object_of ((codes "line", number_of n) ∷ (codes "query", text_or_null text) ∷ [])
 reply_value n (matched found notes) =

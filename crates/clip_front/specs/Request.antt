@@ -23,6 +23,7 @@ pub data Request : Type 0 where
   register : List Listing → Request
   delete : List (List ℕ) → Request
   clear : Request
+  purge : Request
   count : Request
   show : List ℕ → Request
   match : List Draft → Request
@@ -58,6 +59,7 @@ abbrev pub value_of : Request → Data
 value_of (register listings) = object_of ((codes "op", string (codes "register")) ∷ (codes "queries", array_of (map listing_value listings)) ∷ [])
 value_of (delete ids) = object_of ((codes "ids", array_of (map string ids)) ∷ (codes "op", string (codes "delete")) ∷ [])
 value_of clear = object_of ((codes "op", string (codes "clear")) ∷ [])
+value_of purge = object_of ((codes "op", string (codes "purge")) ∷ [])
 value_of count = object_of ((codes "op", string (codes "count")) ∷ [])
 value_of (show id) = object_of ((codes "id", string id) ∷ (codes "op", string (codes "show")) ∷ [])
 value_of (match drafts) = object_of ((codes "articles", array_of (map draft_value drafts)) ∷ (codes "op", string (codes "match")) ∷ [])
@@ -68,6 +70,7 @@ abbrev pub within : Request → Bool
 within (register listings) = nat_le (length listings) MOST_LISTED && list_all (λ l. is_id l.id) listings
 within (delete ids) = nat_le (length ids) MOST_LISTED && list_all is_id ids
 within clear = true
+within purge = true
 within count = true
 within (show id) = is_id id
 within (match drafts) = nat_le (length drafts) MOST_ARTICLES && list_all (λ d. may_be d.id d.fields) drafts

@@ -1,5 +1,5 @@
 pub mod Answers
-pub mod Desk
+pub mod RunServer
 pub mod Outline
 pub mod Serving
 pub mod TraceDesk

@@ -15,6 +15,7 @@ ghost use Rattle.clip_front.specs.Steps.Views.{applied_view, line_view, listing_
 use crate::books::Books;
 use crate::deliver::deliver_all;
 use crate::line::Line;
+use crate::merging::merge_turn;
 use crate::refusal::{Refusal, Unread};
 use crate::reply::Reply;
 use crate::request::Listing;
@@ -137,13 +138,16 @@ pub fn accepted(applied: Applied) -> Reply
     }
 }
 
-/// Applies a command, where there is room for it.
+/// Applies a command, where there is room for it, and takes a merge turn then.
 fn apply(registrar: &mut Registrar, command: Command) -> Result<Reply, NoMemory>
     requires { IsTrue (fits (command_of command)) }
     ensures { IfOk result (λ reply. Judges registrar.old registrar.new (command_of command) (reply_view reply)) }
 {
     match registrar.apply(CALLER, command) {
-        Ok(applied) => Ok(accepted(applied)),
+        Ok(applied) => {
+            merge_turn(registrar);
+            Ok(accepted(applied))
+        }
         Err((_, Refused::Full)) => Ok(Reply::Refused(Refusal::Full)),
         Err((_, Refused::NoMemory)) => Err(NoMemory),
     }
@@ -218,6 +222,10 @@ fn respond<A: Audience>(
         Line::Register(listings) => register(alloc, registrar, audience, listings),
         Line::Delete(ids) => apply(registrar, Command::Delete(ids)),
         Line::Clear => apply(registrar, Command::Clear),
+        Line::Purge => {
+            registrar.purge()?;
+            Ok(Reply::Purged)
+        }
         Line::Count => Ok(Reply::Counted(registrar.view()?.count())),
         Line::Show(id) => show(alloc, &registrar.view()?, id.as_str()),
         Line::Match(articles) => {
@@ -237,8 +245,9 @@ fn respond<A: Audience>(
 /// delivered before.
 ///
 /// `NoMemory` where an allocation failed or a listener answers it; the listeners have heard some first ones of the
-/// line's alerts then. A change costs that of `Registrar::apply` after the reading of its queries; a match costs that of
-/// `match_batch` and of the delivery; a count takes constant time, and a show one look-up by id.
+/// line's alerts then. A change costs that of `Registrar::apply` after the reading of its queries, and a merge turn; a
+/// purge costs that of `Registrar::purge`; a match costs that of `match_batch` and of the delivery; a count takes
+/// constant time, and a show one look-up by id.
 pub fn answer<A: Audience>(
     alloc: Global,
     registrar: &mut Registrar,

@@ -7,6 +7,7 @@ mod deliver;
 mod limits;
 mod line;
 mod members;
+mod merging;
 mod refusal;
 mod reply;
 mod request;

@@ -31,6 +31,8 @@ pub enum Line {
     Delete(Vec<String>),
     /// Delete all queries.
     Clear,
+    /// Drop what the registry still holds of queries that are gone.
+    Purge,
     /// Count the registered queries.
     Count,
     /// Show the text of the query under this id.
@@ -133,6 +135,7 @@ impl Line {
                 Ok(Line::Delete(ids))
             }
             Request::Clear => Ok(Line::Clear),
+            Request::Purge => Ok(Line::Purge),
             Request::Count => Ok(Line::Count),
             Request::Show(id) => {
                 if !is_id(id.as_str()) {

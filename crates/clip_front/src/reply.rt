@@ -31,6 +31,8 @@ pub enum Reply {
     Deleted(u64),
     /// So many queries were there, and all are deleted.
     Cleared(u64),
+    /// What the registry still held of queries that are gone is dropped.
+    Purged,
     /// So many queries are registered.
     Counted(u64),
     /// The text of a query, where one is registered under the id.
@@ -151,6 +153,14 @@ fn cleared_json(alloc: Global, number: u64, count: u64) -> Result<Value, NoMemor
     Ok(json!(in alloc; {"cleared": count, "line": number})?)
 }
 
+/// The reply to a purge.
+#[tactic(auto, unfolding(crate::specs::Reply::reply_value))]
+fn purged_json(alloc: Global, number: u64) -> Result<Value, NoMemory>
+    ensures { IfOk result (λ v. view v ≡ reply_value number reply.purged) }
+{
+    Ok(json!(in alloc; {"line": number, "purged": true})?)
+}
+
 /// The reply to a count.
 #[tactic(auto, unfolding(crate::specs::Reply::reply_value))]
 fn counted_json(alloc: Global, number: u64, count: u64) -> Result<Value, NoMemory>
@@ -226,6 +236,7 @@ impl Reply {
             Reply::Registered(count) => registered_json(alloc, number, count),
             Reply::Deleted(count) => deleted_json(alloc, number, count),
             Reply::Cleared(count) => cleared_json(alloc, number, count),
+            Reply::Purged => purged_json(alloc, number),
             Reply::Counted(count) => counted_json(alloc, number, count),
             Reply::Shown(Some(text)) => shown_json(alloc, number, text),
             Reply::Shown(None) => not_shown_json(alloc, number),

@@ -39,6 +39,8 @@ pub enum Request {
     Delete(Vec<String>),
     /// Delete all queries.
     Clear,
+    /// Drop what the registry still holds of queries that are gone.
+    Purge,
     /// Count the registered queries.
     Count,
     /// Show the text of the query under this id.
@@ -53,6 +55,7 @@ enum Operation {
     Register,
     Delete,
     Clear,
+    Purge,
     Count,
     Show,
     Match,
@@ -70,6 +73,8 @@ impl Operation {
             Some(Operation::Delete)
         } else if word == "clear" {
             Some(Operation::Clear)
+        } else if word == "purge" {
+            Some(Operation::Purge)
         } else if word == "count" {
             Some(Operation::Count)
         } else if word == "show" {
@@ -283,6 +288,7 @@ impl Request {
             Operation::Register => Request::register(alloc, value),
             Operation::Delete => Request::delete(alloc, value),
             Operation::Clear => Request::Clear.alone(&value),
+            Operation::Purge => Request::Purge.alone(&value),
             Operation::Count => Request::Count.alone(&value),
             Operation::Show => Request::show(value),
             Operation::Match => Request::matching(alloc, value),

@@ -26,13 +26,13 @@ pub struct Ended {
 
 /// The registry of a run and its books. They answer requests, with an audience to which alerts are told.
 #[derive(Drop)]
-struct Desk {
+struct RunServer {
     registrar: Registrar,
     books: Books,
 }
 
-impl<A: Audience> Server<A> for Desk {
-    ghost use Rattle.clip_front.specs.Steps.Desk.{held_at, AnswersIn, BreaksIn};
+impl<A: Audience> Server<A> for RunServer {
+    ghost use Rattle.clip_front.specs.Steps.RunServer.{held_at, AnswersIn, BreaksIn};
 
     ghost answers = { AnswersIn (held_at A.hearers) };
 
@@ -63,16 +63,23 @@ impl<A: Audience> Server<A> for Desk {
 /// two reads the replies are gathered, so that the writer gets few writes. Each line is answered by the registry that
 /// the lines before it leave, and its alerts are delivered before its reply is written.
 ///
+/// After each accepted change one merge turn is taken: the oldest four neighbouring segments of one level become one. A
+/// turn that is refused memory is dropped, and a later one may take them. What is registered stays as it is.
+///
 /// `Read` where a read failed, or 1,099,511,627,776 reads met no end; `Write` where a write or a flush failed, or a
-/// write took nothing; `NoMemory` where an allocation failed, or a listener answers it. After a fault nothing more is
-/// written, and no more is delivered.
+/// write took nothing; `NoMemory` where an allocation failed outside of a merge turn, or a listener answers it. After a
+/// fault nothing more is written, and no more is delivered.
 ///
 /// Cost: a register reads each query that it lists, looks its listener's name up, extracts its keys and searches the ids
-/// for its own; a delete searches the ids for each that it lists; a match costs for each article its words, a look-up of
-/// its keys in each segment, and its candidates, and not the registry, and for each alert with a listener a look-up of
-/// the name and what that listener takes. Memory: one line and what it asks for, up to 64 KiB of gathered replies and
-/// one reply more, the registered queries with their index, the history of the accepted changes, and a row for each
-/// alert where rows are kept.
+/// for its own; a delete searches the ids for each that it lists. A merge turn takes a step for each segment and, where
+/// there are four to merge, a look-up for each key of each of their entries. While no query is replaced or taken out, an
+/// entry is rewritten at most once per level, so at most about log4 n times where n queries are registered one by one; a
+/// merge that leaves dead entries out may stay at its level. A purge takes a step for each entry, and rewrites the
+/// segments that have a dead one. A match costs for each article its words, a look-up of its keys in each segment, and
+/// its candidates, and not the registry, and for each alert with a listener a look-up of the name and what that listener
+/// takes. Memory: one line and what it asks for, up to 64 KiB of gathered replies and one reply more, the registered
+/// queries, and those that no merge or purge has left out yet, with their index, the history of the accepted changes, and
+/// a row for each alert where rows are kept.
 pub fn run<R: Source, W: Sink, A: Audience>(
     alloc: Global,
     reader: &mut R,
@@ -104,14 +111,14 @@ pub fn run<R: Source, W: Sink, A: Audience>(
     ensures front { OnErr result (IfSome (R.left reader.old)
         (GivesFront (A.hearers audience.old) (A.hearers audience.new) (W.taken writer.old) (W.taken writer.new))) }
 {
-    let mut desk = Desk {
+    let mut server = RunServer {
         registrar: Registrar::new(alloc),
         books: Books::new(alloc, settings),
     };
-    let lines = serve(alloc, reader, writer, audience, &mut desk)?;
+    let lines = serve(alloc, reader, writer, audience, &mut server)?;
     Ok(Ended {
         lines,
-        ledger: desk.books.ledger,
+        ledger: server.books.ledger,
     })
 }
 

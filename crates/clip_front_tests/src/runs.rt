@@ -36,6 +36,21 @@ pub fn run_unheard<R: Source, W: Sink>(
     run(alloc, reader, writer, &mut listeners, settings)
 }
 
+/// The bytes are answered by this text, in `count` lines.
+pub fn is_answered_by<R: Abort + AllocGlobal>(
+    rt: &R,
+    input: &[u8],
+    count: u64,
+    wanted: &str,
+) -> Result<(), Fail> {
+    let mut source = script_of(input, 1000, MANY);
+    let mut sink = blank_tape(rt.alloc(), 1000, Failing::Write, MANY);
+    let ended = run_unheard(rt.alloc(), &mut source, &mut sink)?;
+    assert_eq!(rt; ended.lines, count);
+    assert_eq!(rt; sink.taken.as_slice(), wanted.as_bytes(), "wanted {wanted}");
+    Ok(())
+}
+
 /// The bytes are answered by these replies, in `count` lines.
 pub fn is_answered<R: Abort + AllocGlobal>(
     rt: &R,
@@ -43,13 +58,8 @@ pub fn is_answered<R: Abort + AllocGlobal>(
     count: u64,
     replies: &[&str],
 ) -> Result<(), Fail> {
-    let mut source = script_of(input, 1000, MANY);
-    let mut sink = blank_tape(rt.alloc(), 1000, Failing::Write, MANY);
-    let ended = run_unheard(rt.alloc(), &mut source, &mut sink)?;
-    assert_eq!(rt; ended.lines, count);
     let wanted = text_of(rt.alloc(), replies)?;
-    assert_eq!(rt; sink.taken.as_slice(), wanted.as_bytes(), "wanted {wanted}");
-    Ok(())
+    is_answered_by(rt, input, count, &wanted)
 }
 
 pub fn are_answered<R: Abort + AllocGlobal>(

@@ -1,0 +1,4 @@
+pub mod Division
+pub mod Named
+pub mod Runs
+pub mod Searching

@@ -38,6 +38,6 @@ impl Live {
     pub fn names(&self, seq: u64) -> bool
         ensures { result ≡ names self.now seq }
     {
-        self.seqs.iter().any(|other| *other == seq)
+        self.seqs.binary_search(&seq).is_ok()
     }
 }

@@ -8,3 +8,9 @@ pub mod Undoing
 pub mod Entering
 pub mod Alone
 pub mod Keeping
+pub mod Kept
+pub mod Equal
+pub mod Missing
+pub mod Naming
+pub mod Counted
+pub mod Late

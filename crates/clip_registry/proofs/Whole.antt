@@ -100,7 +100,8 @@ shelved_after n segments m (Register (s ∷ ss)) is =
 shelved_after n segments m (Delete ids) is = same_count n _ _ (shelved_delete n ids (all_entries segments) m is)
 shelved_after n segments m Clear is = shelved_nothing (n + 0)
 
-whole_from : (state : RegistryState) → IsShelved (listed state.history) (all_entries state.segments) (replay state.history) → IsWhole state
+-- what is shelved is whole
+pub whole_from : (state : RegistryState) → IsShelved (listed state.history) (all_entries state.segments) (replay state.history) → IsWhole state
 whole_from state is = record {
   rising = is.rising;
   within = is.within;

@@ -1,9 +1,9 @@
 -- Merges: what a job and a merge hold, and what installing and purging do.
-use Rattle.std.specs.Prelude.{◌≡◌, ℕ, ◌+◌, Bool, true, false, List, [], ◌∷◌, ◌++◌, map, filter, take, drop, length, Contains, IsTrue, refl}
+use Rattle.std.specs.Prelude.{◌≡◌, ℕ, ◌+◌, Bool, true, false, List, [], ◌∷◌, ◌++◌, map, filter, take, drop, Contains, IsTrue, refl}
 use Rattle.std.specs.Coded.{Coded, code_by, coded×, coded_ℕ, coded_list}
 use Rattle.clip_model.specs.History.{History, Registered, registered_code, is_live}
 use Rattle.clip_segment.specs.Segment.{all_entries}
-use Rattle.clip_merge.specs.Live.{AreRising, named}
+use Rattle.clip_merge.specs.Live.{named}
 use Rattle.clip_merge.specs.Plan.{IsOldestRun, run_at}
 use Rattle.clip_registry.specs.RegistryState.{RegistryState, IsWhole}
 

@@ -7,12 +7,14 @@ mod by_id;
 mod change;
 mod command;
 mod merging;
+mod purging;
 mod registrar;
 mod roster;
+mod same;
 mod state;
 mod view;
 
 pub use command::{Applied, Command, HistoryEntry, Refused};
-pub use merging::{Installed, MergeJob, Merged};
+pub use merging::{Installed, MergeJob, Merged, late_merges_miss_nothing};
 pub use registrar::Registrar;
 pub use view::View;

@@ -1,9 +1,19 @@
 //! Merging: a job is begun on a registrar, run by itself, and what it gives is installed.
-ghost use Rattle.std.specs.Prelude.{◌≡◌, IfOk};
-ghost use Rattle.clip_registry.specs.Merging.{merge_of};
+ghost use Rattle.std.specs.Prelude.{◌≡◌, ◌+◌, ◌≤◌, None, map, length, IfOk, IfSome, OnSome};
+ghost use Rattle.std.specs.Arc.{arc_value};
+ghost use Rattle.std.specs.List.{list_all};
+ghost use Rattle.clip_segment.specs.Segment.{IsRising, all_entries};
+ghost use Rattle.clip_model.specs.declared.limits.TheConstants.{MOST_LIVE};
+ghost use Rattle.clip_registry.specs.Merging.{IsStale, LateMergesMissNothing, Misses, StandsAt, merge_of};
+ghost use Rattle.clip_registry.specs.Steps.Merging.{AreKept, has_seq_if_live, job_over, replaced};
+ghost use Rattle.clip_registry.specs.Steps.Roster.{live_in};
 
-use clip_merge::Live;
-use clip_segment::Segment;
+use crate::purging::add_live_seqs;
+use crate::roster::Roster;
+use crate::same::place_of;
+use crate::state::State;
+use clip_merge::{Live, merge};
+use clip_segment::{Entry, Segment};
 use clip_words::NoMemory;
 use std::alloc::Global;
 use std::marker::Model;
@@ -14,7 +24,7 @@ use std::sync::Arc;
 pub struct MergeJob {
     pub(crate) alloc: Global,
     pub(crate) sources: Vec<Arc<Segment>>,
-    pub(crate) live: Live,
+    pub(crate) live: Arc<Live>,
 }
 
 impl Model for MergeJob {
@@ -31,10 +41,11 @@ impl Model for MergeJob {
     ghost invariant = { IsJobInside };
 }
 
-/// What a job gives: its four sources, and one segment of the entries that were live.
+/// What a job gives: its four sources, which of their entries were live, and one segment of just these.
 #[derive(Drop)]
 pub struct Merged {
     pub(crate) sources: Vec<Arc<Segment>>,
+    pub(crate) live: Arc<Live>,
     pub(crate) segment: Arc<Segment>,
 }
 
@@ -61,14 +72,121 @@ pub enum Installed {
     Stale,
 }
 
+/// Whether the entry is not live, or named.
+fn is_named_if_live(entry: &Entry, roster: &Roster, live: &Live) -> bool
+    ensures { result ≡ has_seq_if_live roster.now.registry live.now entry.now }
+{
+    !roster.is_live(entry.seq()) || live.names(entry.seq())
+}
+
+/// Whether each live one of the entries is named.
+fn misses_none_of(entries: &[Arc<Entry>], roster: &Roster, live: &Live) -> bool
+    ensures { result ≡ list_all (has_seq_if_live roster.now.registry live.now) (map arc_value entries.now) }
+{
+    for entry in entries {
+        if !is_named_if_live(entry, roster, live) {
+            return false;
+        }
+    }
+    true
+}
+
+/// Whether each live entry of the segments is named.
+fn misses_none(segments: &[Arc<Segment>], roster: &Roster, live: &Live) -> bool
+    ensures { result ≡ list_all (has_seq_if_live roster.now.registry live.now) (all_entries (map arc_value segments.now)) }
+{
+    for segment in segments {
+        if !misses_none_of(segment.entries(), roster, live) {
+            return false;
+        }
+    }
+    true
+}
+
 impl MergeJob {
+    /// A job over four segments, which it shares, with those of their entries that are live. `NoMemory` where an
+    /// allocation failed.
+    pub(crate) fn over(
+        alloc: Global,
+        sources: &[Arc<Segment>],
+        roster: &Roster,
+    ) -> Result<MergeJob, NoMemory>
+        requires four { length sources.now ≡ 4 }
+        requires rising { IsRising (all_entries (map arc_value sources.now)) }
+        requires few { length (live_in roster.now.registry (all_entries (map arc_value sources.now))) ≤ MOST_LIVE }
+        ensures { IfOk result (λ job. job ≡ job_over roster.now.registry (map arc_value sources.now)) }
+    {
+        let mut seqs = Vec::new(alloc);
+        for source in sources {
+            add_live_seqs(roster, source.entries(), &mut seqs)?;
+        }
+        let mut shared = Vec::with_capacity(alloc, sources.len())?;
+        shared.extend_with_clones(sources)?;
+        let live = Arc::new(alloc, Live::of(seqs))?;
+        Ok(MergeJob {
+            alloc,
+            sources: shared,
+            live,
+        })
+    }
+
     /// One segment of the entries of its sources that were live when it was begun. It shares them.
     ///
-    /// `NoMemory` where an allocation failed. Cost: that of `clip_merge::merge`, so a look-up for each key of each entry
-    /// of the four sources.
+    /// `NoMemory` where an allocation failed. Cost: that of `clip_merge::merge`, so a search by halves among the live
+    /// seqs for each entry of the four sources, and a look-up for each key of each live one.
     pub fn run(&self) -> Result<Merged, NoMemory>
         ensures { IfOk result (λ merged. merged ≡ merge_of self.now) }
     {
-        Err(NoMemory)
+        let segment = merge(self.alloc, &self.sources, &self.live)?;
+        Ok(Merged {
+            sources: self.sources.clone()?,
+            live: self.live.clone()?,
+            segment: Arc::new(self.alloc, segment)?,
+        })
     }
 }
+
+impl Merged {
+    /// The place at which it is to be installed, or `None` where it is stale.
+    pub(crate) fn place_in(&self, state: &State) -> Option<usize>
+        ensures there { IfSome result (λ first. first + 4 ≤ length state.now.segments) }
+        ensures stands { IfSome result (λ first. StandsAt state.now.segments self.now.sources first) }
+        ensures complete { OnSome result (Misses state.now self.now → ⊥) }
+        ensures kept { IfSome result (λ first. AreKept state.now (replaced state.now.segments first self.now.entries)) }
+        ensures stale { result ≡ None → IsStale state.now self.now }
+    {
+        let first = place_of(&state.segments, &self.sources)?;
+        if misses_none(&self.sources, &state.roster, &self.live) {
+            Some(first)
+        } else {
+            None
+        }
+    }
+
+    /// The segments, with that of the merge in the place of the four from `first` on, or with none there where it has no
+    /// entries. `NoMemory` where an allocation failed.
+    pub(crate) fn put_in(
+        self,
+        alloc: Global,
+        segments: &[Arc<Segment>],
+        first: usize,
+    ) -> Result<Vec<Arc<Segment>>, NoMemory>
+        requires { first + 4 ≤ length segments.now }
+        ensures { IfOk result (λ list. map arc_value list.items ≡ replaced (map arc_value segments.now) first self.entries) }
+    {
+        let (before, rest) = segments.split_at(first);
+        let (_, after) = rest.split_at(4);
+        let mut list = Vec::with_capacity(alloc, segments.len())?;
+        list.extend_with_clones(before)?;
+        if !self.segment.is_empty() {
+            list.push(self.segment)?;
+        }
+        list.extend_with_clones(after)?;
+        Ok(list)
+    }
+}
+
+/// However late a merge is installed on the registrar on which it was begun, it misses no live entry.
+pub fn late_merges_miss_nothing()
+    ensures { LateMergesMissNothing }
+{}

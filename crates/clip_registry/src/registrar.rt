@@ -9,8 +9,10 @@ ghost use Rattle.clip_registry.specs.declared.command.Refused.TheVariants as ref
 
 use crate::command::{Applied, Command, HistoryEntry, Refused};
 use crate::merging::{Installed, MergeJob, Merged};
+use crate::purging::live_segments;
 use crate::state::State;
 use crate::view::View;
+use clip_merge::plan;
 use clip_model::MOST_CALLERS;
 use clip_words::NoMemory;
 use std::alloc::Global;
@@ -95,12 +97,21 @@ impl Registrar {
     /// Begins a merge: a job over the oldest four neighbouring segments of one level, which it shares, and which of their
     /// entries are live; `None` where there are no such four. `NoMemory` where an allocation failed.
     ///
-    /// Cost: a step for each segment, and one for each entry of the four.
+    /// Cost: that of `clip_merge::plan`, so a step for each segment and each of its levels, and a step for each entry of
+    /// the four.
     pub fn begin(&self) -> Result<Option<MergeJob>, NoMemory>
         ensures begun { IfOk result (λ job. IfSome job (IsBegun self.now)) }
         ensures nothing { result ≡ Ok None → (first : ℕ) → IsRun self.now.segments first → ⊥ }
     {
-        Err(NoMemory)
+        let Some(state) = &self.state else {
+            return Ok(None);
+        };
+        let Some((first, end)) = plan(&state.segments) else {
+            return Ok(None);
+        };
+        let sources = &state.segments[first..end];
+        let job = MergeJob::over(self.alloc, sources, &state.roster)?;
+        Ok(Some(job))
     }
 
     /// Installs a merge, on whichever registrar it was begun: its segment takes the place of the four sources, or they just
@@ -110,26 +121,41 @@ impl Registrar {
     ///
     /// `NoMemory` where an allocation failed, with nothing changed and the merge dropped.
     ///
-    /// Cost: a step for each segment and one for each entry of the four, whose texts are compared; and a copy of the
-    /// registry's lists and maps while a view of it as it stands is held.
+    /// Cost: a step for each segment, each of which is shared by a new list; for each entry of the four a comparison of
+    /// its seq and texts, and where it is live a search by halves; and a copy of the registry's lists and maps while a
+    /// view of it as it stands is held. A stale merge copies nothing.
     pub fn install(&mut self, merged: Merged) -> Result<Installed, NoMemory>
         ensures done { result ≡ Ok Installed.Done → IsInstalled self.old self.new merged }
         ensures stale { result ≡ Ok Installed.Stale → IsStale self.old merged }
         ensures unchanged { (result ≡ Ok Installed.Done → ⊥) → self.new ≡ self.old }
     {
-        Err(NoMemory)
+        let Some(shared) = &mut self.state else {
+            return Ok(Installed::Stale);
+        };
+        let Some(first) = merged.place_in(shared) else {
+            return Ok(Installed::Stale);
+        };
+        let segments = merged.put_in(self.alloc, &shared.segments, first)?;
+        Arc::make_mut(shared)?.set_segments(segments);
+        Ok(Installed::Done)
     }
 
     /// Leaves each segment with just its live entries, and takes the empty ones away. The history is kept, and so is what
     /// is registered. `NoMemory` where an allocation failed, with nothing changed.
     ///
-    /// Cost: a step for each entry, and that of `clip_merge::purge` for each segment with an entry that is dead; and a
-    /// copy of the registry's lists and maps while a view of it as it stands is held.
+    /// Cost: a step for each entry, and that of `clip_merge::purge` for each segment with an entry that is dead; the
+    /// others are shared by a new list. And a copy of the registry's lists and maps while a view of it as it stands is
+    /// held.
     pub fn purge(&mut self) -> Result<(), NoMemory>
         ensures purged { OnOk result (self.new ≡ purged self.old) }
         ensures unchanged { OnErr result (self.new ≡ self.old) }
     {
-        Err(NoMemory)
+        let Some(shared) = &mut self.state else {
+            return Ok(());
+        };
+        let segments = live_segments(self.alloc, &shared.roster, &shared.segments)?;
+        Arc::make_mut(shared)?.set_segments(segments);
+        Ok(())
     }
 
     /// The registry as it stands, or `NoMemory` where the count of its holders is at its end. Constant time.

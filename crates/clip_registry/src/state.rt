@@ -1,8 +1,10 @@
 //! What a registrar and its views share: the segments, the history and the roster.
-ghost use Rattle.std.specs.Prelude.{◌≡◌, ◌<◌, ◌≤◌, IfOk, IfErr, IsTrue};
+ghost use Rattle.std.specs.Prelude.{◌≡◌, ◌<◌, ◌≤◌, map, IfOk, IfErr, IsTrue};
+ghost use Rattle.std.specs.Arc.{arc_value};
 ghost use Rattle.clip_model.specs.History.{fits, next_entry};
 ghost use Rattle.clip_registry.specs.Command.{command_of, shared_entry};
 ghost use Rattle.clip_registry.specs.Steps.Change.{IsAccepted, IsRefused};
+ghost use Rattle.clip_registry.specs.Steps.Merging.{AreKept};
 ghost use Rattle.clip_registry.specs.RegistryState.{beginning};
 
 use crate::change::change;
@@ -116,5 +118,12 @@ impl State {
                 Err(refused)
             }
         }
+    }
+    /// Puts other segments in the place of all segments: they have each live entry, and no entry that was not there.
+    pub fn set_segments(&mut self, segments: Vec<Arc<Segment>>)
+        requires { AreKept self.old (map arc_value segments.items) }
+        ensures { self.new ≡ record { segments = map arc_value segments.items; history = self.old.history } }
+    {
+        self.segments = segments;
     }
 }

@@ -14,6 +14,12 @@ mod many;
 #[cfg(test)]
 mod meaning;
 #[cfg(test)]
+mod merge;
+#[cfg(test)]
+mod merging;
+#[cfg(test)]
+mod random;
+#[cfg(test)]
 mod registry;
 #[cfg(test)]
 mod script;
@@ -23,5 +29,7 @@ mod segment;
 mod showing;
 #[cfg(test)]
 mod syntax;
+#[cfg(test)]
+mod trace;
 #[cfg(test)]
 mod words;

@@ -1,6 +1,8 @@
-//! What the tests give to calls: long texts, standing queries, articles.
+//! What the tests give to calls: long texts, standing queries, entries, a segment, articles.
+ghost use Rattle.std.specs.Prelude.{◌≡◌, IfOk};
+
 use clip_meaning::{Article, ArticleFault};
-use clip_segment::Standing;
+use clip_segment::{Entry, Segment, Standing};
 use std::alloc::{AllocError, Global};
 use std::sync::Arc;
 use std::test::Fail;
@@ -34,6 +36,23 @@ pub fn owned(alloc: Global, texts: &[&str]) -> Result<Vec<String>, AllocError> {
 /// A shared standing query without a listener.
 pub fn standing(alloc: Global, id: &str, text: &str) -> Result<Arc<Standing>, Fail> {
     Ok(Arc::new(alloc, Standing::read(alloc, id, text, None)?)?)
+}
+
+/// The entry of a query's text under a number.
+pub fn entry(alloc: Global, seq: u64, text: &str) -> Result<Arc<Entry>, Fail>
+    ensures { IfOk result (λ entry. entry.value.seq ≡ seq) }
+{
+    let standing = standing(alloc, "q1", text)?;
+    Ok(Arc::new(alloc, Entry::new(alloc, seq, standing)?)?)
+}
+
+/// The segment of two entries, with the seqs 1 and 2.
+pub fn segment(alloc: Global) -> Result<Segment, Fail> {
+    let entries = vec![in alloc;
+        entry(alloc, 1, "tea coffee")?,
+        entry(alloc, 2, "+tea +coffee")?,
+    ]?;
+    Ok(Segment::build(alloc, entries)?)
 }
 
 /// Pairs of a field's name and its text.

@@ -1,14 +1,12 @@
 //! Standing queries, entries and segments: worked examples and limits.
-ghost use Rattle.std.specs.Prelude.{◌≡◌, IfOk};
-
-use crate::making::{article, owned, spelled, standing};
+use crate::making::{article, owned, segment, spelled};
 use crate::showing::tree;
 use clip_extract::Key;
 use clip_registry::Command;
-use clip_segment::{Entry, Segment, Standing, StandingFault};
+use clip_segment::{Segment, Standing, StandingFault};
 use clip_words::is_id;
 use std::alloc::{AllocError, Global};
-use std::sync::{Arc, ArcStr};
+use std::sync::ArcStr;
 use std::test::Fail;
 
 /// Each an id and a query's text, and the standing query or why it is refused.
@@ -90,23 +88,6 @@ fn an_id_has_1_to_256_bytes(rt: HostRuntime) -> Result<(), Fail> {
         assert!(rt; taken(rt.alloc(), &id)? == [*wanted; 4]);
     }
     Ok(())
-}
-
-/// The entry of a query's text under a number.
-fn entry(alloc: Global, seq: u64, text: &str) -> Result<Arc<Entry>, Fail>
-    ensures { IfOk result (λ entry. entry.value.seq ≡ seq) }
-{
-    let standing = standing(alloc, "q1", text)?;
-    Ok(Arc::new(alloc, Entry::new(alloc, seq, standing)?)?)
-}
-
-/// The segment of two entries.
-fn segment(alloc: Global) -> Result<Segment, Fail> {
-    let entries = vec![in alloc;
-        entry(alloc, 1, "tea coffee")?,
-        entry(alloc, 2, "+tea +coffee")?,
-    ]?;
-    Ok(Segment::build(alloc, entries)?)
 }
 
 /// The positions of the entries that hold a word of the field `text`, each with a space after it.

@@ -1,0 +1,4 @@
+pub mod Found
+pub mod Numbered
+pub mod Refusals
+pub mod Schedules

@@ -1,6 +1,7 @@
 -- Schedules: which answer is due to each event.
 use Rattle.std.specs.Prelude.{◌≡◌, ℕ, ◌+◌, ◌==◌, ◌&&◌, ◌||◌, ◌⊎◌, nat_lt, nat_le, Bool, false, not, if◌then◌else◌, List, [], ◌∷◌, ◌++◌, map, filter, length, Option, Some, None, is_some, refl}
 use Rattle.std.specs.List.{list_any}
+use Rattle.std.specs.Map.{lookup}
 use Rattle.std.specs.Coded.{Coded, code_by, coded×, coded_ℕ, coded_list}
 use Rattle.clip_meaning.specs.Article.{ArticleValue, article_code}
 use Rattle.clip_model.specs.History.{History, fits, has_room, applied, with_command, history_code}
@@ -29,6 +30,13 @@ batch_code = code_by (History × (List ArticleValue × ℕ)) (coded× history_co
 abbrev pub stand_code : Coded Stand
 stand_code = code_by (History × (List ℕ × List (ℕ × Batch))) (coded× history_code (coded× (coded_list coded_ℕ) (coded_list (coded× coded_ℕ batch_code)))) (λ s. (s.history, (s.merges, s.batches))) (λ p. record { history = p.0; merges = p.1.0; batches = p.1.1 }) (λ _. refl)
 
+-- a batch of which no article is matched
+abbrev pub fresh_batch : History → List ArticleValue → Batch
+fresh_batch h articles = record { history = h; articles = articles; matched = 0 }
+
+abbrev pub with_matched : Batch → ℕ → Batch
+with_matched b n = record { history = b.history; articles = b.articles; matched = n }
+
 abbrev pub nothing_open : Stand
 nothing_open = record { history = []; merges = []; batches = [] }
 
@@ -36,8 +44,7 @@ abbrev pub is_begun : Stand → ℕ → Bool
 is_begun s merge = list_any (λ m. m == merge) s.merges
 
 abbrev pub batch_in : List (ℕ × Batch) → ℕ → Option Batch
-batch_in [] batch = None
-batch_in (b ∷ bs) batch = if b.0 == batch then Some b.1 else batch_in bs batch
+batch_in batches batch = lookup (λ b. b == batch) batches
 
 abbrev pub is_looked : Stand → ℕ → Bool
 is_looked s batch = is_some (batch_in s.batches batch)
@@ -109,7 +116,7 @@ IsDueTo s e a = IsAnswer (refusal s e) s e a
 -- ---- how things stand after it
 
 abbrev pub matched_more : ℕ → ℕ × Batch → ℕ × Batch
-matched_more batch b = if b.0 == batch then (b.0, record { history = b.1.history; articles = b.1.articles; matched = b.1.matched + 1 }) else b
+matched_more batch b = if b.0 == batch then (b.0, with_matched b.1 (b.1.matched + 1)) else b
 
 abbrev pub without_merge : Stand → ℕ → Stand
 without_merge s merge = record { history = s.history; merges = filter (λ m. not (m == merge)) s.merges; batches = s.batches }
@@ -119,7 +126,7 @@ after s (Accept caller c) (Accepted applied) = record { history = with_command s
 after s (Begin merge) Begun = record { history = s.history; merges = s.merges ++ merge ∷ []; batches = s.batches }
 after s (Install merge) Installed = without_merge s merge
 after s (Install merge) Stale = without_merge s merge
-after s (Look batch articles) Looked = record { history = s.history; merges = s.merges; batches = s.batches ++ (batch, record { history = s.history; articles = articles; matched = 0 }) ∷ [] }
+after s (Look batch articles) Looked = record { history = s.history; merges = s.merges; batches = s.batches ++ (batch, fresh_batch s.history articles) ∷ [] }
 after s (Piece batch) Matched = record { history = s.history; merges = s.merges; batches = map (matched_more batch) s.batches }
 after s (Finish batch) (Finished found) = record { history = s.history; merges = s.merges; batches = filter (λ b. not (b.0 == batch)) s.batches }
 after s e a = s

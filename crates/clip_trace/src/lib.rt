@@ -1,6 +1,7 @@
 //! Traces: events in any order, played by one thread, each with the answer that is due to it.
 #![tactic(auto)]
 
+mod batch;
 mod event;
 mod limits;
 mod tracer;

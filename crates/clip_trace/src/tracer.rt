@@ -1,13 +1,17 @@
 //! The tracer: it plays events one by one.
-ghost use Rattle.std.specs.Prelude.{◌≡◌, ◌++◌, ◌∷◌, [], List, map, length, IfOk, OnErr};
-ghost use Rattle.std.specs.List.{zip};
+ghost use Rattle.std.specs.Prelude.{◌≡◌, ◌++◌, ◌∷◌, ◌==◌, [], List, map, length, IfOk, OnErr};
+ghost use Rattle.std.specs.List.{zip, position};
+ghost use Rattle.clip_registry.specs.Command.{command_of};
 ghost use Rattle.clip_trace.specs.Event.{event_of, answer_of};
+ghost use Rattle.clip_trace.specs.Event as event;
 ghost use Rattle.clip_trace.specs.Schedule.{Step, IsDue, IsDueTo, after, nothing_open, stand};
 
+use crate::batch::Batch;
 use crate::event::{Event, TraceAnswer};
-use clip_match::Alerts;
+use crate::limits::{MOST_ARTICLES, MOST_BATCHES, MOST_MERGES};
 use clip_meaning::Article;
-use clip_registry::{MergeJob, Registrar, View};
+use clip_model::MOST_CALLERS;
+use clip_registry::{Command, Installed, MergeJob, Refused, Registrar};
 use clip_words::NoMemory;
 use std::alloc::Global;
 use std::marker::Model;
@@ -17,6 +21,8 @@ use std::marker::Model;
 pub struct Tracer {
     alloc: Global,
     registrar: Registrar,
+    merges: Vec<(u64, MergeJob)>,
+    batches: Vec<(u64, Batch)>,
 }
 
 impl Model for Tracer {
@@ -26,9 +32,18 @@ impl Model for Tracer {
 
     ghost coded = { stand_code };
 
-    ghost use Rattle.std.specs.Prelude.{[]};
+    ghost use Rattle.clip_trace.specs.Steps.Tracer.{tracer_inside, IsTracerInside};
 
-    ghost view = { λ t. record { history = t.registrar.history; merges = []; batches = [] } };
+    ghost view = { tracer_inside };
+
+    ghost invariant = { IsTracerInside };
+}
+
+/// Where the number stands among the open merges or batches.
+fn place_of<T>(numbered: &[(u64, T)], number: u64) -> Option<usize>
+    ensures { result ≡ position (λ n. n.0 == number) numbered.now }
+{
+    numbered.iter().position(|n| n.0 == number)
 }
 
 impl Tracer {
@@ -39,6 +54,8 @@ impl Tracer {
         Tracer {
             alloc,
             registrar: Registrar::new(alloc),
+            merges: Vec::new(alloc),
+            batches: Vec::new(alloc),
         }
     }
 
@@ -52,7 +69,130 @@ impl Tracer {
             × (stand (steps ++ (event_of event, answer_of answer) ∷ []) ≡ self.new)) }
         ensures unchanged { OnErr result (self.new ≡ self.old) }
     {
-        Err(NoMemory)
+        self.play(event)
+    }
+
+    /// Plays an event.
+    fn play(&mut self, event: Event) -> Result<TraceAnswer, NoMemory>
+        ensures due { IfOk result (λ answer. IsDueTo self.old (event_of event) (answer_of answer)) }
+        ensures stand { IfOk result (λ answer. self.new ≡ after self.old (event_of event) (answer_of answer)) }
+        ensures unchanged { OnErr result (self.new ≡ self.old) }
+    {
+        match event {
+            Event::Accept(caller, command) => self.accept(caller, command),
+            Event::Begin(merge) => self.begin(merge),
+            Event::Install(merge) => self.install(merge),
+            Event::Purge => self.purge(),
+            Event::Look(batch, articles) => self.look(batch, articles),
+            Event::Piece(batch) => self.piece(batch),
+            Event::Finish(batch) => self.finish(batch),
+        }
+    }
+
+    fn accept(&mut self, caller: u32, command: Command) -> Result<TraceAnswer, NoMemory>
+        ensures due { IfOk result (λ answer. IsDueTo self.old (event.Accept caller (command_of command)) (answer_of answer)) }
+        ensures stand { IfOk result (λ answer. self.new ≡ after self.old (event.Accept caller (command_of command)) (answer_of answer)) }
+        ensures unchanged { OnErr result (self.new ≡ self.old) }
+    {
+        if caller == 0 || caller > MOST_CALLERS {
+            return Ok(TraceAnswer::Unknown);
+        }
+        if !command.fits() {
+            return Ok(TraceAnswer::TooMany);
+        }
+        match self.registrar.apply(caller, command) {
+            Ok(applied) => Ok(TraceAnswer::Accepted(applied)),
+            Err((_, Refused::Full)) => Ok(TraceAnswer::Full),
+            Err((_, Refused::NoMemory)) => Err(NoMemory),
+        }
+    }
+
+    fn begin(&mut self, merge: u64) -> Result<TraceAnswer, NoMemory>
+        ensures due { IfOk result (λ answer. IsDueTo self.old (event.Begin merge) (answer_of answer)) }
+        ensures stand { IfOk result (λ answer. self.new ≡ after self.old (event.Begin merge) (answer_of answer)) }
+        ensures unchanged { OnErr result (self.new ≡ self.old) }
+    {
+        if place_of(&self.merges, merge).is_some() {
+            return Ok(TraceAnswer::Used);
+        }
+        if self.merges.len() >= MOST_MERGES {
+            return Ok(TraceAnswer::TooMany);
+        }
+        let Some(job) = self.registrar.begin()? else {
+            return Ok(TraceAnswer::Nothing);
+        };
+        self.merges.push((merge, job))?;
+        Ok(TraceAnswer::Begun)
+    }
+
+    fn install(&mut self, merge: u64) -> Result<TraceAnswer, NoMemory>
+        ensures due { IfOk result (λ answer. IsDueTo self.old (event.Install merge) (answer_of answer)) }
+        ensures stand { IfOk result (λ answer. self.new ≡ after self.old (event.Install merge) (answer_of answer)) }
+        ensures unchanged { OnErr result (self.new ≡ self.old) }
+    {
+        let Some(place) = place_of(&self.merges, merge) else {
+            return Ok(TraceAnswer::Unknown);
+        };
+        let merged = self.merges[place].1.run()?;
+        let answer = match self.registrar.install(merged)? {
+            Installed::Done => TraceAnswer::Installed,
+            Installed::Stale => TraceAnswer::Stale,
+        };
+        self.merges.remove(place);
+        Ok(answer)
+    }
+
+    fn purge(&mut self) -> Result<TraceAnswer, NoMemory>
+        ensures due { IfOk result (λ answer. IsDueTo self.old event.Purge (answer_of answer)) }
+        ensures stand { IfOk result (λ answer. self.new ≡ after self.old event.Purge (answer_of answer)) }
+        ensures unchanged { OnErr result (self.new ≡ self.old) }
+    {
+        self.registrar.purge()?;
+        Ok(TraceAnswer::Purged)
+    }
+
+    fn look(&mut self, batch: u64, articles: Vec<Article>) -> Result<TraceAnswer, NoMemory>
+        ensures due { IfOk result (λ answer. IsDueTo self.old (event.Look batch articles.items) (answer_of answer)) }
+        ensures stand { IfOk result (λ answer. self.new ≡ after self.old (event.Look batch articles.items) (answer_of answer)) }
+        ensures unchanged { OnErr result (self.new ≡ self.old) }
+    {
+        if place_of(&self.batches, batch).is_some() {
+            return Ok(TraceAnswer::Used);
+        }
+        if self.batches.len() >= MOST_BATCHES || articles.len() > MOST_ARTICLES {
+            return Ok(TraceAnswer::TooMany);
+        }
+        let fresh = Batch::new(self.alloc, self.registrar.view()?, articles);
+        self.batches.push((batch, fresh))?;
+        Ok(TraceAnswer::Looked)
+    }
+
+    fn piece(&mut self, batch: u64) -> Result<TraceAnswer, NoMemory>
+        ensures due { IfOk result (λ answer. IsDueTo self.old (event.Piece batch) (answer_of answer)) }
+        ensures stand { IfOk result (λ answer. self.new ≡ after self.old (event.Piece batch) (answer_of answer)) }
+        ensures unchanged { OnErr result (self.new ≡ self.old) }
+    {
+        let Some(place) = place_of(&self.batches, batch) else {
+            return Ok(TraceAnswer::Unknown);
+        };
+        if !self.batches[place].1.is_unmatched() {
+            return Ok(TraceAnswer::Unknown);
+        }
+        self.batches[place].1.match_next()?;
+        Ok(TraceAnswer::Matched)
+    }
+
+    fn finish(&mut self, batch: u64) -> Result<TraceAnswer, NoMemory>
+        ensures due { IfOk result (λ answer. IsDueTo self.old (event.Finish batch) (answer_of answer)) }
+        ensures stand { IfOk result (λ answer. self.new ≡ after self.old (event.Finish batch) (answer_of answer)) }
+        ensures unchanged { OnErr result (self.new ≡ self.old) }
+    {
+        let Some(place) = place_of(&self.batches, batch) else {
+            return Ok(TraceAnswer::Unknown);
+        };
+        self.batches[place].1.match_rest()?;
+        let (_, finished) = self.batches.remove(place);
+        Ok(TraceAnswer::Finished(finished.into_found()))
     }
 }
 
@@ -61,5 +201,10 @@ pub fn trace(alloc: Global, events: Vec<Event>) -> Result<Vec<TraceAnswer>, NoMe
     ensures each { IfOk result (λ answers. length answers.items ≡ length events.items) }
     ensures due { IfOk result (λ answers. IsDue (zip (map event_of events.items) (map answer_of answers.items))) }
 {
-    Err(NoMemory)
+    let mut tracer = Tracer::new(alloc);
+    let mut answers = Vec::new(alloc);
+    for event in events {
+        answers.push(tracer.step(event)?)?;
+    }
+    Ok(answers)
 }

@@ -1,8 +1,9 @@
-//! Runs each example file with the listeners `mail` and `feed`, and compares what is written with the file beside it.
+//! Runs each example file with the listeners `mail` and `feed`, plays each trace, and compares what is written with the file
+//! beside it.
 #![tactic(auto)]
 
 use anyhow::{Result, bail};
-use clip_front::{Settings, run};
+use clip_front::{Settings, run, run_trace};
 use clip_listen::{Listener, Listeners, Named, Render, Style, Teller};
 use clip_stream::{StdSink, StdSource};
 use clip_words::NoMemory;
@@ -11,7 +12,7 @@ use std::fs;
 use std::fs::Files;
 
 /// The examples: of each the requests stand in NAME.jsonl, and the replies in NAME.out.
-const EXAMPLES: [&str; 13] = [
+const EXAMPLES: [&str; 14] = [
     "alerts",
     "changes",
     "clippings",
@@ -21,10 +22,22 @@ const EXAMPLES: [&str; 13] = [
     "limits",
     "listeners",
     "meaning",
+    "purging",
     "ranges",
     "refusals",
     "shapes",
     "syntax",
+];
+
+/// The traces, in files of the same kind.
+const TRACES: [&str; 7] = [
+    "late_install",
+    "install_after_clear",
+    "install_after_purge",
+    "install_after_idle_purge",
+    "two_merges",
+    "trace_refusals",
+    "trace_limits",
 ];
 
 /// What became of an example.
@@ -36,6 +49,28 @@ enum Outcome {
     Differs,
     /// The run ended in a fault.
     Fault,
+}
+
+impl Outcome {
+    /// What is said of it.
+    fn word(self) -> &'static str {
+        match self {
+            Outcome::AsShown => "as shown",
+            Outcome::Differs => "differs",
+            Outcome::Fault => "a fault",
+        }
+    }
+}
+
+/// What became of an example that ended well or not, and has written these replies.
+fn outcome(ended_well: bool, replies: &[u8], wanted: &[u8]) -> Outcome {
+    if !ended_well {
+        Outcome::Fault
+    } else if replies == wanted {
+        Outcome::AsShown
+    } else {
+        Outcome::Differs
+    }
 }
 
 /// A listener that says its alerts in this style.
@@ -67,31 +102,34 @@ fn played(alloc: Global, requests: &[u8], wanted: &[u8]) -> Result<Outcome> {
     let mut source = StdSource::new(requests);
     let mut sink = StdSink::new(&mut replies);
     let settings = Settings { keeps_rows: false };
-    if run(alloc, &mut source, &mut sink, &mut listeners, settings).is_err() {
-        return Ok(Outcome::Fault);
-    }
-    if replies.as_slice() == wanted {
-        Ok(Outcome::AsShown)
-    } else {
-        Ok(Outcome::Differs)
-    }
+    let ended = run(alloc, &mut source, &mut sink, &mut listeners, settings);
+    Ok(outcome(ended.is_ok(), &replies, wanted))
 }
 
-/// Reads an example's files, and runs it.
-fn example<R: AllocGlobal + Files>(rt: &R, name: &str) -> Result<Outcome> {
-    let requests = fs::read(rt, format!(in rt.alloc(); "{name}.jsonl")?.as_str())?;
-    let wanted = fs::read(rt, format!(in rt.alloc(); "{name}.out")?.as_str())?;
-    played(rt.alloc(), &requests, &wanted)
+/// Plays a trace, whose replies are to be the wanted bytes.
+fn traced(alloc: Global, events: &[u8], wanted: &[u8]) -> Outcome {
+    let mut replies = Vec::new(alloc);
+    let mut source = StdSource::new(events);
+    let mut sink = StdSink::new(&mut replies);
+    let ended = run_trace(alloc, &mut source, &mut sink);
+    outcome(ended.is_ok(), &replies, wanted)
+}
+
+/// The file of this name and ending.
+fn file<R: AllocGlobal + Files>(rt: &R, name: &str, ending: &str) -> Result<Vec<u8>> {
+    Ok(fs::read(rt, format!(in rt.alloc(); "{name}.{ending}")?.as_str())?)
 }
 
 fn main(rt: HostRuntime) -> Result<()> {
     for name in EXAMPLES {
-        let word = match example(&rt, name)? {
-            Outcome::AsShown => "as shown",
-            Outcome::Differs => "differs",
-            Outcome::Fault => "a fault",
-        };
-        println!(rt; "{name}: {word}")?;
+        let wanted = file(&rt, name, "out")?;
+        let ended = played(rt.alloc(), &file(&rt, name, "jsonl")?, &wanted)?;
+        println!(rt; "{name}: {}", ended.word())?;
+    }
+    for name in TRACES {
+        let wanted = file(&rt, name, "out")?;
+        let ended = traced(rt.alloc(), &file(&rt, name, "jsonl")?, &wanted);
+        println!(rt; "{name}: {}", ended.word())?;
     }
     Ok(())
 }

@@ -1,11 +1,12 @@
 //! `pressclip run`: requests on standard input, replies on standard output, and two listeners, `mail` and `feed`.
+//! `pressclip trace`: events on standard input, their answers on standard output.
 #![tactic(auto)]
 
 mod command_line;
 mod listeners;
 mod mode;
 
-use clip_front::{Ended, Settings, run};
+use clip_front::{Ended, Settings, run, run_trace};
 use clip_listen::Listeners;
 use clip_stream::{RunFault, StdSink, StdSource};
 use command_line::ending;
@@ -16,7 +17,7 @@ use std::process::ExitCode;
 use std::rt::Env;
 use std::{env, io};
 
-const USAGE: &str = "usage: pressclip run";
+const USAGE: &str = "usage: pressclip run | pressclip trace";
 
 /// The words after the program's name.
 fn words_of<R: Env + AllocGlobal>(rt: &R) -> io::Result<Vec<String>> {
@@ -49,24 +50,31 @@ fn run_heard<R: Input + Print + AllocGlobal>(rt: &R) -> Result<Ended, RunFault> 
     run(alloc, &mut source, &mut sink, &mut listeners, settings)
 }
 
-/// Runs, says how the run ended, and gives the status.
-fn serve<R: Input + Print + Eprint + AllocGlobal>(rt: &R) -> ExitCode {
-    let (status, text) = ending(&run_heard(rt));
+/// Plays a trace over the standard streams.
+fn run_traced<R: Input + Print + AllocGlobal>(rt: &R) -> Result<Ended, RunFault> {
+    let mut source = StdSource::new(rt.reader());
+    let mut sink = StdSink::new(io::writer(rt));
+    run_trace(rt.alloc(), &mut source, &mut sink)
+}
+
+/// Says how a run ended, and gives the status.
+fn end<R: Eprint>(rt: &R, outcome: &Result<Ended, RunFault>) -> ExitCode {
+    let (status, text) = ending(outcome);
     end_with(rt, status, text)
 }
 
 fn main(rt: HostRuntime) -> ExitCode {
     match words_of(&rt) {
         Ok(words) => match command_line::mode(&words) {
-            Some(Mode::Run) => serve(&rt),
+            Some(Mode::Run) => end(&rt, &run_heard(&rt)),
+            Some(Mode::Trace) => end(&rt, &run_traced(&rt)),
             None => end_with(&rt, 2, USAGE),
         },
         Err(error) => {
             if error.kind() != ErrorKind::OutOfMemory {
                 return end_with(&rt, 2, USAGE);
             }
-            let (status, text) = ending(&Err(RunFault::NoMemory));
-            end_with(&rt, status, text)
+            end(&rt, &Err(RunFault::NoMemory))
         }
     }
 }

@@ -17,7 +17,7 @@ use Rattle.clip_front.specs.LineMeaning as line
 use Rattle.clip_front.specs.LineMeaning.{Meaning, IsQuery, IsReadAs, IsTakenAs, AreTakenAs, IsRefusedFor, FirstRefused, judged, after}
 use Rattle.clip_front.specs.Reply.{Reply, answer_to, reply_text, alerts_of_all}
 use Rattle.clip_front.specs.Outcome.{alerts_told, rows_posted, rows_of_article, kept_rows, names_in}
-use Rattle.clip_front.specs.Steps.Outline.{Outline, MeansOutline, outline, blank, refused, registers, deletes, clears, counts, shows, matches}
+use Rattle.clip_front.specs.Steps.Outline.{Outline, MeansOutline, outline, blank, refused, registers, deletes, clears, purges, counts, shows, matches}
 use Rattle.clip_front.specs.declared.answer.ListFault.{ListFault}
 use Rattle.clip_front.specs.declared.answer.ListFault.TheVariants as fault
 use Rattle.clip_front.specs.declared.books.Books.{Books}
@@ -62,6 +62,7 @@ alerts_outlined h (refused r) = []
 alerts_outlined h (registers listings) = []
 alerts_outlined h (deletes ids) = []
 alerts_outlined h clears = []
+alerts_outlined h purges = []
 alerts_outlined h counts = []
 alerts_outlined h (shows id) = []
 alerts_outlined h (matches articles) = alerts_of_all h articles
@@ -100,6 +101,7 @@ IsQuiet line.nothing = ⊤
 IsQuiet (line.refusal r) = ⊤
 IsQuiet (line.refusal_at r k) = ⊤
 IsQuiet (line.command c) = ⊤
+IsQuiet line.purging = ⊤
 IsQuiet line.counting = ⊤
 IsQuiet (line.showing id) = ⊤
 IsQuiet (line.matching articles) = ⊥

@@ -99,9 +99,10 @@ operation_of word =
     if bytes_eq word (codes "register") then Some operation.Register
     else (if bytes_eq word (codes "delete") then Some operation.Delete
     else (if bytes_eq word (codes "clear") then Some operation.Clear
+    else (if bytes_eq word (codes "purge") then Some operation.Purge
     else (if bytes_eq word (codes "count") then Some operation.Count
     else (if bytes_eq word (codes "show") then Some operation.Show
-    else (if bytes_eq word (codes "match") then Some operation.Match else None)))))
+    else (if bytes_eq word (codes "match") then Some operation.Match else None))))))
 
 -- the operation that an object asks for
 unfoldable pub operation_in : Data → Option Operation
@@ -126,6 +127,7 @@ abbrev pub request_by : Data → Operation → Option Request
 request_by d operation.Register = register_of d
 request_by d operation.Delete = delete_of d
 request_by d operation.Clear = alone request.clear d
+request_by d operation.Purge = alone request.purge d
 request_by d operation.Count = alone request.count d
 request_by d operation.Show = show_of d
 request_by d operation.Match = match_of d
@@ -143,6 +145,7 @@ pub data Outline : Type 0 where
   registers : List Listing → Outline
   deletes : List (List ℕ) → Outline
   clears : Outline
+  purges : Outline
   counts : Outline
   shows : List ℕ → Outline
   matches : List ArticleValue → Outline
@@ -151,6 +154,7 @@ abbrev pub requests : Request → Outline
 requests (request.register listings) = registers listings
 requests (request.delete ids) = deletes ids
 requests request.clear = clears
+requests request.purge = purges
 requests request.count = counts
 requests (request.show id) = shows id
 requests (request.match drafts) = matches (map article_of drafts)
@@ -181,6 +185,7 @@ MeansOutline names h (refused r) m = m ≡ line.refusal r
 MeansOutline names h (registers listings) m = MeansRequest names h (request.register listings) m
 MeansOutline names h (deletes ids) m = MeansRequest names h (request.delete ids) m
 MeansOutline names h clears m = MeansRequest names h request.clear m
+MeansOutline names h purges m = MeansRequest names h request.purge m
 MeansOutline names h counts m = MeansRequest names h request.count m
 MeansOutline names h (shows id) m = MeansRequest names h (request.show id) m
 MeansOutline names h (matches articles) m = m ≡ line.matching articles

@@ -5,10 +5,10 @@ use Rattle.clip_listen.proofs.Hearing.{no_front}
 use Rattle.clip_model.specs.History.{Delete, Clear, replay}
 use Rattle.clip_front.specs.LineMeaning.{nothing, refusal, counting, showing}
 use Rattle.clip_front.specs.Reply.{answer_to, counted}
-use Rattle.clip_front.specs.Steps.Outline.{blank, refused, registers, deletes, clears, counts, shows}
+use Rattle.clip_front.specs.Steps.Outline.{blank, refused, registers, deletes, clears, purges, counts, shows}
 use Rattle.clip_front.specs.Steps.Views.{listing_view}
 use Rattle.clip_front.proofs.Progress.{on_err}
-use Rattle.clip_front.proofs.Responses.{responds_settled, settles_still, settles_judged}
+use Rattle.clip_front.proofs.Responses.{responds_settled, settles_still, settles_purged, settles_judged}
 use Rattle.clip_front.proofs.answer.respond.Goals as goal
 
 -- ---- lines that leave all as it is
@@ -68,6 +68,16 @@ returns-in-Clear-clause-ok g c =
 
 pub returns-in-Clear-clause-err : goal.returns-in-Clear-clause-err
 returns-in-Clear-clause-err g c = on_err _ (no_front _ _)
+
+-- ---- purge
+
+pub returns-in_ok-purge-in-Purge-clause-ok : goal.returns-in_ok-purge-in-Purge-clause-ok
+returns-in_ok-purge-in-Purge-clause-ok g c =
+    rw c.in-Purge.is
+    (responds_settled (g.A.Audience.hearers c.args.audience.now) c.args.books.now c.args.registrar.now c.purge.new.self c.args.number purges _ (settles_purged _ _ _ (ap (λ s. s.history) c.in_ok-purge-in-Purge.ensures.purged)))
+
+pub returns-in_err-purge-in-Purge-clause-err : goal.returns-in_err-purge-in-Purge-clause-err
+returns-in_err-purge-in-Purge-clause-err g c = rw c.in-Purge.is (on_err _ (no_front _ _))
 
 -- ---- show
 

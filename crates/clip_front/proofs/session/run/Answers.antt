@@ -1,5 +1,5 @@
 use Rattle.std.proofs.Common.{ap}
-use Rattle.clip_front.specs.Steps.Desk.{held_at}
+use Rattle.clip_front.specs.Steps.RunServer.{held_at}
 use Rattle.clip_front.proofs.Progress.{on_err}
 use Rattle.clip_front.proofs.Served.{run_gives, run_gives_front}
 use Rattle.clip_front.proofs.session.run.Goals as goal

@@ -4,10 +4,10 @@ use Rattle.clip_listen.specs.Heard.{Hearer, HearsFront}
 use Rattle.clip_front.specs.Steps.Answers.{Held, Answers, held, alerts_outlined}
 use Rattle.clip_front.specs.Steps.Outline.{outline}
 use Rattle.clip_front.specs.Steps.Serving.{Answering, Breaking}
-use Rattle.clip_front.specs.declared.session.Desk.{Desk}
+use Rattle.clip_front.specs.declared.session.RunServer.{RunServer}
 
--- what a desk and an audience hold
-abbrev pub held_at : {A : Type 0} → (A → List Hearer) → Desk × A → Held
+-- what the server of a run and an audience hold
+abbrev pub held_at : {A : Type 0} → (A → List Hearer) → RunServer × A → Held
 held_at hearers s = held s.0.registrar (hearers s.1) s.0.books
 
 -- each line is answered by what is held

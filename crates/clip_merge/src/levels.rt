@@ -1,0 +1,40 @@
+//! Levels of segments, and which neighbours are merged next.
+ghost use Rattle.std.specs.Prelude.{◌≡◌, ℕ, ◌+◌, IfSome, None, map};
+ghost use Rattle.std.specs.Arc.{arc_value};
+ghost use Rattle.clip_merge.specs.Plan.{IsLevel, IsRun, IsOldestRun};
+
+use clip_segment::Segment;
+use std::sync::Arc;
+
+/// The level of a length: how many divisions by 4, rounding down, bring it below 4.
+fn level(len: usize) -> u32
+    ensures { IsLevel len result }
+{
+    let mut level = 0;
+    let mut rest = len;
+    while rest >= 4 {
+        rest /= 4;
+        level += 1;
+    }
+    level
+}
+
+/// Where the oldest run of four neighbouring segments of one level begins, and where it ends: the position past its
+/// last segment. `None` where there is no such run. Takes no memory. Cost: a step for each segment, and for each of its
+/// levels.
+pub fn plan(segments: &[Arc<Segment>]) -> Option<(usize, usize)>
+    ensures run { IfSome result (λ at. IsOldestRun (map arc_value segments.now) at.0 × (at.1 ≡ at.0 + 4)) }
+    ensures none { result ≡ None → (first : ℕ) → IsRun (map arc_value segments.now) first → ⊥ }
+{
+    // The level of the last segment, and how many neighbours up to it have that level.
+    let (mut last, mut count) = (0, 0);
+    for (at, segment) in segments.iter().enumerate() {
+        let here = level(segment.len());
+        count = if here == last { count + 1 } else { 1 };
+        if count == 4 {
+            return Some((at + 1 - count, at + 1));
+        }
+        last = here;
+    }
+    None
+}

@@ -1,0 +1,84 @@
+-- Sets of live seqs.
+use Rattle.std.proofs.Common.{◌≡◌, ℕ, suc, ◌+◌, ◌<◌, ◌++◌, take, Bool, true, false, cond, ◌||◌, List, [], ◌∷◌, length, get_or, map, refl, sym, ap, ◌∙◌, inl, inr, arith, ◌==◌}
+use Rattle.std.proofs.lemmas.Bool.{false≢true}
+use Rattle.std.proofs.lemmas.List.{length-map, get_or-map, map_more, map-append}
+use Rattle.std.proofs.lemmas.List.Elements.{filter-append}
+use Rattle.std.specs.List.{Contains, filter}
+use Rattle.clip_grammar.proofs.Booleans.{same_answer}
+use Rattle.clip_segment.specs.Segment.{IsRising, all_entries}
+use Rattle.clip_merge.specs.Live.{AreRising, named, names}
+use Rattle.clip_model.specs.History.{Registered, Registry, is_live_in}
+use Rattle.clip_model.proofs.Numbers.{same_numbers, numbers_same}
+use Rattle.clip_registry.specs.Steps.Roster.{live_in}
+use Rattle.clip_registry.proofs.Whole.{all_entries-push}
+use Rattle.clip_registry.proofs.Alone.{filter_fewer}
+use Rattle.clip_registry.proofs.Rising.{contains_head, contains_later, contains_cases, contains_filter}
+use Rattle.clip_registry.proofs.Kept.{contains_of_filter}
+
+-- the seqs of entries rise where these do
+pub seqs_rise : (rs : List Registered) → IsRising rs → AreRising (map (λ r. r.seq) rs)
+seqs_rise [] is = record { rises = λ i j d lt within. absurd (omega arith) }
+seqs_rise (r ∷ rs) is = record {
+  rises = λ i j d lt within.
+      let few = length-map (r ∷ rs) (λ (q : Registered). q.seq) in
+      let rises : (get_or (r ∷ rs) i r).seq < (get_or (r ∷ rs) j r).seq = is.rises i j r lt (omega arith) in
+      let low = get_or-map (λ (q : Registered). q.seq) (r ∷ rs) i r d (omega arith) in
+      let high = get_or-map (λ (q : Registered). q.seq) (r ∷ rs) j r d (omega arith) in
+      omega arith;
+}
+
+-- a member's seq is named
+pub names_member : (rs : List Registered) (r : Registered) → Contains rs r → names (map (λ r. r.seq) rs) r.seq ≡ true
+names_member [] r (k, lt, at) = absurd (omega arith)
+names_member (q ∷ rs) r h =
+    elim (contains_cases q r rs h) [
+      | inl same ↦ ap (λ b. b || names (map (λ r. r.seq) rs) r.seq) (numbers_same q.seq r.seq (ap (λ (x : Registered). x.seq) same))
+      | inr later ↦ elim (q.seq == r.seq) as (λ b. (b || names (map (λ r. r.seq) rs) r.seq) ≡ true) [ true ↦ refl | false ↦ names_member rs r later ]
+    ]
+
+-- the member that has a named seq
+record HasNamed (rs : List Registered) (seq : ℕ) : Type 0 where
+  entry : Registered
+  among : Contains rs entry
+  is : entry.seq ≡ seq
+
+named_member : (rs : List Registered) (seq : ℕ) → names (map (λ r. r.seq) rs) seq ≡ true → HasNamed rs seq
+named_member [] seq h = absurd (false≢true h)
+named_member (r ∷ rs) seq h =
+    elim (r.seq == seq) as (λ b. (r.seq == seq) ≡ b → (b || names (map (λ r. r.seq) rs) seq) ≡ true → HasNamed (r ∷ rs) seq) [
+      | true ↦ λ e _. record { entry = r; among = contains_head r rs; is = same_numbers r.seq seq e }
+      | false ↦ λ _ later. let rest = named_member rs seq later in record { entry = rest.entry; among = contains_later r rest.entry rs rest.among; is = rest.is }
+    ] refl h
+
+filter_same : (p q : Registered → Bool) (rs : List Registered) → ((r : Registered) → Contains rs r → p r ≡ q r) → filter p rs ≡ filter q rs
+filter_same p q [] same = refl
+filter_same p q (r ∷ rs) same =
+    ap (λ b. cond b (r ∷ filter p rs) (filter p rs)) (same r (contains_head r rs)) ∙ ap (λ x. cond (q r) (r ∷ x) x) (filter_same p q rs (λ s h. same s (contains_later r s rs h)))
+
+-- of entries that a test of seqs picks, the seqs name just these
+pub named_picked : (p : ℕ → Bool) (rs : List Registered) → named (map (λ r. r.seq) (filter (λ r. p r.seq) rs)) rs ≡ filter (λ r. p r.seq) rs
+named_picked p rs =
+    let test = λ (r : Registered). p r.seq in
+    filter_same (λ r. names (map (λ r. r.seq) (filter test rs)) r.seq) test rs (λ r h. same_answer _ _
+    (λ is. let at = named_member (filter test rs) r.seq is in ap p (sym at.is) ∙ (contains_of_filter test at.entry rs at.among).1)
+    (λ is. names_member (filter test rs) r (contains_filter test r rs is h)))
+
+-- a filter that drops none keeps all
+pub filter_all : (p : Registered → Bool) (rs : List Registered) → length (filter p rs) ≡ length rs → filter p rs ≡ rs
+filter_all p [] e = refl
+filter_all p (r ∷ rs) e =
+    let few = filter_fewer p rs in
+    elim (p r) as (λ b. length (cond b (r ∷ filter p rs) (filter p rs)) ≡ suc (length rs) → cond b (r ∷ filter p rs) (filter p rs) ≡ r ∷ rs) [
+      | true ↦ λ k. ap (λ x. r ∷ x) (filter_all p rs (omega arith))
+      | false ↦ λ k. absurd (omega arith)
+    ] e
+
+-- the live seqs of one segment more
+pub seqs_more : {X : Type 0} (m : Registry) (f : X → List Registered) (xs : List X) (i : ℕ) (x : X) → i < length xs → x ≡ get_or xs i x
+    → map (λ r. r.seq) (live_in m (all_entries (map f (take i xs)))) ++ map (λ r. r.seq) (live_in m (f x)) ≡ map (λ r. r.seq) (live_in m (all_entries (map f (take (i + 1) xs))))
+seqs_more m f xs i x lt at =
+    let live = λ (r : Registered). is_live_in m r.seq in
+    let seq = λ (r : Registered). r.seq in
+    let before = all_entries (map f (take i xs)) in
+    sym (ap (λ ss. map seq (live_in m (all_entries ss))) (map_more f xs i x lt ∙ ap (λ z. map f (take i xs) ++ f z ∷ []) (sym at))
+    ∙ ap (λ es. map seq (live_in m es)) (all_entries-push (map f (take i xs)) (f x)) ∙ ap (map seq) (filter-append live before (f x)) ∙ map-append seq (filter live before) (filter live (f x)))

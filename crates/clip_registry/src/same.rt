@@ -1,0 +1,73 @@
+//! Whether segments have the same lists of entries, and where they stand.
+ghost use Rattle.std.specs.Prelude.{◌≡◌, ◌↔◌, ℕ, ◌≤◌, None, map, length, IfSome, IsTrue};
+ghost use Rattle.std.specs.Arc.{arc_value};
+ghost use Rattle.clip_registry.specs.Merging.{StandsAt};
+
+use clip_segment::{Entry, Segment, Standing};
+use std::sync::Arc;
+
+/// Whether the two have the same id, text and listener. Then they have the same tree, since a text has just one.
+fn is_same_standing(a: &Standing, b: &Standing) -> bool
+    ensures { IsTrue result ↔ (a.now ≡ b.now) }
+{
+    // Each query is the reading of its text.
+    let _ = a.query();
+    let _ = b.query();
+    a.id() == b.id() && a.text() == b.text() && a.listener() == b.listener()
+}
+
+/// Whether the two have the same seq and the same standing query. Of two with different seqs no text is read.
+fn is_same_entry(a: &Entry, b: &Entry) -> bool
+    ensures { IsTrue result ↔ (a.now ≡ b.now) }
+{
+    a.seq() == b.seq() && is_same_standing(a.standing(), b.standing())
+}
+
+/// Whether the entries are the same, one by one.
+fn are_same_entries(a: &[Arc<Entry>], b: &[Arc<Entry>]) -> bool
+    ensures { IsTrue result ↔ (map arc_value a.now ≡ map arc_value b.now) }
+{
+    if a.len() != b.len() {
+        return false;
+    }
+    for (place, entry) in a.iter().enumerate() {
+        if !is_same_entry(entry, &b[place]) {
+            return false;
+        }
+    }
+    true
+}
+
+/// Whether the segments have the same lists of entries, one by one.
+fn are_same_segments(a: &[Arc<Segment>], b: &[Arc<Segment>]) -> bool
+    ensures { IsTrue result ↔ (map arc_value a.now ≡ map arc_value b.now) }
+{
+    if a.len() != b.len() {
+        return false;
+    }
+    for (place, segment) in a.iter().enumerate() {
+        if !are_same_entries(segment.entries(), b[place].entries()) {
+            return false;
+        }
+    }
+    true
+}
+
+/// The first place at which four segments stand as the sources.
+///
+/// Cost: a step for each segment, and for each entry of the four a comparison of its seq and texts. At other places the
+/// segments mostly differ in their lengths or their first seqs, and no text is read.
+pub fn place_of(segments: &[Arc<Segment>], sources: &[Arc<Segment>]) -> Option<usize>
+    requires { length sources.now ≡ 4 }
+    ensures stands { IfSome result (λ first. StandsAt (map arc_value segments.now) (map arc_value sources.now) first) }
+    ensures nowhere { result ≡ None → (first : ℕ) → StandsAt (map arc_value segments.now) (map arc_value sources.now) first → ⊥ }
+{
+    for first in 0..segments.len() {
+        let (_, rest) = segments.split_at(first);
+        let (run, _) = rest.split_at(rest.len().min(4));
+        if are_same_segments(run, sources) {
+            return Some(first);
+        }
+    }
+    None
+}

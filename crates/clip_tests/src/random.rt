@@ -1,0 +1,230 @@
+//! Random traces, with many merges open: each batch is finished with what a plain filter over the plain list of the
+//! commands before its look gives.
+use crate::making::{article, standing};
+use clip_match::Alerts;
+use clip_registry::Command;
+use clip_trace::{Event, TraceAnswer, trace};
+use std::alloc::{AllocError, Global};
+use std::test::Fail;
+
+/// An event in plain numbers: ids, words, merges and batches go by theirs.
+#[derive(Clone, Copy, Debug, PartialEq, Eq)]
+enum Turn {
+    /// The query of an id is a word.
+    Register(u64, u64),
+    /// The query of an id goes.
+    Delete(u64),
+    /// All queries go.
+    Clear,
+    /// Dead entries are purged.
+    Purge,
+    /// A merge is begun.
+    Begin(u64),
+    /// A merge is installed.
+    Install(u64),
+    /// A batch of one article, which is a word.
+    Look(u64, u64),
+    /// An article of the batch is matched.
+    Piece(u64),
+    /// The batch is finished.
+    Finish(u64),
+}
+
+/// So many events make a trace.
+const EVENTS: u64 = 600;
+
+/// The number after this one, of a linear congruential sequence (Knuth's MMIX).
+fn next(number: u64) -> u64 {
+    number
+        .wrapping_mul(6364136223846793005)
+        .wrapping_add(1442695040888963407)
+}
+
+/// The event that a number stands for: its upper digits tell the kind, and others the rest.
+fn drawn(number: u64) -> Turn {
+    let (first, second) = ((number >> 20) % 8, (number >> 28) % 4);
+    match (number >> 33) % 24 {
+        0..=8 => Turn::Register(first, second),
+        9..=10 => Turn::Delete(first),
+        11 => Turn::Purge,
+        12..=14 => Turn::Begin(second),
+        15 | 16 => Turn::Install(second),
+        17..=19 => Turn::Look(first, second),
+        20 => Turn::Piece(first),
+        21 | 22 => Turn::Finish(first),
+        _ if second == 0 => Turn::Clear,
+        _ => Turn::Finish(first),
+    }
+}
+
+/// The events of a seed.
+fn turns(alloc: Global, seed: u64) -> Result<Vec<Turn>, AllocError> {
+    let mut turns = Vec::new(alloc);
+    let mut number = seed;
+    for _ in 0..EVENTS {
+        number = next(number);
+        turns.push(drawn(number))?;
+    }
+    Ok(turns)
+}
+
+/// A word by its number.
+fn word(number: u64) -> &'static str {
+    match number {
+        0 => "tea",
+        1 => "coffee",
+        2 => "milk",
+        _ => "mat",
+    }
+}
+
+/// A register of one query that is a word.
+fn register(alloc: Global, id: u64, number: u64) -> Result<Command, Fail> {
+    let id = format!(in alloc; "q{id}")?;
+    let standing = standing(alloc, &id, word(number))?;
+    Ok(Command::Register(vec![in alloc; standing]?))
+}
+
+/// A delete of one id.
+fn delete(alloc: Global, id: u64) -> Result<Command, Fail> {
+    let id = format!(in alloc; "q{id}")?;
+    Ok(Command::Delete(vec![in alloc; id]?))
+}
+
+/// A look at one article that is a word.
+fn look(alloc: Global, batch: u64, number: u64) -> Result<Event, Fail> {
+    let article = article(alloc, "a1", &[("text", word(number))])?;
+    Ok(Event::Look(batch, vec![in alloc; article]?))
+}
+
+/// The event itself.
+fn event(alloc: Global, turn: Turn) -> Result<Event, Fail> {
+    match turn {
+        Turn::Register(id, number) => Ok(Event::Accept(1, register(alloc, id, number)?)),
+        Turn::Delete(id) => Ok(Event::Accept(1, delete(alloc, id)?)),
+        Turn::Clear => Ok(Event::Accept(1, Command::Clear)),
+        Turn::Purge => Ok(Event::Purge),
+        Turn::Begin(merge) => Ok(Event::Begin(merge)),
+        Turn::Install(merge) => Ok(Event::Install(merge)),
+        Turn::Look(batch, number) => look(alloc, batch, number),
+        Turn::Piece(batch) => Ok(Event::Piece(batch)),
+        Turn::Finish(batch) => Ok(Event::Finish(batch)),
+    }
+}
+
+/// The events themselves.
+fn events(alloc: Global, turns: &[Turn]) -> Result<Vec<Event>, Fail> {
+    let mut events = Vec::new(alloc);
+    for turn in turns {
+        events.push(event(alloc, *turn)?)?;
+    }
+    Ok(events)
+}
+
+/// The word that the query of an id is after the first so many events, if there is one.
+fn word_under(turns: &[Turn], count: usize, id: u64) -> Option<u64> {
+    let mut under = None;
+    for turn in turns.iter().take(count) {
+        match *turn {
+            Turn::Register(other, number) if other == id => under = Some(number),
+            Turn::Delete(other) if other == id => under = None,
+            Turn::Clear => under = None,
+            _ => {}
+        }
+    }
+    under
+}
+
+/// The ids whose queries are the word after the first so many events, each with a space after it.
+fn wanted(alloc: Global, turns: &[Turn], count: usize, number: u64) -> Result<String, AllocError> {
+    let mut ids = String::new(alloc);
+    for id in 0..8u64 {
+        if word_under(turns, count, id) == Some(number) {
+            write!(ids, "q{id} ")?;
+        }
+    }
+    Ok(ids)
+}
+
+/// The ids of alerts, each with a space after it.
+fn found(alloc: Global, found: &[Alerts]) -> Result<String, AllocError> {
+    let mut ids = String::new(alloc);
+    for alerts in found {
+        for alert in &alerts.alerts {
+            let id = &alert.query;
+            write!(ids, "{id} ")?;
+        }
+    }
+    Ok(ids)
+}
+
+/// The last look of a batch among the first so many events that was answered: how many events came before it, and its
+/// word.
+fn look_of(
+    turns: &[Turn],
+    answers: &[TraceAnswer],
+    count: usize,
+    batch: u64,
+) -> Option<(usize, u64)> {
+    let mut last = None;
+    for (place, (turn, answer)) in turns.iter().zip(answers).take(count).enumerate() {
+        if let (Turn::Look(other, number), TraceAnswer::Looked) = (*turn, answer) {
+            if other == batch {
+                last = Some((place, number));
+            }
+        }
+    }
+    last
+}
+
+/// What a finished batch is to give.
+fn due(
+    alloc: Global,
+    turns: &[Turn],
+    answers: &[TraceAnswer],
+    place: usize,
+    batch: u64,
+) -> Result<String, Fail> {
+    match look_of(turns, answers, place, batch) {
+        Some((count, number)) => Ok(wanted(alloc, turns, count, number)?),
+        None => Ok(String::from_str(alloc, "was not looked at")?),
+    }
+}
+
+/// How many batches were finished, each with what it is to give, up to the first that was not.
+fn finished_well(alloc: Global, turns: &[Turn], answers: &[TraceAnswer]) -> Result<u64, Fail> {
+    let mut finished = 0u64;
+    for (place, (turn, answer)) in turns.iter().zip(answers).enumerate() {
+        if let (Turn::Finish(batch), TraceAnswer::Finished(all)) = (*turn, answer) {
+            if found(alloc, all)? != due(alloc, turns, answers, place, batch)? {
+                return Ok(finished);
+            }
+            finished = finished.saturating_add(1);
+        }
+    }
+    Ok(finished)
+}
+
+#[test]
+fn batches_of_random_traces_are_finished_with_what_was_due_at_their_look(
+    rt: HostRuntime,
+) -> Result<(), Fail> {
+    let alloc = rt.alloc();
+    for seed in 1..6u64 {
+        let turns = turns(alloc, seed)?;
+        let answers = trace(alloc, events(alloc, &turns)?)?;
+        let finished = finished_well(alloc, &turns, &answers)?;
+        let all = answers
+            .iter()
+            .filter(|a| matches!(a, TraceAnswer::Finished(_)))
+            .count();
+        assert_eq!(rt; finished, all as u64, "seed {seed}");
+        assert!(rt; all > 25, "seed {seed}: {all} finished");
+        let installed = answers
+            .iter()
+            .filter(|a| matches!(a, TraceAnswer::Installed))
+            .count();
+        assert!(rt; installed > 5, "seed {seed}: {installed} installed");
+    }
+    Ok(())
+}
