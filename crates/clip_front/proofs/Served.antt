@@ -1,6 +1,6 @@
 -- What a run gives, by the answers to its lines.
 use Rattle.std.proofs.Common.{◌≡◌, ℕ, zero, suc, ◌≤◌, List, [], ◌∷◌, ◌++◌, length, take, drop, Bool, true, false, cond, Option, Some, None, refl, sym, ap, ap₂, ◌∙◌, subst, arith, append_assoc, append-nil, true≢false, if◌then◌else◌, inl, inr}
-use Rattle.std.specs.Prelude.{⊤, IfSome, OnErr, nat_lt}
+use Rattle.std.specs.Prelude.{IfSome, nat_lt}
 use Rattle.std.specs.Io.KnownBytes.{Appends}
 use Rattle.std.proofs.Math.Seq.{take-append_seam}
 use Rattle.std.proofs.lemmas.Bool.Decides.{nat_tests}
@@ -13,13 +13,13 @@ use Rattle.clip_model.specs.Alerts.{Alert}
 use Rattle.clip_model.specs.History.{History}
 use Rattle.clip_listen.specs.Heard.{Hearer, told_all, HearsFront}
 use Rattle.clip_listen.proofs.Hearing.{told_none, told_more, names_told, front_after}
-use Rattle.clip_front.specs.LineMeaning.{Meaning, is_long, is_blank, json_of, Means, after}
+use Rattle.clip_front.specs.LineMeaning.{is_long, is_blank, json_of, Means, after}
 use Rattle.clip_front.specs.Reply.{reply_text}
 use Rattle.clip_front.specs.Outcome.{Outcome, nothing_given, followed_by, given, names_in, kept_rows, Gives, GivesAll, GivesFront}
-use Rattle.clip_front.specs.Steps.Answers.{Held, Answers, held_after, alerts_outlined}
+use Rattle.clip_front.specs.Steps.Answers.{Held, Answers, alerts_outlined}
 use Rattle.clip_front.specs.Steps.RunServer.{AnswersIn, BreaksIn}
 use Rattle.clip_front.specs.Steps.Outline.{outline, blank, outline_of_value, MeansOutline}
-use Rattle.clip_front.specs.Steps.Serving.{Answering, Breaking, Serves, StopsAt, ServesAll, ServesFront}
+use Rattle.clip_front.specs.Steps.Serving.{Serves, StopsAt, ServesAll, ServesFront}
 use Rattle.clip_front.proofs.Delivering.{none_posted}
 use Rattle.clip_front.proofs.Meanings.{means_from}
 use Rattle.clip_front.proofs.OneOutcome.{outline_some}

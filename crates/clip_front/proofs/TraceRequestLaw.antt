@@ -1,10 +1,10 @@
 -- A value is read as a request of a trace exactly where it is the value of it.
-use Rattle.std.proofs.Common.{◌≡◌, ℕ, suc, ◌==◌, List, [], ◌∷◌, map, Bool, true, false, cond, Option, Some, None, option_map, option_and_then, bytes_eq, refl, sym, ap, ap₂, ◌∙◌}
+use Rattle.std.proofs.Common.{◌≡◌, ℕ, ◌==◌, List, [], ◌∷◌, map, Bool, true, false, cond, Option, Some, None, option_map, option_and_then, bytes_eq, refl, sym, ap, ap₂, ◌∙◌}
 use Rattle.std.proofs.lemmas.Slice.Eq.{bytes_eq-Decides}
 use Rattle.std.specs.Prelude.{codes}
-use Rattle.serde_json.specs.Data.{Num, unsigned, negative, float, Data, null, boolean, number, string, array, object, Items, Members, no_members, member}
+use Rattle.serde_json.specs.Data.{unsigned, negative, float, Data, null, boolean, number, string, array, object, Members, no_members, member}
 use Rattle.serde_json.specs.Events.{members_len}
-use Rattle.serde_json.specs.Find.{get, as_number, as_u64, as_str, as_array, as_object}
+use Rattle.serde_json.specs.Find.{get, as_str, as_array, as_object}
 use Rattle.clip_front.specs.Reply.{number_of}
 use Rattle.clip_front.specs.Request.{members_from, object_of, array_of, listing_value, draft_value}
 use Rattle.clip_front.specs.TraceRequest.{TraceRequest, register, delete, clear, begin, install, purge, look, piece, finish, with_caller, trace_value}

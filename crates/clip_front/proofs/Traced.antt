@@ -1,23 +1,20 @@
 -- What a trace gives, by the answers to its lines.
-use Rattle.std.proofs.Common.{◌≡◌, ℕ, suc, List, [], ◌∷◌, ◌++◌, map, length, Bool, true, false, cond, Option, Some, None, refl, sym, ap, ap₂, ◌∙◌, subst, append_assoc, append-nil, inl, inr, if◌then◌else◌}
-use Rattle.std.specs.Prelude.{⊤, IfSome}
-use Rattle.std.specs.Io.KnownBytes.{Appends}
+use Rattle.std.proofs.Common.{◌≡◌, ℕ, suc, List, [], ◌∷◌, ◌++◌, map, Bool, true, false, cond, Option, Some, None, refl, sym, ap, ◌∙◌, subst, append_assoc, append-nil, if◌then◌else◌}
+use Rattle.std.specs.Prelude.{IfSome}
 use Rattle.serde_json.specs.Data.{Data}
 use Rattle.clip_match.specs.Alerts.{alerts_value}
 use Rattle.clip_match.specs.declared.alert.Alerts.{Alerts}
-use Rattle.clip_stream.specs.Device.{AppendsFront}
 use Rattle.clip_stream.specs.Lines.{lines_of}
 use Rattle.clip_stream.specs.Steps.Reading.{cut}
 use Rattle.clip_trace.specs.Event.{found_of}
 use Rattle.clip_trace.specs.Schedule.{Step, Stand, IsDue, stand, nothing_open}
-use Rattle.clip_front.specs.declared.refusal.Refusal.TheVariants.{Long, Json, Shape, Limit}
-use Rattle.clip_front.specs.LineMeaning.{Line, blank, refused, asks, SaysBy, IsFilled, is_long, is_blank, json_of}
-use Rattle.clip_front.specs.Reply.{reply_text}
+use Rattle.clip_front.specs.declared.refusal.Refusal.TheVariants.{Long, Limit}
+use Rattle.clip_front.specs.LineMeaning.{blank, refused, asks, SaysBy, IsFilled, is_long, is_blank, json_of}
 use Rattle.clip_front.specs.TraceLine.{Said, SaysLine, SaysTrace}
 use Rattle.clip_front.specs.TraceOutcome.{found_shown, Traces, IsTrace, TracesAll, TracesFront}
 use Rattle.clip_front.specs.TraceRequest.{TraceRequest, trace_value, trace_within}
 use Rattle.clip_front.specs.Steps.Serving.{Serves, ServesAll, ServesFront}
-use Rattle.clip_front.specs.Steps.TraceOutline.{trace_request_of, trace_line, limited, asked_line, value_line, AnswersTraced, AnswersIn, BreaksIn}
+use Rattle.clip_front.specs.Steps.TraceOutline.{trace_request_of, trace_line, asked_line, value_line, AnswersTraced, AnswersIn, BreaksIn}
 use Rattle.clip_front.specs.Steps.Views.{alerts_ids}
 use Rattle.clip_front.proofs.RequestLaw.{none_is_some}
 use Rattle.clip_front.proofs.Served.{choose, cut_is_long, cut_is_whole}

@@ -6,7 +6,7 @@ use Rattle.serde_json.specs.View.{items_of}
 use Rattle.clip_meaning.specs.Article.{may_be}
 use Rattle.clip_model.specs.declared.limits.TheConstants.{MOST_LISTED}
 use Rattle.clip_words.specs.Ids.{is_id}
-use Rattle.clip_front.specs.declared.limits.TheConstants.{MOST_ARTICLES}
+use Rattle.clip_trace.specs.declared.limits.TheConstants.{MOST_ARTICLES}
 
 -- a query that a register lists, with the name of its listener, if it has one
 pub record Listing : Type 0 where

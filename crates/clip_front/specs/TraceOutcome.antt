@@ -1,7 +1,6 @@
 -- What the lines of a trace give: events with the answers that are due, and the replies.
 use Rattle.std.specs.Prelude.{◌≡◌, ℕ, suc, List, [], ◌∷◌, ◌++◌, map, codes, Option}
 use Rattle.std.specs.Io.KnownBytes.{Appends}
-use Rattle.clip_registry.specs.declared.command.Applied.{Applied}
 use Rattle.clip_registry.specs.declared.command.Applied.TheVariants as applied
 use Rattle.clip_stream.specs.Device.{AppendsFront}
 use Rattle.clip_stream.specs.Lines.{lines_of}

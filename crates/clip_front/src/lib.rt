@@ -4,7 +4,6 @@
 mod answer;
 mod books;
 mod deliver;
-mod limits;
 mod line;
 mod members;
 mod merging;
@@ -19,7 +18,7 @@ mod trace_line;
 mod trace_request;
 mod trace_session;
 
-pub use limits::MOST_ARTICLES;
+pub use clip_trace::MOST_ARTICLES;
 pub use session::{Ended, one_outcome, run};
 pub use settings::Settings;
 pub use trace_session::run_trace;

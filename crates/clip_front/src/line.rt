@@ -8,12 +8,12 @@ ghost use Rattle.clip_front.specs.LineMeaning.{article_of, is_blank, is_blank_by
 ghost use Rattle.clip_front.specs.Steps.Outline.{ReadsAs, articles_in};
 ghost use Rattle.clip_front.specs.Steps.Views.{listing_view, draft_view};
 
-use crate::limits::MOST_ARTICLES;
 use crate::refusal::{Refusal, Unread};
 use crate::request::{Draft, Listing, Request};
 use clip_meaning::{Article, ArticleFault};
 use clip_model::MOST_LISTED;
 use clip_stream::MOST_LINE_BYTES;
+use clip_trace::MOST_ARTICLES;
 use clip_words::{NoMemory, is_id};
 use serde_json::Value;
 use std::alloc::Global;

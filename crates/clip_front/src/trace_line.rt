@@ -7,7 +7,6 @@ ghost use Rattle.clip_front.specs.Steps.TraceOutline.{ReadsList};
 ghost use Rattle.clip_front.specs.Steps.Views.{listing_view, draft_view};
 
 use crate::answer::{ListFault, read_listing};
-use crate::limits::MOST_ARTICLES;
 use crate::line::{are_ids, articles_of, have_ids, is_blank, json_of};
 use crate::refusal::{Refusal, Unread};
 use crate::request::{Draft, Listing};
@@ -16,7 +15,7 @@ use clip_model::{MOST_CALLERS, MOST_LISTED};
 use clip_registry::Command;
 use clip_segment::Standing;
 use clip_stream::MOST_LINE_BYTES;
-use clip_trace::Event;
+use clip_trace::{Event, MOST_ARTICLES};
 use clip_words::NoMemory;
 use std::alloc::Global;
 use std::sync::Arc;

@@ -15,3 +15,5 @@ mod random;
 mod replies_on_a_pipe;
 #[cfg(test)]
 mod runs;
+#[cfg(test)]
+mod traces;
