@@ -30,6 +30,4 @@ mod showing;
 #[cfg(test)]
 mod syntax;
 #[cfg(test)]
-mod trace;
-#[cfg(test)]
 mod words;

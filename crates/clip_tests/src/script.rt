@@ -54,7 +54,7 @@ pub fn answer(
 }
 
 /// The standing queries of ids and texts.
-pub fn standings(alloc: Global, queries: &[(&str, &str)]) -> Result<Vec<Arc<Standing>>, Fail> {
+fn standings(alloc: Global, queries: &[(&str, &str)]) -> Result<Vec<Arc<Standing>>, Fail> {
     let mut standings = Vec::new(alloc);
     for (id, text) in queries {
         standings.push(standing(alloc, id, text)?)?;
@@ -132,7 +132,7 @@ fn candidate_ids(alloc: Global, view: &View, text: &str) -> Result<String, Fail>
 }
 
 /// The articles of ids and texts.
-pub fn articles(alloc: Global, texts: &[(&str, &str)]) -> Result<Vec<Article>, Fail> {
+fn articles(alloc: Global, texts: &[(&str, &str)]) -> Result<Vec<Article>, Fail> {
     let mut articles = Vec::new(alloc);
     for (id, text) in texts {
         articles.push(article_of(alloc, id, text)?)?;
@@ -142,7 +142,7 @@ pub fn articles(alloc: Global, texts: &[(&str, &str)]) -> Result<Vec<Article>, F
 
 /// Adds alerts: the article, the place and how many were asked, of each alert the query, the article and the listener,
 /// and a full stop.
-pub fn add_alerts(text: &mut String, found: &Alerts) -> Result<(), AllocError> {
+fn add_alerts(text: &mut String, found: &Alerts) -> Result<(), AllocError> {
     let (article, place, asked) = (&found.article, found.place, found.asked);
     write!(text, "{article} {place} {asked}")?;
     for alert in &found.alerts {
