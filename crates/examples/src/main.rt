@@ -63,7 +63,7 @@ impl Outcome {
 }
 
 /// What became of an example that ended well or not, and has written these replies.
-fn outcome(ended_well: bool, replies: &[u8], wanted: &[u8]) -> Outcome {
+fn compared(ended_well: bool, replies: &[u8], wanted: &[u8]) -> Outcome {
     if !ended_well {
         Outcome::Fault
     } else if replies == wanted {
@@ -103,7 +103,7 @@ fn played(alloc: Global, requests: &[u8], wanted: &[u8]) -> Result<Outcome> {
     let mut sink = StdSink::new(&mut replies);
     let settings = Settings { keeps_rows: false };
     let ended = run(alloc, &mut source, &mut sink, &mut listeners, settings);
-    Ok(outcome(ended.is_ok(), &replies, wanted))
+    Ok(compared(ended.is_ok(), &replies, wanted))
 }
 
 /// Plays a trace, whose replies are to be the wanted bytes.
@@ -112,7 +112,7 @@ fn traced(alloc: Global, events: &[u8], wanted: &[u8]) -> Outcome {
     let mut source = StdSource::new(events);
     let mut sink = StdSink::new(&mut replies);
     let ended = run_trace(alloc, &mut source, &mut sink);
-    outcome(ended.is_ok(), &replies, wanted)
+    compared(ended.is_ok(), &replies, wanted)
 }
 
 /// The file of this name and ending.
