@@ -4,7 +4,6 @@ pub mod Registering
 pub mod Whole
 pub mod Marks
 pub mod Clones
-pub mod Undoing
 pub mod Entering
 pub mod Alone
 pub mod Keeping

@@ -98,10 +98,6 @@ placed_live base flags m id r is h = placed_from_flag base flags r.seq (is.flagg
 placed_more : (base : ℕ) (flags : List Bool) (live : Bool) (seq : ℕ) → IsPlaced base flags seq → IsPlaced base (flags ++ live ∷ []) seq
 placed_more base flags live seq at = record { above = at.above; within = let h = at.within in omega (arith, length-append flags (live ∷ [])) }
 
-pub above_base : (base : ℕ) (flags : List Bool) (m : Registry) (id : List ℕ) (found : Option Registered) → AreLiveFlags base flags m → found ≡ finite.get m id → IsAbove base found
-above_base base flags m id None is h = tt
-above_base base flags m id (Some r) is h = (placed_live base flags m id r is (sym h)).above
-
 more_numbered : (base : ℕ) (flags : List Bool) (m : Registry) (r : Registered) → AreLiveFlags base flags m → r.seq ≡ suc (base + length flags) → IsNumbered (base + length (flags ++ true ∷ [])) (insert_one m r)
 more_numbered base flags m r is seq =
     let n : suc (base + length flags) ≡ base + length (flags ++ true ∷ []) = omega (arith, length-append flags (true ∷ [])) in
@@ -147,74 +143,3 @@ flags_same base flags m id is none = record {
   numbered = numbered_remove (base + length flags) m id is.numbered;
   flagged = λ seq. is.flagged seq ∙ sym (live_remove (base + length flags) m id seq is.numbered ∙ ap (λ (o : Option Registered). cond (has_seq o seq) false (is_live_in m seq)) none);
 }
-
--- ---- an insert without_last
-
--- what was replaced, put back, gives the registry before
-pub restored_before : (before : Registry) (entry : Registered) (id : List ℕ) (found : Option Registered) → entry.standing.id ≡ id → finite.get before id ≡ found → with_or_without (insert_one before entry) id found ≡ before
-restored_before before entry id None key was = same _ _ (λ q.
-    elim (eq_by_cmp bytes_cmp q id) as (λ b. eq_by_cmp bytes_cmp q id ≡ b → finite.get (finite.remove (insert_one before entry) id) q ≡ finite.get before q) [
-      | true ↦ λ e. ap (finite.get (finite.remove (insert_one before entry) id)) (bytes_same q id e) ∙ removed_at (insert_one before entry) id ∙ sym was ∙ ap (finite.get before) (sym (bytes_same q id e))
-      | false ↦ λ e. removed_else (insert_one before entry) id q e ∙ inserted_else before entry.standing.id entry q (ap (eq_by_cmp bytes_cmp q) key ∙ e)
-    ] refl)
-restored_before before entry id (Some t) key was = same _ _ (λ q.
-    elim (eq_by_cmp bytes_cmp q id) as (λ b. eq_by_cmp bytes_cmp q id ≡ b → finite.get (finite.insert (insert_one before entry) id t) q ≡ finite.get before q) [
-      | true ↦ λ e. ap (finite.get (finite.insert (insert_one before entry) id t)) (bytes_same q id e) ∙ inserted_at (insert_one before entry) id t ∙ sym was ∙ ap (finite.get before) (sym (bytes_same q id e))
-      | false ↦ λ e. inserted_else (insert_one before entry) id t q e ∙ inserted_else before entry.standing.id entry q (ap (eq_by_cmp bytes_cmp q) key ∙ e)
-    ] refl)
-
--- the flags without the last
-pub fewer_flagged : (base : ℕ) (flags : List Bool) (last : Bool) (n : ℕ) (before : Registry) (entry : Registered) (id : List ℕ) (found : Option Registered) (seq : ℕ)
-    → IsNumbered n before → entry.seq ≡ suc n → entry.standing.id ≡ id → finite.get before id ≡ found → base + length flags ≡ n → AreLiveFlags base (flags ++ last ∷ []) (insert_one before entry)
-    → flag_at base flags seq ≡ cond (has_seq found seq) false (is_live_in before seq)
-fewer_flagged base flags last n before entry id found seq numbered e key was len is =
-    let live : is_live_in (insert_one before entry) seq ≡ cond (suc n == seq) true (cond (has_seq found seq) false (is_live_in before seq)) =
-    live_insert n before entry seq e numbered ∙ ap (λ (o : Option Registered). cond (suc n == seq) true (cond (has_seq o seq) false (is_live_in before seq))) (ap (finite.get before) key ∙ was) in
-    let flag : cond (suc n == seq) last (flag_at base flags seq) ≡ cond (suc n == seq) true (cond (has_seq found seq) false (is_live_in before seq)) =
-    ap (λ k. cond (suc k == seq) last (flag_at base flags seq)) (sym len) ∙ sym (flag_at-push base flags last seq) ∙ is.flagged seq ∙ live in
-    elim (suc n == seq) as (λ b. (suc n == seq) ≡ b → cond b last (flag_at base flags seq) ≡ cond b true (cond (has_seq found seq) false (is_live_in before seq)) → flag_at base flags seq ≡ cond (has_seq found seq) false (is_live_in before seq)) [
-      | true ↦ λ b _.
-          let at = same_numbers (suc n) seq b in
-          past_flag base flags seq (omega arith) ∙ sym (none_past n before seq (has_seq found seq) numbered (omega arith))
-      | false ↦ λ b h. h
-    ] refl flag
-  where
-    past_flag : (base : ℕ) (flags : List Bool) (seq : ℕ) → base + length flags < seq → flag_at base flags seq ≡ false
-    past_flag base flags seq h = flag_above base flags seq (omega arith) ∙ get_or_past flags (seq - suc base) false (omega arith)
-
-    none_past : (n : ℕ) (m : Registry) (seq : ℕ) (b : Bool) → IsNumbered n m → n < seq → cond b false (is_live_in m seq) ≡ false
-    none_past n m seq true is h = refl
-    none_past n m seq false is h = elim (is_live_in m seq) as (λ b. is_live_in m seq ≡ b → b ≡ false) [ true ↦ λ l. let w = (live_within n m seq is l).1 in absurd (omega arith) | false ↦ λ _. refl ] refl
-
--- what is left of the flags when the last is taken off
-pub record AreFewer (base : ℕ) (rest : List Bool) (n : ℕ) (found : Option Registered) (before : Registry) : Type 0 where
-  pub len : base + length rest ≡ n
-  pub flags : (seq : ℕ) → flag_at base rest seq ≡ cond (has_seq found seq) false (is_live_in before seq)
-
-pub popped_flags : (base : ℕ) (flags rest : List Bool) (popped : Option Bool) (n : ℕ) (before m : Registry) (entry : Registered) (id : List ℕ) (found : Option Registered)
-    → flags ≡ rest ++ option_to_list popped → (0 < length flags → is_some popped ≡ true) → base + length flags ≡ suc n → base ≤ n
-    → IsNumbered n before → entry.seq ≡ suc n → entry.standing.id ≡ id → finite.get before id ≡ found → m ≡ insert_one before entry → AreLiveFlags base flags m → AreFewer base rest n found before
-popped_flags base flags rest None n before m entry id found parts there len low numbered e key was same is =
-    let full : 0 < length flags = omega arith in absurd (false≢true (there full))
-popped_flags base flags rest (Some last) n before m entry id found parts there len low numbered e key was same is =
-    let count : base + length rest ≡ n = let k = ap length parts in omega (arith, length-append rest (last ∷ []), k) in
-    let before_pop : AreLiveFlags base (rest ++ last ∷ []) (insert_one before entry) = subst (λ fs. AreLiveFlags base fs (insert_one before entry)) parts (subst (AreLiveFlags base flags) same is) in
-    record { len = count; flags = λ seq. fewer_flagged base rest last n before entry id found seq numbered e key was count before_pop }
-
-pub flags_back_none : (base : ℕ) (rest : List Bool) (n : ℕ) (before : Registry) → IsNumbered n before → AreFewer base rest n None before → AreLiveFlags base rest before
-flags_back_none base rest n before numbered are = record { numbered = subst (λ k. IsNumbered k before) (sym are.len) numbered; flagged = are.flags }
-
-pub flags_back : (base : ℕ) (rest : List Bool) (n : ℕ) (before : Registry) (id : List ℕ) (t : Registered) → IsNumbered n before → base < t.seq → finite.get before id ≡ Some t → AreFewer base rest n (Some t) before
-    → AreLiveFlags base (flags_with base rest t.seq true) before
-flags_back base rest n before id t numbered above was are =
-    let low = (numbered.within id t was).1 in
-    let len = are.len in
-    let at : IsPlaced base rest t.seq = record { above = above; within = omega arith } in
-    record {
-      numbered = subst (λ k. IsNumbered (base + k) before) (sym (length-flags_with base rest t.seq true)) (subst (λ k. IsNumbered k before) (sym len) numbered);
-      flagged = λ seq. flag_at-flags_with base rest t.seq true seq at ∙ ap (cond (t.seq == seq) true) (are.flags seq)
-          ∙ elim (t.seq == seq) as (λ b. (t.seq == seq) ≡ b → cond b true (cond b false (is_live_in before seq)) ≡ is_live_in before seq) [
-            | true ↦ λ e. sym (ap (is_live_in before) (sym (same_numbers t.seq seq e)) ∙ given_live before id t was)
-            | false ↦ λ e. refl
-          ] refl;
-    }

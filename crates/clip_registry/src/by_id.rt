@@ -1,5 +1,5 @@
 //! Entries by the ids of their standing queries.
-ghost use Rattle.std.specs.Prelude.{◌≡◌, option_map, option_copied, is_some, true, IfOk, IfErr, OnOk, OnErr};
+ghost use Rattle.std.specs.Prelude.{◌≡◌, option_map, option_copied, IfOk, OnOk};
 ghost use Rattle.std.specs.Arc.{arc_value};
 ghost use Rattle.std.specs.FinMap as finite;
 ghost use Rattle.clip_model.specs.History.{Registry};
@@ -67,8 +67,7 @@ impl ById {
         self.entries.get(id)
     }
 
-    /// Puts an entry in the place of the one with its id, which it gives. `NoMemory` where an allocation failed, with
-    /// nothing changed.
+    /// Puts an entry in the place of the one with its id, which it gives. `NoMemory` where an allocation failed.
     pub fn insert(
         &mut self,
         alloc: Global,
@@ -76,27 +75,16 @@ impl ById {
     ) -> Result<Option<Arc<Entry>>, NoMemory>
         ensures inserted { OnOk result (self.new ≡ insert_one self.old entry.value) }
         ensures replaced { IfOk result (λ old. option_map arc_value old ≡ finite.get self.old entry.value.standing.id) }
-        ensures unchanged { OnErr result (self.new ≡ self.old) }
     {
         let id = String::from_str(alloc, entry.standing().id())?;
         Ok(self.entries.insert(id, entry)?)
     }
 
-    /// Puts an entry under an id that is there. It takes no memory.
-    pub fn put_back(&mut self, id: &str, entry: Arc<Entry>)
-        requires { is_some (finite.get self.old id.now) ≡ true }
-        ensures { self.new ≡ finite.insert self.old id.now entry.value }
+    /// Takes out the entry under the id, which it gives. `NoMemory` where an allocation failed.
+    pub fn remove(&mut self, id: &str) -> Result<Option<Arc<Entry>>, NoMemory>
+        ensures removed { OnOk result (self.new ≡ finite.remove self.old id.now) }
+        ensures gone { IfOk result (λ old. option_map arc_value old ≡ finite.get self.old id.now) }
     {
-        if let Some(place) = self.entries.get_mut(id) {
-            *place = entry;
-        }
-    }
-
-    /// Takes out the entry under the id.
-    pub fn remove(&mut self, id: &str) -> Option<Arc<Entry>>
-        ensures removed { self.new ≡ finite.remove self.old id.now }
-        ensures gone { option_map arc_value result ≡ finite.get self.old id.now }
-    {
-        self.entries.remove(id)
+        Ok(self.entries.remove(id))
     }
 }

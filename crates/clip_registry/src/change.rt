@@ -3,11 +3,12 @@ ghost use Rattle.std.specs.Prelude.{◌≡◌, ◌+◌, ◌<◌, ◌≤◌, ◌^
 ghost use Rattle.std.specs.Arc.{arc_value};
 ghost use Rattle.std.specs.FinMap as finite;
 ghost use Rattle.clip_model.specs.History as model;
-ghost use Rattle.clip_model.specs.History.{fits};
+ghost use Rattle.clip_model.specs.History.{fits, register_all, after_command};
 ghost use Rattle.clip_registry.specs.Command.{command_of};
-ghost use Rattle.clip_registry.specs.Steps.Change.{content, IsChanged, IsUnchanged};
+ghost use Rattle.clip_registry.specs.Steps.Change.{content, IsChanged};
 ghost use Rattle.clip_registry.specs.Steps.Roster.{live_in};
 ghost use Rattle.clip_registry.specs.RegistryState.{numbered};
+ghost use Rattle.clip_registry.specs.declared.command.Refused.TheVariants as refused;
 
 use crate::command::{Applied, Command, Refused};
 use crate::roster::Roster;
@@ -53,76 +54,83 @@ fn live_entries(
     Ok(live)
 }
 
+/// What a command leaves of the segments and the roster, and the answer to it.
+#[derive(Drop)]
+pub struct Changed {
+    pub segments: Vec<Arc<Segment>>,
+    pub roster: Roster,
+    pub applied: Applied,
+}
+
 /// Registers queries: they take the places of those with their ids, and a segment with those that stand goes to the
-/// end. The last of a repeated id stands, by a roster of this list alone.
+/// end. Of a repeated id the last query stands.
 fn register(
     alloc: Global,
-    segments: &mut Vec<Arc<Segment>>,
-    roster: &mut Roster,
+    segments: Vec<Arc<Segment>>,
+    roster: Roster,
     standings: &[Arc<Standing>],
-) -> Result<Applied, Refused>
-    requires listed { roster.old.listed + MOST_LISTED < 2 ^ 64 }
+) -> Result<Changed, Refused>
+    requires listed { roster.listed + MOST_LISTED < 2 ^ 64 }
     requires fits { length standings.now ≤ MOST_LISTED }
-    requires small { finite.len roster.old.registry ≤ MOST_LIVE }
-    ensures changed { let before = content segments.old.items roster.old in
-        let after = content segments.new.items roster.new in
-        IfOk result (IsChanged (model.Register (map arc_value standings.now)) before after) }
-    ensures unchanged { let before = content segments.old.items roster.old in
-        let after = content segments.new.items roster.new in
-        IfErr result (IsUnchanged (model.Register (map arc_value standings.now)) before after) }
+    requires small { finite.len roster.registry ≤ MOST_LIVE }
+    ensures changed { IfOk result (λ after. IsChanged (model.Register (map arc_value standings.now)) (content segments.items roster) (content after.segments.items after.roster) after.applied) }
+    ensures full { IfErr result (λ why. why ≡ refused.Full → MOST_LIVE < finite.len (register_all roster.listed (map arc_value standings.now) roster.registry)) }
 {
     if standings.is_empty() {
-        return Ok(Applied::Registered(0));
+        return Ok(Changed {
+            segments,
+            roster,
+            applied: Applied::Registered(0),
+        });
     }
     let listed = roster.listed();
     let entries = numbered_entries(alloc, listed, standings)?;
-    let mut fresh = Roster::new(alloc, listed);
-    fresh.insert_all(alloc, &entries, None)?;
-    let count = fresh.len();
-    let live = live_entries(alloc, &fresh, &entries)?;
-    drop(fresh);
-    let segment = Segment::build(alloc, live)?;
-    segments.push(Arc::new(alloc, segment)?)?;
-    match roster.insert_all(alloc, &entries, Some(MOST_LIVE)) {
-        Ok(()) => Ok(Applied::Registered(count)),
-        Err(refused) => {
-            let _ = segments.pop();
-            Err(refused)
-        }
+    let alone = Roster::new(alloc, listed).with_entries(alloc, &entries)?;
+    let roster = roster.with_entries(alloc, &entries)?;
+    if roster.len() > MOST_LIVE {
+        return Err(Refused::Full);
     }
+    let live = live_entries(alloc, &roster, &entries)?;
+    let segment = Segment::build(alloc, live)?;
+    let mut segments = segments;
+    segments.push(Arc::new(alloc, segment)?)?;
+    Ok(Changed {
+        segments,
+        roster,
+        applied: Applied::Registered(alone.len()),
+    })
 }
 
-/// Does a command to the segments and the roster, or nothing: `Full` where more than `MOST_LIVE` queries would then be
-/// registered, and `NoMemory` where an allocation failed.
+/// Does a command to the segments and the roster: `Full` where more than `MOST_LIVE` queries would then be registered,
+/// and `NoMemory` where an allocation failed.
 pub fn change(
     alloc: Global,
-    segments: &mut Vec<Arc<Segment>>,
-    roster: &mut Roster,
+    segments: Vec<Arc<Segment>>,
+    roster: Roster,
     command: &Command,
-) -> Result<Applied, Refused>
-    requires listed { roster.old.listed + MOST_LISTED < 2 ^ 64 }
+) -> Result<Changed, Refused>
+    requires listed { roster.listed + MOST_LISTED < 2 ^ 64 }
     requires fits { IsTrue (fits (command_of command.now)) }
-    requires small { finite.len roster.old.registry ≤ MOST_LIVE }
-    ensures changed { let before = content segments.old.items roster.old in
-        let after = content segments.new.items roster.new in
-        IfOk result (IsChanged (command_of command.now) before after) }
-    ensures unchanged { let before = content segments.old.items roster.old in
-        let after = content segments.new.items roster.new in
-        IfErr result (IsUnchanged (command_of command.now) before after) }
+    requires small { finite.len roster.registry ≤ MOST_LIVE }
+    ensures changed { IfOk result (λ after. IsChanged (command_of command.now) (content segments.items roster) (content after.segments.items after.roster) after.applied) }
+    ensures full { IfErr result (λ why. why ≡ refused.Full → MOST_LIVE < finite.len (after_command roster.listed (command_of command.now) roster.registry)) }
 {
     match command {
         Command::Register(standings) => register(alloc, segments, roster, standings),
         Command::Delete(ids) => {
             let before = roster.len();
-            roster.remove_all(ids);
-            Ok(Applied::Deleted(before - roster.len()))
+            let roster = roster.without_ids(ids)?;
+            let applied = Applied::Deleted(before - roster.len());
+            Ok(Changed {
+                segments,
+                roster,
+                applied,
+            })
         }
-        Command::Clear => {
-            let before = roster.len();
-            let listed = roster.listed();
-            *roster = Roster::new(alloc, listed);
-            segments.clear();
-            Ok(Applied::Cleared(before))
-        }
+        Command::Clear => Ok(Changed {
+            segments: Vec::new(alloc),
+            roster: Roster::new(alloc, roster.listed()),
+            applied: Applied::Cleared(roster.len()),
+        }),
     }
 }

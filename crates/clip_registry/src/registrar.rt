@@ -5,6 +5,7 @@ ghost use Rattle.clip_model.specs.History.{fits, has_room, applied, IsLegal};
 ghost use Rattle.clip_registry.specs.Command.{command_of, answer_of, shared_entry};
 ghost use Rattle.clip_registry.specs.Merging.{IsBegun, IsInstalled, IsStale, purged};
 ghost use Rattle.clip_registry.specs.RegistryState.{IsWhole, beginning, state_after};
+ghost use Rattle.clip_registry.specs.Steps.Change.{IsAccepted};
 ghost use Rattle.clip_registry.specs.declared.command.Refused.TheVariants as refused;
 
 use crate::command::{Applied, Command, HistoryEntry, Refused};
@@ -38,19 +39,28 @@ impl Model for Registrar {
     ghost view = { λ r. state_or_beginning r.state };
 }
 
-/// The state before the first command, or `NoMemory` where an allocation failed.
-fn first_state(alloc: Global) -> Result<Arc<State>, NoMemory>
-    ensures { IfOk result (λ state. state.value ≡ beginning) }
-{
-    Ok(Arc::new(alloc, State::new(alloc)?)?)
-}
-
 impl Registrar {
     /// A registrar with no segment and an empty history. It takes no memory. Constant time.
     pub fn new(alloc: Global) -> Registrar
         ensures { result ≡ beginning }
     {
         Registrar { alloc, state: None }
+    }
+
+    /// The state after a caller's next command, and the answer to it: `Full` where it has no room, and `NoMemory` where
+    /// an allocation failed.
+    fn after(&self, caller: u32, command: &Command) -> Result<(Arc<State>, Applied), Refused>
+        requires fits { IsTrue (fits (command_of command.now)) }
+        requires caller_from { 0 < caller }
+        requires caller_to { caller ≤ MOST_CALLERS }
+        ensures accepted { IfOk result (λ next. IsAccepted caller (command_of command.now) self.now next.0.value next.1) }
+        ensures full { IfErr result (λ why. why ≡ refused.Full → IsFalse (has_room self.now.history (command_of command.now))) }
+    {
+        let (next, applied) = match &self.state {
+            Some(state) => state.after(self.alloc, caller, command)?,
+            None => State::new(self.alloc)?.after(self.alloc, caller, command)?,
+        };
+        Ok((Arc::new(self.alloc, next)?, applied))
     }
 
     /// Accepts a caller's next command, or refuses it and hands it back with nothing changed: `Full` where more than
@@ -76,20 +86,11 @@ impl Registrar {
         ensures handed_back { IfErr result (λ back. back.0 ≡ command) }
         ensures unchanged { OnErr result (self.new ≡ self.old) }
     {
-        if self.state.is_none() {
-            match first_state(self.alloc) {
-                Ok(state) => self.state = Some(state),
-                Err(NoMemory) => return Err((command, Refused::NoMemory)),
+        match self.after(caller, &command) {
+            Ok((state, applied)) => {
+                self.state = Some(state);
+                Ok(applied)
             }
-        }
-        let Some(shared) = &mut self.state else {
-            unreachable!()
-        };
-        let Ok(state) = Arc::make_mut(shared) else {
-            return Err((command, Refused::NoMemory));
-        };
-        match state.accept(self.alloc, caller, &command) {
-            Ok(applied) => Ok(applied),
             Err(refused) => Err((command, refused)),
         }
     }

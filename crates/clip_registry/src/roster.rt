@@ -1,15 +1,13 @@
 //! The registered queries by id, with how many were ever listed and which of their seqs are live.
-ghost use Rattle.std.specs.Prelude.{◌≡◌, ◌+◌, ◌<◌, ◌≤◌, ◌^◌, suc, map, option_map, option_copied, IfOk, IfErr, OnOk, OnErr, IfSome, string_bytes, [], ◌∷◌};
+ghost use Rattle.std.specs.Prelude.{◌≡◌, ◌<◌, ◌^◌, suc, map, option_map, option_copied, IfOk, string_bytes, [], ◌∷◌};
 ghost use Rattle.std.specs.Arc.{arc_value};
 ghost use Rattle.std.specs.FinMap as finite;
 ghost use Rattle.clip_model.specs.History.{is_live_in};
 ghost use Rattle.clip_registry.specs.Steps.Flags.{flags_with};
 ghost use Rattle.clip_model.specs.Steps.Numbered.{IsNumbered};
-ghost use Rattle.clip_registry.specs.Steps.Roster.{IsAbove, IsOver, IsUndoable, SeqsFollow, insert_all, roster_with, roster_with_all, roster_without, without_last};
-ghost use Rattle.clip_registry.specs.declared.command.Refused.TheVariants as refused;
+ghost use Rattle.clip_registry.specs.Steps.Roster.{SeqsFollow, roster_with, roster_with_all, roster_without};
 
 use crate::by_id::ById;
-use crate::command::Refused;
 use clip_segment::Entry;
 use clip_words::NoMemory;
 use std::alloc::{AllocError, Global};
@@ -111,90 +109,60 @@ impl Roster {
         }
     }
 
-    /// Puts the next entry in the place of the one with its id, which it gives. `NoMemory` where an allocation
-    /// failed, with nothing changed.
-    fn insert(&mut self, alloc: Global, entry: &Arc<Entry>) -> Result<Option<Arc<Entry>>, NoMemory>
-        requires { entry.now.value.seq ≡ suc self.old.listed }
-        ensures inserted { OnOk result (self.new ≡ roster_with self.old entry.now.value) }
-        ensures replaced { IfOk result (λ old. option_map arc_value old ≡ finite.get self.old.registry entry.now.value.standing.id) }
-        ensures above { IfOk result (λ replaced. IsAbove self.old.base (option_map arc_value replaced)) }
-        ensures unchanged { OnErr result (self.new ≡ self.old) }
-        ensures numbered { IsNumbered self.old.listed self.old.registry }
-        ensures base { self.old.base ≤ self.old.listed }
+    /// The roster with the next entry in the place of the one with its id. `NoMemory` where an allocation failed.
+    fn with_entry(self, alloc: Global, entry: &Arc<Entry>) -> Result<Roster, NoMemory>
+        requires { entry.now.value.seq ≡ suc self.listed }
+        ensures { IfOk result (λ roster. roster ≡ roster_with self entry.now.value) }
     {
-        self.live.reserve(1)?;
-        let shared = entry.clone()?;
-        let replaced = self.by_id.insert(alloc, shared)?;
-        let Ok(()) = self.live.push(true) else {
-            unreachable!()
-        };
-        if let Some(old) = &replaced {
-            mark(&mut self.live, self.base, old.seq(), false);
+        let Roster {
+            mut by_id,
+            base,
+            mut live,
+        } = self;
+        live.push(true)?;
+        if let Some(old) = by_id.insert(alloc, entry.clone()?)? {
+            mark(&mut live, base, old.seq(), false);
         }
-        Ok(replaced)
+        Ok(Roster { by_id, base, live })
     }
 
-    /// Takes the last entry out again, and puts the one that it replaced back. It takes no memory.
-    fn undo(&mut self, id: &str, replaced: Option<Arc<Entry>>)
-        requires { IsUndoable self.old id.now (option_map arc_value replaced) }
-        ensures { self.new ≡ without_last self.old id.now (option_map arc_value replaced) }
+    /// The roster with the next entries in the places of those with their ids, in order. `NoMemory` where an
+    /// allocation failed. It costs a search among the ids for each entry.
+    pub fn with_entries(self, alloc: Global, entries: &[Arc<Entry>]) -> Result<Roster, NoMemory>
+        requires { SeqsFollow self.listed (map arc_value entries.now) }
+        ensures { IfOk result (λ roster. roster ≡ roster_with_all self (map arc_value entries.now)) }
     {
-        let _ = self.live.pop();
-        match replaced {
-            Some(entry) => {
-                mark(&mut self.live, self.base, entry.seq(), true);
-                self.by_id.put_back(id, entry);
-            }
-            None => drop(self.by_id.remove(id)),
+        let mut roster = self;
+        for entry in entries {
+            roster = roster.with_entry(alloc, entry)?;
         }
+        Ok(roster)
     }
 
-    /// Puts the next entries in the places of those with their ids, in order, or none of them: `Full` where more than
-    /// `most` queries would then be registered, and `NoMemory` where an allocation failed. It costs a search among
-    /// the ids for each entry. Recursion is as deep as the list is long.
-    pub fn insert_all(
-        &mut self,
-        alloc: Global,
-        entries: &[Arc<Entry>],
-        most: Option<u64>,
-    ) -> Result<(), Refused>
-        requires { SeqsFollow self.old.listed (map arc_value entries.now) }
-        ensures inserted { OnOk result (self.new ≡ roster_with_all self.old (map arc_value entries.now)) }
-        ensures room { OnOk result (IfSome most (λ most. finite.len self.new.registry ≤ most)) }
-        ensures full { IfErr result (λ back. back ≡ refused.Full → IsOver most (insert_all self.old.registry (map arc_value entries.now))) }
-        ensures unchanged { OnErr result (self.new ≡ self.old) }
+    /// The roster without the query under the id, if one is there. `NoMemory` where an allocation failed.
+    fn without_id(self, id: &str) -> Result<Roster, NoMemory>
+        ensures { IfOk result (λ roster. roster ≡ roster_without self (id.now ∷ [])) }
     {
-        let Some((first, others)) = entries.split_first() else {
-            return match most {
-                Some(most) if self.len() > most => Err(Refused::Full),
-                _ => Ok(()),
-            };
-        };
-        let replaced = self.insert(alloc, first)?;
-        match self.insert_all(alloc, others, most) {
-            Ok(()) => Ok(()),
-            Err(refused) => {
-                self.undo(first.standing().id(), replaced);
-                Err(refused)
-            }
+        let Roster {
+            mut by_id,
+            base,
+            mut live,
+        } = self;
+        if let Some(gone) = by_id.remove(id)? {
+            mark(&mut live, base, gone.seq(), false);
         }
+        Ok(Roster { by_id, base, live })
     }
 
-    /// Takes out the query under the id, if one is there.
-    fn remove(&mut self, id: &str)
-        ensures { self.new ≡ roster_without self.old (id.now ∷ []) }
+    /// The roster without the queries under these ids. `NoMemory` where an allocation failed. It costs a search among
+    /// the ids for each.
+    pub fn without_ids(self, ids: &[String]) -> Result<Roster, NoMemory>
+        ensures { IfOk result (λ roster. roster ≡ roster_without self (map string_bytes ids.now)) }
     {
-        if let Some(gone) = self.by_id.remove(id) {
-            mark(&mut self.live, self.base, gone.seq(), false);
-        }
-    }
-
-    /// Takes out the queries under these ids. It takes no memory, and costs a search among the ids for each.
-    pub fn remove_all(&mut self, ids: &[String])
-        ensures { self.new ≡ roster_without self.old (map string_bytes ids.now) }
-    {
+        let mut roster = self;
         for id in ids {
-            self.remove(id.as_str());
+            roster = roster.without_id(id.as_str())?;
         }
+        Ok(roster)
     }
 }

@@ -1,11 +1,12 @@
 //! What a registrar and its views share: the segments, the history and the roster.
-ghost use Rattle.std.specs.Prelude.{◌≡◌, ◌<◌, ◌≤◌, map, IfOk, IfErr, IsTrue};
+ghost use Rattle.std.specs.Prelude.{◌≡◌, ◌<◌, ◌≤◌, map, IfOk, IfErr, IsTrue, IsFalse};
 ghost use Rattle.std.specs.Arc.{arc_value};
-ghost use Rattle.clip_model.specs.History.{fits, next_entry};
+ghost use Rattle.clip_model.specs.History.{fits, has_room, next_entry};
 ghost use Rattle.clip_registry.specs.Command.{command_of, shared_entry};
-ghost use Rattle.clip_registry.specs.Steps.Change.{IsAccepted, IsRefused};
+ghost use Rattle.clip_registry.specs.Steps.Change.{IsAccepted};
 ghost use Rattle.clip_registry.specs.Steps.Merging.{AreKept};
 ghost use Rattle.clip_registry.specs.RegistryState.{beginning};
+ghost use Rattle.clip_registry.specs.declared.command.Refused.TheVariants as refused;
 
 use crate::change::change;
 use crate::command::{Applied, Command, HistoryEntry, Refused};
@@ -89,36 +90,38 @@ impl State {
         )?)
     }
 
-    /// Accepts a caller's next command, or refuses it with nothing changed: `Full` where it has no room, and
-    /// `NoMemory` where an allocation failed.
-    pub fn accept(
-        &mut self,
+    /// The state after a caller's next command, and the answer to it: `Full` where it has no room, and `NoMemory` where
+    /// an allocation failed.
+    pub fn after(
+        &self,
         alloc: Global,
         caller: u32,
         command: &Command,
-    ) -> Result<Applied, Refused>
+    ) -> Result<(State, Applied), Refused>
         requires fits { IsTrue (fits (command_of command.now)) }
         requires caller_from { 0 < caller }
         requires caller_to { caller ≤ MOST_CALLERS }
-        ensures accepted { IfOk result (IsAccepted caller (command_of command.now) self.old self.new) }
-        ensures refused { IfErr result (IsRefused (command_of command.now) self.old self.new) }
+        ensures accepted { IfOk result (λ next. IsAccepted caller (command_of command.now) self.now next.0 next.1) }
+        ensures full { IfErr result (λ why. why ≡ refused.Full → IsFalse (has_room self.now.history (command_of command.now))) }
     {
         if self.history.len() as u64 >= MOST_ENTRIES {
             return Err(Refused::Full);
         }
         let entry = self.next_entry(alloc, caller, command)?;
-        self.history.push(entry)?;
-        match change(alloc, &mut self.segments, &mut self.roster, command) {
-            Ok(applied) => {
-                self.counts[caller as usize - 1] += 1;
-                Ok(applied)
-            }
-            Err(refused) => {
-                let _ = self.history.pop();
-                Err(refused)
-            }
-        }
+        let mut history = self.history.clone()?;
+        history.push(entry)?;
+        let mut counts = self.counts.clone()?;
+        counts[caller as usize - 1] += 1;
+        let changed = change(alloc, self.segments.clone()?, self.roster.clone()?, command)?;
+        let next = State {
+            segments: changed.segments,
+            history,
+            roster: changed.roster,
+            counts,
+        };
+        Ok((next, changed.applied))
     }
+
     /// Puts other segments in the place of all segments: they have each live entry, and no entry that was not there.
     pub fn set_segments(&mut self, segments: Vec<Arc<Segment>>)
         requires { AreKept self.old (map arc_value segments.items) }

@@ -1,5 +1,5 @@
 -- What becomes of a command: of the segments and the roster, and of the whole registry.
-use Rattle.std.specs.Prelude.{◌≡◌, ℕ, ◌+◌, ◌<◌, ◌≤◌, List, map, IsTrue, IsFalse}
+use Rattle.std.specs.Prelude.{◌≡◌, ℕ, ◌+◌, ◌≤◌, List, map, IsTrue}
 use Rattle.std.specs.Arc.{arc_value}
 use Rattle.std.specs.FinMap as finite
 use Rattle.std.specs.declared.sync.Arc.{Arc}
@@ -10,8 +10,6 @@ use Rattle.clip_registry.specs.Command.{answer_of}
 use Rattle.clip_registry.specs.RegistryState.{RegistryState, segments_after, state_after}
 use Rattle.clip_registry.specs.Steps.Roster.{Roster}
 use Rattle.clip_registry.specs.declared.command.Applied.{Applied}
-use Rattle.clip_registry.specs.declared.command.Refused.{Refused}
-use Rattle.clip_registry.specs.declared.command.Refused.TheVariants.{Full}
 
 -- what a command changes: the segments, each as its list of entries, and the roster
 pub record Content : Type 0 where
@@ -29,19 +27,8 @@ pub record IsChanged (command : Command) (before after : Content) (given : Appli
   pub small : finite.len after.roster.registry ≤ MOST_LIVE
   pub answer : given ≡ answer_of command (applied_to before.roster.registry command)
 
--- Segments and roster are those before, and Full says that too many queries would be registered.
-pub record IsUnchanged (command : Command) (before after : Content) (refused : Refused) : Type 0 where
-  pub segments : after.segments ≡ before.segments
-  pub roster : after.roster ≡ before.roster
-  pub full : refused ≡ Full → MOST_LIVE < finite.len (after_command before.roster.listed command before.roster.registry)
-
 -- The caller's command had room, the registry is that after it, and the answer is its count.
 pub record IsAccepted (caller : ℕ) (command : Command) (before after : RegistryState) (given : Applied) : Type 0 where
   pub room : IsTrue (has_room before.history command)
   pub state : after ≡ state_after before caller command
   pub answer : given ≡ answer_of command (applied before.history command)
-
--- The registry is that before, and Full says that the command had no room.
-pub record IsRefused (command : Command) (before after : RegistryState) (refused : Refused) : Type 0 where
-  pub state : after ≡ before
-  pub full : refused ≡ Full → IsFalse (has_room before.history command)

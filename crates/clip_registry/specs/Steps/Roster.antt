@@ -1,9 +1,8 @@
 -- The registered queries, and how many were ever listed.
-use Rattle.std.specs.Prelude.{◌≡◌, ℕ, suc, ◌+◌, ◌-◌, ◌<◌, ◌≤◌, List, [], ◌∷◌, length, filter, Option, Some, None, IsSomeAnd, refl}
+use Rattle.std.specs.Prelude.{◌≡◌, ℕ, suc, ◌+◌, List, [], ◌∷◌, length, filter, refl}
 use Rattle.std.specs.FinMap as finite
 use Rattle.std.specs.Coded.{Coded, code_by, coded×, coded_ℕ}
 use Rattle.clip_model.specs.History.{Registered, Registry, registry_code, remove_all, is_live_in}
-use Rattle.clip_model.specs.Steps.Numbered.{IsNumbered}
 
 -- the registered queries, how many were listed, and a seq up to which none is live
 pub record Roster : Type 0 where
@@ -39,38 +38,6 @@ roster_with_all roster rs = record { registry = insert_all roster.registry rs; l
 -- of the entries, those that are live
 abbrev pub live_in : Registry → List Registered → List Registered
 live_in registry rs = filter (λ r. is_live_in registry r.seq) rs
-
--- There is a most, and the registry holds more.
-abbrev pub IsOver : Option ℕ → Registry → Type 0
-IsOver most registry = IsSomeAnd most (λ n. n < finite.len registry)
-
--- The query, if there is one, has a seq above the base.
-abbrev pub IsAbove : ℕ → Option Registered → Type 0
-IsAbove base None = Unit {0}
-IsAbove base (Some r) = base < r.seq
-
--- the registry with this query under the id, or with none
-abbrev pub with_or_without : Registry → List ℕ → Option Registered → Registry
-with_or_without registry id None = finite.remove registry id
-with_or_without registry id (Some r) = finite.insert registry id r
-
--- the roster without its last query, and with the one that it replaced
-abbrev pub without_last : Roster → List ℕ → Option Registered → Roster
-without_last roster id replaced = record { registry = with_or_without roster.registry id replaced; listed = roster.listed - 1; base = roster.base }
-
--- The last query of the roster was put under the id, in the place of this one.
-pub record IsUndoable (roster : Roster) (id : List ℕ) (replaced : Option Registered) : Type 0 where
-  pub before : Registry
-  pub entry : Registered
-  pub n : ℕ
-  pub numbered : IsNumbered n before
-  pub seq : entry.seq ≡ suc n
-  pub key : entry.standing.id ≡ id
-  pub was : finite.get before id ≡ replaced
-  pub registry : roster.registry ≡ insert_one before entry
-  pub listed : roster.listed ≡ suc n
-  pub base : roster.base ≤ n
-  pub above : IsAbove roster.base replaced
 
 -- the roster without the queries under these ids
 abbrev pub roster_without : Roster → List (List ℕ) → Roster

@@ -1,0 +1,9 @@
+use Rattle.std.proofs.Common.{◌≡◌, map, drop}
+use Rattle.std.specs.Arc.{arc_value}
+use Rattle.clip_registry.specs.Steps.Roster.{SeqsFollow, roster_with_all}
+use Rattle.clip_registry.proofs.roster.Roster.with_entries.Given as goal
+
+abbrev pub invariant-loop-entry : goal.invariant-loop-entry
+invariant-loop-entry l =
+    SeqsFollow l.roster.listed (map arc_value (drop l.entry-index l.entries))
+    × (roster_with_all l.roster (map arc_value (drop l.entry-index l.entries)) ≡ roster_with_all l.initial.roster (map arc_value l.entries))
