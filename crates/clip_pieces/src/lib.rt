@@ -1,0 +1,10 @@
+//! Lists in shared pieces: a copy of a list shares its pieces, and a write copies just the pieces it touches.
+#![tactic(auto)]
+
+mod exact;
+mod list;
+mod shared;
+
+pub use exact::Exact;
+pub use list::SharedList;
+pub use shared::Shared;

@@ -1,0 +1,95 @@
+//! `SharedList` and its methods.
+ghost use Rattle.std.specs.Prelude.{◌≡◌, ◌<◌, ◌-◌, ◌==◌, [], ◌∷◌, ◌++◌, length, OnOk, OnErr, slice_get, slice_set};
+ghost use Rattle.std.specs.Option.{option_copied};
+
+use crate::exact::Exact;
+use clip_words::NoMemory;
+use std::alloc::{AllocError, Global};
+use std::marker::Model;
+
+/// A list whose clone shares its items. Contracts see the list of the items.
+#[derive(Drop)]
+pub struct SharedList<T> {
+    items: Vec<T>,
+}
+
+impl<T> Model for SharedList<T> {
+    ghost use Rattle.std.specs.Prelude.{List};
+    ghost use Rattle.std.specs.Coded.{coded_list};
+
+    ghost Value = { List T };
+
+    ghost coded = { coded_list T.code };
+
+    ghost view = { λ list. list.items.items };
+}
+
+impl<T: Exact> Clone for SharedList<T> {
+    ghost is_clone = { λ list copy. copy ≡ list };
+
+    fn clone(&self) -> Result<SharedList<T>, AllocError> {
+        Ok(SharedList {
+            items: self.items.clone()?,
+        })
+    }
+}
+
+impl<T> SharedList<T> {
+    /// An empty list. Takes no memory.
+    pub fn new(alloc: Global) -> SharedList<T>
+        ensures { result ≡ [] }
+    {
+        SharedList {
+            items: Vec::new(alloc),
+        }
+    }
+
+    /// How many items there are. Takes no memory. Constant time.
+    pub fn len(&self) -> usize
+        ensures { result ≡ length self.now }
+    {
+        self.items.len()
+    }
+
+    /// Whether there is no item. Takes no memory. Constant time.
+    pub fn is_empty(&self) -> bool
+        ensures { result ≡ (length self.now == 0) }
+    {
+        self.len() == 0
+    }
+
+    /// The item at a place from 0, or `None` past the end. Takes no memory. Constant time.
+    pub fn get(&self, place: usize) -> Option<&T>
+        ensures { option_copied result ≡ slice_get self.now place }
+    {
+        self.items.get(place)
+    }
+
+    /// The last item, or `None` where there is none. Takes no memory. Constant time.
+    pub fn last(&self) -> Option<&T>
+        ensures { option_copied result ≡ slice_get self.now (length self.now - 1) }
+    {
+        self.items.last()
+    }
+}
+
+impl<T: Exact> SharedList<T> {
+    /// Puts an item behind the last one, or gives `NoMemory` where an allocation failed, with the list as it was.
+    pub fn push(&mut self, item: T) -> Result<(), NoMemory>
+        ensures ok { OnOk result (self.new ≡ self.old ++ item ∷ []) }
+        ensures err { OnErr result (self.new ≡ self.old) }
+    {
+        self.items.push(item)?;
+        Ok(())
+    }
+
+    /// Puts an item in the place of another, or gives `NoMemory` where an allocation failed, with the list as it was.
+    pub fn set(&mut self, place: usize, item: T) -> Result<(), NoMemory>
+        requires { place < length self.old }
+        ensures ok { OnOk result (self.new ≡ slice_set self.old place item) }
+        ensures err { OnErr result (self.new ≡ self.old) }
+    {
+        self.items[place] = item;
+        Ok(())
+    }
+}
