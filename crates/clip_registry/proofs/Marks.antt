@@ -3,14 +3,17 @@ use Rattle.std.proofs.Common.{◌≡◌, ℕ, suc, ◌+◌, ◌-◌, ◌<◌, �
 use Rattle.std.proofs.lemmas.Bool.Decides.{nat_tests}
 use Rattle.std.proofs.lemmas.Bool.{cases_lt, cases_order, false≢true}
 use Rattle.std.proofs.lemmas.List.{get_or-set_same, get_or-set_other, get_or_append_left, get_or_push, get_or_past}
+use Rattle.std.proofs.lemmas.Option.{unwrap_or-slice_get}
 use Rattle.std.proofs.Math.ListN.{length-set}
+use Rattle.std.specs.List.{slice_get}
+use Rattle.std.specs.Option.{unwrap_or}
 use Rattle.std.specs.FinMap as finite
 use Rattle.std.specs.Ordering.{eq_by_cmp}
 use Rattle.clip_words.specs.Order.{bytes_cmp}
 use Rattle.clip_model.specs.History.{Registered, Registry, is_live_in}
 use Rattle.clip_registry.specs.Steps.Flags.{flag_at, flags_with, AreLiveFlags}
 use Rattle.clip_model.specs.Steps.Numbered.{IsNumbered}
-use Rattle.clip_registry.specs.Steps.Roster.{IsAbove, insert_one, with_or_without}
+use Rattle.clip_registry.specs.Steps.Roster.{insert_one}
 use Rattle.clip_model.proofs.Live.{given_live, inserted_at, inserted_else, removed_at, removed_else}
 use Rattle.clip_model.proofs.ById.{bytes_same, same, swapped}
 use Rattle.clip_model.proofs.Numbering.{numbered_insert, numbered_remove}
@@ -36,6 +39,11 @@ flag_above base flags seq h = ap (λ b. b && get_or flags (seq - suc base) false
 
 flag_below : (base : ℕ) (flags : List Bool) (seq : ℕ) → seq ≤ base → flag_at base flags seq ≡ false
 flag_below base flags seq h = ap (λ b. b && get_or flags (seq - suc base) false) (not_lt base seq h)
+
+-- where no flag is found, the seq isn't live
+pub no_flag : (base : ℕ) (flags : List Bool) (seq k : ℕ) → base < seq → k ≡ seq - suc base → slice_get flags k ≡ None → flag_at base flags seq ≡ false
+no_flag base flags seq k above at none =
+    flag_above base flags seq above ∙ ap (λ j. get_or flags j false) (sym at) ∙ sym (unwrap_or-slice_get flags k false) ∙ ap (λ (o : Option Bool). unwrap_or o false) none
 
 choose : (b c : Bool) (x y : Bool) → b ≡ c → cond b x y ≡ cond c x y
 choose b c x y e = ap (λ d. cond d x y) e

@@ -1,5 +1,6 @@
 pub mod Change
 pub mod Flags
+pub mod History
 pub mod Merging
 pub mod Roster
 pub mod RosterInside

@@ -6,6 +6,8 @@ ghost use Rattle.std.specs.Prelude.{◌≡◌};
 mod by_id;
 mod change;
 mod command;
+mod held;
+mod history;
 mod merging;
 mod purging;
 mod registrar;
@@ -15,6 +17,7 @@ mod state;
 mod view;
 
 pub use command::{Applied, Command, HistoryEntry, Refused};
+pub use history::History;
 pub use merging::{Installed, MergeJob, Merged, late_merges_miss_nothing};
 pub use registrar::Registrar;
 pub use view::View;

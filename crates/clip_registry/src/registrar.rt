@@ -1,14 +1,16 @@
 //! The registrar: it applies commands one by one.
-ghost use Rattle.std.specs.Prelude.{◌≡◌, ◌<◌, ◌≤◌, ℕ, Ok, None, map, IfOk, IfErr, IfSome, OnOk, OnErr, IsTrue, IsFalse};
+ghost use Rattle.std.specs.Prelude.{◌≡◌, ◌<◌, ◌≤◌, ℕ, Ok, None, length, IfOk, IfErr, IfSome, OnOk, OnErr, IsTrue, IsFalse};
 ghost use Rattle.clip_merge.specs.Plan.{IsRun};
-ghost use Rattle.clip_model.specs.History.{fits, has_room, applied, IsLegal};
-ghost use Rattle.clip_registry.specs.Command.{command_of, answer_of, shared_entry};
+ghost use Rattle.clip_model.specs.History.{fits, has_room, applied, own, IsLegal};
+ghost use Rattle.clip_registry.specs.Command.{command_of, answer_of};
 ghost use Rattle.clip_registry.specs.Merging.{IsBegun, IsInstalled, IsStale, purged};
 ghost use Rattle.clip_registry.specs.RegistryState.{IsWhole, beginning, state_after};
 ghost use Rattle.clip_registry.specs.Steps.Change.{IsAccepted};
 ghost use Rattle.clip_registry.specs.declared.command.Refused.TheVariants as refused;
 
-use crate::command::{Applied, Command, HistoryEntry, Refused};
+use crate::command::{Applied, Command, Refused};
+use crate::held::{copy_of, history_of, number_of};
+use crate::history::History;
 use crate::merging::{Installed, MergeJob, Merged};
 use crate::purging::live_segments;
 use crate::state::State;
@@ -163,23 +165,37 @@ impl Registrar {
     pub fn view(&self) -> Result<View, NoMemory>
         ensures { IfOk result (λ view. view ≡ self.now) }
     {
-        match &self.state {
-            Some(state) => Ok(View {
-                state: Some(state.clone()?),
-            }),
-            None => Ok(View { state: None }),
-        }
+        Ok(View {
+            state: copy_of(&self.state)?,
+        })
+    }
+
+    /// A registrar with the same registry, which later commands to either don't change in the other. `NoMemory` where
+    /// the count of the registry's holders is at its end. Constant time.
+    pub fn copy(&self) -> Result<Registrar, NoMemory>
+        ensures { IfOk result (λ copy. copy ≡ self.now) }
+    {
+        Ok(Registrar {
+            alloc: self.alloc,
+            state: copy_of(&self.state)?,
+        })
     }
 
     /// The commands that were accepted, in order. Constant time.
-    pub fn history(&self) -> &[Arc<HistoryEntry>]
-        ensures history { map shared_entry result.now ≡ self.now.history }
+    pub fn history(&self) -> History<'_>
+        ensures history { result ≡ self.now.history }
         ensures whole { IsWhole self.now }
         ensures legal { IsLegal self.now.history }
     {
-        match &self.state {
-            Some(state) => &state.history,
-            None => &[],
-        }
+        history_of(&self.state)
+    }
+
+    /// How many commands of the caller were accepted, so the number of its last one: 0 where it gave none, and for what
+    /// is no caller. Constant time.
+    pub fn number_of(&self, caller: u32) -> u32
+        ensures count { result ≡ length (own self.now.history caller) }
+        ensures legal { IsLegal self.now.history }
+    {
+        number_of(&self.state, caller)
     }
 }

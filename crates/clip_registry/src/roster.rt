@@ -1,5 +1,5 @@
 //! The registered queries by id, with how many were ever listed and which of their seqs are live.
-ghost use Rattle.std.specs.Prelude.{◌≡◌, ◌<◌, ◌^◌, suc, map, option_map, option_copied, IfOk, string_bytes, [], ◌∷◌};
+ghost use Rattle.std.specs.Prelude.{◌≡◌, ◌<◌, ◌^◌, suc, map, option_map, option_copied, IfOk, OnOk, string_bytes, [], ◌∷◌};
 ghost use Rattle.std.specs.Arc.{arc_value};
 ghost use Rattle.std.specs.FinMap as finite;
 ghost use Rattle.clip_model.specs.History.{is_live_in};
@@ -8,6 +8,7 @@ ghost use Rattle.clip_model.specs.Steps.Numbered.{IsNumbered};
 ghost use Rattle.clip_registry.specs.Steps.Roster.{SeqsFollow, roster_with, roster_with_all, roster_without};
 
 use crate::by_id::ById;
+use clip_pieces::SharedList;
 use clip_segment::Entry;
 use clip_words::NoMemory;
 use std::alloc::{AllocError, Global};
@@ -20,7 +21,7 @@ use std::sync::Arc;
 pub struct Roster {
     by_id: ById,
     base: u64,
-    live: Vec<bool>,
+    live: SharedList<bool>,
 }
 
 impl Model for Roster {
@@ -49,16 +50,17 @@ impl Clone for Roster {
     }
 }
 
-/// Sets the flag of a seq above the base, if it has a place.
-fn mark(flags: &mut [bool], base: u64, seq: u64, live: bool)
-    ensures { flags.new ≡ flags_with base flags.old seq live }
+/// Sets the flag of a seq above the base, if it has a place. `NoMemory` where an allocation failed.
+fn mark(flags: &mut SharedList<bool>, base: u64, seq: u64, live: bool) -> Result<(), NoMemory>
+    ensures { OnOk result (flags.new ≡ flags_with base flags.old seq live) }
 {
     if base < seq {
         let place = (seq - base - 1) as usize;
         if place < flags.len() {
-            flags[place] = live;
+            flags.set(place, live)?;
         }
     }
+    Ok(())
 }
 
 impl Roster {
@@ -69,7 +71,7 @@ impl Roster {
         Roster {
             by_id: ById::new(alloc),
             base: listed,
-            live: Vec::new(alloc),
+            live: SharedList::new(alloc),
         }
     }
 
@@ -121,7 +123,7 @@ impl Roster {
         } = self;
         live.push(true)?;
         if let Some(old) = by_id.insert(alloc, entry.clone()?)? {
-            mark(&mut live, base, old.seq(), false);
+            mark(&mut live, base, old.seq(), false)?;
         }
         Ok(Roster { by_id, base, live })
     }
@@ -149,7 +151,7 @@ impl Roster {
             mut live,
         } = self;
         if let Some(gone) = by_id.remove(id)? {
-            mark(&mut live, base, gone.seq(), false);
+            mark(&mut live, base, gone.seq(), false)?;
         }
         Ok(Roster { by_id, base, live })
     }

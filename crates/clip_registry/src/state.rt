@@ -1,8 +1,8 @@
 //! What a registrar and its views share: the segments, the history and the roster.
-ghost use Rattle.std.specs.Prelude.{◌≡◌, ◌<◌, ◌≤◌, map, IfOk, IfErr, IsTrue, IsFalse};
+ghost use Rattle.std.specs.Prelude.{◌≡◌, ◌<◌, ◌≤◌, length, map, IfOk, IfErr, IsTrue, IsFalse};
 ghost use Rattle.std.specs.Arc.{arc_value};
-ghost use Rattle.clip_model.specs.History.{fits, has_room, next_entry};
-ghost use Rattle.clip_registry.specs.Command.{command_of, shared_entry};
+ghost use Rattle.clip_model.specs.History.{IsLegal, fits, has_room, next_entry, own};
+ghost use Rattle.clip_registry.specs.Command.{command_of, entry_of};
 ghost use Rattle.clip_registry.specs.Steps.Change.{IsAccepted};
 ghost use Rattle.clip_registry.specs.Steps.Merging.{AreKept};
 ghost use Rattle.clip_registry.specs.RegistryState.{beginning};
@@ -12,6 +12,7 @@ use crate::change::change;
 use crate::command::{Applied, Command, HistoryEntry, Refused};
 use crate::roster::Roster;
 use clip_model::{MOST_CALLERS, MOST_ENTRIES};
+use clip_pieces::{Shared, SharedList};
 use clip_segment::Segment;
 use clip_words::NoMemory;
 use std::alloc::{AllocError, Global};
@@ -22,7 +23,7 @@ use std::sync::Arc;
 #[derive(Drop)]
 pub struct State {
     pub(crate) segments: Vec<Arc<Segment>>,
-    pub(crate) history: Vec<Arc<HistoryEntry>>,
+    pub(crate) history: SharedList<Shared<HistoryEntry>>,
     pub(crate) roster: Roster,
     counts: Vec<u64>,
 }
@@ -61,10 +62,21 @@ impl State {
     {
         Ok(State {
             segments: Vec::new(alloc),
-            history: Vec::new(alloc),
+            history: SharedList::new(alloc),
             roster: Roster::new(alloc, 0),
             counts: vec![in alloc; 0; MOST_CALLERS as usize]?,
         })
+    }
+
+    /// How many commands of the caller were accepted: 0 for what is no caller.
+    pub fn number_of(&self, caller: u32) -> u32
+        ensures count { result ≡ length (own self.now.history caller) }
+        ensures legal { IsLegal self.now.history }
+    {
+        if caller == 0 || caller > MOST_CALLERS {
+            return 0;
+        }
+        self.counts[caller as usize - 1] as u32
     }
 
     /// The entry of a caller's next command, or `NoMemory` where an allocation failed.
@@ -73,21 +85,21 @@ impl State {
         alloc: Global,
         caller: u32,
         command: &Command,
-    ) -> Result<Arc<HistoryEntry>, NoMemory>
+    ) -> Result<Shared<HistoryEntry>, NoMemory>
         requires caller_from { 0 < caller }
         requires caller_to { caller ≤ MOST_CALLERS }
-        ensures { IfOk result (λ entry. shared_entry entry ≡ next_entry self.now.history caller (command_of command.now)) }
+        ensures { IfOk result (λ entry. entry_of entry ≡ next_entry self.now.history caller (command_of command.now)) }
     {
         let number = self.counts[caller as usize - 1] + 1;
         let command = command.copy()?;
-        Ok(Arc::new(
+        Shared::new(
             alloc,
             HistoryEntry {
                 caller,
                 number,
                 command,
             },
-        )?)
+        )
     }
 
     /// The state after a caller's next command, and the answer to it: `Full` where it has no room, and `NoMemory` where

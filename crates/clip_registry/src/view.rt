@@ -1,12 +1,15 @@
 //! Views: the registry as it was at one place of its history.
-ghost use Rattle.std.specs.Prelude.{◌≡◌, map, length, option_map, option_copied};
+ghost use Rattle.std.specs.Prelude.{◌≡◌, IfOk, map, length, option_map, option_copied};
 ghost use Rattle.std.specs.Arc.{arc_value};
 ghost use Rattle.std.specs.FinMap as finite;
-ghost use Rattle.clip_model.specs.History.{IsLegal, replay, is_live};
+ghost use Rattle.clip_model.specs.History.{IsLegal, own, replay, is_live};
 ghost use Rattle.clip_registry.specs.RegistryState.{IsWhole};
 
+use crate::held::{copy_of, history_of, number_of};
+use crate::history::History;
 use crate::state::State;
 use clip_segment::{Entry, Segment};
+use clip_words::NoMemory;
 use std::marker::Model;
 use std::sync::Arc;
 
@@ -29,6 +32,15 @@ impl Model for View {
 }
 
 impl View {
+    /// The same view once more, or `NoMemory` where the count of the registry's holders is at its end. Constant time.
+    pub fn copy(&self) -> Result<View, NoMemory>
+        ensures { IfOk result (λ copy. copy ≡ self.now) }
+    {
+        Ok(View {
+            state: copy_of(&self.state)?,
+        })
+    }
+
     /// How many queries are registered. Constant time.
     pub fn count(&self) -> u64
         ensures { result ≡ finite.len (replay self.now.history) }
@@ -60,6 +72,24 @@ impl View {
             Some(state) => state.history.len() as u64,
             None => 0,
         }
+    }
+
+    /// The commands that were accepted before the view was taken, in order. Constant time.
+    pub fn history(&self) -> History<'_>
+        ensures history { result ≡ self.now.history }
+        ensures whole { IsWhole self.now }
+        ensures legal { IsLegal self.now.history }
+    {
+        history_of(&self.state)
+    }
+
+    /// How many commands of the caller were accepted before the view was taken, so the number of the last of these: 0
+    /// where it had given none, and for what is no caller. Constant time.
+    pub fn number_of(&self, caller: u32) -> u32
+        ensures count { result ≡ length (own self.now.history caller) }
+        ensures legal { IsLegal self.now.history }
+    {
+        number_of(&self.state, caller)
     }
 
     /// The segments, oldest first. Of their entries, the live ones are exactly the registered queries. Constant time.

@@ -5,8 +5,8 @@ use Rattle.clip_registry.specs.Steps.Roster.{Roster}
 use Rattle.clip_registry.specs.declared.roster.Roster.TheInside.{Inside}
 
 abbrev pub roster_of : Inside → Roster
-roster_of r = record { registry = r.by_id; listed = r.base + length r.live.items; base = r.base }
+roster_of r = record { registry = r.by_id; listed = r.base + length r.live; base = r.base }
 
 -- The flags are those of the live seqs.
 abbrev pub IsRoster : Inside → Type 0
-IsRoster r = AreLiveFlags r.base r.live.items r.by_id
+IsRoster r = AreLiveFlags r.base r.live r.by_id

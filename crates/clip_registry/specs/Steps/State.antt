@@ -5,13 +5,13 @@ use Rattle.std.specs.declared.sync.Arc.{Arc}
 use Rattle.std.specs.declared.alloc.Global.{Global}
 use Rattle.clip_model.specs.declared.limits.TheConstants.{MOST_CALLERS}
 use Rattle.clip_model.specs.History.{IsLegal, replay, listed, own}
-use Rattle.clip_registry.specs.Command.{shared_entry}
+use Rattle.clip_registry.specs.Command.{entry_of}
 use Rattle.clip_registry.specs.Steps.Roster.{Roster}
 use Rattle.clip_registry.specs.RegistryState.{RegistryState, IsWhole, beginning}
 use Rattle.clip_registry.specs.declared.state.State.TheInside.{Inside}
 
 abbrev pub state_of : Inside → RegistryState
-state_of s = record { segments = map arc_value s.segments.items; history = map shared_entry s.history.items }
+state_of s = record { segments = map arc_value s.segments.items; history = map entry_of s.history }
 
 -- The registry is whole over a legal history, the roster is what the history replays to, and each caller's commands are counted.
 pub record IsConsistent (state : RegistryState) (roster : Roster) (counts : List ℕ) : Type 0 where
