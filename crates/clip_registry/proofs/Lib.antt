@@ -13,3 +13,4 @@ pub mod Missing
 pub mod Naming
 pub mod Counted
 pub mod Late
+pub mod Strangers

@@ -34,27 +34,3 @@ inserted_or_old (q ∷ rs) m id r h =
 pub removed_was : (ids : List (List ℕ)) (m : Registry) (id : List ℕ) (r : Registered) → finite.get (remove_all ids m) id ≡ Some r → finite.get m id ≡ Some r
 removed_was [] m id r h = h
 removed_was (gone ∷ ids) m id r h = (after_remove m gone id r (removed_was ids _ id r h)).was
-
--- two registries give the same queries above n
-pub record Agree (n : ℕ) (m k : Registry) : Type 0 where
-  pub forth : (id : List ℕ) (r : Registered) → n < r.seq → finite.get m id ≡ Some r → finite.get k id ≡ Some r
-  pub back : (id : List ℕ) (r : Registered) → n < r.seq → finite.get k id ≡ Some r → finite.get m id ≡ Some r
-
-agree_one : (m k : Registry) (q : Registered) (id : List ℕ) (r : Registered) → (finite.get m id ≡ Some r → finite.get k id ≡ Some r) → finite.get (insert_one m q) id ≡ Some r → finite.get (insert_one k q) id ≡ Some r
-agree_one m k q id r f h =
-    elim (after_insert m q.standing.id q id r h) as (λ _. finite.get (insert_one k q) id ≡ Some r) [
-      | new at same ↦ ap (finite.get (insert_one k q)) at ∙ inserted_at k q.standing.id q ∙ ap (λ x. Some x) (sym same)
-      | old other was ↦ inserted_else k q.standing.id q id other ∙ f was
-    ]
-
-pub agree_all : (n : ℕ) (rs : List Registered) (m k : Registry) → Agree n m k → Agree n (insert_all m rs) (insert_all k rs)
-agree_all n [] m k are = are
-agree_all n (q ∷ rs) m k are = agree_all n rs _ _ (record {
-  forth = λ id r high. agree_one m k q id r (are.forth id r high);
-  back = λ id r high. agree_one k m q id r (are.back id r high);
-})
-
-pub live_agree : (n : ℕ) (m k : Registry) (seq : ℕ) → n < seq → Agree n m k → is_live_in m seq ≡ is_live_in k seq
-live_agree n m k seq high are = same_answer _ _
-    (λ h. let at = live_given m seq h in let above : n < at.entry.seq = let e = at.is in omega arith in ap (is_live_in k) (sym at.is) ∙ given_live k at.id at.entry (are.forth at.id at.entry above at.given))
-    (λ h. let at = live_given k seq h in let above : n < at.entry.seq = let e = at.is in omega arith in ap (is_live_in m) (sym at.is) ∙ given_live m at.id at.entry (are.back at.id at.entry above at.given))

@@ -8,7 +8,7 @@ ghost use Rattle.clip_registry.specs.Command.{command_of};
 use clip_model::MOST_LISTED;
 use clip_segment::Standing;
 use clip_words::{NoMemory, is_id};
-use std::alloc::{AllocError, AllocFailed};
+use std::alloc::AllocFailed;
 use std::sync::Arc;
 use thiserror::Error;
 
@@ -62,16 +62,6 @@ impl From<NoMemory> for Refused {
     ghost from_gives = { λ _ r. r ≡ refused.NoMemory };
 
     fn from(_error: NoMemory) -> Refused {
-        Refused::NoMemory
-    }
-}
-
-impl From<AllocError> for Refused {
-    ghost use Rattle.clip_registry.specs.declared.command.Refused.TheVariants as refused;
-
-    ghost from_gives = { λ _ r. r ≡ refused.NoMemory };
-
-    fn from(_error: AllocError) -> Refused {
         Refused::NoMemory
     }
 }

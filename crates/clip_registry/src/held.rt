@@ -7,7 +7,21 @@ ghost use Rattle.clip_registry.specs.Steps.State.{state_or_beginning};
 use crate::history::History;
 use crate::state::State;
 use clip_words::NoMemory;
+use std::alloc::Global;
 use std::sync::Arc;
+
+/// A state of one's own with the same content, or `NoMemory` where an allocation failed.
+pub fn own_copy(alloc: Global, held: &Option<Arc<State>>) -> Result<State, NoMemory>
+    ensures { IfOk result (λ state. state ≡ state_or_beginning held.now) }
+{
+    match held {
+        Some(shared) => {
+            let state: &State = shared;
+            Ok(state.clone()?)
+        }
+        None => State::new(alloc),
+    }
+}
 
 /// The same state, or `NoMemory` where the count of its holders is at its end.
 pub fn copy_of(held: &Option<Arc<State>>) -> Result<Option<Arc<State>>, NoMemory>

@@ -9,7 +9,7 @@ ghost use Rattle.clip_registry.specs.Steps.Change.{IsAccepted};
 ghost use Rattle.clip_registry.specs.declared.command.Refused.TheVariants as refused;
 
 use crate::command::{Applied, Command, Refused};
-use crate::held::{copy_of, history_of, number_of};
+use crate::held::{copy_of, history_of, number_of, own_copy};
 use crate::history::History;
 use crate::merging::{Installed, MergeJob, Merged};
 use crate::purging::live_segments;
@@ -58,10 +58,8 @@ impl Registrar {
         ensures accepted { IfOk result (λ next. IsAccepted caller (command_of command.now) self.now next.0.value next.1) }
         ensures full { IfErr result (λ why. why ≡ refused.Full → IsFalse (has_room self.now.history (command_of command.now))) }
     {
-        let (next, applied) = match &self.state {
-            Some(state) => state.after(self.alloc, caller, command)?,
-            None => State::new(self.alloc)?.after(self.alloc, caller, command)?,
-        };
+        let copy = own_copy(self.alloc, &self.state)?;
+        let (next, applied) = copy.after(self.alloc, caller, command)?;
         Ok((Arc::new(self.alloc, next)?, applied))
     }
 

@@ -73,10 +73,11 @@ impl State {
         ensures count { result ≡ length (own self.now.history caller) }
         ensures legal { IsLegal self.now.history }
     {
+        let counts = &self.counts;
         if caller == 0 || caller > MOST_CALLERS {
             return 0;
         }
-        self.counts[caller as usize - 1] as u32
+        counts[caller as usize - 1] as u32
     }
 
     /// The entry of a caller's next command, or `NoMemory` where an allocation failed.
@@ -105,7 +106,7 @@ impl State {
     /// The state after a caller's next command, and the answer to it: `Full` where it has no room, and `NoMemory` where
     /// an allocation failed.
     pub fn after(
-        &self,
+        self,
         alloc: Global,
         caller: u32,
         command: &Command,
@@ -113,18 +114,22 @@ impl State {
         requires fits { IsTrue (fits (command_of command.now)) }
         requires caller_from { 0 < caller }
         requires caller_to { caller ≤ MOST_CALLERS }
-        ensures accepted { IfOk result (λ next. IsAccepted caller (command_of command.now) self.now next.0 next.1) }
-        ensures full { IfErr result (λ why. why ≡ refused.Full → IsFalse (has_room self.now.history (command_of command.now))) }
+        ensures accepted { IfOk result (λ next. IsAccepted caller (command_of command.now) self next.0 next.1) }
+        ensures full { IfErr result (λ why. why ≡ refused.Full → IsFalse (has_room self.history (command_of command.now))) }
     {
         if self.history.len() as u64 >= MOST_ENTRIES {
             return Err(Refused::Full);
         }
         let entry = self.next_entry(alloc, caller, command)?;
-        let mut history = self.history.clone()?;
+        let State {
+            segments,
+            mut history,
+            roster,
+            mut counts,
+        } = self;
         history.push(entry)?;
-        let mut counts = self.counts.clone()?;
         counts[caller as usize - 1] += 1;
-        let changed = change(alloc, self.segments.clone()?, self.roster.clone()?, command)?;
+        let changed = change(alloc, segments, roster, command)?;
         let next = State {
             segments: changed.segments,
             history,

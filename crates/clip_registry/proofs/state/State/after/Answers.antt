@@ -1,0 +1,68 @@
+use Rattle.std.proofs.Common.{◌≡◌, ◌-◌, ◌++◌, ◌∷◌, [], ◌<◌, ◌≤◌, sym, ap, subst, ◌∙◌, arith, length, map, append-nil}
+use Rattle.std.proofs.lemmas.List.{length-map, map-append}
+use Rattle.std.specs.Arc.{arc_value}
+use Rattle.std.specs.FinMap as finite
+use Rattle.clip_model.specs.declared.limits.TheConstants.{MOST_ENTRIES, MOST_LIVE}
+use Rattle.clip_model.specs.History as model
+use Rattle.clip_model.specs.History.{History, own, next_entry, with_command}
+use Rattle.clip_model.proofs.Counting.{listed_bound, own_length}
+use Rattle.clip_registry.specs.Command.{command_of, entry_of}
+use Rattle.clip_registry.specs.Steps.Change.{content, IsAccepted}
+use Rattle.clip_registry.specs.Steps.State.{state_of}
+use Rattle.clip_registry.specs.RegistryState.{RegistryState}
+use Rattle.clip_registry.proofs.Keeping.{counted, accepted_after, consistent_after}
+use Rattle.clip_registry.proofs.state.State.after.Goals as goal
+use Rattle.clip_registry.proofs.state.State.after.Goals.{In_ok-changed}
+
+pub change-requires-clause-listed : goal.change-requires-clause-listed
+change-requires-clause-listed c =
+    let kept = c.self.invariant in
+    let few = listed_bound (state_of c.self.inside).history kept.legal in
+    let same = kept.listed in
+    omega arith
+
+pub change-requires-clause-small : goal.change-requires-clause-small
+change-requires-clause-small c =
+    let kept = c.self.invariant in
+    let h : History = (state_of c.self.inside).history in
+    subst (λ m. finite.len m ≤ MOST_LIVE) (sym kept.registry) (kept.legal.small h [] (sym (append-nil h)))
+
+pub overflow_add-index_mut : goal.overflow_add-index_mut
+overflow_add-index_mut c =
+    let kept = c.self.invariant in
+    let place : c.args.caller - 1 < length c.self.inside.counts.items = let a = kept.callers in let b = c.requires.caller_from in let d = c.requires.caller_to in omega arith in
+    let at : c.index_mut.result.now ≡ length (own (state_of c.self.inside).history c.args.caller) =
+    counted c.self.inside.counts.items (c.args.caller - 1) c.index_mut.result.now (length (own (state_of c.self.inside).history c.args.caller)) place c.index_mut.ensures.value (kept.numbers c.args.caller c.requires.caller_from c.requires.caller_to) in
+    let few = own_length (state_of c.self.inside).history c.args.caller in
+    let short = kept.legal.short in
+    omega arith
+
+-- the command is accepted as the change of segments and roster says
+accepted : (c : In_ok-changed) → IsAccepted c.args.caller (command_of c.args.command.now) (state_of c.self.inside)
+    (record { segments = map arc_value c.in_ok-changed.changed.segments.items; history = map entry_of c.push.new.self }) c.in_ok-changed.changed.applied
+accepted c =
+    let h : History = (state_of c.self.inside).history in
+    let command : model.Command = command_of c.args.command.now in
+    let short : length h < MOST_ENTRIES =
+    let a = length-map c.self.inside.history entry_of in let b = c.len.ensures in let d = c.if-len-ge-MOST_ENTRIES.false in omega arith in
+    let history : map entry_of c.push.new.self ≡ with_command h c.args.caller command = ap (map entry_of) c.in_ok-push.ensures.ok
+    ∙ map-append entry_of c.self.inside.history (c.in_ok-entry.entry ∷ [])
+    ∙ ap (λ (e : model.HistoryEntry). h ++ e ∷ []) (c.in_ok-entry.ensures ∙ ap (λ (s : RegistryState). next_entry s.history c.args.caller command) (sym c.self.view_is)) in
+    accepted_after (state_of c.self.inside) _ c.self.inside.roster (content c.in_ok-changed.changed.segments.items c.in_ok-changed.changed.roster) c.in_ok-changed.changed.applied c.self.inside.counts.items c.args.caller command
+    c.self.invariant short c.in_ok-changed.ensures.changed (λ i. record { segments = map arc_value c.in_ok-changed.changed.segments.items; history = history i })
+
+pub invariant_of-next : goal.invariant_of-next
+invariant_of-next c =
+    let kept = c.self.invariant in
+    let h : History = (state_of c.self.inside).history in
+    let place : c.args.caller - 1 < length c.self.inside.counts.items = let a = kept.callers in let b = c.requires.caller_from in let d = c.requires.caller_to in omega arith in
+    let at : c.index_mut.result.now ≡ length (own h c.args.caller) =
+    counted c.self.inside.counts.items (c.args.caller - 1) c.index_mut.result.now (length (own h c.args.caller)) place c.index_mut.ensures.value (kept.numbers c.args.caller c.requires.caller_from c.requires.caller_to) in
+    consistent_after (state_of c.self.inside) _ c.self.inside.roster (content c.in_ok-changed.changed.segments.items c.in_ok-changed.changed.roster) c.in_ok-changed.changed.applied
+    c.self.inside.counts.items c.args.caller (command_of c.args.command.now) c.index_mut.result.now kept c.requires.fits c.requires.caller_from c.requires.caller_to
+    c.in_ok-changed.ensures.changed (accepted (goal.at.invariant_of-next c).In_ok-changed) at
+
+pub returns-clause-accepted : goal.returns-clause-accepted
+returns-clause-accepted c =
+    subst (λ s. IsAccepted c.args.caller (command_of c.args.command.now) s (record { segments = map arc_value c.in_ok-changed.changed.segments.items; history = map entry_of c.push.new.self }) c.in_ok-changed.changed.applied)
+    c.self.view_is (accepted (goal.at.returns-clause-accepted c).In_ok-changed)
