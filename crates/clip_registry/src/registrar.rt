@@ -23,7 +23,7 @@ use std::marker::Model;
 use std::sync::Arc;
 
 /// The registry that commands change, seen as its list of segments and its history. Until the first command it has no
-/// state.
+/// state. Views and copies share its state, and a command puts another in its place.
 #[derive(Drop)]
 pub struct Registrar {
     alloc: Global,
@@ -67,13 +67,15 @@ impl Registrar {
     /// `MOST_LIVE` queries would then be registered or `MOST_ENTRIES` commands were accepted, and `NoMemory` where an
     /// allocation failed.
     ///
-    /// A register costs the extraction of the keys of each listed query, and for each a search among the ids of its
-    /// list and one among the registered ids; a delete costs such a search for each listed id; a clear costs the
-    /// dropping of all entries.
+    /// A register costs the extraction of the keys of each listed query, and for each a search among the registered ids;
+    /// a delete costs such a search for each listed id; a clear costs the dropping of what no view holds.
     ///
-    /// While a view of the registry as it stands is held, a command also costs a copy of the registry's lists and
-    /// maps: a step for each history entry, each segment, each registered query (whose id is copied, and no other
-    /// text) and each query listed since the last clear.
+    /// A command is done to a copy of the registry, which shares all that the command leaves as it is. The copy costs
+    /// a step for each segment, one for each 16,384 history entries, one for each 16,384 queries listed since the last
+    /// clear, and one for each piece of the map by id, which holds up to 512 entries; then, for the entry of the
+    /// history and for each query listed, replaced or deleted, at most two pieces of 128 are copied, and for each id
+    /// that is listed one piece of the map, of each piece just once. No text of a query and no id of one is copied; the
+    /// ids of a delete are, into its history entry.
     pub fn apply(&mut self, caller: u32, command: Command) -> Result<Applied, (Command, Refused)>
         requires fits { IsTrue (fits (command_of command)) }
         requires caller_from { 0 < caller }
@@ -123,8 +125,8 @@ impl Registrar {
     /// `NoMemory` where an allocation failed, with nothing changed and the merge dropped.
     ///
     /// Cost: a step for each segment, each of which is shared by a new list; for each entry of the four a comparison of
-    /// its seq and texts, and where it is live a search by halves; and a copy of the registry's lists and maps while a
-    /// view of it as it stands is held. A stale merge copies nothing.
+    /// its seq and texts, and where it is live a search by halves; and while a view of the registry as it stands is
+    /// held, a copy like that of a command, of which nothing else is changed. A stale merge copies nothing.
     pub fn install(&mut self, merged: Merged) -> Result<Installed, NoMemory>
         ensures done { result ≡ Ok Installed.Done → IsInstalled self.old self.new merged }
         ensures stale { result ≡ Ok Installed.Stale → IsStale self.old merged }
@@ -145,8 +147,8 @@ impl Registrar {
     /// is registered. `NoMemory` where an allocation failed, with nothing changed.
     ///
     /// Cost: a step for each entry, and that of `clip_merge::purge` for each segment with an entry that is dead; the
-    /// others are shared by a new list. And a copy of the registry's lists and maps while a view of it as it stands is
-    /// held.
+    /// others are shared by a new list. And while a view of the registry as it stands is held, a copy like that of a
+    /// command, of which nothing else is changed.
     pub fn purge(&mut self) -> Result<(), NoMemory>
         ensures purged { OnOk result (self.new ≡ purged self.old) }
         ensures unchanged { OnErr result (self.new ≡ self.old) }

@@ -16,7 +16,7 @@ use std::marker::Model;
 use std::sync::Arc;
 
 /// The live entries by id, and for each seq above a base whether it is live: one flag is held for each query listed
-/// since the last clear.
+/// since the last clear. A clone shares the pieces of both, and a change of one copies those that it touches.
 #[derive(Drop)]
 pub struct Roster {
     by_id: ById,

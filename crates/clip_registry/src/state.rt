@@ -19,7 +19,8 @@ use std::alloc::{AllocError, Global};
 use std::marker::Model;
 use std::sync::Arc;
 
-/// The segments, the history, the registered queries and how many commands each caller gave.
+/// The segments, the history, the registered queries and how many commands each caller gave. A clone shares all but
+/// the list of segments and the counts of commands.
 #[derive(Drop)]
 pub struct State {
     pub(crate) segments: Vec<Arc<Segment>>,

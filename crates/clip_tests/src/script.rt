@@ -99,9 +99,12 @@ fn segments(alloc: Global, view: &View) -> Result<String, AllocError> {
 /// Of each history entry the caller and its number.
 fn history(alloc: Global, registrar: &Registrar) -> Result<String, AllocError> {
     let mut text = String::new(alloc);
-    for entry in registrar.history() {
-        let (caller, number) = (entry.caller, entry.number);
-        write!(text, "{caller}/{number} ")?;
+    let history = registrar.history();
+    for place in 0..history.len() {
+        if let Some(entry) = history.get(place) {
+            let (caller, number) = (entry.caller, entry.number);
+            write!(text, "{caller}/{number} ")?;
+        }
     }
     Ok(text)
 }
