@@ -53,7 +53,7 @@ apart m r t rs is given h =
     ] refl
 
 -- entries with seqs of their own that a registry gives are no more than it has
-few_given : (rs : List Registered) (m : Registry) → IsRising rs → AreGiven m rs → length rs ≤ finite.len m
+pub few_given : (rs : List Registered) (m : Registry) → IsRising rs → AreGiven m rs → length rs ≤ finite.len m
 few_given [] m is given = omega arith
 few_given (r ∷ rs) m is given =
     let fewer = one_fewer m r.standing.id r (given r (contains_head r rs)) in

@@ -5,7 +5,7 @@ pub mod Whole
 pub mod Marks
 pub mod Clones
 pub mod Entering
-pub mod Alone
+pub mod Entered
 pub mod Keeping
 pub mod Kept
 pub mod Equal
@@ -14,3 +14,4 @@ pub mod Naming
 pub mod Counted
 pub mod Late
 pub mod Strangers
+pub mod Distinct

@@ -11,7 +11,7 @@ use Rattle.clip_model.specs.History.{Registered, Registry, is_live_in}
 use Rattle.clip_model.proofs.Numbers.{same_numbers, numbers_same}
 use Rattle.clip_registry.specs.Steps.Roster.{live_in}
 use Rattle.clip_registry.proofs.Whole.{all_entries-push}
-use Rattle.clip_registry.proofs.Alone.{filter_fewer}
+use Rattle.clip_registry.proofs.Entered.{filter_fewer}
 use Rattle.clip_registry.proofs.Rising.{contains_head, contains_later, contains_cases, contains_filter}
 use Rattle.clip_registry.proofs.Kept.{contains_of_filter}
 

@@ -7,7 +7,8 @@ ghost use Rattle.clip_model.specs.History.{fits, register_all, after_command};
 ghost use Rattle.clip_registry.specs.Command.{command_of};
 ghost use Rattle.clip_registry.specs.Steps.Change.{content, IsChanged};
 ghost use Rattle.clip_registry.specs.Steps.Roster.{live_in};
-ghost use Rattle.clip_registry.specs.RegistryState.{numbered};
+ghost use Rattle.clip_model.specs.Steps.Numbered.{IsNumbered};
+ghost use Rattle.clip_registry.specs.RegistryState.{numbered, standing_after};
 ghost use Rattle.clip_registry.specs.declared.command.Refused.TheVariants as refused;
 
 use crate::command::{Applied, Command, Refused};
@@ -62,8 +63,27 @@ pub struct Changed {
     pub applied: Applied,
 }
 
+/// The roster with queries in the places of those with their ids, and the entries of those of them that then stand: of a
+/// repeated id the last. `NoMemory` where an allocation failed.
+fn enter(
+    alloc: Global,
+    roster: Roster,
+    standings: &[Arc<Standing>],
+) -> Result<(Roster, Vec<Arc<Entry>>), NoMemory>
+    requires { roster.listed + length standings.now < 2 ^ 64 }
+    ensures registry { IfOk result (λ after. after.0.registry ≡ register_all roster.listed (map arc_value standings.now) roster.registry) }
+    ensures listed { IfOk result (λ after. after.0.listed ≡ roster.listed + length standings.now) }
+    ensures live { IfOk result (λ after. map arc_value after.1.items ≡ standing_after roster.listed (map arc_value standings.now) roster.registry) }
+    ensures numbered { IfOk result (λ _. IsNumbered roster.listed roster.registry) }
+{
+    let entries = numbered_entries(alloc, roster.listed(), standings)?;
+    let entered = roster.with_entries(alloc, &entries)?;
+    let live = live_entries(alloc, &entered, &entries)?;
+    Ok((entered, live))
+}
+
 /// Registers queries: they take the places of those with their ids, and a segment with those that stand goes to the
-/// end. Of a repeated id the last query stands.
+/// end.
 fn register(
     alloc: Global,
     segments: Vec<Arc<Segment>>,
@@ -83,21 +103,18 @@ fn register(
             applied: Applied::Registered(0),
         });
     }
-    let listed = roster.listed();
-    let entries = numbered_entries(alloc, listed, standings)?;
-    let alone = Roster::new(alloc, listed).with_entries(alloc, &entries)?;
-    let roster = roster.with_entries(alloc, &entries)?;
+    let (roster, live) = enter(alloc, roster, standings)?;
     if roster.len() > MOST_LIVE {
         return Err(Refused::Full);
     }
-    let live = live_entries(alloc, &roster, &entries)?;
+    let count = live.len() as u64;
     let segment = Segment::build(alloc, live)?;
     let mut segments = segments;
     segments.push(Arc::new(alloc, segment)?)?;
     Ok(Changed {
         segments,
         roster,
-        applied: Applied::Registered(alone.len()),
+        applied: Applied::Registered(count),
     })
 }
 
