@@ -1,21 +1,17 @@
 -- What a register leaves of a roster and segments.
 use Rattle.std.proofs.Common.{◌≡◌, ℕ, suc, ◌<◌, ◌≤◌, ◌++◌, Bool, true, false, cond, List, [], ◌∷◌, length, refl, sym, ap, ◌∙◌, arith, add-zero}
-use Rattle.std.proofs.lemmas.Option.{none-some}
-use Rattle.std.proofs.lemmas.List.Elements.{All-head, All-tail}
-use Rattle.std.specs.List.{All, filter}
+use Rattle.std.specs.List.{filter}
 use Rattle.std.specs.FinMap as finite
-use Rattle.std.specs.FinMap.{get-empty, len-empty}
+use Rattle.std.specs.FinMap.{len-empty}
 use Rattle.clip_words.specs.Order.{bytes_cmp}
 use Rattle.clip_model.specs.Standing.{Standing}
-use Rattle.clip_model.specs.History.{Registered, Registry, Register, register_all, is_live_in}
-use Rattle.clip_model.specs.Steps.Numbered.{IsNumbered}
+use Rattle.clip_model.specs.History.{Registered, Registry, Register, register_all}
 use Rattle.clip_registry.specs.Steps.Roster.{Roster, insert_all, roster_with_all}
 use Rattle.clip_model.specs.declared.limits.TheConstants.{MOST_LIVE}
 use Rattle.clip_registry.specs.Steps.Change.{Content, IsChanged}
 use Rattle.clip_registry.specs.declared.command.Applied.TheVariants as applied
 use Rattle.clip_registry.specs.RegistryState.{numbered, standing_after, segments_after}
 use Rattle.clip_registry.proofs.Registering.{insert_all-numbered}
-use Rattle.clip_registry.proofs.Rising.{numbered_high}
 
 pub filter_fewer : (p : Registered → Bool) (rs : List Registered) → length (filter p rs) ≤ length rs
 filter_fewer p [] = omega arith

@@ -1,5 +1,5 @@
 -- The flags of seqs.
-use Rattle.std.proofs.Common.{◌≡◌, ℕ, suc, ◌+◌, ◌-◌, ◌<◌, ◌≤◌, Bool, true, false, cond, ◌&&◌, nat_lt, List, [], ◌∷◌, ◌++◌, length, get_or, set, refl, sym, ap, subst, ◌∙◌, inl, inr, arith, ◌==◌, length-append, Option, Some, None, option_to_list, is_some}
+use Rattle.std.proofs.Common.{◌≡◌, ℕ, suc, ◌+◌, ◌-◌, ◌<◌, ◌≤◌, Bool, true, false, cond, ◌&&◌, nat_lt, List, [], ◌∷◌, ◌++◌, length, get_or, set, refl, sym, ap, subst, ◌∙◌, inl, inr, arith, ◌==◌, length-append, Option, Some, None}
 use Rattle.std.proofs.lemmas.Bool.Decides.{nat_tests}
 use Rattle.std.proofs.lemmas.Bool.{cases_lt, cases_order, false≢true}
 use Rattle.std.proofs.lemmas.List.{get_or-set_same, get_or-set_other, get_or_append_left, get_or_push, get_or_past}
@@ -8,16 +8,14 @@ use Rattle.std.proofs.Math.ListN.{length-set}
 use Rattle.std.specs.List.{slice_get}
 use Rattle.std.specs.Option.{unwrap_or}
 use Rattle.std.specs.FinMap as finite
-use Rattle.std.specs.Ordering.{eq_by_cmp}
-use Rattle.clip_words.specs.Order.{bytes_cmp}
 use Rattle.clip_model.specs.History.{Registered, Registry, is_live_in}
 use Rattle.clip_registry.specs.Steps.Flags.{flag_at, flags_with, AreLiveFlags}
 use Rattle.clip_model.specs.Steps.Numbered.{IsNumbered}
 use Rattle.clip_registry.specs.Steps.Roster.{insert_one}
-use Rattle.clip_model.proofs.Live.{given_live, inserted_at, inserted_else, removed_at, removed_else}
-use Rattle.clip_model.proofs.ById.{bytes_same, same, swapped}
+use Rattle.clip_model.proofs.Live.{given_live}
+use Rattle.clip_model.proofs.ById.{same, swapped}
 use Rattle.clip_model.proofs.Numbering.{numbered_insert, numbered_remove}
-use Rattle.clip_registry.proofs.Numbering.{has_seq, live_insert, live_remove, live_within}
+use Rattle.clip_registry.proofs.Numbering.{has_seq, live_insert, live_remove}
 use Rattle.clip_model.proofs.Numbers.{same_numbers, numbers_same, number_less, number_more}
 
 pub flag_at-nil : (base seq : ℕ) → flag_at base [] seq ≡ false

@@ -1,13 +1,12 @@
 -- What a register leaves.
-use Rattle.std.proofs.Common.{◌≡◌, ℕ, suc, ◌<◌, ◌⊎◌, List, [], ◌∷◌, refl, sym, ap, subst, ◌∙◌, inl, inr, arith, Some}
+use Rattle.std.proofs.Common.{◌≡◌, ℕ, suc, ◌⊎◌, List, [], ◌∷◌, refl, subst, inl, inr, Some}
 use Rattle.std.specs.List.{Contains}
 use Rattle.std.specs.FinMap as finite
-use Rattle.clip_grammar.proofs.Booleans.{same_answer}
 use Rattle.clip_model.specs.Standing.{Standing}
-use Rattle.clip_model.specs.History.{Registered, Registry, register_all, remove_all, is_live_in}
+use Rattle.clip_model.specs.History.{Registered, Registry, register_all, remove_all}
 use Rattle.clip_registry.specs.Steps.Roster.{insert_one, insert_all, SeqsFollow}
 use Rattle.clip_registry.specs.RegistryState.{numbered}
-use Rattle.clip_model.proofs.Live.{new, old, after_insert, after_remove, inserted_at, inserted_else, live_given, given_live}
+use Rattle.clip_model.proofs.Live.{new, old, after_insert, after_remove}
 use Rattle.clip_registry.proofs.Rising.{contains_head, contains_later}
 
 -- to register is to insert the numbered queries

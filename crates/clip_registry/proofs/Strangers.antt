@@ -1,8 +1,8 @@
 -- Who is no caller gave no command.
-use Rattle.std.proofs.Common.{◌≡◌, ℕ, ◌<◌, ◌≤◌, ◌⊎◌, Bool, true, false, cond, List, [], ◌∷◌, ◌++◌, map, filter, refl, ap, ◌∙◌, inl, inr, arith, ◌==◌}
+use Rattle.std.proofs.Common.{◌≡◌, ℕ, ◌<◌, ◌≤◌, ◌⊎◌, false, cond, [], ◌∷◌, ◌++◌, map, filter, refl, ap, ◌∙◌, inl, inr, arith, ◌==◌}
 use Rattle.std.proofs.lemmas.Bool.Decides.{nat_tests}
 use Rattle.clip_model.specs.declared.limits.TheConstants.{MOST_CALLERS}
-use Rattle.clip_model.specs.History.{History, HistoryEntry, Command, IsLegal, own}
+use Rattle.clip_model.specs.History.{History, HistoryEntry, IsLegal, own}
 
 abbrev InRange : History → Type 0
 InRange h = (before after : History) (e : HistoryEntry) → h ≡ before ++ e ∷ after → (0 < e.caller) × (e.caller ≤ MOST_CALLERS)

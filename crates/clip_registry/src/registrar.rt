@@ -125,21 +125,22 @@ impl Registrar {
     /// `NoMemory` where an allocation failed, with nothing changed and the merge dropped.
     ///
     /// Cost: a step for each segment, each of which is shared by a new list; for each entry of the four a comparison of
-    /// its seq and texts, and where it is live a search by halves; and while a view of the registry as it stands is
-    /// held, a copy like that of a command, of which nothing else is changed. A stale merge copies nothing.
+    /// its seq and texts, and where it is live a search by halves; and a copy like that of a command, of which nothing
+    /// else is changed. A stale merge copies nothing.
     pub fn install(&mut self, merged: Merged) -> Result<Installed, NoMemory>
         ensures done { result ≡ Ok Installed.Done → IsInstalled self.old self.new merged }
         ensures stale { result ≡ Ok Installed.Stale → IsStale self.old merged }
         ensures unchanged { (result ≡ Ok Installed.Done → ⊥) → self.new ≡ self.old }
     {
-        let Some(shared) = &mut self.state else {
+        let Some(shared) = &self.state else {
             return Ok(Installed::Stale);
         };
         let Some(first) = merged.place_in(shared) else {
             return Ok(Installed::Stale);
         };
         let segments = merged.put_in(self.alloc, &shared.segments, first)?;
-        Arc::make_mut(shared)?.set_segments(segments);
+        let next = shared.with_segments(segments)?;
+        self.state = Some(Arc::new(self.alloc, next)?);
         Ok(Installed::Done)
     }
 
@@ -147,17 +148,17 @@ impl Registrar {
     /// is registered. `NoMemory` where an allocation failed, with nothing changed.
     ///
     /// Cost: a step for each entry, and that of `clip_merge::purge` for each segment with an entry that is dead; the
-    /// others are shared by a new list. And while a view of the registry as it stands is held, a copy like that of a
-    /// command, of which nothing else is changed.
+    /// others are shared by a new list. And a copy like that of a command, of which nothing else is changed.
     pub fn purge(&mut self) -> Result<(), NoMemory>
         ensures purged { OnOk result (self.new ≡ purged self.old) }
         ensures unchanged { OnErr result (self.new ≡ self.old) }
     {
-        let Some(shared) = &mut self.state else {
+        let Some(shared) = &self.state else {
             return Ok(());
         };
         let segments = live_segments(self.alloc, &shared.roster, &shared.segments)?;
-        Arc::make_mut(shared)?.set_segments(segments);
+        let next = shared.with_segments(segments)?;
+        self.state = Some(Arc::new(self.alloc, next)?);
         Ok(())
     }
 

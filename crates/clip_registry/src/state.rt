@@ -140,11 +140,17 @@ impl State {
         Ok((next, changed.applied))
     }
 
-    /// Puts other segments in the place of all segments: they have each live entry, and no entry that was not there.
-    pub fn set_segments(&mut self, segments: Vec<Arc<Segment>>)
-        requires { AreKept self.old (map arc_value segments.items) }
-        ensures { self.new ≡ record { segments = map arc_value segments.items; history = self.old.history } }
+    /// The state with other segments in the place of all segments: they have each live entry, and no entry that was not
+    /// there. `NoMemory` where an allocation failed.
+    pub fn with_segments(&self, segments: Vec<Arc<Segment>>) -> Result<State, NoMemory>
+        requires { AreKept self.now (map arc_value segments.items) }
+        ensures { IfOk result (λ state. state ≡ record { segments = map arc_value segments.items; history = self.now.history }) }
     {
-        self.segments = segments;
+        Ok(State {
+            segments,
+            history: self.history.clone()?,
+            roster: self.roster.clone()?,
+            counts: self.counts.clone()?,
+        })
     }
 }
