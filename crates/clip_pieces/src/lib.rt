@@ -3,6 +3,8 @@
 
 mod exact;
 mod list;
+mod part;
+mod parts;
 mod shared;
 
 pub use exact::Exact;
