@@ -1,6 +1,7 @@
 //! What a longer list is made of.
-ghost use Rattle.std.specs.Prelude.{◌≡◌, ◌<◌, List, [], ◌∷◌, ◌++◌, length, IfOk, OnOk, OnErr, slice_get, slice_set};
+ghost use Rattle.std.specs.Prelude.{◌≡◌, ℕ, ◌<◌, List, [], ◌∷◌, ◌++◌, length, IfOk, OnOk, OnErr, slice_get, slice_set};
 ghost use Rattle.std.specs.Option.{option_copied};
+ghost use Rattle.std.proofs.Common.{arith};
 
 use crate::exact::Exact;
 use crate::shared::Shared;
@@ -9,8 +10,16 @@ use std::alloc::{AllocError, Global};
 use std::marker::Model;
 use std::sync::Arc;
 
+/// How many items a full piece has, and how many pieces a full block has.
+pub(crate) const PIECE: usize = 128;
+
 /// A list of items that may be a part of a longer one.
 pub(crate) trait Part<T>: Exact {
+    /// How many items a full part has.
+    const FULL: usize;
+
+    ghost FULL: { ℕ };
+
     ghost items: { Self → List T };
 
     /// A list of one item.
@@ -31,6 +40,8 @@ pub(crate) trait Part<T>: Exact {
         requires { place < length (items self.old) }
         ensures ok { OnOk result (items self.new ≡ slice_set (items self.old) place item) }
         ensures err { OnErr result (items self.new ≡ items self.old) };
+
+    ghost has_items: { 0 < FULL };
 }
 
 /// Puts an item behind the last one of a part, in a copy of the part where it is shared.
@@ -86,7 +97,13 @@ impl<T: Exact> Exact for Piece<T> {
 }
 
 impl<T: Exact> Part<T> for Piece<T> {
+    const FULL: usize = PIECE;
+
+    ghost FULL = { 128 };
+
     ghost items = { λ piece. piece };
+
+    ghost has_items = { omega arith };
 
     fn of_one(alloc: Global, item: T) -> Result<Piece<T>, NoMemory> {
         let mut items = Vec::new(alloc);
