@@ -1,10 +1,12 @@
 //! Lists in shared pieces: a copy of a list shares its pieces, and a write copies just the pieces it touches.
 #![tactic(auto)]
 
+mod block;
 mod exact;
 mod list;
 mod part;
 mod parts;
+mod piece;
 mod shared;
 
 pub use exact::Exact;

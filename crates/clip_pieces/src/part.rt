@@ -1,13 +1,11 @@
 //! What a longer list is made of.
 ghost use Rattle.std.specs.Prelude.{◌≡◌, ℕ, ◌<◌, List, [], ◌∷◌, ◌++◌, length, IfOk, OnOk, OnErr, slice_get, slice_set};
 ghost use Rattle.std.specs.Option.{option_copied};
-ghost use Rattle.std.proofs.Common.{arith};
 
 use crate::exact::Exact;
 use crate::shared::Shared;
 use clip_words::NoMemory;
-use std::alloc::{AllocError, Global};
-use std::marker::Model;
+use std::alloc::Global;
 use std::sync::Arc;
 
 /// How many items a full piece has, and how many pieces a full block has.
@@ -63,69 +61,4 @@ pub(crate) fn set_in<T: Exact, P: Part<T>>(
     ensures err { OnErr result (P.items part.new ≡ P.items part.old) }
 {
     Arc::make_mut(&mut part.arc)?.set(place, item)
-}
-
-/// A part whose items lie side by side.
-#[derive(Drop)]
-pub(crate) struct Piece<T> {
-    items: Vec<T>,
-}
-
-impl<T> Model for Piece<T> {
-    ghost use Rattle.std.specs.Prelude.{List};
-    ghost use Rattle.std.specs.Coded.{coded_list};
-
-    ghost Value = { List T };
-
-    ghost coded = { coded_list T.code };
-
-    ghost view = { λ piece. piece.items.items };
-}
-
-impl<T: Exact> Clone for Piece<T> {
-    ghost is_clone = { λ piece copy. copy ≡ piece };
-
-    fn clone(&self) -> Result<Piece<T>, AllocError> {
-        Ok(Piece {
-            items: self.items.clone()?,
-        })
-    }
-}
-
-impl<T: Exact> Exact for Piece<T> {
-    ghost exact = { λ _ _ same. same };
-}
-
-impl<T: Exact> Part<T> for Piece<T> {
-    const FULL: usize = PIECE;
-
-    ghost FULL = { 128 };
-
-    ghost items = { λ piece. piece };
-
-    ghost has_items = { omega arith };
-
-    fn of_one(alloc: Global, item: T) -> Result<Piece<T>, NoMemory> {
-        let mut items = Vec::new(alloc);
-        items.push(item)?;
-        Ok(Piece { items })
-    }
-
-    fn len(&self) -> usize {
-        self.items.len()
-    }
-
-    fn get(&self, place: usize) -> Option<&T> {
-        self.items.get(place)
-    }
-
-    fn push(&mut self, item: T) -> Result<(), NoMemory> {
-        self.items.push(item)?;
-        Ok(())
-    }
-
-    fn set(&mut self, place: usize, item: T) -> Result<(), NoMemory> {
-        self.items[place] = item;
-        Ok(())
-    }
 }
