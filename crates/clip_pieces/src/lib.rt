@@ -8,6 +8,8 @@ mod part;
 mod parts;
 mod piece;
 mod shared;
+#[cfg(test)]
+mod tests;
 
 pub use exact::Exact;
 pub use list::SharedList;
