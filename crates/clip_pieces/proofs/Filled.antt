@@ -154,6 +154,11 @@ module _ {P A : Type 0} (items : P → List A) (n : ℕ) (ps : List P) (len : �
       ((subst (AreFilled n) (sym parts) (filled_set n (map items ps) (i / n) (set (get_or (map items ps) (i / n) []) (i % n) v) (length-set (get_or (map items ps) (i / n) []) (i % n) v) inside.0),
         inside.1 ∙ sym (length-set (joined (map items ps)) i v) ∙ ap length (sym all)), all)
 
+  pub set_or_same : {T E : Type 0} (r : Result T E) (i : ℕ) (p q : P) (v : A) → 0 < n → i < length (joined (map items ps)) → p ≡ get_or ps (i / n) p
+      → OnOk r (items q ≡ set (items p) (i % n) v) → OnErr r (items q ≡ items p) → IsInside items n (set ps (i / n) q) len
+  set_or_same (Ok t) i p q v pos l is ok err = (set_part i p q v pos l is ok).0
+  set_or_same (Err e) i p q v pos l is ok err = (same_part (i / n) p q is err).0
+
   no_items : length ps ≤ 0 → length (joined (map items ps)) ≡ 0
   no_items none = rw (empty_of ps none) refl
 
@@ -183,11 +188,7 @@ module _ {P A : Type 0} (items : P → List A) (n : ℕ) (ps : List P) (len : �
       let all = ap joined parts ∙ joined-append (map items ps) ((v ∷ []) ∷ []) in
       ((subst (AreFilled n) (sym parts) (filled_more n (map items ps) v pos inside.0 (ap (λ l. l % n) (sym inside.1) ∙ full)), one_more (ps ++ q ∷ []) v all), all)
 
--- what follows in either case of a result
-pub settled : {T E X Y Z : Type 0} (r : Result T E) → OnOk r X → OnErr r Y → (X → Z) → (Y → Z) → Z
-settled (Ok t) x y f h = f x
-settled (Err e) x y f h = h y
-
+-- what holds at an error alone
 pub on_err_weaker : {T E X Y : Type 0} (r : Result T E) → (X → Y) → OnErr r X → OnErr r Y
 on_err_weaker (Ok t) f x = tt
 on_err_weaker (Err e) f x = f x

@@ -29,9 +29,9 @@ impl<T: Exact> Clone for Piece<T> {
     ghost is_clone = { λ piece copy. copy ≡ piece };
 
     fn clone(&self) -> Result<Piece<T>, AllocError> {
-        Ok(Piece {
-            items: self.items.clone()?,
-        })
+        let mut items = Vec::with_capacity(*self.items.allocator(), PIECE)?;
+        items.extend_with_clones(&self.items)?;
+        Ok(Piece { items })
     }
 }
 
@@ -49,7 +49,7 @@ impl<T: Exact> Part<T> for Piece<T> {
     ghost has_items = { omega arith };
 
     fn of_one(alloc: Global, item: T) -> Result<Piece<T>, NoMemory> {
-        let mut items = Vec::new(alloc);
+        let mut items = Vec::with_capacity(alloc, PIECE)?;
         items.push(item)?;
         Ok(Piece { items })
     }

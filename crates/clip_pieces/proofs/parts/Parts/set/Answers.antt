@@ -2,7 +2,7 @@
 use Rattle.std.proofs.Common.{◌≡◌, ◌/◌, ◌%◌, ◌<◌, get_or, length, map, subst, sym, arith}
 use Rattle.std.proofs.lemmas.Result.{on_ok_weaker}
 use Rattle.clip_pieces.specs.Pieces.{joined}
-use Rattle.clip_pieces.proofs.Filled.{part_within, place_within, set_part, same_part, settled, on_err_weaker}
+use Rattle.clip_pieces.proofs.Filled.{part_within, place_within, set_part, same_part, set_or_same, on_err_weaker}
 use Rattle.clip_pieces.proofs.parts.Parts.set.Goals as goal
 
 pub index_mut-part-requires : goal.index_mut-part-requires
@@ -24,9 +24,8 @@ invariant_of-self g c =
     let place : c.args.place < length (joined (map g.P.Part.items c.self.inside.parts.items)) = subst (λ xs. c.args.place < length xs) (sym c.self.view_is) c.requires in
     let part = c.index_mut-part.result.now in
     let is : part ≡ get_or c.self.inside.parts.items (c.args.place / g.P.Part.FULL) part = rw c.FULL.ensures at c.index_mut-part.ensures.value in
-    rw c.FULL.ensures (settled c.set_in.result (rw c.FULL-2.ensures at c.set_in.ensures.ok) c.set_in.ensures.err
-      (λ e. (set_part g.P.Part.items g.P.Part.FULL c.self.inside.parts.items c.self.inside.len c.self.invariant c.args.place part c.set_in.new.part c.args.item g.met.P.Part.has_items place is e).0)
-      (λ e. (same_part g.P.Part.items g.P.Part.FULL c.self.inside.parts.items c.self.inside.len c.self.invariant (c.args.place / g.P.Part.FULL) part c.set_in.new.part is e).0))
+    rw c.FULL.ensures (set_or_same g.P.Part.items g.P.Part.FULL c.self.inside.parts.items c.self.inside.len c.self.invariant c.set_in.result c.args.place part c.set_in.new.part c.args.item
+      g.met.P.Part.has_items place is (rw c.FULL-2.ensures at c.set_in.ensures.ok) c.set_in.ensures.err)
 
 pub returns-clause-ok : goal.returns-clause-ok
 returns-clause-ok g c =
