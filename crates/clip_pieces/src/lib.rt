@@ -3,6 +3,7 @@
 
 mod block;
 mod exact;
+mod iter;
 mod list;
 mod part;
 mod parts;
@@ -12,5 +13,6 @@ mod shared;
 mod tests;
 
 pub use exact::Exact;
+pub use iter::Iter;
 pub use list::SharedList;
 pub use shared::Shared;
