@@ -1,5 +1,5 @@
 -- Places in a list that lies in pieces.
-use Rattle.std.proofs.Common.{◌≡◌, ℕ, zero, suc, ◌+◌, ◌-◌, ◌*◌, ◌/◌, ◌%◌, ◌<◌, ◌≤◌, List, [], ◌∷◌, ◌++◌, map, length, get_or, slice_get, Option, Some, None, Result, Ok, Err, OnOk, OnErr, refl, sym, ap, ◌∙◌, subst, arith, append_assoc, append-nil, length-append, inl, inr}
+use Rattle.std.proofs.Common.{◌≡◌, ℕ, zero, suc, ◌+◌, ◌*◌, ◌/◌, ◌%◌, ◌<◌, ◌≤◌, List, [], ◌∷◌, ◌++◌, map, length, get_or, slice_get, Result, Ok, Err, OnOk, OnErr, refl, sym, ap, ◌∙◌, subst, arith, append_assoc, append-nil, length-append, inl, inr}
 use Rattle.std.specs.Option.{option_and_then}
 use Rattle.std.proofs.Math.ListN.{set, get_or-map}
 use Rattle.std.proofs.Math.Nat.{div-add-mod', mod-lt, mod-eq_of_lt, mod-eq-sub-mod, mod_self, zero-mod}
@@ -106,9 +106,10 @@ module _ {A : Type 0} where
   last_more n (xs ∷ []) (suc k) v filled e last = absurd (omega arith)
   last_more n (xs ∷ ys ∷ yss) zero v filled e last = absurd (omega arith)
   last_more n (xs ∷ ys ∷ yss) (suc k) v filled e last =
-      let rest = last_more n (ys ∷ yss) k v filled.1 (λ z. e (full_more n xs (joined (ys ∷ yss)) filled.0 ∙ z)) (omega arith) in
-      (filled_before n xs ys yss k (get_or (ys ∷ yss) k [] ++ v ∷ []) filled.0 rest.0,
-        ap (λ s. xs ++ s) rest.1 ∙ sym (append_assoc xs (joined (ys ∷ yss)) (v ∷ [])))
+      let rest = last_more n (ys ∷ yss) k v filled.1 (λ z. e (full_more n xs (joined (ys ∷ yss)) filled.0 ∙ z)) (omega arith) in (
+        filled_before n xs ys yss k (get_or (ys ∷ yss) k [] ++ v ∷ []) filled.0 rest.0,
+        ap (λ s. xs ++ s) rest.1 ∙ sym (append_assoc xs (joined (ys ∷ yss)) (v ∷ [])),
+      )
 
 module _ {P A : Type 0} (items : P → List A) (n : ℕ) (ps : List P) where
   -- the items of the part at a place
@@ -150,9 +151,13 @@ module _ {P A : Type 0} (items : P → List A) (n : ℕ) (ps : List P) (len : �
       let at = part_at items n ps (i / n) p (part_within items n ps i pos inside.0 l) is in
       let set_to : items q ≡ set (get_or (map items ps) (i / n) []) (i % n) v = e ∙ ap (λ xs. set xs (i % n) v) at in
       let parts : map items (set ps (i / n) q) ≡ set (map items ps) (i / n) (set (get_or (map items ps) (i / n) []) (i % n) v) = map-set items ps (i / n) q ∙ ap (set (map items ps) (i / n)) set_to in
-      let all : joined (map items (set ps (i / n) q)) ≡ set (joined (map items ps)) i v = ap joined parts ∙ set_joined n (map items ps) i v pos inside.0 l in
-      ((subst (AreFilled n) (sym parts) (filled_set n (map items ps) (i / n) (set (get_or (map items ps) (i / n) []) (i % n) v) (length-set (get_or (map items ps) (i / n) []) (i % n) v) inside.0),
-        inside.1 ∙ sym (length-set (joined (map items ps)) i v) ∙ ap length (sym all)), all)
+      let all : joined (map items (set ps (i / n) q)) ≡ set (joined (map items ps)) i v = ap joined parts ∙ set_joined n (map items ps) i v pos inside.0 l in (
+        (
+          subst (AreFilled n) (sym parts) (filled_set n (map items ps) (i / n) (set (get_or (map items ps) (i / n) []) (i % n) v) (length-set (get_or (map items ps) (i / n) []) (i % n) v) inside.0),
+          inside.1 ∙ sym (length-set (joined (map items ps)) i v) ∙ ap length (sym all),
+        ),
+        all,
+      )
 
   pub set_or_same : {T E : Type 0} (r : Result T E) (i : ℕ) (p q : P) (v : A) → 0 < n → i < length (joined (map items ps)) → p ≡ get_or ps (i / n) p
       → OnOk r (items q ≡ set (items p) (i % n) v) → OnErr r (items q ≡ items p) → IsInside items n (set ps (i / n) q) len

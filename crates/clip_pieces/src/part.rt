@@ -20,20 +20,24 @@ pub(crate) trait Part<T>: Exact {
 
     ghost items: { Self → List T };
 
-    /// A list of one item.
+    /// A list of one item, or `NoMemory` where an allocation failed.
     fn of_one(alloc: Global, item: T) -> Result<Self, NoMemory>
         ensures { IfOk result (λ part. items part ≡ item ∷ []) };
 
+    /// How many items there are.
     fn len(&self) -> usize
         ensures { result ≡ length (items self.now) };
 
+    /// The item at a place from 0, or `None` past the end.
     fn get(&self, place: usize) -> Option<&T>
         ensures { option_copied result ≡ slice_get (items self.now) place };
 
+    /// Puts an item behind the last one, or gives `NoMemory` with the items as they were.
     fn push(&mut self, item: T) -> Result<(), NoMemory>
         ensures ok { OnOk result (items self.new ≡ items self.old ++ item ∷ []) }
         ensures err { OnErr result (items self.new ≡ items self.old) };
 
+    /// Puts an item in the place of another, or gives `NoMemory` with the items as they were.
     fn set(&mut self, place: usize, item: T) -> Result<(), NoMemory>
         requires { place < length (items self.old) }
         ensures ok { OnOk result (items self.new ≡ slice_set (items self.old) place item) }

@@ -45,7 +45,7 @@ impl<T, P: Part<T>> Clone for Parts<T, P> {
 }
 
 impl<T: Exact, P: Part<T>> Parts<T, P> {
-    /// No parts.
+    /// No items, and no parts. Takes no memory.
     pub(crate) fn new(alloc: Global) -> Parts<T, P>
         ensures { result ≡ [] }
     {
@@ -56,12 +56,14 @@ impl<T: Exact, P: Part<T>> Parts<T, P> {
         }
     }
 
+    /// How many items there are. Constant time.
     pub(crate) fn len(&self) -> usize
         ensures { result ≡ length self.now }
     {
         self.len
     }
 
+    /// The item at a place from 0, or `None` past the end. Cost: that of `get` of a part.
     pub(crate) fn get(&self, place: usize) -> Option<&T>
         ensures { option_copied result ≡ slice_get self.now place }
     {
@@ -72,6 +74,7 @@ impl<T: Exact, P: Part<T>> Parts<T, P> {
         part.value().get(place % P::FULL)
     }
 
+    /// Puts an item into the last part, or into a new one where each is full, or gives `NoMemory` with the list as it was.
     pub(crate) fn push(&mut self, item: T) -> Result<(), NoMemory>
         ensures ok { OnOk result (self.new ≡ self.old ++ item ∷ []) }
         ensures err { OnErr result (self.new ≡ self.old) }
@@ -91,6 +94,7 @@ impl<T: Exact, P: Part<T>> Parts<T, P> {
         Ok(())
     }
 
+    /// Puts an item in the place of another, or gives `NoMemory` with the list as it was.
     pub(crate) fn set(&mut self, place: usize, item: T) -> Result<(), NoMemory>
         requires { place < length self.old }
         ensures ok { OnOk result (self.new ≡ slice_set self.old place item) }

@@ -1,5 +1,4 @@
-use Rattle.std.proofs.Common.{◌≡◌, ◌/◌, ◌%◌, ◌<◌, ◌≤◌, get_or, length, map, arith}
-use Rattle.clip_pieces.specs.Pieces.{joined}
+use Rattle.std.proofs.Common.{◌≡◌, ◌/◌, get_or, arith}
 use Rattle.clip_pieces.proofs.Filled.{part_within, get_part}
 use Rattle.clip_pieces.proofs.parts.Parts.get.Goals as goal
 

@@ -1,8 +1,6 @@
 -- An item goes behind the last one of the last part, or into a new part where all are full.
-use Rattle.std.proofs.Common.{◌≡◌, ◌+◌, ◌-◌, ◌%◌, ◌<◌, ◌++◌, [], ◌∷◌, length, map, ap, subst, sym, arith, ◌∙◌}
-use Rattle.std.proofs.lemmas.Result.{on_ok_weaker}
-use Rattle.clip_pieces.specs.Pieces.{joined}
-use Rattle.clip_pieces.proofs.Filled.{same_part, some_parts, last_part, new_part, on_err_weaker, error_only}
+use Rattle.std.proofs.Common.{◌≡◌, ◌+◌, ◌-◌, ◌%◌, [], ◌∷◌, length, ap, arith, ◌∙◌}
+use Rattle.clip_pieces.proofs.Filled.{same_part, some_parts, last_part, new_part, error_only}
 use Rattle.clip_pieces.proofs.parts.Parts.push.Goals as goal
 use Rattle.clip_pieces.proofs.parts.Parts.push.Goals.{then-self-FULL-eq0+in_ok-part+in_ok-new+in_ok-push, else-self-FULL-eq0+in_ok-push_to}
 
