@@ -145,7 +145,8 @@ fn apply(registrar: &mut Registrar, command: Command) -> Result<Reply, NoMemory>
 {
     match registrar.apply(CALLER, command) {
         Ok(applied) => {
-            merge_turn(registrar);
+            // A turn that is refused memory is dropped.
+            let _ = merge_turn(registrar);
             Ok(accepted(applied))
         }
         Err((_, Refused::Full)) => Ok(Reply::Refused(Refusal::Full)),

@@ -1,20 +1,39 @@
 //! Merge turns, by which a registry that grows query by query keeps few segments.
-ghost use Rattle.std.specs.Prelude.{◌≡◌};
+ghost use Rattle.std.specs.Prelude.{◌≡◌, ℕ, Ok};
+ghost use Rattle.clip_merge.specs.Plan.{IsRun};
+ghost use Rattle.clip_front.specs.Steps.Turns.{HasMerged};
 
-use clip_registry::Registrar;
+use clip_registry::{Installed, Registrar};
+use clip_words::NoMemory;
 
-/// Merges the oldest four neighbouring segments of one level, where there are such four. A turn that is refused memory
-/// is dropped, and a later one may merge them. What is registered stays as it is.
+/// What a merge turn did.
+#[derive(Clone, Copy, Debug, PartialEq, Eq)]
+pub enum MergeTurn {
+    /// There were no four neighbouring segments of one level.
+    Nothing,
+    /// The oldest four such segments are one now.
+    Installed,
+    /// The merge was stale, and nothing was changed.
+    Stale,
+}
+
+/// Merges the oldest four neighbouring segments of one level, where there are such four. What is registered stays as it
+/// is. `NoMemory` where an allocation failed, with nothing changed; a later turn may merge them.
 ///
 /// Cost: that of `Registrar::begin`, and where there are four that of `MergeJob::run` and of `Registrar::install`.
-pub fn merge_turn(registrar: &mut Registrar)
-    ensures { registrar.new.history ≡ registrar.old.history }
+pub fn merge_turn(registrar: &mut Registrar) -> Result<MergeTurn, NoMemory>
+    ensures nothing { result ≡ Ok MergeTurn.Nothing → (first : ℕ) → IsRun registrar.old.segments first → ⊥ }
+    ensures installed { result ≡ Ok MergeTurn.Installed → HasMerged registrar.old registrar.new }
+    ensures unchanged { (result ≡ Ok MergeTurn.Installed → ⊥) → registrar.new ≡ registrar.old }
+    ensures history { registrar.new.history ≡ registrar.old.history }
 {
-    let Ok(Some(job)) = registrar.begin() else {
-        return;
+    let job = match registrar.begin()? {
+        Some(job) => job,
+        None => return Ok(MergeTurn::Nothing),
     };
-    let Ok(merged) = job.run() else {
-        return;
-    };
-    let _ = registrar.install(merged);
+    let merged = job.run()?;
+    match registrar.install(merged)? {
+        Installed::Done => Ok(MergeTurn::Installed),
+        Installed::Stale => Ok(MergeTurn::Stale),
+    }
 }

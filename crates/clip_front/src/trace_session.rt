@@ -14,12 +14,12 @@ use std::alloc::Global;
 
 /// A tracer, which answers the lines of a trace, with nothing lent to it.
 #[derive(Drop)]
-struct TraceDesk {
+struct TraceServer {
     tracer: Tracer,
 }
 
-impl Server<()> for TraceDesk {
-    ghost use Rattle.clip_front.specs.Steps.TraceDesk.{stand_at};
+impl Server<()> for TraceServer {
+    ghost use Rattle.clip_front.specs.Steps.TraceServer.{stand_at};
     ghost use Rattle.clip_front.specs.Steps.TraceOutline.{AnswersIn, BreaksIn};
 
     ghost answers = { AnswersIn stand_at };
@@ -76,11 +76,11 @@ pub fn run_trace<R: Source, W: Sink>(
     ensures front { OnErr result (IfSome (R.left reader.old)
         (TracesFront (W.taken writer.old) (W.taken writer.new))) }
 {
-    let mut desk = TraceDesk {
+    let mut server = TraceServer {
         tracer: Tracer::new(alloc),
     };
     let mut nothing = ();
-    let lines = serve(alloc, reader, writer, &mut nothing, &mut desk)?;
+    let lines = serve(alloc, reader, writer, &mut nothing, &mut server)?;
     Ok(Ended {
         lines,
         ledger: Ledger::new(alloc),

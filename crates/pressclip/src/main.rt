@@ -2,16 +2,13 @@
 //! `pressclip trace`: events on standard input, their answers on standard output.
 #![tactic(auto)]
 
-mod command_line;
 mod listeners;
-mod mode;
 
+use clip_command_line::{Mode, command_line, ending};
 use clip_front::{Ended, Settings, run, run_trace};
 use clip_listen::Listeners;
 use clip_stream::{RunFault, StdSink, StdSource};
-use command_line::ending;
 use listeners::{feed, mail, named};
-use mode::Mode;
 use std::io::ErrorKind;
 use std::process::ExitCode;
 use std::rt::Env;

@@ -1,4 +1,4 @@
-use Rattle.clip_front.specs.Steps.TraceDesk.{stand_at}
+use Rattle.clip_front.specs.Steps.TraceServer.{stand_at}
 use Rattle.clip_front.proofs.Progress.{on_err}
 use Rattle.clip_front.proofs.Traced.{trace_gives, trace_gives_front}
 use Rattle.clip_front.proofs.trace_session.run_trace.Goals as goal
