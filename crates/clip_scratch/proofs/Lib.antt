@@ -1,0 +1,3 @@
+pub mod Clones
+pub mod Ranking
+pub mod Piecing
