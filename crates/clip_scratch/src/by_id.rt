@@ -1,1 +1,113 @@
-//! By id.
+//! Entries by the ids of their standing queries.
+ghost use Rattle.std.specs.Prelude.{◌≡◌, option_map, option_copied, IfOk, OnOk, OnErr};
+ghost use Rattle.std.specs.Arc.{arc_value};
+ghost use Rattle.std.specs.FinMap as finite;
+ghost use Rattle.clip_scratch.specs.Steps.Roster.{insert_one};
+
+use crate::piece::Piece;
+use crate::pieces::{insert, place_of, remove};
+use clip_segment::Entry;
+use clip_words::NoMemory;
+use std::alloc::{AllocError, Global};
+use std::marker::Model;
+use std::sync::Arc;
+
+/// Entries by the ids of their standing queries: a list in the order of the ids, which is cut into pieces of bounded
+/// length that clones share. An id is read from its entry, and copied nowhere. A look-up costs two searches by halves, and
+/// a change also the copy of one piece, where it is shared; a clone costs a step for each piece.
+#[derive(Drop)]
+pub struct ById {
+    pieces: Vec<Arc<Piece>>,
+    len: u64,
+}
+
+impl Model for ById {
+    ghost use Rattle.clip_model.specs.History.{Registry, registry_code};
+
+    ghost Value = { Registry };
+
+    ghost coded = { registry_code };
+
+    ghost use Rattle.std.specs.Prelude.{◌≡◌, map};
+    ghost use Rattle.std.specs.Arc.{arc_value};
+    ghost use Rattle.std.specs.FinMap as finite;
+    ghost use Rattle.clip_scratch.specs.Steps.Pieces.{AreInOrder, map_of};
+
+    ghost view = { λ m. map_of (map arc_value m.pieces.items) };
+
+    ghost invariant = { λ m. AreInOrder (map arc_value m.pieces.items) × (m.len ≡ finite.len (map_of (map arc_value m.pieces.items))) };
+}
+
+impl Clone for ById {
+    ghost is_clone = { λ map copy. copy ≡ map };
+
+    fn clone(&self) -> Result<ById, AllocError> {
+        Ok(ById {
+            pieces: self.pieces.clone()?,
+            len: self.len,
+        })
+    }
+}
+
+impl ById {
+    /// No entries.
+    pub fn new(alloc: Global) -> ById
+        ensures { result ≡ finite.empty }
+    {
+        ById {
+            pieces: Vec::new(alloc),
+            len: 0,
+        }
+    }
+
+    /// How many entries there are. Constant time.
+    pub fn len(&self) -> u64
+        ensures { result ≡ finite.len self.now }
+    {
+        self.len
+    }
+
+    /// The entry under the id.
+    pub fn get(&self, id: &str) -> Option<&Arc<Entry>>
+        ensures { option_map arc_value (option_copied result) ≡ finite.get self.now id.now }
+    {
+        match place_of(&self.pieces, id) {
+            Some(place) => self.pieces[place].get(id),
+            None => None,
+        }
+    }
+
+    /// Puts an entry in the place of the one with its id, which it gives. `NoMemory` where an allocation failed, with
+    /// nothing changed.
+    pub fn insert(
+        &mut self,
+        alloc: Global,
+        entry: Arc<Entry>,
+    ) -> Result<Option<Arc<Entry>>, NoMemory>
+        ensures inserted { OnOk result (self.new ≡ insert_one self.old entry.value) }
+        ensures replaced { IfOk result (λ old. option_map arc_value old ≡ finite.get self.old entry.value.standing.id) }
+        ensures unchanged { OnErr result (self.new ≡ self.old) }
+    {
+        let Some(more) = self.len.checked_add(1) else {
+            return Err(NoMemory);
+        };
+        let replaced = insert(alloc, &mut self.pieces, entry)?;
+        if replaced.is_none() {
+            self.len = more;
+        }
+        Ok(replaced)
+    }
+
+    /// Takes out the entry under the id. `NoMemory` where an allocation failed, with nothing changed.
+    pub fn remove(&mut self, id: &str) -> Result<Option<Arc<Entry>>, NoMemory>
+        ensures removed { OnOk result (self.new ≡ finite.remove self.old id.now) }
+        ensures gone { IfOk result (λ gone. option_map arc_value gone ≡ finite.get self.old id.now) }
+        ensures unchanged { OnErr result (self.new ≡ self.old) }
+    {
+        let gone = remove(&mut self.pieces, id)?;
+        if gone.is_some() {
+            self.len -= 1;
+        }
+        Ok(gone)
+    }
+}

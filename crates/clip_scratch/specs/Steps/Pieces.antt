@@ -1,6 +1,6 @@
 -- Entries in the order of their ids, cut into pieces.
-use Rattle.std.specs.Prelude.{◌≡◌, ℕ, zero, suc, ◌+◌, ◌<◌, ◌≤◌, ◌/◌, ◌⊎◌, Bool, true, false, T, List, [], ◌∷◌, ◌++◌, length, map, slice_set}
-use Rattle.std.specs.List.{prefix_len, list_all, insert}
+use Rattle.std.specs.Prelude.{◌≡◌, ℕ, zero, suc, ◌+◌, ◌<◌, ◌≤◌, ◌/◌, ◌⊎◌, Bool, true, false, T, List, [], ◌∷◌, ◌++◌, slice_index_or}
+use Rattle.std.specs.List.{prefix_len, list_all}
 use Rattle.std.specs.Ordering.{is_gt}
 use Rattle.std.specs.FinMap as finite
 use Rattle.std.specs.declared.sync.Arc.{Arc}
@@ -50,3 +50,8 @@ IsPlaceFor id (piece ∷ pieces) (suc place) = (ends_below id piece ≡ true) ×
 pub record AreHalves (piece lower upper : Registry) : Type 0 where
   pub entries : finite.entries lower ++ finite.entries upper ≡ finite.entries piece
   pub half : finite.len lower ≡ finite.len piece / 2
+
+-- It is the place of the piece for an id, which has room for one entry more.
+pub record HasRoomFor (id : List ℕ) (pieces : List Registry) (place : ℕ) : Type 0 where
+  pub at : IsPlaceFor id pieces place
+  pub room : (d : Registry) → finite.len (slice_index_or pieces place d) < MOST_IN_PIECE
