@@ -1,3 +1,4 @@
 pub mod Clones
 pub mod Ranking
 pub mod Piecing
+pub mod Joining

@@ -1,0 +1,12 @@
+use Rattle.std.specs.FinMap as finite
+use Rattle.std.specs.Arc.{arc_value}
+use Rattle.std.proofs.Common.{◌≡◌, ◌∙◌, ◌+◌, ◌<◌, ◌≤◌, ◌++◌, ◌∷◌, [], T, map, sym, subst, ap, set, rules}
+use Rattle.clip_scratch.specs.Steps.Pieces.{AreFilled, AreInOrder, AreHalves, HasRoomFor, IsPlaceFor, ends_below, joined, map_of}
+use Rattle.clip_scratch.specs.Steps.Roster.{insert_one}
+use Rattle.clip_scratch.proofs.by_id.ById.insert.Goals as goal
+
+pub invariant_of-self-then-is_none : goal.invariant_of-self-then-is_none
+invariant_of-self-then-is_none c = ?
+
+pub invariant_of-self-else-is_none : goal.invariant_of-self-else-is_none
+invariant_of-self-else-is_none c = ?
