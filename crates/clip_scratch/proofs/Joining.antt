@@ -1,5 +1,6 @@
 -- Lists of pieces whose ids rise through all of them: what is found, put and taken out in the piece for an id is so in all.
-use Rattle.std.proofs.Common.{◌≡◌, ◌⊎◌, ℕ, zero, suc, ◌+◌, ◌-◌, ◌<◌, ◌≤◌, ◌/◌, Bool, true, false, cond, not, ◌&&◌, T, List, [], ◌∷◌, ◌++◌, length, map, get_or, set, Some, None, Option, is_some, is_eq, is_lt, is_gt, Ordering, Less, Equal, Greater, insert, remove, refl, sym, ap, subst, ◌∙◌, arith, true≢false, append-nil, append_assoc, inl, inr}
+use Rattle.std.proofs.Common.{◌≡◌, ◌⊎◌, ℕ, zero, suc, ◌+◌, ◌-◌, ◌<◌, ◌≤◌, ◌/◌, Bool, true, false, cond, not, ◌&&◌, T, List, [], ◌∷◌, ◌++◌, length, map, get_or, set, Some, None, Option, is_some, is_eq, is_lt, is_gt, Ordering, Less, Equal, Greater, insert, remove, refl, sym, ap, subst, ◌∙◌, arith, true≢false, append-nil, append_assoc, length-append, add-one, lit<, lit≤, inl, inr}
+use Rattle.std.proofs.lemmas.List.{get_or-map, length-map, map-append, map-set, set-get_or}
 use Rattle.std.proofs.lemmas.Bool.{false≢true}
 use Rattle.std.specs.Arc.{arc_value}
 use Rattle.std.specs.declared.sync.Arc.{Arc}
@@ -10,16 +11,17 @@ use Rattle.std.specs.Ordering.{eq_by_cmp}
 use Rattle.std.specs.Cmp.{IsTotalOrder}
 use Rattle.std.specs.Cmp.Lexicographic.{nat_list_cmp_total}
 use Rattle.std.specs.FinMap as finite
-use Rattle.std.specs.FinMap.{entries_sorted, entries-from_sorted, entries-insert, get-entries, get-from_sorted, len-entries, find, put, is_sorted}
+use Rattle.std.specs.FinMap.{entries_sorted, entries-from_sorted, entries-insert, get-entries, get-from_sorted, get-empty, len-entries, len-insert, len-remove, len-empty, empty_of_len, find, put, is_sorted}
 use Rattle.std.specs.FinMap.Entries.{below_all, by_order}
 use Rattle.clip_words.specs.Order.{bytes_cmp}
 use Rattle.clip_grammar.proofs.Booleans.{first, second, both}
 use Rattle.clip_grammar.proofs.Orderings.{greater, less}
 use Rattle.clip_model.specs.History.{Registered, Registry}
 use Rattle.clip_scratch.specs.Steps.Pieces.{AreFilled, AreInOrder, AreHalves, HasRoomFor, IsPlaceFor, ends_below, joined, map_of}
+use Rattle.clip_scratch.specs.Steps.Roster.{insert_one}
 use Rattle.clip_scratch.specs.declared.piece.TheConstants.{MOST_IN_PIECE}
 use Rattle.clip_scratch.proofs.Ranking.{all_lower, all_others, below_less, below_tied, left, none_below, others, right, sorted_back, turned}
-use Rattle.clip_scratch.proofs.Piecing.{Pair, entries_remove, made}
+use Rattle.clip_scratch.proofs.Piecing.{Pair, entries_remove, made, removed_none}
 
 -- ---- two lists, one after the other
 
@@ -204,3 +206,170 @@ filled_without [] zero m filled = tt
 filled_without [] (suc n) m filled = tt
 filled_without (x ∷ ms) zero m filled = filled.1
 filled_without (x ∷ ms) (suc n) m filled = (filled.0, filled_without ms n m filled.1)
+
+-- ---- lists and what they are mapped to
+
+map_remove : (xs : Shared) (n : ℕ) → map arc_value (remove xs n) ≡ remove (map arc_value xs) n
+map_remove [] zero = refl
+map_remove [] (suc n) = refl
+map_remove (x ∷ xs) zero = refl
+map_remove (x ∷ xs) (suc n) = ap (λ ms. arc_value x ∷ ms) (map_remove xs n)
+
+map_insert : (xs : Shared) (n : ℕ) (y : Arc Registry Global) → map arc_value (insert xs n y) ≡ insert (map arc_value xs) n (arc_value y)
+map_insert [] zero y = refl
+map_insert [] (suc n) y = refl
+map_insert (x ∷ xs) zero y = refl
+map_insert (x ∷ xs) (suc n) y = ap (λ ms. arc_value x ∷ ms) (map_insert xs n y)
+
+no_entries : (es : List Pair) → length es ≡ 0 → es ≡ []
+no_entries [] e = refl
+no_entries (x ∷ es) e = absurd (omega arith)
+
+-- ---- the list of the pieces, as its clones share them
+
+pub shared_at : (xs : Shared) (n : ℕ) (x : Arc Registry Global) (d : Registry) → n < length xs → x ≡ get_or xs n x → get_or (map arc_value xs) n d ≡ arc_value x
+shared_at xs n x d lt e = get_or-map arc_value xs n x d lt ∙ ap arc_value (sym e)
+
+pub shared_within : (q : List ℕ) (xs : Shared) (n : ℕ) → IsPlaceFor q (map arc_value xs) n → n < length xs
+shared_within q xs n at = rw (← length-map xs arc_value) (place_within q (map arc_value xs) n at)
+
+empty_map : (ms : List Registry) → joined ms ≡ [] → map_of ms ≡ finite.empty
+empty_map ms e = ap finite.from_sorted e ∙ empty_of_len (finite.from_sorted []) (len-entries _ ∙ ap length (entries-from_sorted bytes_cmp [] tt))
+
+pub kept_in_all : (xs : Shared) (n : ℕ) (x p : Arc Registry Global) → x ≡ get_or xs n x → arc_value p ≡ arc_value x → map arc_value (set xs n p) ≡ map arc_value xs
+kept_in_all xs n x p e same =
+    map-set arc_value xs n p ∙ ap (set (map arc_value xs) n) (same ∙ ap arc_value e) ∙ sym (map-set arc_value xs n (get_or xs n x)) ∙ ap (map arc_value) (set-get_or xs n x)
+
+pub got_from_all : (q : List ℕ) (xs : Shared) (n : ℕ) (x : Arc Registry Global) → T (is_sorted bytes_cmp (joined (map arc_value xs))) → IsPlaceFor q (map arc_value xs) n → x ≡ get_or xs n x
+    → finite.get (arc_value x) q ≡ finite.get (map_of (map arc_value xs)) q
+got_from_all q xs n x sorted at e =
+    let here : get_or (map arc_value xs) n (arc_value x) ≡ arc_value x = shared_at xs n x (arc_value x) (shared_within q xs n at) e in
+    get-entries (arc_value x) q ∙ ap (λ m. find bytes_cmp q (finite.entries m)) (sym here)
+    ∙ sym (found_in_all q (map arc_value xs) n (arc_value x) sorted at) ∙ sym (get-from_sorted bytes_cmp (joined (map arc_value xs)) q sorted)
+
+pub got_from_none : (q : List ℕ) (ms : List Registry) → joined ms ≡ [] → None ≡ finite.get (map_of ms) q
+got_from_none q ms e = sym (ap (λ m. finite.get m q) (empty_map ms e) ∙ get-empty bytes_cmp q)
+
+-- an entry put into the piece for its id
+more_by_one : (b : Bool) (n : ℕ) → 0 < n → n < MOST_IN_PIECE → (0 < cond b n (n + 1)) × (cond b n (n + 1) ≤ MOST_IN_PIECE)
+more_by_one true n some room = (some, omega arith)
+more_by_one false n some room = (omega arith, omega arith)
+
+pub inserted_in_all : (xs : Shared) (n : ℕ) (x p : Arc Registry Global) (r : Registered) → AreInOrder (map arc_value xs) → HasRoomFor r.standing.id (map arc_value xs) n → x ≡ get_or xs n x
+    → arc_value p ≡ insert_one (arc_value x) r → AreInOrder (map arc_value (set xs n p)) × (map_of (map arc_value (set xs n p)) ≡ insert_one (map_of (map arc_value xs)) r)
+inserted_in_all xs n x p r in_order room e is =
+    let q = r.standing.id in
+    let ms = map arc_value xs in
+    let lt = shared_within q xs n room.at in
+    let here : get_or ms n (arc_value x) ≡ arc_value x = shared_at xs n x (arc_value x) lt e in
+    let new : map arc_value (set xs n p) ≡ set ms n (finite.insert (get_or ms n (arc_value x)) q r) = map-set arc_value xs n p ∙ ap (set ms n) (is ∙ ap (λ m. finite.insert m q r) (sym here)) in
+    let whole : joined (map arc_value (set xs n p)) ≡ finite.entries (insert_one (map_of ms) r) =
+        ap joined new ∙ put_in_all q r ms n (arc_value x) room.at ∙ ap (put bytes_cmp q r) (sym (entries-from_sorted bytes_cmp (joined ms) in_order.sorted)) ∙ sym (entries-insert nat_list_cmp_total (map_of ms) q r) in
+    let some : 0 < finite.len (get_or ms n (arc_value x)) = (filled_at ms n (arc_value x) in_order.filled (place_within q ms n room.at)).0 in
+    let size : IsFilled (finite.insert (get_or ms n (arc_value x)) q r) =
+        subst (λ k. (0 < k) × (k ≤ MOST_IN_PIECE)) (sym (len-insert nat_list_cmp_total (get_or ms n (arc_value x)) q r)) (more_by_one _ _ some (room.room (arc_value x))) in
+    let filled : AreFilled (map arc_value (set xs n p)) = subst AreFilled (sym new) (filled_set ms n _ in_order.filled size) in
+    (record { sorted = (made _ _ whole).0; filled = filled }, (made _ _ whole).1)
+
+-- the first entry
+pub first_in_all : (old : List Registry) (xs ys : Shared) (p : Arc Registry Global) (r : Registered) → map arc_value xs ≡ [] → joined (map arc_value xs) ≡ joined old → ys ≡ xs ++ p ∷ []
+    → arc_value p ≡ insert_one finite.empty r → AreInOrder (map arc_value ys) × (map_of (map arc_value ys) ≡ insert_one (map_of old) r)
+first_in_all old xs ys p r none same pushed is =
+    let q = r.standing.id in
+    let here : arc_value p ≡ insert_one (map_of old) r = is ∙ ap (λ m. insert_one m r) (sym (empty_map old (sym same ∙ ap joined none))) in
+    let new : map arc_value ys ≡ arc_value p ∷ [] = ap (map arc_value) pushed ∙ map-append arc_value xs (p ∷ []) ∙ ap (λ ms. ms ++ arc_value p ∷ []) none in
+    let whole : joined (map arc_value ys) ≡ finite.entries (insert_one (map_of old) r) = ap joined new ∙ append-nil (finite.entries (arc_value p)) ∙ ap finite.entries here in
+    let one : finite.len (arc_value p) ≡ 1 =
+        ap finite.len is ∙ len-insert nat_list_cmp_total finite.empty q r ∙ ap (λ o. cond (is_some o) (finite.len {X = Registered} {R = bytes_cmp} finite.empty) (finite.len {X = Registered} {R = bytes_cmp} finite.empty + 1)) (get-empty bytes_cmp q) ∙ ap (λ n. n + 1) (len-empty bytes_cmp Registered) in
+    let size : IsFilled (arc_value p) = (rw one (omega arith), rw one (lit≤ tt)) in
+    (record { sorted = (made _ _ whole).0; filled = subst AreFilled (sym new) (size, tt) }, (made _ _ whole).1)
+
+-- an entry taken out of the piece for its id
+less_by_one : (b : Bool) (n : ℕ) → n ≤ MOST_IN_PIECE → cond b (n - 1) n ≤ MOST_IN_PIECE
+less_by_one true n le = omega arith
+less_by_one false n le = le
+
+module _ (q : List ℕ) (xs : Shared) (n : ℕ) (x p : Arc Registry Global) (in_order : AreInOrder (map arc_value xs)) (at : IsPlaceFor q (map arc_value xs) n) (e : x ≡ get_or xs n x)
+    (is : arc_value p ≡ finite.remove (arc_value x) q) where
+  removed_set : map arc_value (set xs n p) ≡ set (map arc_value xs) n (finite.remove (get_or (map arc_value xs) n (arc_value x)) q)
+  removed_set =
+      map-set arc_value xs n p ∙ ap (set (map arc_value xs) n) (is ∙ ap (λ m. finite.remove m q) (sym (shared_at xs n x (arc_value x) (shared_within q xs n at) e)))
+
+  removed_whole : joined (map arc_value (set xs n p)) ≡ finite.entries (finite.remove (map_of (map arc_value xs)) q)
+  removed_whole =
+      ap joined removed_set ∙ taken_from_all q (map arc_value xs) n (arc_value x) in_order.sorted at
+      ∙ ap (others bytes_cmp nat_list_cmp_total q) (sym (entries-from_sorted bytes_cmp (joined (map arc_value xs)) in_order.sorted)) ∙ sym (entries_remove (map_of (map arc_value xs)) q)
+
+  pub removed_from_all : 0 < finite.len (arc_value p) → AreInOrder (map arc_value (set xs n p)) × (map_of (map arc_value (set xs n p)) ≡ finite.remove (map_of (map arc_value xs)) q)
+  removed_from_all some =
+      let was = filled_at (map arc_value xs) n (arc_value x) in_order.filled (place_within q (map arc_value xs) n at) in
+      let few : finite.len (arc_value p) ≤ MOST_IN_PIECE =
+          subst (λ m. finite.len m ≤ MOST_IN_PIECE) (sym (is ∙ ap (λ m. finite.remove m q) (sym (shared_at xs n x (arc_value x) (shared_within q xs n at) e))))
+          (subst (λ k. k ≤ MOST_IN_PIECE) (sym (len-remove nat_list_cmp_total (get_or (map arc_value xs) n (arc_value x)) q)) (less_by_one _ _ was.1)) in
+      let filled : AreFilled (map arc_value (set xs n p)) = subst AreFilled (sym (map-set arc_value xs n p)) (filled_set (map arc_value xs) n (arc_value p) in_order.filled (some, few)) in
+      (record { sorted = (made _ _ removed_whole).0; filled = filled }, (made _ _ removed_whole).1)
+
+  pub removed_last : finite.len (arc_value p) ≡ 0 → AreInOrder (map arc_value (remove (set xs n p) n)) × (map_of (map arc_value (remove (set xs n p) n)) ≡ finite.remove (map_of (map arc_value xs)) q)
+  removed_last none =
+      let ms = map arc_value xs in
+      let new : map arc_value (remove (set xs n p) n) ≡ remove (set ms n (arc_value p)) n = map_remove (set xs n p) n ∙ ap (λ ms. remove ms n) (map-set arc_value xs n p) in
+      let empty : finite.entries (arc_value p) ≡ [] = no_entries (finite.entries (arc_value p)) (sym (len-entries (arc_value p)) ∙ none) in
+      let whole : joined (map arc_value (remove (set xs n p) n)) ≡ finite.entries (finite.remove (map_of ms) q) =
+          ap joined new ∙ empty_goes ms n (arc_value p) (place_within q ms n at) empty ∙ ap joined (sym (map-set arc_value xs n p)) ∙ removed_whole in
+      (record { sorted = (made _ _ whole).0; filled = subst AreFilled (sym new) (filled_without ms n (arc_value p) in_order.filled) }, (made _ _ whole).1)
+
+-- a full piece cut in two
+cut_lower : (ms : List Registry) (n : ℕ) (a b d : Registry) → n < length ms → get_or (set (insert ms (suc n) b) n a) n d ≡ a
+cut_lower [] n a b d lt = absurd (omega arith)
+cut_lower (m ∷ ms) zero a b d lt = refl
+cut_lower (m ∷ ms) (suc n) a b d lt = cut_lower ms n a b d (omega arith)
+
+cut_upper : (ms : List Registry) (n : ℕ) (a b d : Registry) → n < length ms → get_or (set (insert ms (suc n) b) n a) (suc n) d ≡ b
+cut_upper [] n a b d lt = absurd (omega arith)
+cut_upper (m ∷ ms) zero a b d lt = refl
+cut_upper (m ∷ ms) (suc n) a b d lt = cut_upper ms n a b d (omega arith)
+
+module _ (q : List ℕ) (xs ys : Shared) (n : ℕ) (x lower upper : Arc Registry Global) (in_order : AreInOrder (map arc_value xs)) (at : IsPlaceFor q (map arc_value xs) n) (e : x ≡ get_or xs n x)
+    (full : finite.len (arc_value x) ≡ MOST_IN_PIECE) (halves : AreHalves (arc_value x) (arc_value lower) (arc_value upper)) (made_room : ys ≡ insert xs (n + 1) upper) where
+  split_set : map arc_value (set ys n lower) ≡ set (insert (map arc_value xs) (suc n) (arc_value upper)) n (arc_value lower)
+  split_set =
+      map-set arc_value ys n lower ∙ ap (λ ms. set ms n (arc_value lower)) (ap (map arc_value) (made_room ∙ ap (λ k. insert xs k upper) (add-one n)) ∙ map_insert xs (suc n) upper)
+
+  split_cut : finite.entries (arc_value lower) ++ finite.entries (arc_value upper) ≡ finite.entries (get_or (map arc_value xs) n (arc_value x))
+  split_cut = halves.entries ∙ ap finite.entries (sym (shared_at xs n x (arc_value x) (shared_within q xs n at) e))
+
+  pub split_same : joined (map arc_value (set ys n lower)) ≡ joined (map arc_value xs)
+  split_same = ap joined split_set ∙ cut_in_all (map arc_value xs) n (arc_value x) (arc_value lower) (arc_value upper) (place_within q (map arc_value xs) n at) split_cut
+
+  split_half : (finite.len (arc_value lower) ≡ 256) × (finite.len (arc_value upper) ≡ 256)
+  split_half =
+      let low : finite.len (arc_value lower) ≡ 256 = halves.half ∙ ap (λ k. k / 2) full in
+      let both : finite.len (arc_value lower) + finite.len (arc_value upper) ≡ 512 =
+          (λ i. len-entries (arc_value lower) i + len-entries (arc_value upper) i) ∙ sym (length-append (finite.entries (arc_value lower)) (finite.entries (arc_value upper)))
+          ∙ ap length halves.entries ∙ sym (len-entries (arc_value x)) ∙ full in
+      (low, omega arith)
+
+  half_filled : (m : Registry) → finite.len m ≡ 256 → IsFilled m
+  half_filled m e = (rw e (lit< tt), rw e (lit≤ tt))
+
+  pub split_in_order : AreInOrder (map arc_value (set ys n lower))
+  split_in_order = record {
+    sorted = subst (λ es. T (is_sorted bytes_cmp es)) (sym split_same) in_order.sorted;
+    filled = subst AreFilled (sym split_set)
+        (filled_set (insert (map arc_value xs) (suc n) (arc_value upper)) n (arc_value lower) (filled_insert (map arc_value xs) (suc n) (arc_value upper) in_order.filled (half_filled _ split_half.1)) (half_filled _ split_half.0));
+  }
+
+  pub room_above : ends_below q (arc_value lower) ≡ true → HasRoomFor q (map arc_value (set ys n lower)) (suc n)
+  room_above below = subst (λ ms. HasRoomFor q ms (suc n)) (sym split_set) (record {
+    at = place_above q (map arc_value xs) n (arc_value x) (arc_value lower) (arc_value upper) at split_cut below;
+    room = λ d. rw (cut_upper (map arc_value xs) n (arc_value lower) (arc_value upper) d (place_within q (map arc_value xs) n at), split_half.1) (lit< tt);
+  })
+
+  pub room_under : ends_below q (arc_value lower) ≡ false → HasRoomFor q (map arc_value (set ys n lower)) n
+  room_under below = subst (λ ms. HasRoomFor q ms n) (sym split_set) (record {
+    at = place_under q (map arc_value xs) n (arc_value lower) (arc_value upper) at below;
+    room = λ d. rw (cut_lower (map arc_value xs) n (arc_value lower) (arc_value upper) d (place_within q (map arc_value xs) n at), split_half.0) (lit< tt);
+  })
+
+pub removed_from_none : (q : List ℕ) (ms : List Registry) → joined ms ≡ [] → map_of ms ≡ finite.remove (map_of ms) q
+removed_from_none q ms e = removed_none (map_of ms) q (ap is_some (sym (got_from_none q ms e)))
