@@ -3,6 +3,8 @@ use Rattle.std.proofs.Common.{◌≡◌, ◌⊎◌, ℕ, zero, suc, ◌+◌, ◌
 use Rattle.std.proofs.lemmas.List.{get_or-map, length-map, map-append, map-set, set-get_or}
 use Rattle.std.proofs.lemmas.Bool.{false≢true}
 use Rattle.std.specs.Arc.{arc_value}
+use Rattle.std.specs.Prelude.{Result, Ok, Err, OnErr}
+use Rattle.std.specs.Option.{option_map}
 use Rattle.std.specs.declared.sync.Arc.{Arc}
 use Rattle.std.specs.declared.alloc.Global.{Global}
 use Rattle.std.specs.List.{AllWithin}
@@ -233,7 +235,7 @@ shared_at xs n x d lt e = get_or-map arc_value xs n x d lt ∙ ap arc_value (sym
 pub shared_within : (q : List ℕ) (xs : Shared) (n : ℕ) → IsPlaceFor q (map arc_value xs) n → n < length xs
 shared_within q xs n at = rw (← length-map xs arc_value) (place_within q (map arc_value xs) n at)
 
-empty_map : (ms : List Registry) → joined ms ≡ [] → map_of ms ≡ finite.empty
+pub empty_map : (ms : List Registry) → joined ms ≡ [] → map_of ms ≡ finite.empty
 empty_map ms e = ap finite.from_sorted e ∙ empty_of_len (finite.from_sorted []) (len-entries _ ∙ ap length (entries-from_sorted bytes_cmp [] tt))
 
 pub kept_in_all : (xs : Shared) (n : ℕ) (x p : Arc Registry Global) → x ≡ get_or xs n x → arc_value p ≡ arc_value x → map arc_value (set xs n p) ≡ map arc_value xs
@@ -373,3 +375,39 @@ module _ (q : List ℕ) (xs ys : Shared) (n : ℕ) (x lower upper : Arc Registry
 
 pub removed_from_none : (q : List ℕ) (ms : List Registry) → joined ms ≡ [] → map_of ms ≡ finite.remove (map_of ms) q
 removed_from_none q ms e = removed_none (map_of ms) q (ap is_some (sym (got_from_none q ms e)))
+
+-- ---- the count of the entries
+
+pub nothing_yet : (xs : Shared) → xs ≡ [] → AreInOrder (map arc_value xs) × (0 ≡ finite.len (map_of (map arc_value xs)))
+nothing_yet xs e =
+    subst (λ (ys : Shared). AreInOrder (map arc_value ys) × (0 ≡ finite.len (map_of (map arc_value ys)))) (sym e)
+    (record { sorted = tt; filled = tt }, sym (ap finite.len (empty_map [] refl) ∙ len-empty bytes_cmp Registered))
+
+is_mapped : (o : Option (Arc Registered Global)) → is_some (option_map arc_value o) ≡ is_some o
+is_mapped None = refl
+is_mapped (Some x) = refl
+
+is_key : (m : Registry) (q : List ℕ) (o : Option (Arc Registered Global)) (b : Bool) → option_map arc_value o ≡ finite.get m q → is_some o ≡ b → finite.contains_key m q ≡ b
+is_key m q o b got is = ap is_some (sym got) ∙ is_mapped o ∙ is
+
+pub counted_more : (m new : Registry) (r : Registered) (o : Option (Arc Registered Global)) (b : Bool) → new ≡ insert_one m r → option_map arc_value o ≡ finite.get m r.standing.id → is_some o ≡ b
+    → finite.len new ≡ cond b (finite.len m) (finite.len m + 1)
+counted_more m new r o b e got is =
+    ap finite.len e ∙ len-insert nat_list_cmp_total m r.standing.id r ∙ ap (λ c. cond c (finite.len m) (finite.len m + 1)) (is_key m r.standing.id o b got is)
+
+pub counted_less : (m new : Registry) (q : List ℕ) (o : Option (Arc Registered Global)) (b : Bool) → new ≡ finite.remove m q → option_map arc_value o ≡ finite.get m q → is_some o ≡ b
+    → finite.len new ≡ cond b (finite.len m - 1) (finite.len m)
+counted_less m new q o b e got is =
+    ap finite.len e ∙ len-remove nat_list_cmp_total m q ∙ ap (λ c. cond c (finite.len m - 1) (finite.len m)) (is_key m q o b got is)
+
+not_zero : (n : ℕ) → (n ≡ 0 → ⊥) → 1 ≤ n
+not_zero zero h = absurd (h refl)
+not_zero (suc n) h = omega arith
+
+pub some_counted : (m : Registry) (q : List ℕ) (o : Option (Arc Registered Global)) → option_map arc_value o ≡ finite.get m q → is_some o ≡ true → 1 ≤ finite.len m
+some_counted m q o got is =
+    not_zero (finite.len m) (λ e. true≢false (sym (is_key m q o true got is) ∙ ap is_some (ap (λ m. finite.get m q) (empty_of_len m e) ∙ get-empty bytes_cmp q)))
+
+pub on_err : {T E P : Type 0} (r : Result T E) → P → OnErr r P
+on_err (Ok x) p = tt
+on_err (Err e) p = p

@@ -4,7 +4,7 @@ use Rattle.std.specs.Arc.{arc_value}
 use Rattle.std.specs.declared.sync.Arc.{Arc}
 use Rattle.std.specs.declared.alloc.Global.{Global}
 use Rattle.clip_model.specs.History.{Registry}
-use Rattle.clip_scratch.specs.Steps.Pieces.{AreHalves, HasRoomFor}
+use Rattle.clip_scratch.specs.Steps.Pieces.{AreHalves, HasRoomFor, ends_below}
 use Rattle.clip_scratch.specs.declared.piece.TheConstants.{MOST_IN_PIECE}
 use Rattle.clip_scratch.proofs.Joining.{room_above, room_under, shared_at, shared_within, split_in_order, split_same}
 use Rattle.clip_scratch.proofs.pieces.split.Goals as goal
@@ -14,10 +14,14 @@ pub index-requires : goal.index-requires
 index-requires c = rw c.args.pieces.now.ok.0 (shared_within c.args.id.now c.args.pieces.now.items c.args.place c.requires.place)
 
 pub overflow_add-next : goal.overflow_add-next
-overflow_add-next c = ?
+overflow_add-next c =
+    let lt = shared_within c.args.id.now c.args.pieces.now.items c.args.place c.requires.place in
+    omega (arith, lt, c.args.pieces.now.ok, c.args.pieces.now.small)
 
 pub overflow_add-place : goal.overflow_add-place
-overflow_add-place c = ?
+overflow_add-place c =
+    let lt = shared_within c.args.id.now c.args.pieces.now.items c.args.place c.requires.place in
+    omega (arith, lt, c.args.pieces.now.ok, c.args.pieces.now.small)
 
 pub insert-requires : goal.insert-requires
 insert-requires c =
@@ -25,7 +29,9 @@ insert-requires c =
     rw c.args.pieces.now.ok.0 (omega (arith, lt))
 
 pub index_mut-requires : goal.index_mut-requires
-index_mut-requires c = ?
+index_mut-requires c =
+    let lt = shared_within c.args.id.now c.args.pieces.now.items c.args.place c.requires.place in
+    omega (arith, lt, c.args.pieces.now.ok, c.in_ok-insert.ensures.len)
 
 full : (c : goal.After-drop-index_mut) → finite.len (arc_value c.index.result.now) ≡ MOST_IN_PIECE
 full c =
@@ -57,6 +63,10 @@ returns-clause-room c =
     let new = map arc_value (set c.insert.new.self.items c.args.place c.in_ok-lower-2.lower) in
     let low : arc_value c.in_ok-lower-2.lower ≡ c.in_ok-lower.lower = c.in_ok-lower-2.ensures.ok in
     elim c.if-ends_below.branch [
-      | then-ends_below w ↦ ?
-      | else-ends_below w ↦ ?
+      | then-ends_below w ↦ subst (λ k. HasRoomFor q new k) (sym (w.next-is ∙ add-one c.args.place))
+          (room_above q c.args.pieces.now.items c.insert.new.self.items c.args.place c.index.result.now c.in_ok-lower-2.lower c.in_ok-upper.upper c.requires.in_order c.requires.place c.index.ensures
+          (full c) (cut c) c.in_ok-insert.ensures.items (ap (ends_below q) low ∙ sym w.if-ends_below.ensures))
+      | else-ends_below w ↦ subst (λ k. HasRoomFor q new k) (sym w.next-is)
+          (room_under q c.args.pieces.now.items c.insert.new.self.items c.args.place c.index.result.now c.in_ok-lower-2.lower c.in_ok-upper.upper c.requires.in_order c.requires.place c.index.ensures
+          (full c) (cut c) c.in_ok-insert.ensures.items (ap (ends_below q) low ∙ sym w.if-ends_below.ensures))
     ]

@@ -1,12 +1,13 @@
-use Rattle.std.specs.FinMap as finite
+use Rattle.std.proofs.Common.{◌∙◌, ◌+◌, map, true, false, sym, ap}
 use Rattle.std.specs.Arc.{arc_value}
-use Rattle.std.proofs.Common.{◌≡◌, ◌∙◌, ◌+◌, ◌<◌, ◌≤◌, ◌++◌, ◌∷◌, [], T, map, sym, subst, ap, set, rules}
-use Rattle.clip_scratch.specs.Steps.Pieces.{AreFilled, AreInOrder, AreHalves, HasRoomFor, IsPlaceFor, ends_below, joined, map_of}
-use Rattle.clip_scratch.specs.Steps.Roster.{insert_one}
+use Rattle.clip_scratch.specs.Steps.Pieces.{map_of}
+use Rattle.clip_scratch.proofs.Joining.{counted_more}
 use Rattle.clip_scratch.proofs.by_id.ById.insert.Goals as goal
 
 pub invariant_of-self-then-is_none : goal.invariant_of-self-then-is_none
-invariant_of-self-then-is_none c = ?
+invariant_of-self-then-is_none c =
+    (c.in_ok-replaced.ensures.in_order, ?)
 
 pub invariant_of-self-else-is_none : goal.invariant_of-self-else-is_none
-invariant_of-self-else-is_none c = ?
+invariant_of-self-else-is_none c =
+    (c.in_ok-replaced.ensures.in_order, c.self.invariant.1 ∙ sym (counted_more (map_of (map arc_value c.self.inside.pieces.items)) _ c.args.entry.value c.in_ok-replaced.replaced true c.in_ok-replaced.ensures.inserted c.in_ok-replaced.ensures.replaced c.if-is_none.ensures))

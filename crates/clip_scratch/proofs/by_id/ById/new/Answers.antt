@@ -1,12 +1,11 @@
-use Rattle.std.specs.FinMap as finite
+use Rattle.std.proofs.Common.{map, ap}
 use Rattle.std.specs.Arc.{arc_value}
-use Rattle.std.proofs.Common.{◌≡◌, ◌∙◌, ◌+◌, ◌<◌, ◌≤◌, ◌++◌, ◌∷◌, [], T, map, sym, subst, ap, set, rules}
-use Rattle.clip_scratch.specs.Steps.Pieces.{AreFilled, AreInOrder, AreHalves, HasRoomFor, IsPlaceFor, ends_below, joined, map_of}
-use Rattle.clip_scratch.specs.Steps.Roster.{insert_one}
+use Rattle.clip_scratch.specs.Steps.Pieces.{joined}
+use Rattle.clip_scratch.proofs.Joining.{Shared, empty_map, nothing_yet}
 use Rattle.clip_scratch.proofs.by_id.ById.new.Goals as goal
 
 pub invariant_of-result : goal.invariant_of-result
-invariant_of-result c = ?
+invariant_of-result c = nothing_yet c.new.result.items c.new.ensures.items
 
 pub returns : goal.returns
-returns c = ?
+returns c = empty_map (map arc_value c.new.result.items) (ap (λ (xs : Shared). joined (map arc_value xs)) c.new.ensures.items)

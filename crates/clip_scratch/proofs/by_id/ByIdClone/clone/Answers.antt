@@ -1,12 +1,16 @@
+use Rattle.std.proofs.Common.{◌≡◌, ◌∙◌, List, map, sym, subst, ap}
 use Rattle.std.specs.FinMap as finite
 use Rattle.std.specs.Arc.{arc_value}
-use Rattle.std.proofs.Common.{◌≡◌, ◌∙◌, ◌+◌, ◌<◌, ◌≤◌, ◌++◌, ◌∷◌, [], T, map, sym, subst, ap, set, rules}
-use Rattle.clip_scratch.specs.Steps.Pieces.{AreFilled, AreInOrder, AreHalves, HasRoomFor, IsPlaceFor, ends_below, joined, map_of}
-use Rattle.clip_scratch.specs.Steps.Roster.{insert_one}
+use Rattle.clip_model.specs.History.{Registry}
+use Rattle.clip_scratch.specs.Steps.Pieces.{AreInOrder, map_of}
+use Rattle.clip_scratch.proofs.Clones.{map_shared}
 use Rattle.clip_scratch.proofs.by_id.ByIdClone.clone.Goals as goal
 
 pub invariant_of-result : goal.invariant_of-result
-invariant_of-result c = ?
+invariant_of-result c =
+    subst (λ (ms : List Registry). AreInOrder ms × (c.self.inside.len ≡ finite.len (map_of ms))) (sym (map_shared c.self.inside.pieces.items c.in_ok-clone.field-0.items c.in_ok-clone.ensures.cases.0)) c.self.invariant
 
 pub returns : goal.returns
-returns c = ?
+returns c = record {
+  cases = ap map_of (map_shared c.self.inside.pieces.items c.in_ok-clone.field-0.items c.in_ok-clone.ensures.cases.0) ∙ c.self.view_is;
+}
