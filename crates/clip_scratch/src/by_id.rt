@@ -5,16 +5,16 @@ ghost use Rattle.std.specs.FinMap as finite;
 ghost use Rattle.clip_scratch.specs.Steps.Roster.{insert_one};
 
 use crate::piece::Piece;
-use crate::pieces::{insert, place_of, remove};
+use crate::pieces;
 use clip_segment::Entry;
 use clip_words::NoMemory;
 use std::alloc::{AllocError, Global};
 use std::marker::Model;
 use std::sync::Arc;
 
-/// Entries by the ids of their standing queries: a list in the order of the ids, which is cut into pieces of bounded
-/// length that clones share. An id is read from its entry, and copied nowhere. A look-up costs two searches by halves, and
-/// a change also the copy of one piece, where it is shared; a clone costs a step for each piece.
+/// Entries by the ids of their standing queries: a list in the order of the ids, which is cut into pieces that clones
+/// share. An id is read from its entry, and copied nowhere. A look-up costs two searches by halves; a change also moves
+/// entries within one piece, which is copied where it is shared or full; and a clone costs a step for each piece.
 #[derive(Drop)]
 pub struct ById {
     pieces: Vec<Arc<Piece>>,
@@ -71,14 +71,14 @@ impl ById {
     pub fn get(&self, id: &str) -> Option<&Arc<Entry>>
         ensures { option_map arc_value (option_copied result) ≡ finite.get self.now id.now }
     {
-        match place_of(&self.pieces, id) {
+        match pieces::place_of(&self.pieces, id) {
             Some(place) => self.pieces[place].get(id),
             None => None,
         }
     }
 
-    /// Puts an entry in the place of the one with its id, which it gives. `NoMemory` where an allocation failed, with
-    /// nothing changed.
+    /// Puts an entry in the place of the one with its id, which it gives. `NoMemory` where an allocation failed or the
+    /// count is at its end, with nothing changed.
     pub fn insert(
         &mut self,
         alloc: Global,
@@ -91,7 +91,7 @@ impl ById {
         let Some(more) = self.len.checked_add(1) else {
             return Err(NoMemory);
         };
-        let replaced = insert(alloc, &mut self.pieces, entry)?;
+        let replaced = pieces::insert(alloc, &mut self.pieces, entry)?;
         if replaced.is_none() {
             self.len = more;
         }
@@ -104,7 +104,7 @@ impl ById {
         ensures gone { IfOk result (λ gone. option_map arc_value gone ≡ finite.get self.old id.now) }
         ensures unchanged { OnErr result (self.new ≡ self.old) }
     {
-        let gone = remove(&mut self.pieces, id)?;
+        let gone = pieces::remove(&mut self.pieces, id)?;
         if gone.is_some() {
             self.len -= 1;
         }

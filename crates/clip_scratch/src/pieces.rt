@@ -37,13 +37,16 @@ fn insert_in(piece: &mut Arc<Piece>, entry: Arc<Entry>) -> Result<Option<Arc<Ent
     Arc::make_mut(piece)?.insert(entry)
 }
 
-/// Takes the entry under an id out of a piece. A piece that others share is copied first. `NoMemory` where an allocation
-/// failed, with nothing changed.
+/// Takes the entry under an id out of a piece. A piece that others share is copied first, if the id is there.
+/// `NoMemory` where an allocation failed, with nothing changed.
 fn remove_in(piece: &mut Arc<Piece>, id: &str) -> Result<Option<Arc<Entry>>, NoMemory>
     ensures removed { OnOk result (piece.new.value ≡ finite.remove piece.old.value id.now) }
     ensures gone { IfOk result (λ gone. option_map arc_value gone ≡ finite.get piece.old.value id.now) }
     ensures unchanged { OnErr result (piece.new.value ≡ piece.old.value) }
 {
+    if piece.get(id).is_none() {
+        return Ok(None);
+    }
     Ok(Arc::make_mut(piece)?.remove(id))
 }
 

@@ -41,11 +41,14 @@ index-requires c = within (goal.at.index-requires c).In-Some
 pub remove-requires : goal.remove-requires
 remove-requires c = within (goal.at.remove-requires c).In-Some
 
+at_last : (c : Joined-len-eq0) → IsPlaceFor c.args.id.now (map arc_value c.args.pieces.now.items) c.in-Some.place
+at_last c = subst (λ (xs : Shared). IsPlaceFor c.args.id.now (map arc_value xs) c.in-Some.place) c.deref.ensures.value c.in-Some.ensures.found
+
 -- how many entries the piece has left
 left_len : (c : Joined-len-eq0) → c.len.result ≡ finite.len (arc_value c.remove_in.new.piece)
 left_len c =
     let xs = c.args.pieces.now.items in
-    let lt = shared_within c.args.id.now xs c.in-Some.place (at c.In-Some) in
+    let lt = shared_within c.args.id.now xs c.in-Some.place (at_last c) in
     c.len.ensures ∙ ap finite.len (c.deref-2.ensures ∙ ap arc_value (c.index.ensures ∙ get_or-set_same xs c.in-Some.place c.remove_in.new.piece c.index.result.now lt))
 
 left : (c : Joined-len-eq0) → AreInOrder (map arc_value c.if-len-eq0.pieces.items) × (map_of (map arc_value c.if-len-eq0.pieces.items) ≡ finite.remove (map_of (map arc_value c.args.pieces.now.items)) c.args.id.now)
@@ -58,8 +61,8 @@ left c =
     let len = left_len c in
     let Kept = λ (ys : Shared). AreInOrder (map arc_value ys) × (map_of (map arc_value ys) ≡ finite.remove (map_of (map arc_value xs)) q) in
     elim c.if-len-eq0.branch [
-      | then-len-eq0 w ↦ subst Kept (sym (ap (λ (v : Vec (Arc Registry Global) Global). v.items) w.pieces-is ∙ w.remove.ensures.items)) (removed_last q xs n x p c.requires (at c.In-Some) c.index_mut.ensures.value c.in_ok-gone.ensures.removed (sym len ∙ w.if-len-eq0.true))
-      | else-len-eq0 w ↦ subst Kept (sym (ap (λ (v : Vec (Arc Registry Global) Global). v.items) w.pieces-is)) (removed_from_all q xs n x p c.requires (at c.In-Some) c.index_mut.ensures.value c.in_ok-gone.ensures.removed (omega (arith, len, w.if-len-eq0.false)))
+      | then-len-eq0 w ↦ subst Kept (sym (ap (λ (v : Vec (Arc Registry Global) Global). v.items) w.pieces-is ∙ w.remove.ensures.items)) (removed_last q xs n x p c.requires (at_last c) c.index_mut.ensures.value c.in_ok-gone.ensures.removed (sym len ∙ w.if-len-eq0.true))
+      | else-len-eq0 w ↦ subst Kept (sym (ap (λ (v : Vec (Arc Registry Global) Global). v.items) w.pieces-is)) (removed_from_all q xs n x p c.requires (at_last c) c.index_mut.ensures.value c.in_ok-gone.ensures.removed (omega (arith, len, w.if-len-eq0.false)))
     ]
 
 pub returns-clause-in_order : goal.returns-clause-in_order
