@@ -1,7 +1,6 @@
 -- Lists of pieces whose ids rise through all of them: what is found, put and taken out in the piece for an id is so in all.
-use Rattle.std.proofs.Common.{◌≡◌, ◌⊎◌, ℕ, zero, suc, ◌+◌, ◌-◌, ◌<◌, ◌≤◌, ◌/◌, Bool, true, false, cond, not, ◌&&◌, T, List, [], ◌∷◌, ◌++◌, length, map, get_or, set, Some, None, Option, is_some, is_eq, is_lt, is_gt, Ordering, Less, Equal, Greater, insert, remove, refl, sym, ap, subst, ◌∙◌, arith, true≢false, append-nil, append_assoc, length-append, add-one, lit<, lit≤, inl, inr}
+use Rattle.std.proofs.Common.{◌≡◌, ℕ, zero, suc, ◌+◌, ◌-◌, ◌<◌, ◌≤◌, ◌/◌, Bool, true, false, cond, not, ◌&&◌, T, List, [], ◌∷◌, ◌++◌, length, map, get_or, set, Some, None, Option, is_some, is_eq, is_gt, Ordering, Less, Equal, Greater, insert, remove, refl, sym, ap, subst, ◌∙◌, arith, true≢false, append-nil, append_assoc, length-append, add-one, lit<, lit≤, inl, inr}
 use Rattle.std.proofs.lemmas.List.{get_or-map, length-map, map-append, map-set, set-get_or}
-use Rattle.std.proofs.lemmas.Bool.{false≢true}
 use Rattle.std.specs.Arc.{arc_value}
 use Rattle.std.specs.Prelude.{Result, Ok, Err, OnErr}
 use Rattle.std.specs.Option.{option_map}
@@ -9,11 +8,10 @@ use Rattle.std.specs.declared.sync.Arc.{Arc}
 use Rattle.std.specs.declared.alloc.Global.{Global}
 use Rattle.std.specs.List.{AllWithin}
 use Rattle.std.specs.List.Sorted.{IsPartitionedBy}
-use Rattle.std.specs.Ordering.{eq_by_cmp}
 use Rattle.std.specs.Cmp.{IsTotalOrder}
 use Rattle.std.specs.Cmp.Lexicographic.{nat_list_cmp_total}
 use Rattle.std.specs.FinMap as finite
-use Rattle.std.specs.FinMap.{entries_sorted, entries-from_sorted, entries-insert, get-entries, get-from_sorted, get-empty, len-entries, len-insert, len-remove, len-empty, empty_of_len, find, put, is_sorted}
+use Rattle.std.specs.FinMap.{entries-from_sorted, entries-insert, get-entries, get-from_sorted, get-empty, len-entries, len-insert, len-remove, len-empty, empty_of_len, find, put, is_sorted}
 use Rattle.std.specs.FinMap.Entries.{below_all, by_order}
 use Rattle.clip_words.specs.Order.{bytes_cmp}
 use Rattle.clip_grammar.proofs.Booleans.{first, second, both}
@@ -21,7 +19,7 @@ use Rattle.clip_grammar.proofs.Orderings.{greater, less}
 use Rattle.clip_model.specs.History.{Registered, Registry}
 use Rattle.clip_scratch.specs.Steps.Pieces.{AreFilled, AreInOrder, AreHalves, HasRoomFor, IsPlaceFor, ends_below, joined, map_of}
 use Rattle.clip_scratch.specs.Steps.Roster.{insert_one}
-use Rattle.clip_scratch.specs.declared.piece.TheConstants.{MOST_IN_PIECE}
+use Rattle.clip_scratch.specs.declared.by_id.piece.TheConstants.{MOST_IN_PIECE}
 use Rattle.clip_scratch.proofs.Ranking.{all_lower, all_others, below_less, below_tied, left, none_below, others, right, sorted_back, turned}
 use Rattle.clip_scratch.proofs.Piecing.{Pair, entries_remove, made, removed_none}
 
@@ -70,7 +68,7 @@ module _ {K X : Type 0} (R : K → K → Ordering) (o : IsTotalOrder R) where
   others_before q [] ys h sorted = absurd (true≢false h)
   others_before q (e ∷ xs) ys h sorted =
       let all : T (below_all R q (xs ++ ys)) → others R o q (xs ++ ys) ≡ others R o q xs ++ ys =
-          λ under. all_others R o q (xs ++ ys) under ∙ ap (λ zs. zs ++ ys) (sym (all_others R o q xs (below_first q xs ys under))) in
+      λ under. all_others R o q (xs ++ ys) under ∙ ap (λ zs. zs ++ ys) (sym (all_others R o q xs (below_first q xs ys under))) in
       elim (R q e.0) as (λ r. R q e.0 ≡ r → (is_gt r && all_lower R o q xs) ≡ false
       → cond (not (is_eq r)) (e ∷ others R o q (xs ++ ys)) (others R o q (xs ++ ys)) ≡ cond (not (is_eq r)) (e ∷ others R o q xs) (others R o q xs) ++ ys) [
         | Less ↦ λ r _. ap (λ zs. e ∷ zs) (all (below_less R o q e.0 (xs ++ ys) r (first _ _ sorted)))
@@ -266,10 +264,10 @@ inserted_in_all xs n x p r in_order room e is =
     let here : get_or ms n (arc_value x) ≡ arc_value x = shared_at xs n x (arc_value x) lt e in
     let new : map arc_value (set xs n p) ≡ set ms n (finite.insert (get_or ms n (arc_value x)) q r) = map-set arc_value xs n p ∙ ap (set ms n) (is ∙ ap (λ m. finite.insert m q r) (sym here)) in
     let whole : joined (map arc_value (set xs n p)) ≡ finite.entries (insert_one (map_of ms) r) =
-        ap joined new ∙ put_in_all q r ms n (arc_value x) room.at ∙ ap (put bytes_cmp q r) (sym (entries-from_sorted bytes_cmp (joined ms) in_order.sorted)) ∙ sym (entries-insert nat_list_cmp_total (map_of ms) q r) in
+    ap joined new ∙ put_in_all q r ms n (arc_value x) room.at ∙ ap (put bytes_cmp q r) (sym (entries-from_sorted bytes_cmp (joined ms) in_order.sorted)) ∙ sym (entries-insert nat_list_cmp_total (map_of ms) q r) in
     let some : 0 < finite.len (get_or ms n (arc_value x)) = (filled_at ms n (arc_value x) in_order.filled (place_within q ms n room.at)).0 in
     let size : IsFilled (finite.insert (get_or ms n (arc_value x)) q r) =
-        subst (λ k. (0 < k) × (k ≤ MOST_IN_PIECE)) (sym (len-insert nat_list_cmp_total (get_or ms n (arc_value x)) q r)) (more_by_one _ _ some (room.room (arc_value x))) in
+    subst (λ k. (0 < k) × (k ≤ MOST_IN_PIECE)) (sym (len-insert nat_list_cmp_total (get_or ms n (arc_value x)) q r)) (more_by_one _ _ some (room.room (arc_value x))) in
     let filled : AreFilled (map arc_value (set xs n p)) = subst AreFilled (sym new) (filled_set ms n _ in_order.filled size) in
     (record { sorted = (made _ _ whole).0; filled = filled }, (made _ _ whole).1)
 
@@ -282,7 +280,7 @@ first_in_all old xs ys p r none same pushed is =
     let new : map arc_value ys ≡ arc_value p ∷ [] = ap (map arc_value) pushed ∙ map-append arc_value xs (p ∷ []) ∙ ap (λ ms. ms ++ arc_value p ∷ []) none in
     let whole : joined (map arc_value ys) ≡ finite.entries (insert_one (map_of old) r) = ap joined new ∙ append-nil (finite.entries (arc_value p)) ∙ ap finite.entries here in
     let one : finite.len (arc_value p) ≡ 1 =
-        ap finite.len is ∙ len-insert nat_list_cmp_total finite.empty q r ∙ ap (λ o. cond (is_some o) (finite.len {X = Registered} {R = bytes_cmp} finite.empty) (finite.len {X = Registered} {R = bytes_cmp} finite.empty + 1)) (get-empty bytes_cmp q) ∙ ap (λ n. n + 1) (len-empty bytes_cmp Registered) in
+    ap finite.len is ∙ len-insert nat_list_cmp_total finite.empty q r ∙ ap (λ o. cond (is_some o) (finite.len {X = Registered} {R = bytes_cmp} finite.empty) (finite.len {X = Registered} {R = bytes_cmp} finite.empty + 1)) (get-empty bytes_cmp q) ∙ ap (λ n. n + 1) (len-empty bytes_cmp Registered) in
     let size : IsFilled (arc_value p) = (rw one (omega arith), rw one (lit≤ tt)) in
     (record { sorted = (made _ _ whole).0; filled = subst AreFilled (sym new) (size, tt) }, (made _ _ whole).1)
 
@@ -306,8 +304,8 @@ module _ (q : List ℕ) (xs : Shared) (n : ℕ) (x p : Arc Registry Global) (in_
   removed_from_all some =
       let was = filled_at (map arc_value xs) n (arc_value x) in_order.filled (place_within q (map arc_value xs) n at) in
       let few : finite.len (arc_value p) ≤ MOST_IN_PIECE =
-          subst (λ m. finite.len m ≤ MOST_IN_PIECE) (sym (is ∙ ap (λ m. finite.remove m q) (sym (shared_at xs n x (arc_value x) (shared_within q xs n at) e))))
-          (subst (λ k. k ≤ MOST_IN_PIECE) (sym (len-remove nat_list_cmp_total (get_or (map arc_value xs) n (arc_value x)) q)) (less_by_one _ _ was.1)) in
+      subst (λ m. finite.len m ≤ MOST_IN_PIECE) (sym (is ∙ ap (λ m. finite.remove m q) (sym (shared_at xs n x (arc_value x) (shared_within q xs n at) e))))
+      (subst (λ k. k ≤ MOST_IN_PIECE) (sym (len-remove nat_list_cmp_total (get_or (map arc_value xs) n (arc_value x)) q)) (less_by_one _ _ was.1)) in
       let filled : AreFilled (map arc_value (set xs n p)) = subst AreFilled (sym (map-set arc_value xs n p)) (filled_set (map arc_value xs) n (arc_value p) in_order.filled (some, few)) in
       (record { sorted = (made _ _ removed_whole).0; filled = filled }, (made _ _ removed_whole).1)
 
@@ -317,7 +315,7 @@ module _ (q : List ℕ) (xs : Shared) (n : ℕ) (x p : Arc Registry Global) (in_
       let new : map arc_value (remove (set xs n p) n) ≡ remove (set ms n (arc_value p)) n = map_remove (set xs n p) n ∙ ap (λ ms. remove ms n) (map-set arc_value xs n p) in
       let empty : finite.entries (arc_value p) ≡ [] = no_entries (finite.entries (arc_value p)) (sym (len-entries (arc_value p)) ∙ none) in
       let whole : joined (map arc_value (remove (set xs n p) n)) ≡ finite.entries (finite.remove (map_of ms) q) =
-          ap joined new ∙ empty_goes ms n (arc_value p) (place_within q ms n at) empty ∙ ap joined (sym (map-set arc_value xs n p)) ∙ removed_whole in
+      ap joined new ∙ empty_goes ms n (arc_value p) (place_within q ms n at) empty ∙ ap joined (sym (map-set arc_value xs n p)) ∙ removed_whole in
       (record { sorted = (made _ _ whole).0; filled = subst AreFilled (sym new) (filled_without ms n (arc_value p) in_order.filled) }, (made _ _ whole).1)
 
 -- a full piece cut in two
@@ -347,8 +345,8 @@ module _ (q : List ℕ) (xs ys : Shared) (n : ℕ) (x lower upper : Arc Registry
   split_half =
       let low : finite.len (arc_value lower) ≡ 256 = halves.half ∙ ap (λ k. k / 2) full in
       let both : finite.len (arc_value lower) + finite.len (arc_value upper) ≡ 512 =
-          (λ i. len-entries (arc_value lower) i + len-entries (arc_value upper) i) ∙ sym (length-append (finite.entries (arc_value lower)) (finite.entries (arc_value upper)))
-          ∙ ap length halves.entries ∙ sym (len-entries (arc_value x)) ∙ full in
+      (λ i. len-entries (arc_value lower) i + len-entries (arc_value upper) i) ∙ sym (length-append (finite.entries (arc_value lower)) (finite.entries (arc_value upper)))
+      ∙ ap length halves.entries ∙ sym (len-entries (arc_value x)) ∙ full in
       (low, omega arith)
 
   half_filled : (m : Registry) → finite.len m ≡ 256 → IsFilled m

@@ -1,5 +1,5 @@
 -- A piece's entries, xs the map that they are.
-use Rattle.std.proofs.Common.{◌≡◌, ℕ, ◌-◌, ◌<◌, ◌≤◌, ◌/◌, Bool, true, false, cond, not, T, List, [], ◌∷◌, ◌++◌, length, map, get_or, set, take, drop, Some, None, Option, option_map, is_some, is_eq, is_gt, Equal, insert, remove, refl, sym, ap, subst, ◌∙◌, arith}
+use Rattle.std.proofs.Common.{◌≡◌, ℕ, ◌-◌, ◌<◌, ◌≤◌, ◌/◌, Bool, true, false, cond, not, T, List, [], ◌∷◌, ◌++◌, length, map, get_or, set, Some, None, is_some, is_eq, is_gt, insert, remove, refl, sym, ap, subst, ◌∙◌, arith}
 use Rattle.std.specs.Prelude.{Result, Ok, Err, IfOk, IfErr}
 use Rattle.std.specs.Arc.{arc_value}
 use Rattle.std.specs.declared.sync.Arc.{Arc}
@@ -51,12 +51,12 @@ entries_remove m q =
     let left = others bytes_cmp nat_list_cmp_total q (finite.entries m) in
     let sorted : T (is_sorted bytes_cmp left) = is_sorted-where_key bytes_cmp (λ k. not (eq_by_cmp bytes_cmp q k)) (finite.entries m) (entries_sorted m) in
     let same : finite.from_sorted left ≡ finite.remove m q = same_map nat_list_cmp_total bytes_exact _ _ (λ k.
-        get-from_sorted bytes_cmp left k sorted
-        ∙ find-where_key bytes_cmp (λ x. not (eq_by_cmp bytes_cmp q x)) k (λ x t. ap (λ r. not (is_eq r)) (sym (alike_right nat_list_cmp_total k x q t))) (finite.entries m)
-        ∙ turned_round (eq_by_cmp bytes_cmp q k) _ _
-        ∙ ap (λ b. cond b None (find bytes_cmp k (finite.entries m))) ((eq_by_cmp_equiv nat_list_cmp_total).symm q k)
-        ∙ ap (cond (eq_by_cmp bytes_cmp k q) None) (sym (get-entries m k))
-        ∙ sym (get-remove nat_list_cmp_total m q k)) in
+    get-from_sorted bytes_cmp left k sorted
+    ∙ find-where_key bytes_cmp (λ x. not (eq_by_cmp bytes_cmp q x)) k (λ x t. ap (λ r. not (is_eq r)) (sym (alike_right nat_list_cmp_total k x q t))) (finite.entries m)
+    ∙ turned_round (eq_by_cmp bytes_cmp q k) _ _
+    ∙ ap (λ b. cond b None (find bytes_cmp k (finite.entries m))) ((eq_by_cmp_equiv nat_list_cmp_total).symm q k)
+    ∙ ap (cond (eq_by_cmp bytes_cmp k q) None) (sym (get-entries m k))
+    ∙ sym (get-remove nat_list_cmp_total m q k)) in
     sym (ap finite.entries same) ∙ entries-from_sorted bytes_cmp left sorted
 
 module _ (xs : Items) (m : Registry) (sorted : T (is_sorted bytes_cmp (map keyed xs))) (is : finite.from_sorted (map keyed xs) ≡ m) where
@@ -92,9 +92,10 @@ module _ (q : List ℕ) where
       → IsBinarySearchResult (λ a. bytes_cmp a.value.standing.id q) xs r → IfOk r (λ n. (n ≡ rank q m) × (finite.contains_key m q ≡ true))
   searched_found xs m (Err i) sorted is bound at = tt
   searched_found [] m (Ok i) sorted is bound at = absurd (omega arith)
-  searched_found (a ∷ xs) m (Ok i) sorted is bound at =
-      (tied_rank bytes_cmp nat_list_cmp_total keyed q (a ∷ xs) i a sorted bound (at a) ∙ sym (is_rank (a ∷ xs) m sorted is q),
-       is_there (a ∷ xs) m sorted is q ∙ tied_found bytes_cmp nat_list_cmp_total keyed q (a ∷ xs) i a bound (at a))
+  searched_found (a ∷ xs) m (Ok i) sorted is bound at = (
+    tied_rank bytes_cmp nat_list_cmp_total keyed q (a ∷ xs) i a sorted bound (at a) ∙ sym (is_rank (a ∷ xs) m sorted is q),
+    is_there (a ∷ xs) m sorted is q ∙ tied_found bytes_cmp nat_list_cmp_total keyed q (a ∷ xs) i a bound (at a),
+  )
 
   pub searched_missing : (xs : Items) (m : Registry) (r : Result ℕ ℕ) → T (is_sorted bytes_cmp (map keyed xs)) → finite.from_sorted (map keyed xs) ≡ m → IsSearchInRange r (length xs)
       → IsBinarySearchResult (λ a. bytes_cmp a.value.standing.id q) xs r → IfErr r (λ n. (n ≡ rank q m) × (finite.contains_key m q ≡ false))
@@ -123,20 +124,20 @@ module _ (xs : Items) (m : Registry) (sorted : T (is_sorted bytes_cmp (map keyed
   replaced a e some =
       let q = a.value.standing.id in
       made _ _ (put_over bytes_cmp nat_list_cmp_total keyed bytes_exact a xs n sorted (there q some) (at q e)
-          ∙ ap (put bytes_cmp q a.value) (kept xs m sorted is) ∙ sym (entries-insert nat_list_cmp_total m q a.value))
+      ∙ ap (put bytes_cmp q a.value) (kept xs m sorted is) ∙ sym (entries-insert nat_list_cmp_total m q a.value))
 
   pub inserted : (a : Arc Registered Global) → n ≡ rank a.value.standing.id m → finite.contains_key m a.value.standing.id ≡ false
       → T (is_sorted bytes_cmp (map keyed (insert xs n a))) × (finite.from_sorted (map keyed (insert xs n a)) ≡ finite.insert m a.value.standing.id a.value)
   inserted a e none =
       let q = a.value.standing.id in
       made _ _ (put_between bytes_cmp nat_list_cmp_total keyed a xs n (sym (is_there xs m sorted is q) ∙ none) (at q e)
-          ∙ ap (put bytes_cmp q a.value) (kept xs m sorted is) ∙ sym (entries-insert nat_list_cmp_total m q a.value))
+      ∙ ap (put bytes_cmp q a.value) (kept xs m sorted is) ∙ sym (entries-insert nat_list_cmp_total m q a.value))
 
   pub removed : (q : List ℕ) → n ≡ rank q m → finite.contains_key m q ≡ true
       → T (is_sorted bytes_cmp (map keyed (remove xs n))) × (finite.from_sorted (map keyed (remove xs n)) ≡ finite.remove m q)
   removed q e some =
       made _ _ (taken_out bytes_cmp nat_list_cmp_total keyed q xs n sorted (there q some) (at q e)
-          ∙ ap (others bytes_cmp nat_list_cmp_total q) (kept xs m sorted is) ∙ sym (entries_remove m q))
+      ∙ ap (others bytes_cmp nat_list_cmp_total q) (kept xs m sorted is) ∙ sym (entries_remove m q))
 
 -- an id that no entry has
 pub got_none : (m : Registry) (q : List ℕ) → finite.contains_key m q ≡ false → None ≡ finite.get m q

@@ -4,8 +4,10 @@ ghost use Rattle.std.specs.Arc.{arc_value};
 ghost use Rattle.std.specs.FinMap as finite;
 ghost use Rattle.clip_scratch.specs.Steps.Roster.{insert_one};
 
-use crate::piece::Piece;
-use crate::pieces;
+mod piece;
+mod pieces;
+
+use crate::by_id::piece::Piece;
 use clip_segment::Entry;
 use clip_words::NoMemory;
 use std::alloc::{AllocError, Global};

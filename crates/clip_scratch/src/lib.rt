@@ -4,5 +4,3 @@
 ghost use Rattle.std.specs.Prelude.{◌≡◌};
 
 mod by_id;
-mod piece;
-mod pieces;

@@ -1,5 +1,5 @@
 -- Entries in the order of their ids, cut into pieces.
-use Rattle.std.specs.Prelude.{◌≡◌, ℕ, zero, suc, ◌+◌, ◌<◌, ◌≤◌, ◌/◌, ◌⊎◌, Bool, true, false, T, List, [], ◌∷◌, ◌++◌, slice_index_or}
+use Rattle.std.specs.Prelude.{◌≡◌, ℕ, zero, suc, ◌<◌, ◌≤◌, ◌/◌, ◌⊎◌, Bool, true, false, T, List, [], ◌∷◌, ◌++◌, slice_index_or}
 use Rattle.std.specs.List.{prefix_len, list_all}
 use Rattle.std.specs.Ordering.{is_gt}
 use Rattle.std.specs.FinMap as finite
@@ -7,7 +7,7 @@ use Rattle.std.specs.declared.sync.Arc.{Arc}
 use Rattle.std.specs.declared.alloc.Global.{Global}
 use Rattle.clip_words.specs.Order.{bytes_cmp}
 use Rattle.clip_model.specs.History.{Registered, Registry}
-use Rattle.clip_scratch.specs.declared.piece.TheConstants.{MOST_IN_PIECE}
+use Rattle.clip_scratch.specs.declared.by_id.piece.TheConstants.{MOST_IN_PIECE}
 
 -- an entry under its id
 abbrev pub keyed : Arc Registered Global → List ℕ × Registered

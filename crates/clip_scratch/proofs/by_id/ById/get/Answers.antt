@@ -1,4 +1,4 @@
-use Rattle.std.proofs.Common.{◌≡◌, ◌∙◌, [], refl, map, sym, subst, ap}
+use Rattle.std.proofs.Common.{◌≡◌, ◌∙◌, [], refl, map, subst, ap}
 use Rattle.std.specs.FinMap as finite
 use Rattle.std.specs.Arc.{arc_value}
 use Rattle.clip_scratch.specs.Steps.Pieces.{IsPlaceFor, joined}

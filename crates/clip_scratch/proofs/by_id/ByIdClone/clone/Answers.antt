@@ -1,6 +1,5 @@
-use Rattle.std.proofs.Common.{◌≡◌, ◌∙◌, List, map, sym, subst, ap}
+use Rattle.std.proofs.Common.{◌≡◌, ◌∙◌, List, sym, subst, ap}
 use Rattle.std.specs.FinMap as finite
-use Rattle.std.specs.Arc.{arc_value}
 use Rattle.clip_model.specs.History.{Registry}
 use Rattle.clip_scratch.specs.Steps.Pieces.{AreInOrder, map_of}
 use Rattle.clip_scratch.proofs.Clones.{map_shared}
