@@ -14,3 +14,6 @@ pub mod Missing
 pub mod Naming
 pub mod Counted
 pub mod Late
+pub mod Ranking
+pub mod Piecing
+pub mod Joining

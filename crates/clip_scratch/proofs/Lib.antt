@@ -1,4 +1,0 @@
-pub mod Clones
-pub mod Ranking
-pub mod Piecing
-pub mod Joining

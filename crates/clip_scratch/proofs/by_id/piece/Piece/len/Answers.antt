@@ -1,6 +1,0 @@
-use Rattle.std.proofs.Common.{◌∙◌}
-use Rattle.clip_scratch.proofs.Piecing.{piece_len}
-use Rattle.clip_scratch.proofs.by_id.piece.Piece.len.Goals as goal
-
-pub returns : goal.returns
-returns c = c.len.ensures ∙ c.self.inside.entries.ok.0 ∙ piece_len c.self.inside.entries.items c.args.self.now c.self.invariant c.self.view_is

@@ -1,2 +1,0 @@
-pub mod Roster
-pub mod Pieces
