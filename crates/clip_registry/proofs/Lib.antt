@@ -15,3 +15,6 @@ pub mod Counted
 pub mod Late
 pub mod Strangers
 pub mod Distinct
+pub mod Ranking
+pub mod Piecing
+pub mod Joining

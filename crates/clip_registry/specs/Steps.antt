@@ -5,3 +5,4 @@ pub mod Merging
 pub mod Roster
 pub mod RosterInside
 pub mod State
+pub mod Pieces

@@ -1,23 +1,26 @@
 //! Entries by the ids of their standing queries.
-ghost use Rattle.std.specs.Prelude.{◌≡◌, option_map, option_copied, IfOk, OnOk};
+ghost use Rattle.std.specs.Prelude.{◌≡◌, option_map, option_copied, IfOk, OnOk, OnErr};
 ghost use Rattle.std.specs.Arc.{arc_value};
 ghost use Rattle.std.specs.FinMap as finite;
-ghost use Rattle.clip_model.specs.History.{Registry};
 ghost use Rattle.clip_registry.specs.Steps.Roster.{insert_one};
 
+mod piece;
+mod pieces;
+
+use crate::by_id::piece::Piece;
 use clip_segment::Entry;
 use clip_words::NoMemory;
 use std::alloc::{AllocError, Global};
-use std::collections::BTreeMap;
 use std::marker::Model;
 use std::sync::Arc;
 
-/// Entries by the ids of their standing queries. The keys are copies of the ids: std's maps are asked by a `&str`
-/// where their keys are `String`s, and not where they are `ArcStr`s. Each look-up, insert and removal costs one
-/// search among the ids.
+/// Entries by the ids of their standing queries: a list in the order of the ids, which is cut into pieces that clones
+/// share. An id is read from its entry, and copied nowhere. A look-up costs two searches by halves; a change also moves
+/// entries within one piece, which is copied where it is shared or full; and a clone costs a step for each piece.
 #[derive(Drop)]
 pub struct ById {
-    entries: BTreeMap<String, Arc<Entry>>,
+    pieces: Vec<Arc<Piece>>,
+    len: u64,
 }
 
 impl Model for ById {
@@ -27,10 +30,14 @@ impl Model for ById {
 
     ghost coded = { registry_code };
 
+    ghost use Rattle.std.specs.Prelude.{◌≡◌, map};
     ghost use Rattle.std.specs.Arc.{arc_value};
-    ghost use Rattle.clip_model.specs.ById.{map_of};
+    ghost use Rattle.std.specs.FinMap as finite;
+    ghost use Rattle.clip_registry.specs.Steps.Pieces.{AreInOrder, map_of};
 
-    ghost view = { λ m. map_of arc_value m.entries };
+    ghost view = { λ m. map_of (map arc_value m.pieces.items) };
+
+    ghost invariant = { λ m. AreInOrder (map arc_value m.pieces.items) × (m.len ≡ finite.len (map_of (map arc_value m.pieces.items))) };
 }
 
 impl Clone for ById {
@@ -38,7 +45,8 @@ impl Clone for ById {
 
     fn clone(&self) -> Result<ById, AllocError> {
         Ok(ById {
-            entries: self.entries.clone()?,
+            pieces: self.pieces.clone()?,
+            len: self.len,
         })
     }
 }
@@ -49,25 +57,30 @@ impl ById {
         ensures { result ≡ finite.empty }
     {
         ById {
-            entries: BTreeMap::new(alloc),
+            pieces: Vec::new(alloc),
+            len: 0,
         }
     }
 
-    /// How many entries there are.
+    /// How many entries there are. Constant time.
     pub fn len(&self) -> u64
         ensures { result ≡ finite.len self.now }
     {
-        self.entries.len() as u64
+        self.len
     }
 
     /// The entry under the id.
     pub fn get(&self, id: &str) -> Option<&Arc<Entry>>
         ensures { option_map arc_value (option_copied result) ≡ finite.get self.now id.now }
     {
-        self.entries.get(id)
+        match pieces::place_of(&self.pieces, id) {
+            Some(place) => self.pieces[place].get(id),
+            None => None,
+        }
     }
 
-    /// Puts an entry in the place of the one with its id, which it gives. `NoMemory` where an allocation failed.
+    /// Puts an entry in the place of the one with its id, which it gives. `NoMemory` where an allocation failed or the
+    /// count is at its end, with nothing changed.
     pub fn insert(
         &mut self,
         alloc: Global,
@@ -75,16 +88,28 @@ impl ById {
     ) -> Result<Option<Arc<Entry>>, NoMemory>
         ensures inserted { OnOk result (self.new ≡ insert_one self.old entry.value) }
         ensures replaced { IfOk result (λ old. option_map arc_value old ≡ finite.get self.old entry.value.standing.id) }
+        ensures unchanged { OnErr result (self.new ≡ self.old) }
     {
-        let id = String::from_str(alloc, entry.standing().id())?;
-        Ok(self.entries.insert(id, entry)?)
+        let Some(more) = self.len.checked_add(1) else {
+            return Err(NoMemory);
+        };
+        let replaced = pieces::insert(alloc, &mut self.pieces, entry)?;
+        if replaced.is_none() {
+            self.len = more;
+        }
+        Ok(replaced)
     }
 
-    /// Takes out the entry under the id, which it gives. `NoMemory` where an allocation failed.
+    /// Takes out the entry under the id. `NoMemory` where an allocation failed, with nothing changed.
     pub fn remove(&mut self, id: &str) -> Result<Option<Arc<Entry>>, NoMemory>
         ensures removed { OnOk result (self.new ≡ finite.remove self.old id.now) }
-        ensures gone { IfOk result (λ old. option_map arc_value old ≡ finite.get self.old id.now) }
+        ensures gone { IfOk result (λ gone. option_map arc_value gone ≡ finite.get self.old id.now) }
+        ensures unchanged { OnErr result (self.new ≡ self.old) }
     {
-        Ok(self.entries.remove(id))
+        let gone = pieces::remove(&mut self.pieces, id)?;
+        if gone.is_some() {
+            self.len -= 1;
+        }
+        Ok(gone)
     }
 }

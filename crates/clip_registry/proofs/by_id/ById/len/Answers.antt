@@ -1,8 +1,0 @@
-use Rattle.std.proofs.Common.{ap, ◌∙◌}
-use Rattle.std.specs.Arc.{arc_value}
-use Rattle.std.specs.FinMap as finite
-use Rattle.clip_model.proofs.ById.{len_shown}
-use Rattle.clip_registry.proofs.by_id.ById.len.Goals as goal
-
-pub returns : goal.returns
-returns c = c.len.ensures.len ∙ len_shown arc_value c.self.inside.entries c.len.ensures.ordered ∙ ap finite.len c.self.view_is
