@@ -72,7 +72,7 @@ impl<L: UpdateListener> UpdateListeners<L> {
     pub fn tell(&mut self, alloc: Global, update: Update<'_>)
         ensures { AreTold (told_value update.entry) self.old self.new }
     {
-        for part in &mut self.parts {
+        for part in self.parts.iter_mut() {
             tell_one(alloc, part, update);
         }
     }
