@@ -1,5 +1,5 @@
 -- What update listeners are told of the registry, and what they have heard.
-use Rattle.std.specs.Prelude.{◌≡◌, ℕ, List, [], ◌∷◌, ◌++◌, length, map, filter, slice_get, Some, Bool, true, false}
+use Rattle.std.specs.Prelude.{◌≡◌, ℕ, List, [], ◌∷◌, ◌++◌, length, map, filter, slice_get, Some, None, Bool, true, false}
 use mathlib.Core.List.{IsPrefix}
 use Rattle.clip_model.specs.History.{Command, Register, Delete, Clear, History}
 
@@ -61,6 +61,10 @@ pub record Follows (before : List Event) (history : History) (h : Heard) : Type 
 -- each listener follows, where before has what the one in each place had heard
 pub record AllFollow (before : ℕ → List Event) (history : History) (all : List Heard) : Type 0 where
   pub each : (k : ℕ) (h : Heard) → slice_get all k ≡ Some h → Follows (before k) history h
+
+-- what the listener in each place has heard, purges left out; nothing where none is
+abbrev pub heard_at : List Heard → ℕ → List Event
+heard_at all k = elim (slice_get all k) [ None ↦ [] | Some h ↦ without_purges h.events ]
 
 -- ---- what the values of the code say
 
