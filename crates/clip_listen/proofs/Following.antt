@@ -1,9 +1,9 @@
 -- Listeners follow a history that goes on.
-use Rattle.std.proofs.Common.{◌≡◌, ℕ, ◌<◌, ◌≤◌, List, [], ◌∷◌, ◌++◌, length, map, filter, slice_get, Some, Bool, true, false, refl, sym, ap, ◌∙◌, arith, inl, inr, append_assoc}
+use Rattle.std.proofs.Common.{◌≡◌, ℕ, List, [], ◌∷◌, ◌++◌, length, slice_get, Some, refl, sym, ap, subst, ◌∙◌, arith, inl, inr, append_assoc, append-nil}
 use Rattle.std.proofs.lemmas.Option.{slice_get_within, slice_get_cases}
 use mathlib.Core.List.{IsPrefix}
 use Rattle.clip_model.specs.History.{Command, Register, Delete, Clear, History, HistoryEntry}
-use Rattle.clip_listen.specs.Updates.{Event, Updated, Deleted, Cleared, Purged, event_of, events_of, is_of_command, without_purges, Heard, IsTold, hears, misses, is_passed, AreTold, Follows, AllFollow, heard_at}
+use Rattle.clip_listen.specs.Updates.{Event, Updated, Deleted, Cleared, Purged, event_of, events_of, without_purges, Heard, IsTold, hears, misses, is_passed, AreTold, Follows, AllFollow, heard_at}
 
 prefix_of_same : {A : Type 0} (xs ys : List A) → xs ≡ ys → IsPrefix xs ys
 prefix_of_same [] ys e = (ys, refl)
@@ -39,19 +39,22 @@ wanted_more : (before : List Event) (history : History) (e : HistoryEntry) → b
 wanted_more before history e = ap (λ l. before ++ l) (events_more history e) ∙ sym (append_assoc before (events_of history) (event_of e.command ∷ []))
 
 module _ (before : List Event) (history : History) (h w : Heard) (follows : Follows before history h) where
+  front_more : (e : HistoryEntry) → IsPrefix (without_purges h.events) (before ++ events_of (history ++ e ∷ []))
+  front_more e =
+      subst (λ (events : List Event). IsPrefix (without_purges h.events) events) (sym (wanted_more before history e)) (prefix_grows _ _ (event_of e.command ∷ []) follows.front)
+
   one_more : (e : HistoryEntry) → IsTold (event_of e.command) h w → Follows before (history ++ e ∷ []) w
   one_more e (hears unmarked is) =
       let all : without_purges (h.events ++ event_of e.command ∷ []) ≡ before ++ events_of (history ++ e ∷ []) =
       told_by_command h.events e.command ∙ ap (λ l. l ++ event_of e.command ∷ []) (follows.whole unmarked) ∙ sym (wanted_more before history e) in
       rw is (record { whole = λ _. all; front = prefix_of_same _ _ all })
-  one_more e (misses unmarked is) =
-      rw (is, wanted_more before history e) (record { whole = λ no. absurd cc; front = prefix_grows _ _ _ follows.front })
-  one_more e (is_passed marked is) =
-      rw (is, wanted_more before history e) (record { whole = λ no. absurd cc; front = prefix_grows _ _ _ follows.front })
+  one_more e (misses unmarked is) = rw is (record { whole = λ no. absurd cc; front = front_more e })
+  one_more e (is_passed marked is) = rw is (record { whole = λ no. absurd cc; front = front_more e })
 
   none_more : IsTold Purged h w → Follows before history w
   none_more (hears unmarked is) =
-      rw (is, told_by_purge h.events) (record { whole = λ _. follows.whole unmarked; front = follows.front })
+      let same = told_by_purge h.events in
+      rw is (record { whole = λ _. same ∙ follows.whole unmarked; front = subst (λ (events : List Event). IsPrefix events (before ++ events_of history)) (sym same) follows.front })
   none_more (misses unmarked is) = rw is (record { whole = λ no. absurd cc; front = follows.front })
   none_more (is_passed marked is) = rw is follows
 
@@ -75,5 +78,10 @@ module _ (before : ℕ → List Event) (history : History) (all new : List Heard
   }
 
 -- listeners follow a history that is still empty
+first_heard : (all : List Heard) (k : ℕ) (h : Heard) → slice_get all k ≡ Some h → without_purges h.events ≡ heard_at all k ++ events_of []
+first_heard all k h at = let here : heard_at all k ≡ without_purges h.events = rw (at, heard_at) refl in sym (append-nil (heard_at all k) ∙ here)
+
 pub all_follow_first : (all : List Heard) → AllFollow (heard_at all) [] all
-all_follow_first all = record { each = λ k h at. ? }
+all_follow_first all = record {
+  each = λ k h at. let same = first_heard all k h at in record { whole = λ _. same; front = prefix_of_same _ _ same };
+}

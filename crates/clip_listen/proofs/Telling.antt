@@ -50,7 +50,7 @@ module _ {L : Type 0} (heard : L → List Event) (event : Event) where
       told_next = record {
         same = length-set after n q ∙ all.same;
         told = λ k a b under at now. elim (cases_lt k n) [
-            inl below ↦ all.told k a b below at (sym (get_other after n k q (λ e. absurd (omega arith))) ∙ now)
+          | inl below ↦ all.told k a b below at (sym (get_other after n k q (λ e. absurd (omega arith))) ∙ now)
           | inr above ↦ told_here k a b (omega arith) at now
         ];
         left = λ k le. get_other after n k q (λ e. absurd (omega arith)) ∙ all.left k (omega arith);

@@ -1,5 +1,5 @@
 -- Events of the code as contracts see them.
-use Rattle.std.specs.Prelude.{List, ℕ, map, string_bytes}
+use Rattle.std.specs.Prelude.{map, string_bytes}
 use Rattle.std.specs.Arc.{arc_value, arc_str_bytes}
 use Rattle.clip_listen.specs.Updates as event
 use Rattle.clip_listen.specs.declared.events.UpdateEvent.{UpdateEvent}

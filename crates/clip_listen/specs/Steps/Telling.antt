@@ -1,5 +1,5 @@
 -- How far a walk over listeners has come that tells each an event.
-use Rattle.std.specs.Prelude.{◌≡◌, ℕ, ◌<◌, ◌≤◌, List, length, map, slice_get, Some, Bool}
+use Rattle.std.specs.Prelude.{◌≡◌, ℕ, ◌<◌, ◌≤◌, List, length, slice_get, Some, Bool}
 use Rattle.clip_listen.specs.Updates.{Event, IsTold, heard_by}
 
 -- the first n listeners are told the event, and the others are as they were

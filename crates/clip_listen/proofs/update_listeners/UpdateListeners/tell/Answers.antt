@@ -1,6 +1,6 @@
 use Rattle.std.proofs.Common.{◌≡◌, List, length, map, Bool, ap, sym, subst, ◌∙◌}
 use Rattle.std.proofs.lemmas.List.{with_items_is}
-use Rattle.clip_listen.specs.Updates.{AreTold, heard_by, Heard}
+use Rattle.clip_listen.specs.Updates.{AreTold, heard_by}
 use Rattle.clip_listen.specs.Told.{told_value}
 use Rattle.clip_listen.proofs.Telling.{told_none, told_next, told_whole}
 use Rattle.clip_listen.proofs.update_listeners.UpdateListeners.tell.Goals as goal
