@@ -9,7 +9,8 @@ use clip_words::NoMemory;
 use std::alloc::Global;
 use std::marker::Model;
 
-/// Listeners of one type, each with its mark: whether it missed an event. A marked one is told nothing more.
+/// Listeners of one type, each with its mark: whether it missed an event. A marked one is told nothing more, so an
+/// unmarked one has heard all that was told, and a marked one some first events of it.
 ///
 /// Seen as what each has heard, and its mark.
 #[derive(Drop)]
