@@ -30,4 +30,6 @@ mod showing;
 #[cfg(test)]
 mod syntax;
 #[cfg(test)]
+mod updates;
+#[cfg(test)]
 mod words;

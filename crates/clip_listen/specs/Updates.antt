@@ -1,0 +1,77 @@
+-- What update listeners are told of the registry, and what they have heard.
+use Rattle.std.specs.Prelude.{◌≡◌, ℕ, List, [], ◌∷◌, ◌++◌, length, map, filter, slice_get, Some, None, Bool, true, false}
+use mathlib.Core.List.{IsPrefix}
+use Rattle.clip_model.specs.History.{Command, Register, Delete, Clear, History}
+
+-- ---- events
+
+-- What happened to the registry: queries of these ids were registered, these ids were deleted, all queries were taken
+-- out, or what stood for nothing was cleared away.
+pub data Event : Type 0 where
+  Updated : List (List ℕ) → Event
+  Deleted : List (List ℕ) → Event
+  Cleared : Event
+  Purged : Event
+
+-- what a command tells: its ids, as it lists them
+abbrev pub event_of : Command → Event
+event_of (Register standings) = Updated (map (λ s. s.id) standings)
+event_of (Delete ids) = Deleted ids
+event_of Clear = Cleared
+
+-- one event for each entry, in order
+abbrev pub events_of : History → List Event
+events_of h = map (λ e. event_of e.command) h
+
+-- a command tells it
+abbrev pub is_of_command : Event → Bool
+is_of_command (Updated ids) = true
+is_of_command (Deleted ids) = true
+is_of_command Cleared = true
+is_of_command Purged = false
+
+-- the events, with those of purges left out
+abbrev pub without_purges : List Event → List Event
+without_purges events = filter is_of_command events
+
+-- ---- listeners
+
+-- what a listener has heard, and whether it missed an event
+pub record Heard : Type 0 where
+  pub events : List Event
+  pub missed : Bool
+
+-- A listener before and after an event: it hears it or misses it; one that missed one already is told nothing.
+pub data IsTold (event : Event) (h w : Heard) : Type 0 where
+  hears : h.missed ≡ false → w ≡ record { events = h.events ++ event ∷ []; missed = false } → IsTold event h w
+  misses : h.missed ≡ false → w ≡ record { events = h.events; missed = true } → IsTold event h w
+  is_passed : h.missed ≡ true → w ≡ h → IsTold event h w
+
+-- each listener is told the event
+pub record AreTold (event : Event) (before after : List Heard) : Type 0 where
+  pub same : length after ≡ length before
+  pub each : (k : ℕ) (h w : Heard) → slice_get before k ≡ Some h → slice_get after k ≡ Some w → IsTold event h w
+
+-- The listener had heard these before, and has then heard, purges left out, one event for each entry of the history; one
+-- that missed an event has heard some first ones of them.
+pub record Follows (before : List Event) (history : History) (h : Heard) : Type 0 where
+  pub whole : h.missed ≡ false → without_purges h.events ≡ before ++ events_of history
+  pub front : IsPrefix (without_purges h.events) (before ++ events_of history)
+
+-- each listener follows, where before has what the one in each place had heard
+pub record AllFollow (before : ℕ → List Event) (history : History) (all : List Heard) : Type 0 where
+  pub each : (k : ℕ) (h : Heard) → slice_get all k ≡ Some h → Follows (before k) history h
+
+-- what the listener in each place has heard, purges left out; nothing where none is
+abbrev pub heard_at : List Heard → ℕ → List Event
+heard_at all k = elim (slice_get all k) [ None ↦ [] | Some h ↦ without_purges h.events ]
+
+-- ---- what the values of the code say
+
+-- a listener with its mark, by what the listener has heard
+abbrev pub heard_by : {L : Type 0} → (L → List Event) → L × Bool → Heard
+heard_by heard part = record { events = heard part.0; missed = part.1 }
+
+-- listeners that missed nothing yet
+abbrev pub unmarked : {L : Type 0} → (L → List Event) → List L → List Heard
+unmarked heard listeners = map (λ l. record { events = heard l; missed = false }) listeners
