@@ -1,0 +1,46 @@
+use Rattle.std.proofs.Common.{◌≡◌, length, map, refl, sym, ap, subst, ◌∙◌, arith}
+use Rattle.std.proofs.lemmas.List.{length-map}
+use Rattle.std.specs.Arc.{arc_value}
+use Rattle.clip_registry.specs.Merging.{Misses, StandsAt}
+use Rattle.clip_registry.specs.RegistryState.{RegistryState}
+use Rattle.clip_registry.specs.Steps.Merging.{AreKept, replaced}
+use Rattle.clip_registry.specs.Steps.State.{state_or_beginning}
+use Rattle.clip_registry.proofs.registrar.Registrar.install.Goals as goal
+use Rattle.clip_registry.proofs.registrar.Registrar.install.Goals.{After-deref-3, After-deref-4}
+
+-- the segments are those of the registry
+same : (c : After-deref-3) → map arc_value c.deref-3.result.now ≡ c.deref.result.now.segments
+same c = ap (map arc_value) c.deref-3.ensures.value ∙ ap (λ (s : RegistryState). s.segments) (c.behind-shared.view_is ∙ c.deref-2.ensures ∙ sym c.deref.ensures)
+
+-- the new ones have the merge in the place of the four
+put : (c : After-deref-4) → map arc_value c.deref-3.result.now ≡ c.deref.result.now.segments
+    → map arc_value c.in_ok-segments.segments.items ≡ replaced c.deref.result.now.segments c.in-Some-place_in.first c.args.merged.entries
+put c are = c.in_ok-segments.ensures ∙ ap (λ ss. replaced ss c.in-Some-place_in.first c.args.merged.entries) are
+
+pub put_in-requires : goal.put_in-requires
+put_in-requires c =
+    let there = c.in-Some-place_in.ensures.there in
+    let are = ap length (same c) in
+    let counted = length-map c.deref-3.result.now arc_value in
+    omega arith
+
+pub with_segments-requires : goal.with_segments-requires
+with_segments-requires c =
+    subst (λ s. AreKept s (map arc_value c.in_ok-segments.segments.items)) (c.deref.ensures ∙ sym c.deref-4.ensures)
+    (subst (AreKept c.deref.result.now) (sym (put c (same (goal.at.with_segments-requires c).After-deref-3))) c.in-Some-place_in.ensures.kept)
+
+pub returns-clause-done : goal.returns-clause-done
+returns-clause-done c _ =
+    let here = goal.at.returns-clause-done c in
+    let was : c.deref.result.now ≡ c.args.self.now = c.deref.ensures ∙ ap state_or_beginning (sym c.in-Some.is) ∙ c.self.view_is in
+    let next = c.in_ok-new.ensures.ok ∙ c.in_ok-next.ensures in
+    record {
+      first = c.in-Some-place_in.first;
+      stood = subst (λ (s : RegistryState). StandsAt s.segments c.args.merged.sources c.in-Some-place_in.first) was c.in-Some-place_in.ensures.stands;
+      complete = λ miss. c.in-Some-place_in.ensures.complete (subst (λ s. Misses s c.args.merged) (sym was) miss);
+      segments = ap (λ (s : RegistryState). s.segments) next ∙ put here.After-deref-4 (same here.After-deref-3) ∙ ap (λ (s : RegistryState). replaced s.segments c.in-Some-place_in.first c.args.merged.entries) was;
+      history = ap (λ (s : RegistryState). s.history) (next ∙ ap (λ (s : RegistryState). record { segments = map arc_value c.in_ok-segments.segments.items; history = s.history }) (c.deref-4.ensures ∙ sym c.deref.ensures ∙ was));
+    }
+
+pub returns-clause-unchanged : goal.returns-clause-unchanged
+returns-clause-unchanged c never = elim (never refl) [ ]
