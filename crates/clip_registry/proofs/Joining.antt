@@ -20,7 +20,7 @@ use Rattle.clip_model.specs.History.{Registered, Registry}
 use Rattle.clip_registry.specs.Steps.Pieces.{AreFilled, AreInOrder, AreHalves, HasRoomFor, IsPlaceFor, ends_below, joined, map_of}
 use Rattle.clip_registry.specs.Steps.Roster.{insert_one}
 use Rattle.clip_registry.specs.declared.by_id.piece.TheConstants.{MOST_IN_PIECE}
-use Rattle.clip_registry.proofs.Ranking.{all_lower, all_others, below_less, below_tied, left, none_below, others, right, sorted_back, turned}
+use Rattle.clip_registry.proofs.Ranking.{all_lower, all_others, below_front, below_less, below_tied, left, none_below, others, right, sorted_back, turned}
 use Rattle.clip_registry.proofs.Piecing.{Pair, entries_remove, made, removed_none}
 
 -- ---- two lists, one after the other
@@ -45,17 +45,13 @@ module _ {K X : Type 0} (R : K → K → Ordering) (o : IsTotalOrder R) where
   find_after q [] ys h = refl
   find_after q (e ∷ xs) ys h = ap (λ r. cond (is_eq r) (Some e.1) (find R q (xs ++ ys))) (greater _ (left _ _ h)) ∙ find_after q xs ys (right _ _ h)
 
-  below_first : (x : K) (xs ys : List (K × X)) → T (below_all R x (xs ++ ys)) → T (below_all R x xs)
-  below_first x [] ys h = tt
-  below_first x (e ∷ xs) ys h = both _ _ (first _ _ h) (below_first x xs ys (second _ _ h))
-
   find_before : (q : K) (xs ys : List (K × X)) → all_lower R o q xs ≡ false → T (is_sorted R (xs ++ ys)) → find R q (xs ++ ys) ≡ find R q xs
   find_before q [] ys h sorted = absurd (true≢false h)
   find_before q (e ∷ xs) ys h sorted =
       elim (R q e.0) as (λ r. R q e.0 ≡ r → (is_gt r && all_lower R o q xs) ≡ false → cond (is_eq r) (Some e.1) (find R q (xs ++ ys)) ≡ cond (is_eq r) (Some e.1) (find R q xs)) [
         | Less ↦ λ r _.
             let under : T (below_all R q (xs ++ ys)) = below_less R o q e.0 (xs ++ ys) r (first _ _ sorted) in
-            none_below R o q (xs ++ ys) under ∙ sym (none_below R o q xs (below_first q xs ys under))
+            none_below R o q (xs ++ ys) under ∙ sym (none_below R o q xs (below_front R o q xs ys under))
         | Equal ↦ λ r _. refl
         | Greater ↦ λ r h. find_before q xs ys h (second _ _ sorted)
       ] refl h
@@ -68,7 +64,7 @@ module _ {K X : Type 0} (R : K → K → Ordering) (o : IsTotalOrder R) where
   others_before q [] ys h sorted = absurd (true≢false h)
   others_before q (e ∷ xs) ys h sorted =
       let all : T (below_all R q (xs ++ ys)) → others R o q (xs ++ ys) ≡ others R o q xs ++ ys =
-      λ under. all_others R o q (xs ++ ys) under ∙ ap (λ zs. zs ++ ys) (sym (all_others R o q xs (below_first q xs ys under))) in
+      λ under. all_others R o q (xs ++ ys) under ∙ ap (λ zs. zs ++ ys) (sym (all_others R o q xs (below_front R o q xs ys under))) in
       elim (R q e.0) as (λ r. R q e.0 ≡ r → (is_gt r && all_lower R o q xs) ≡ false
       → cond (not (is_eq r)) (e ∷ others R o q (xs ++ ys)) (others R o q (xs ++ ys)) ≡ cond (not (is_eq r)) (e ∷ others R o q xs) (others R o q xs) ++ ys) [
         | Less ↦ λ r _. ap (λ zs. e ∷ zs) (all (below_less R o q e.0 (xs ++ ys) r (first _ _ sorted)))

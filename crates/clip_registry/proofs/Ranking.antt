@@ -60,7 +60,7 @@ module _ {K X : Type 0} (R : K → K → Ordering) (o : IsTotalOrder R) where
   all_others q [] h = refl
   all_others q (e ∷ es) h = ap (λ r. cond (not (is_eq r)) (e ∷ others q es) (others q es)) (less _ (first _ _ h)) ∙ ap (λ xs. e ∷ xs) (all_others q es (second _ _ h))
 
-  below_front : (x : K) (xs ys : List (K × X)) → T (below_all R x (xs ++ ys)) → T (below_all R x xs)
+  pub below_front : (x : K) (xs ys : List (K × X)) → T (below_all R x (xs ++ ys)) → T (below_all R x xs)
   below_front x [] ys h = tt
   below_front x (e ∷ xs) ys h = both _ _ (first _ _ h) (below_front x xs ys (second _ _ h))
 

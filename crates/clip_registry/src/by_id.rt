@@ -80,7 +80,7 @@ impl ById {
     }
 
     /// Puts an entry in the place of the one with its id, which it gives. `NoMemory` where an allocation failed or the
-    /// count is at its end, with nothing changed.
+    /// count is at its end, with no entry changed.
     pub fn insert(
         &mut self,
         alloc: Global,
@@ -100,7 +100,7 @@ impl ById {
         Ok(replaced)
     }
 
-    /// Takes out the entry under the id. `NoMemory` where an allocation failed, with nothing changed.
+    /// Takes out the entry under the id. `NoMemory` where an allocation failed, with no entry changed.
     pub fn remove(&mut self, id: &str) -> Result<Option<Arc<Entry>>, NoMemory>
         ensures removed { OnOk result (self.new ≡ finite.remove self.old id.now) }
         ensures gone { IfOk result (λ gone. option_map arc_value gone ≡ finite.get self.old id.now) }

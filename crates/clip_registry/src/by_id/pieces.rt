@@ -51,7 +51,7 @@ fn remove_in(piece: &mut Arc<Piece>, id: &str) -> Result<Option<Arc<Entry>>, NoM
 }
 
 /// Puts two pieces with half the entries each in the place of a full one, which is the piece for an id, and gives the
-/// place of the one that is then for the id. `NoMemory` where an allocation failed, with nothing changed.
+/// place of the one that is then for the id. `NoMemory` where an allocation failed, with no entry changed.
 fn split(
     alloc: Global,
     pieces: &mut Vec<Arc<Piece>>,
@@ -101,7 +101,7 @@ fn room_for(
 }
 
 /// Puts an entry in the place of the one with its id, which it gives. Only the piece for the id is copied, where others
-/// share it, or split, where it is full. `NoMemory` where an allocation failed.
+/// share it, or split, where it is full. `NoMemory` where an allocation failed, with no entry changed.
 pub fn insert(
     alloc: Global,
     pieces: &mut Vec<Arc<Piece>>,
@@ -123,7 +123,7 @@ pub fn insert(
 }
 
 /// Takes out the entry under an id. Only the piece for the id is copied, where others share it; it goes where it is left
-/// empty. `NoMemory` where an allocation failed.
+/// empty. `NoMemory` where an allocation failed, with no entry changed.
 pub fn remove(pieces: &mut Vec<Arc<Piece>>, id: &str) -> Result<Option<Arc<Entry>>, NoMemory>
     requires { AreInOrder (map arc_value pieces.old.items) }
     ensures in_order { AreInOrder (map arc_value pieces.new.items) }
