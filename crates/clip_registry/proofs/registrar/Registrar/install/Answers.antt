@@ -1,7 +1,7 @@
 use Rattle.std.proofs.Common.{◌≡◌, length, map, refl, sym, ap, subst, ◌∙◌, arith}
 use Rattle.std.proofs.lemmas.List.{length-map}
 use Rattle.std.specs.Arc.{arc_value}
-use Rattle.clip_registry.specs.Merging.{Misses, StandsAt}
+use Rattle.clip_registry.specs.Merging.{IsStale, Misses, StandsAt}
 use Rattle.clip_registry.specs.RegistryState.{RegistryState}
 use Rattle.clip_registry.specs.Steps.Merging.{AreKept, replaced}
 use Rattle.clip_registry.specs.Steps.State.{state_or_beginning}
@@ -44,3 +44,8 @@ returns-clause-done c _ =
 
 pub returns-clause-unchanged : goal.returns-clause-unchanged
 returns-clause-unchanged c never = elim (never refl) [ ]
+
+pub returns-in_default-place_in-clause-stale : goal.returns-in_default-place_in-clause-stale
+returns-in_default-place_in-clause-stale c _ =
+    let was : c.deref.result.now ≡ c.args.self.now = c.deref.ensures ∙ ap state_or_beginning (sym c.in-Some.is) ∙ c.self.view_is in
+    subst (λ s. IsStale s c.args.merged) was (c.place_in.ensures.stale c.in_default-place_in.is)
