@@ -1,10 +1,18 @@
 //! Lists in shared pieces: a copy of a list shares its pieces, and a write copies just the pieces it touches.
 #![tactic(auto)]
 
+mod block;
 mod exact;
+mod iter;
 mod list;
+mod part;
+mod parts;
+mod piece;
 mod shared;
+#[cfg(test)]
+mod tests;
 
 pub use exact::Exact;
+pub use iter::Iter;
 pub use list::SharedList;
 pub use shared::Shared;

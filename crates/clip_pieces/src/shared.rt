@@ -11,7 +11,7 @@ use std::sync::Arc;
 /// A value behind an `Arc`, which contracts see as the value itself: so its clone equals it.
 #[derive(Drop)]
 pub struct Shared<X> {
-    arc: Arc<X>,
+    pub(crate) arc: Arc<X>,
 }
 
 impl<X> Model for Shared<X> {

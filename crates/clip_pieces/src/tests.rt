@@ -1,0 +1,76 @@
+//! Items over the borders of pieces and blocks, and copies that later writes leave as they were.
+ghost use Rattle.std.specs.Prelude.{◌≤◌};
+
+use crate::{Shared, SharedList};
+use std::alloc::Global;
+use std::test::Fail;
+
+/// An item that owns memory.
+#[derive(Drop)]
+struct Note {
+    text: String,
+}
+
+/// The squares of the numbers below a count.
+fn squares(alloc: Global, count: u64) -> Result<SharedList<Shared<u64>>, Fail>
+    requires { count ≤ 20000 }
+{
+    let mut list = SharedList::new(alloc);
+    for number in 0..count {
+        list.push(Shared::new(alloc, number * number)?)?;
+    }
+    Ok(list)
+}
+
+#[test]
+fn each_item_stands_at_its_place_over_the_borders(rt: HostRuntime) -> Result<(), Fail> {
+    let list = squares(rt.alloc(), 16_500)?;
+    assert!(rt; list.len() == 16_500);
+    for place in [0, 127, 128, 255, 256, 16_383, 16_384, 16_499] {
+        let square = list.get(place).map(|item| *item.value());
+        assert!(rt; square == Some(place as u64 * place as u64), "at {place}");
+    }
+    assert!(rt; list.get(16_500).is_none());
+    assert!(rt; list.last().map(|item| *item.value()) == Some(272_217_001));
+    Ok(())
+}
+
+#[test]
+fn a_write_leaves_the_other_copy_as_it_was(rt: HostRuntime) -> Result<(), Fail> {
+    let mut flags = SharedList::new(rt.alloc());
+    for _ in 0..300 {
+        flags.push(false)?;
+    }
+    let mut copy = flags.clone()?;
+    for place in [0, 127, 128, 255, 256, 299] {
+        assert!(rt; place < flags.len());
+        flags.set(place, true)?;
+        assert!(rt; flags.get(place) == Some(&true), "at {place}");
+        assert!(rt; copy.get(place) == Some(&false), "in the copy at {place}");
+    }
+    assert!(rt; copy.len() == 300);
+    copy.set(1, true)?;
+    copy.push(true)?;
+    assert!(rt; flags.get(1) == Some(&false));
+    assert!(rt; flags.get(2) == Some(&false));
+    assert!(rt; flags.len() == 300);
+    assert!(rt; copy.len() == 301);
+    assert!(rt; copy.last() == Some(&true));
+    Ok(())
+}
+
+#[test]
+fn items_that_own_memory_are_shared(rt: HostRuntime) -> Result<(), Fail> {
+    let alloc = rt.alloc();
+    let mut notes = SharedList::new(alloc);
+    assert!(rt; notes.is_empty());
+    let text = String::from_str(alloc, "tea")?;
+    notes.push(Shared::new(alloc, Note { text })?)?;
+    let copy = notes.clone()?;
+    let text = String::from_str(alloc, "coffee")?;
+    assert!(rt; notes.len() == 1);
+    notes.set(0, Shared::new(alloc, Note { text })?)?;
+    assert!(rt; notes.get(0).map(|note| note.value().text.len()) == Some(6));
+    assert!(rt; copy.get(0).map(|note| note.arc().text.len()) == Some(3));
+    Ok(())
+}
