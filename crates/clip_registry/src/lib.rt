@@ -7,6 +7,7 @@ mod by_id;
 mod change;
 mod command;
 mod merging;
+mod numbers;
 mod purging;
 mod registrar;
 mod roster;

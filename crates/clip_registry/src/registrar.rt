@@ -1,7 +1,7 @@
 //! The registrar: it applies commands one by one.
-ghost use Rattle.std.specs.Prelude.{◌≡◌, ◌<◌, ◌≤◌, ℕ, Ok, None, map, IfOk, IfErr, IfSome, OnOk, OnErr, IsTrue, IsFalse};
+ghost use Rattle.std.specs.Prelude.{◌≡◌, ◌<◌, ◌≤◌, ℕ, Ok, None, map, length, IfOk, IfErr, IfSome, OnOk, OnErr, IsTrue, IsFalse};
 ghost use Rattle.clip_merge.specs.Plan.{IsRun};
-ghost use Rattle.clip_model.specs.History.{fits, has_room, applied, IsLegal};
+ghost use Rattle.clip_model.specs.History.{fits, has_room, applied, own, IsLegal};
 ghost use Rattle.clip_registry.specs.Command.{command_of, answer_of, shared_entry};
 ghost use Rattle.clip_registry.specs.Merging.{IsBegun, IsInstalled, IsStale, purged};
 ghost use Rattle.clip_registry.specs.RegistryState.{IsWhole, beginning, state_after};
@@ -9,6 +9,7 @@ ghost use Rattle.clip_registry.specs.declared.command.Refused.TheVariants as ref
 
 use crate::command::{Applied, Command, HistoryEntry, Refused};
 use crate::merging::{Installed, MergeJob, Merged};
+use crate::numbers::number_in;
 use crate::purging::live_segments;
 use crate::state::State;
 use crate::view::View;
@@ -168,6 +169,28 @@ impl Registrar {
             }),
             None => Ok(View { state: None }),
         }
+    }
+
+    /// The same registry once more, or `NoMemory` where the count of its holders is at its end. Constant time.
+    pub fn copy(&self) -> Result<Registrar, NoMemory>
+        ensures { IfOk result (λ copy. copy ≡ self.now) }
+    {
+        let state = match &self.state {
+            Some(state) => Some(state.clone()?),
+            None => None,
+        };
+        Ok(Registrar {
+            alloc: self.alloc,
+            state,
+        })
+    }
+
+    /// How many commands of the caller were accepted. It costs a step for each history entry.
+    pub fn number_of(&self, caller: u32) -> u32
+        ensures count { result ≡ length (own self.now.history caller) }
+        ensures legal { IsLegal self.now.history }
+    {
+        number_in(self.history(), caller)
     }
 
     /// The commands that were accepted, in order. Constant time.

@@ -1,12 +1,16 @@
 //! Views: the registry as it was at one place of its history.
-ghost use Rattle.std.specs.Prelude.{◌≡◌, map, length, option_map, option_copied};
+ghost use Rattle.std.specs.Prelude.{◌≡◌, map, length, option_map, option_copied, IfOk};
 ghost use Rattle.std.specs.Arc.{arc_value};
 ghost use Rattle.std.specs.FinMap as finite;
-ghost use Rattle.clip_model.specs.History.{IsLegal, replay, is_live};
+ghost use Rattle.clip_model.specs.History.{IsLegal, own, replay, is_live};
+ghost use Rattle.clip_registry.specs.Command.{shared_entry};
 ghost use Rattle.clip_registry.specs.RegistryState.{IsWhole};
 
+use crate::command::HistoryEntry;
+use crate::numbers::number_in;
 use crate::state::State;
 use clip_segment::{Entry, Segment};
+use clip_words::NoMemory;
 use std::marker::Model;
 use std::sync::Arc;
 
@@ -59,6 +63,36 @@ impl View {
         match &self.state {
             Some(state) => state.history.len() as u64,
             None => 0,
+        }
+    }
+
+    /// The same view once more, or `NoMemory` where the count of its holders is at its end. Constant time.
+    pub fn copy(&self) -> Result<View, NoMemory>
+        ensures { IfOk result (λ copy. copy ≡ self.now) }
+    {
+        let state = match &self.state {
+            Some(state) => Some(state.clone()?),
+            None => None,
+        };
+        Ok(View { state })
+    }
+
+    /// How many commands of the caller were accepted. It costs a step for each history entry.
+    pub fn number_of(&self, caller: u32) -> u32
+        ensures count { result ≡ length (own self.now.history caller) }
+        ensures legal { IsLegal self.now.history }
+    {
+        number_in(self.history(), caller)
+    }
+
+    /// The commands that were accepted before the view was taken, in order. Constant time.
+    fn history(&self) -> &[Arc<HistoryEntry>]
+        ensures history { map shared_entry result.now ≡ self.now.history }
+        ensures legal { IsLegal self.now.history }
+    {
+        match &self.state {
+            Some(state) => &state.history,
+            None => &[],
         }
     }
 
