@@ -2,9 +2,10 @@
 ghost use Rattle.std.specs.Prelude.{◌≡◌, ◌+◌, ◌==◌, ◌<◌, ◌≤◌, ◌^◌, ◌++◌, ◌∷◌, ◌⊎◌, [], length, MatchBool};
 ghost use mathlib.Core.List.{IsPrefix};
 ghost use Rattle.clip_chronicle.specs.Chronicle.{head_of};
+ghost use Rattle.clip_model.specs.History as model;
 ghost use Rattle.clip_registry.specs.Command.{entry_of};
 
-use clip_registry::HistoryEntry;
+use clip_registry::{HistoryEntry, Registrar};
 use logbook::{Gain, Offer, Plain, Play, Rule, Seen, Start, Word};
 use std::marker::Model;
 
@@ -140,5 +141,18 @@ impl Front {
             found as usize
         };
         found == old
+    }
+
+    /// Adds the newest command of a registrar to all that was seen, and says whether it did. Constant time.
+    pub fn follow(&mut self, head: &Head, registrar: &Registrar) -> bool
+        requires head { head.now ≡ head_of self.old.seen.book }
+        requires one_more { (e : model.HistoryEntry) × (registrar.now.history ≡ self.old.seen.log ++ e ∷ []) }
+        ensures book { self.new.seen.book ≡ self.old.seen.book }
+        ensures added { MatchBool result (self.new.seen.log ≡ registrar.now.history) (IsPrefix self.old.seen.log self.new.seen.log) }
+    {
+        match registrar.history().last() {
+            Some(entry) => self.add(head, entry),
+            None => false,
+        }
     }
 }

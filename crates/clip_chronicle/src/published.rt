@@ -1,5 +1,7 @@
 //! What the writer publishes and the seats read, and the rule over their ends.
 ghost use Rattle.std.specs.Prelude.{◌≡◌, ℕ, IfOk, Some, MatchResult};
+ghost use Rattle.std.specs.Coded.{Coded-set};
+ghost use Rattle.clip_model.specs.History.{history_code};
 ghost use Rattle.clip_chronicle.specs.Callers.{IsBy};
 
 use crate::chronicle::Front;
@@ -17,7 +19,7 @@ pub struct Published {
     pub view: View,
     pub front: Front,
     pub callers: u32,
-    pub ghost same: { front.seen.log ≡ view.history },
+    pub ghost same: { front.seen.log ≡ view.history } by { Coded-set history_code _ _ },
     pub ghost callers_are: { IsBy callers view.history },
 }
 
