@@ -3,6 +3,7 @@ ghost use Rattle.std.specs.Prelude.{◌≡◌, ◌+◌, ◌==◌, ◌<◌, ◌�
 ghost use mathlib.Core.List.{IsPrefix};
 ghost use Rattle.clip_chronicle.specs.Chronicle.{head_of};
 ghost use Rattle.clip_model.specs.History as model;
+ghost use Rattle.clip_model.specs.History.{IsLegal};
 ghost use Rattle.clip_registry.specs.Command.{entry_of};
 
 use clip_registry::{HistoryEntry, Registrar};
@@ -149,6 +150,7 @@ impl Front {
         requires one_more { (e : model.HistoryEntry) × (registrar.now.history ≡ self.old.seen.log ++ e ∷ []) }
         ensures book { self.new.seen.book ≡ self.old.seen.book }
         ensures added { MatchBool result (self.new.seen.log ≡ registrar.now.history) (IsPrefix self.old.seen.log self.new.seen.log) }
+        ensures legal { IsLegal registrar.now.history }
     {
         match registrar.history().last() {
             Some(entry) => self.add(head, entry),

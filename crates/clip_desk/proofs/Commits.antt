@@ -2,6 +2,7 @@
 use Rattle.std.proofs.Common.{◌≡◌, ℕ, ◌+◌, ◌≤◌, ◌<◌, List, [], ◌∷◌, ◌++◌, length, take, sym, ap, ◌∙◌, subst, arith, length-append, take_all}
 use mathlib.Core.List.{IsPrefix}
 use Rattle.clip_model.specs.History.{History, Command, own, next_entry, with_command}
+use Rattle.clip_registry.specs.RegistryState.{RegistryState, state_after}
 use Rattle.clip_chronicle.specs.Callers.{IsBy}
 use Rattle.clip_chronicle.proofs.Fronts.{prefix_trans}
 use Rattle.clip_desk.proofs.Histories.{own_next, by_more}
@@ -25,3 +26,7 @@ seen_grown seen before after c command p is = prefix_trans seen before after p (
 pub by_grown : (n m c : ℕ) (shown before after : History) (command : Command) → IsBy n shown → shown ≡ before → after ≡ with_command before c command → 0 < c → c ≤ m → n ≡ m → IsBy n after
 by_grown n m c shown before after command by same is low high nm =
     subst (IsBy n) (sym is) (by_more n before (next_entry before c command) (subst (IsBy n) same by) (omega arith) (omega arith))
+
+-- the chronicle, once it has followed the registrar that took the command
+pub followed : (registrar next : RegistryState) (seen after : History) (c c' : ℕ) (command : Command) → after ≡ next.history → next ≡ state_after registrar c' command → seen ≡ registrar.history → c' ≡ c → after ≡ with_command seen c command
+followed registrar next seen after c c' command added is log ca = added ∙ ap (λ s. s.history) is ∙ (λ i. with_command (sym log i) (ca i) command)
