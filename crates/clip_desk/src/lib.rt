@@ -3,9 +3,11 @@
 
 mod growing;
 mod locked;
+mod parts;
 mod refused;
 mod seat;
 
 pub use locked::{DeskName, Locked};
-pub use refused::Refused;
+pub use parts::DeskParts;
+pub use refused::{NewRefused, Refused};
 pub use seat::{Receipt, Seat};

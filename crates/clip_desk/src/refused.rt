@@ -27,3 +27,14 @@ impl From<NoMemory> for Refused {
         Refused::NoMemory
     }
 }
+
+/// Why no parts of a desk were made.
+#[derive(Clone, Copy, Debug, PartialEq, Eq, Error)]
+pub enum NewRefused {
+    /// A desk has at most `MOST_CALLERS` callers.
+    #[error("too many callers")]
+    TooMany,
+    /// An allocation failed.
+    #[error("no memory")]
+    NoMemory,
+}
