@@ -1,5 +1,5 @@
 -- What a commit adds, over plain histories.
-use Rattle.std.proofs.Common.{◌≡◌, ℕ, ◌+◌, ◌≤◌, ◌<◌, List, [], ◌∷◌, ◌++◌, length, take, sym, ap, ◌∙◌, subst, arith, length-append, take_all}
+use Rattle.std.proofs.Common.{◌≡◌, ℕ, ◌+◌, ◌≤◌, ◌<◌, List, [], ◌∷◌, ◌++◌, length, take, sym, ap, ◌∙◌, subst, arith, length-append, take_all, Result, Ok, Err, IfOk}
 use mathlib.Core.List.{IsPrefix}
 use Rattle.clip_model.specs.History.{History, Command, own, next_entry, with_command}
 use Rattle.clip_registry.specs.RegistryState.{RegistryState, state_after}
@@ -30,3 +30,8 @@ by_grown n m c shown before after command by same is low high nm =
 -- the chronicle, once it has followed the registrar that took the command
 pub followed : (registrar next : RegistryState) (seen after : History) (c c' : ℕ) (command : Command) → after ≡ next.history → next ≡ state_after registrar c' command → seen ≡ registrar.history → c' ≡ c → after ≡ with_command seen c command
 followed registrar next seen after c c' command added is log ca = added ∙ ap (λ s. s.history) is ∙ (λ i. with_command (sym log i) (ca i) command)
+
+-- two facts of what is Ok
+pub both_ok : {A E : Type 0} (P Q S : A → Type 0) (r : Result A E) → IfOk r P → IfOk r Q → ((a : A) → P a → Q a → S a) → IfOk r S
+both_ok P Q S (Ok a) p q f = f a p q
+both_ok P Q S (Err e) p q f = tt
