@@ -14,3 +14,4 @@ pub mod Missing
 pub mod Naming
 pub mod Counted
 pub mod Late
+pub mod Sent
