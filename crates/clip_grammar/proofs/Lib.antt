@@ -11,3 +11,4 @@ pub mod Uniqueness
 pub mod Leaving
 pub mod Faults
 pub mod Refusals
+pub mod Sent

@@ -18,3 +18,4 @@ pub mod Distinct
 pub mod Ranking
 pub mod Piecing
 pub mod Joining
+pub mod Sent

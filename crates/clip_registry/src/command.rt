@@ -98,7 +98,7 @@ impl Command {
 
     /// A command with the same content, whose queries are shared and whose ids are copied, or `NoMemory` where an
     /// allocation failed.
-    pub(crate) fn copy(&self) -> Result<Command, NoMemory>
+    pub fn copy(&self) -> Result<Command, NoMemory>
         ensures { IfOk result (λ copy. command_of copy ≡ command_of self.now) }
     {
         match self {

@@ -9,6 +9,7 @@ mod command;
 mod held;
 mod history;
 mod merging;
+mod numbers;
 mod purging;
 mod registrar;
 mod roster;

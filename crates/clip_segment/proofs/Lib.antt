@@ -1,3 +1,4 @@
 pub mod Holding
 pub mod Keys
 pub mod Positions
+pub mod Sent

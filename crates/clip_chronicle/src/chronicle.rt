@@ -1,0 +1,160 @@
+// The history as a token that can be copied: what was seen of it stays a beginning of it for good.
+ghost use Rattle.std.specs.Prelude.{◌≡◌, ◌+◌, ◌==◌, ◌<◌, ◌≤◌, ◌^◌, ◌++◌, ◌∷◌, ◌⊎◌, [], length, MatchBool};
+ghost use mathlib.Core.List.{IsPrefix};
+ghost use Rattle.clip_chronicle.specs.Chronicle.{head_of};
+ghost use Rattle.clip_model.specs.History as model;
+ghost use Rattle.clip_model.specs.History.{IsLegal};
+ghost use Rattle.clip_registry.specs.Command.{entry_of};
+
+use clip_registry::{HistoryEntry, Registrar};
+use logbook::{Gain, Offer, Plain, Play, Rule, Seen, Start, Word};
+use std::marker::Model;
+
+/// An entry of the history, as the chronicle keeps it. No value of it is made.
+pub struct Line {
+    pub entry: HistoryEntry,
+}
+
+impl Model for Line {
+    ghost use Rattle.clip_model.specs.History.{HistoryEntry, entry_code};
+    ghost use Rattle.clip_registry.specs.Command.{entry_of};
+
+    ghost Value = { HistoryEntry };
+
+    ghost coded = { entry_code };
+
+    ghost view = { λ l. entry_of l.entry };
+}
+
+/// The rule of the chronicle.
+pub struct Law;
+
+impl Rule<Line, u64> for Law {
+    ghost use Rattle.std.specs.Prelude.{[]};
+    ghost use base.Fml.{ftrue};
+    ghost use Rattle.clip_chronicle.specs.Chronicle.{IsKept};
+
+    ghost holds = { λ cells log. IsKept cells log };
+
+    ghost first = { [] };
+
+    ghost hinted = { λ n log. Unit {0} };
+
+    ghost shows = { λ log. [] };
+
+    ghost keeps = { λ names log. ftrue };
+
+    ghost moves = { λ ask before after answer. Unit {0} };
+}
+
+/// Callers trade nothing.
+pub struct Nothing;
+
+impl Gain<Line, u64> for Nothing {
+    ghost use base.Fml.{ftrue};
+
+    ghost after = { λ names about answer. ftrue };
+}
+
+/// A step that adds an entry.
+pub struct Add;
+
+impl Play<Line, u64> for Add {
+    ghost use Rattle.clip_chronicle.specs.Chronicle.{Adds};
+
+    ghost then = { Adds };
+}
+
+/// What a step asks for: the entry.
+impl Plain<HistoryEntry, Line, u64> for Add {
+    ghost use Rattle.std.specs.Prelude.{None};
+    ghost use Rattle.clip_registry.specs.Command.{entry_of};
+
+    ghost ask = { λ e. entry_of e };
+
+    ghost state = { λ e. None };
+}
+
+/// The word of a chronicle: the length of its history.
+pub type Head = Word<Line, u64, Law>;
+
+/// A beginning of the history, and its length.
+#[derive(Drop)]
+pub struct Front {
+    pub count: usize,
+    pub seen: Seen<Line, u64, Law>,
+    pub ghost counted: { count ≡ length seen.log },
+}
+
+/// A new chronicle, with an empty history.
+pub fn open_chronicle() -> (Head, Front)
+    ensures head { result.0 ≡ head_of result.1.seen.book }
+    ensures empty { result.1.seen.log ≡ [] }
+{
+    let (seen, mut first, _second) = Seen::open(Start::alone(), 0, 0);
+    let head = Word::tracked(0, &mut first);
+    (head, Front { count: 0, seen })
+}
+
+impl Front {
+    /// A copy.
+    pub fn again(&self) -> Front
+        ensures { result ≡ self.now }
+    {
+        Front {
+            count: self.count,
+            seen: self.seen.again(),
+        }
+    }
+
+    /// Of two beginnings of one history one begins the other.
+    pub fn meet(&self, other: &Front)
+        requires { other.now.seen.book ≡ self.now.seen.book }
+        ensures shorter { length self.now.seen.log ≤ length other.now.seen.log → IsPrefix self.now.seen.log other.now.seen.log }
+        ensures longer { length other.now.seen.log ≤ length self.now.seen.log → IsPrefix other.now.seen.log self.now.seen.log }
+    {
+        let mut both = self.seen.again();
+        both.learn(&other.seen);
+    }
+
+    /// Adds an entry to all that was seen, and says whether it did. It did not where the history is longer.
+    pub fn add(&mut self, head: &Head, entry: &HistoryEntry) -> bool
+        requires head { head.now ≡ head_of self.old.seen.book }
+        requires room { length self.old.seen.log < 2 ^ 62 }
+        ensures book { self.new.seen.book ≡ self.old.seen.book }
+        ensures added { MatchBool result (self.new.seen.log ≡ self.old.seen.log ++ entry_of entry.now ∷ []) (IsPrefix self.old.seen.log self.new.seen.log) }
+    {
+        let mut offer: Offer<Line, u64, Law, Nothing> = self
+            .seen
+            .plain::<Nothing, HistoryEntry, Add>(entry);
+        let mut pen = self.seen.no_pen();
+        let old = self.count as u64;
+        let found = head.compare_exchange::<Add, Nothing>(
+            old,
+            old + 1,
+            &mut self.seen,
+            &mut offer,
+            &mut pen,
+        );
+        self.count = if found == old {
+            self.count + 1
+        } else {
+            found as usize
+        };
+        found == old
+    }
+
+    /// Adds the newest command of a registrar to all that was seen, and says whether it did. Constant time.
+    pub fn follow(&mut self, head: &Head, registrar: &Registrar) -> bool
+        requires head { head.now ≡ head_of self.old.seen.book }
+        requires one_more { (e : model.HistoryEntry) × (registrar.now.history ≡ self.old.seen.log ++ e ∷ []) }
+        ensures book { self.new.seen.book ≡ self.old.seen.book }
+        ensures added { MatchBool result (self.new.seen.log ≡ registrar.now.history) (IsPrefix self.old.seen.log self.new.seen.log) }
+        ensures legal { IsLegal registrar.now.history }
+    {
+        match registrar.history().last() {
+            Some(entry) => self.add(head, entry),
+            None => false,
+        }
+    }
+}

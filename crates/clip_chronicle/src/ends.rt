@@ -1,0 +1,84 @@
+//! The steps of the ends.
+ghost use Rattle.std.specs.Prelude.{◌≡◌, ℕ, IfOk, Some, MatchResult, ◌++◌, drop};
+ghost use Rattle.left_right.specs.Sides.{view};
+ghost use mathlib.Core.List.{IsPrefix};
+ghost use Rattle.clip_chronicle.specs.Callers.{IsBy};
+ghost use Rattle.clip_chronicle.specs.Ends.{Fits, StaysOf, Continues, Shows};
+
+use crate::chronicle::Front;
+use crate::published::{Published, ReaderEnd, Sight, WriterEnd};
+use clip_registry::View;
+use core::mem::replace_with;
+use std::alloc::AllocError;
+use std::sync::Wait;
+
+/// A copy of what is published. It waits for nobody.
+pub fn read(end: ReaderEnd) -> (ReaderEnd, Result<Published, AllocError>)
+    ensures read { IfOk result.1 (λ p. (view result.0.place ≡ Some p) × Fits p (view end.place)) }
+    ensures kept { StaysOf (view end.place) (view result.0.place) }
+{
+    match end.enter_as::<Sight>() {
+        Ok(reading) => {
+            let copy = reading.get().copy();
+            (reading.leave(), copy)
+        }
+        Err(end) => (end, Err(AllocError)),
+    }
+}
+
+/// The same, where the end stays in its place.
+pub fn read_here(end: &mut ReaderEnd) -> Result<Published, AllocError>
+    ensures read { IfOk result (λ p. (view end.new.place ≡ Some p) × Fits p (view end.old.place)) }
+    ensures kept { StaysOf (view end.old.place) (view end.new.place) }
+{
+    replace_with(end, (), |end, _nothing| read(end))
+}
+
+/// Publishes a value that continues the one before, or leaves it.
+pub fn publish<R: Wait>(
+    rt: &R,
+    writer: WriterEnd,
+    next: Published,
+) -> (WriterEnd, Result<(), AllocError>)
+    requires { Continues writer.desk.shown.value next }
+    ensures { MatchResult result.1 (λ _. (result.0.desk.shown.value ≡ next) × (view result.0.desk.place ≡ Some next)) (λ _. (result.0.desk.shown.value ≡ writer.desk.shown.value) × (view result.0.desk.place ≡ view writer.desk.place)) }
+{
+    let mut writer = writer;
+    let Ok(()) = writer.append(next) else {
+        return (writer, Err(AllocError));
+    };
+    writer.publish_as::<Sight, R>(rt)
+}
+
+/// The same, where the writer stays in its place: a view of the history that the front has.
+pub fn show<R: Wait>(
+    rt: &R,
+    writer: &mut WriterEnd,
+    view: View,
+    front: Front,
+) -> Result<(), AllocError>
+    requires log { front.seen.log ≡ view.history }
+    requires book { front.seen.book ≡ writer.old.desk.shown.value.front.seen.book }
+    requires later { IsPrefix writer.old.desk.shown.value.view.history view.history }
+    requires callers { IsBy writer.old.desk.shown.value.callers view.history }
+    ensures { MatchResult result (λ _. Shows writer.old.desk.shown.value view writer.new.desk.shown.value) (λ _. writer.new.desk.shown.value ≡ writer.old.desk.shown.value) }
+{
+    let callers = writer.published().callers;
+    let next = Published {
+        view,
+        front,
+        callers,
+    };
+    publish_here(rt, writer, next)
+}
+
+fn publish_here<R: Wait>(rt: &R, writer: &mut WriterEnd, next: Published) -> Result<(), AllocError>
+    requires { Continues writer.old.desk.shown.value next }
+    ensures { MatchResult result (λ _. writer.new.desk.shown.value ≡ next) (λ _. writer.new.desk.shown.value ≡ writer.old.desk.shown.value) }
+{
+    replace_with(
+        writer,
+        (rt, next),
+        |writer, (rt, next)| publish(rt, writer, next),
+    )
+}

@@ -1,0 +1,11 @@
+//! The chronicle of a shared history, and the ends by which it is published and read: what was seen of the history stays
+//! a beginning of it for good.
+#![tactic(auto)]
+
+mod chronicle;
+mod ends;
+mod published;
+
+pub use chronicle::{Front, Head, Line, open_chronicle};
+pub use ends::{publish, read_here, show};
+pub use published::{Notes, Published, ReaderEnd, WriterEnd};

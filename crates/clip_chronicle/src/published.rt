@@ -1,0 +1,104 @@
+//! What the writer publishes and the seats read, and the rule over their ends.
+ghost use Rattle.std.specs.Prelude.{◌≡◌, ℕ, IfOk, Some, MatchResult};
+ghost use Rattle.std.specs.Coded.{Coded-set};
+ghost use Rattle.clip_model.specs.History.{history_code};
+ghost use Rattle.clip_chronicle.specs.Callers.{IsBy};
+
+use crate::chronicle::Front;
+use atomic_table::{Join, Split};
+use clip_registry::View;
+use crossbeam_utils::rule::{Outcome, Protocol};
+use left_right::Absorb;
+use left_right::reader::Reader;
+use left_right::writer::Writer;
+use std::alloc::AllocError;
+
+/// A view, the token of its history, and how many callers the desk has.
+#[derive(Drop)]
+pub struct Published {
+    pub view: View,
+    pub front: Front,
+    pub callers: u32,
+    pub ghost same: { front.seen.log ≡ view.history } by { Coded-set history_code _ _ },
+    pub ghost callers_are: { IsBy callers view.history },
+}
+
+impl Published {
+    pub fn copy(&self) -> Result<Published, AllocError>
+        ensures { IfOk result (λ p. p ≡ self.now) }
+    {
+        let Ok(view) = self.view.copy() else {
+            return Err(AllocError);
+        };
+        Ok(Published {
+            view,
+            front: self.front.again(),
+            callers: self.callers,
+        })
+    }
+}
+
+// Each operation replaces the whole value.
+impl Absorb<Published> for Published {
+    type State = Published;
+
+    ghost state = { λ p. p };
+
+    ghost applied = { λ before operation. operation };
+
+    fn absorb_first(
+        &mut self,
+        operation: &Published,
+        _other: &Published,
+    ) -> Result<(), AllocError> {
+        *self = operation.copy()?;
+        Ok(())
+    }
+
+    fn absorb_second(&mut self, operation: Published, _other: &Published) -> Result<(), Published> {
+        *self = operation;
+        Ok(())
+    }
+}
+
+/// What an end knows is the value that it saw last.
+pub struct Rules;
+
+impl Protocol<Published, Option<Published>> for Rules {
+    ghost use Rattle.std.specs.Prelude.{None};
+    ghost use Rattle.clip_chronicle.specs.Ends.{Keeps};
+
+    ghost holds = { Keeps };
+
+    ghost first = { None };
+}
+
+/// An end sees what is published.
+pub struct Sight;
+
+impl Outcome<Published, Option<Published>> for Sight {
+    ghost use Rattle.clip_chronicle.specs.Ends.{Sees};
+
+    ghost then = { Sees };
+}
+
+/// What the writer saw goes to a reader.
+pub struct Notes;
+
+impl Split<Option<Published>> for Notes {
+    ghost left = { λ v. v };
+
+    ghost right = { λ v. v };
+}
+
+impl Join<Option<Published>> for Notes {
+    ghost use Rattle.std.specs.Prelude.{None};
+
+    ghost both = { λ v w. w };
+
+    ghost spent = { None };
+}
+
+pub type ReaderEnd = Reader<Published, Option<Published>, Rules>;
+
+pub type WriterEnd = Writer<Published, Published, Option<Published>, Rules>;

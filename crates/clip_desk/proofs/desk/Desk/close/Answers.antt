@@ -1,0 +1,25 @@
+use Rattle.std.proofs.Common.{◌≡◌, ◌∙◌, ◌≤◌, ℕ, List, Some, slice_get, refl, sym, ap, subst}
+use Rattle.clip_model.specs.History.{History}
+use Rattle.clip_model.specs.History.{IsLegal}
+use Rattle.clip_chronicle.specs.Callers.{IsBy}
+use Rattle.clip_desk.specs.Seats.{SeatIs, AreAll, IsAccounted}
+use Rattle.clip_desk.proofs.desk.Desk.close.Goals as goal
+
+pub all_agree-requires : goal.all_agree-requires
+all_agree-requires g c k s at tag = c.requires k s (ap (λ l. slice_get l k) (sym c.as_slice.ensures.value) ∙ at) (tag ∙ ap (λ d. d.tag) c.self.view_is)
+
+pub returns-clause-legal : goal.returns-clause-legal
+returns-clause-legal g c =
+    (c.end.ensures.legal.0, subst (λ n. IsBy n c.end.result.history) (sym c.self.invariant ∙ ap (λ d. d.callers) c.self.view_is) c.end.ensures.legal.1)
+
+pub returns-clause-seats : goal.returns-clause-seats
+returns-clause-seats g c =
+    let same = ap (λ s. s.history) c.end.ensures.same in
+    let tag = ap (λ d. d.tag) c.self.view_is in
+    record {
+      each = λ k s at. subst (λ (h : History). IsAccounted c.args.self.tag h s) (sym same) (subst (λ (t : ℕ). IsAccounted t c.into_inner-locked.result.history s) tag (c.if-not-all_agree.ensures refl k s (ap (λ l. slice_get l k) c.as_slice.ensures.value ∙ at)));
+      none_missing = λ caller low high.
+          let callers = ap (λ d. d.callers) c.self.view_is in
+          let one = c.if-not-has_all.ensures refl caller low (subst (λ (n : ℕ). caller ≤ n) (sym callers) high) in
+          (one.0, one.1, ap (λ l. slice_get l one.0) (sym c.as_slice-else-not-all_agree.ensures.value) ∙ one.2, one.3);
+    }

@@ -1,0 +1,82 @@
+use Rattle.std.proofs.Common.{◌≡◌, ◌<◌, ◌≤◌, ◌∙◌, ◌++◌, ◌∷◌, [], ℕ, List, length, take, ap, sym, refl, subst, arith}
+use mathlib.Core.List.{IsPrefix}
+use Rattle.clip_model.specs.History.{own, with_command, IsLegal}
+use Rattle.clip_registry.specs.Command.{command_of}
+use Rattle.clip_chronicle.specs.Callers.{IsBy}
+use Rattle.clip_desk.proofs.Commits.{followed, own_grown, mine_grown, own_fits, seen_grown, by_grown}
+use Rattle.clip_desk.proofs.locked.Locked.commit.Goals as goal
+
+pub show-requires-clause-callers : goal.show-requires-clause-callers
+show-requires-clause-callers g c =
+    let i = c.self.invariant in
+    let seen = c.self.inside.front.seen.log in
+    let caller = c.args.seat.now.caller in
+    let command = command_of c.args.command in
+    let view = c.in-Ok.grown.view.history in
+    let is : view ≡ with_command seen caller command = followed c.self.inside.registrar c.in-Ok.grown.registrar seen view caller c.caller-caller.result command (ap (λ s. s.history) c.in-Ok.ensures.view) c.in-Ok.ensures.registrar i.log c.caller-caller.ensures.caller in
+    let known = c.caller-caller.ensures.known in
+    let same = c.caller-caller.ensures.caller in
+    let shown = c.self.inside.writer.desk.shown.value in
+    let low : 0 < caller = omega (arith, known.0, same) in
+    let high : caller ≤ g.N.DeskName.callers = omega (arith, known.1, same, c.requires.desk.1) in
+    by_grown shown.callers g.N.DeskName.callers caller shown.view.history seen view command shown.callers_are (ap (λ v. v.history) i.shown_is ∙ sym i.log) is low high i.shown_callers
+
+pub add-requires-clause-own : goal.add-requires-clause-own
+add-requires-clause-own g c =
+    let seen = c.self.inside.front.seen.log in
+    let caller = c.args.seat.now.caller in
+    let command = command_of c.args.command in
+    let after = c.follow.new.self.seen.log in
+    let is : after ≡ with_command seen caller command = followed c.self.inside.registrar c.in-Ok.grown.registrar seen after caller c.caller-caller.result command c.if-not-follow.ensures.added c.in-Ok.ensures.registrar c.self.invariant.log c.caller-caller.ensures.caller in
+    own_fits seen after c.args.seat.now.mine caller command is (c.if-not-agrees.ensures refl).1
+
+pub returns-clause-legal : goal.returns-clause-legal
+returns-clause-legal g c =
+    let i = c.self.invariant in
+    let seen = c.self.inside.front.seen.log in
+    let caller = c.args.seat.now.caller in
+    let command = command_of c.args.command in
+    let after = c.new.result.history in
+    let next = c.in-Ok.grown.registrar in
+    let told : after ≡ next.history = ap (λ r. r.history) c.new.ensures ∙ ap (λ f. f.seen.log) c.again-2.ensures ∙ c.if-not-follow.ensures.added in
+    let is : after ≡ with_command seen caller command = followed c.self.inside.registrar next seen after caller c.caller-caller.result command told c.in-Ok.ensures.registrar i.log c.caller-caller.ensures.caller in
+    let known = c.caller-caller.ensures.known in
+    let same = c.caller-caller.ensures.caller in
+    let shown = c.self.inside.writer.desk.shown.value in
+    let low : 0 < caller = omega (arith, known.0, same) in
+    let high : caller ≤ g.N.DeskName.callers = omega (arith, known.1, same, c.requires.desk.1) in
+    let by : IsBy shown.callers after = by_grown shown.callers g.N.DeskName.callers caller shown.view.history seen after command shown.callers_are (ap (λ v. v.history) i.shown_is ∙ sym i.log) is low high i.shown_callers in
+    (subst IsLegal (sym told) c.follow.ensures.legal, subst (λ (n : ℕ). IsBy n after) i.shown_callers by)
+
+pub returns-clause-seen : goal.returns-clause-seen
+returns-clause-seen g c =
+    let seen = c.self.inside.front.seen.log in
+    let caller = c.args.seat.now.caller in
+    let command = command_of c.args.command in
+    let after = c.new.result.history in
+    let front : after ≡ c.follow.new.self.seen.log = ap (λ r. r.history) c.new.ensures ∙ ap (λ f. f.seen.log) c.again-2.ensures in
+    let is : after ≡ with_command seen caller command = followed c.self.inside.registrar c.in-Ok.grown.registrar seen after caller c.caller-caller.result command (front ∙ c.if-not-follow.ensures.added) c.in-Ok.ensures.registrar c.self.invariant.log c.caller-caller.ensures.caller in
+    (seen_grown c.args.seat.now.seen seen after caller command (c.if-not-agrees.ensures refl).0 is, ap (λ s. s.seen) c.add.ensures.seen ∙ sym front)
+
+pub returns-clause-mine : goal.returns-clause-mine
+returns-clause-mine g c =
+    let seen = c.self.inside.front.seen.log in
+    let caller = c.args.seat.now.caller in
+    let command = command_of c.args.command in
+    let mine = c.args.seat.now.mine in
+    let after = c.follow.new.self.seen.log in
+    let front : c.new.result.history ≡ after = ap (λ r. r.history) c.new.ensures ∙ ap (λ f. f.seen.log) c.again-2.ensures in
+    let is : after ≡ with_command seen caller command = followed c.self.inside.registrar c.in-Ok.grown.registrar seen after caller c.caller-caller.result command c.if-not-follow.ensures.added c.in-Ok.ensures.registrar c.self.invariant.log c.caller-caller.ensures.caller in
+    let own_is = (c.if-not-agrees.ensures refl).1 in
+    let more = c.add.ensures.mine ∙ mine_grown seen after mine caller command is own_is in
+    (ap (λ h. own h caller) front ∙ own_grown seen after mine caller command is own_is ∙ sym more, more)
+
+pub returns-clause-later : goal.returns-clause-later
+returns-clause-later g c =
+    let seen = c.self.inside.front.seen.log in
+    let caller = c.args.seat.now.caller in
+    let command = command_of c.args.command in
+    let after = c.add.new.self.seen in
+    let front : after ≡ c.follow.new.self.seen.log = ap (λ s. s.seen) c.add.ensures.seen in
+    let is : after ≡ with_command seen caller command = followed c.self.inside.registrar c.in-Ok.grown.registrar seen after caller c.caller-caller.result command (front ∙ c.if-not-follow.ensures.added) c.in-Ok.ensures.registrar c.self.invariant.log c.caller-caller.ensures.caller in
+    seen_grown c.args.seat.now.seen seen after caller command (c.if-not-agrees.ensures refl).0 is

@@ -1,0 +1,17 @@
+use Rattle.std.proofs.Common.{◌∙◌, ◌+◌, subst, sym, arith, List, length}
+use Rattle.std.proofs.lemmas.Grind.{common_steps}
+use Rattle.clip_desk.specs.Seats.{SeatIs, AreSeated}
+use Rattle.clip_desk.proofs.Seating.{seated_more}
+use Rattle.clip_desk.proofs.parts.seat_all.Goals as goal
+
+pub loop-number-preserved : goal.loop-number-preserved
+loop-number-preserved c =
+    let i = c.loop-number.invariant in
+    let kept = c.seat_one.ensures.kept in
+    record {
+      seated = subst (λ (l : List SeatIs). AreSeated c.args.tag c.args.callers c.args.front.now.seen.book l) (sym c.in_ok-push.ensures.items)
+          (seated_more c.args.tag c.args.callers c.args.front.now.seen.book c.loop-number.seats.items c.in_ok-seat.seat c.loop-number.number i.seated (grind (arith, common_steps)) c.in_ok-seat.ensures.seat);
+      count = grind (arith, common_steps);
+      view_same = kept.0 ∙ i.view_same;
+      shown_same = kept.1 ∙ i.shown_same;
+    }

@@ -1,0 +1,17 @@
+use Rattle.std.proofs.Common.{arith, ap, drop, subst, take}
+use mathlib.Core.List.{IsPrefix}
+use Rattle.std.proofs.lemmas.List.{take-append-drop}
+use Rattle.clip_desk.specs.Seats.{SeatIs}
+use Rattle.clip_model.specs.History.{own}
+use Rattle.clip_desk.proofs.seat.Seat.learn.Goals as goal
+
+pub returns-then-self-receipt-clause-mine : goal.returns-then-self-receipt-clause-mine
+returns-then-self-receipt-clause-mine c =
+    let all = own c.again.result.seen.log c.self.inside.caller in (drop c.self.inside.made all, take-append-drop c.self.inside.made all)
+
+pub returns-else-self-receipt-clause-mine : goal.returns-else-self-receipt-clause-mine
+returns-else-self-receipt-clause-mine c =
+    let s = c.self.inside in
+    let all = own s.front.seen.log s.caller in
+    let begins : IsPrefix (take s.made all) all = (drop s.made all, take-append-drop s.made all) in
+    subst (λ (v : SeatIs). IsPrefix v.mine (own v.seen v.caller)) c.self.view_is begins

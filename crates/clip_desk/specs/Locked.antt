@@ -1,0 +1,27 @@
+-- What the lock keeps.
+use Rattle.std.specs.Prelude.{◌≡◌, ℕ, ◌≤◌, List, slice_get, Some}
+use Rattle.logbook.specs.Pages.{Book, Named}
+use Rattle.clip_model.specs.declared.limits.TheConstants.{MOST_CALLERS}
+use Rattle.clip_registry.specs.RegistryState.{RegistryState}
+use Rattle.clip_chronicle.specs.declared.chronicle.Front.{Front}
+use Rattle.clip_chronicle.specs.declared.published.Published.{Published}
+use Rattle.clip_chronicle.specs.Chronicle.{head_of}
+use Rattle.clip_desk.specs.Seats.{SeatIs}
+
+-- the registrar, the chronicle and the published value agree, and are those of this desk
+pub record IsSettled (book : Book) (callers : ℕ) (registrar : RegistryState) (head : Named) (front : Front) (shown : Published) : Type 0 where
+  pub log : front.seen.log ≡ registrar.history
+  pub book_is : front.seen.book ≡ book
+  pub head_is : head ≡ head_of book
+  pub shown_is : shown.view ≡ registrar
+  pub shown_book : shown.front.seen.book ≡ book
+  pub shown_callers : shown.callers ≡ callers
+  pub few : callers ≤ MOST_CALLERS
+
+-- a seat of the desk
+abbrev pub IsSeatOf : Book → ℕ → SeatIs → Type 0
+IsSeatOf book callers seat = (seat.book ≡ book) × (seat.callers ≡ callers)
+
+-- these are seats of the desk
+pub record AreSeatsOf (book : Book) (callers : ℕ) (seats : List SeatIs) : Type 0 where
+  pub each : (k : ℕ) (s : SeatIs) → slice_get seats k ≡ Some s → IsSeatOf book callers s

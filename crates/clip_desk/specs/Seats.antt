@@ -1,0 +1,91 @@
+-- What contracts see of a seat, of a receipt and of a desk.
+use Rattle.std.specs.Prelude.{◌≡◌, ℕ, ◌+◌, ◌<◌, ◌≤◌, ◌⊎◌, List, [], length, take, slice_get, Some, nat_lt, if◌then◌else◌, refl}
+use Rattle.std.specs.Coded.{Coded, code_by, coded×, coded⊎, coded_ℕ, coded_list}
+use Rattle.std.proofs.Common.{inl, inr}
+use mathlib.Core.List.{IsPrefix}
+use Rattle.logbook.specs.Pages.{Book, book_coded}
+use Rattle.clip_model.specs.History.{History, Command, own, command_code, history_code}
+use Rattle.clip_registry.specs.declared.command.Applied.{Applied}
+use Rattle.clip_registry.specs.declared.command.Applied.TheVariants as answer
+
+-- seen: the longest history that the seat got; mine: the commands committed with it, in order
+pub record SeatIs : Type 0 where
+  pub tag : ℕ
+  pub caller : ℕ
+  pub callers : ℕ
+  pub book : Book
+  pub seen : History
+  pub mine : List Command
+
+-- what is known of a receipt: the history that ends with its command, and the answer
+pub record ReceiptIs : Type 0 where
+  pub tag : ℕ
+  pub book : Book
+  pub history : History
+  pub applied : Applied
+
+-- the parts of a desk: its tag, its callers and its book
+pub record PartsIs : Type 0 where
+  pub tag : ℕ
+  pub callers : ℕ
+  pub book : Book
+
+-- what contracts see of a desk
+pub record DeskIs : Type 0 where
+  pub tag : ℕ
+  pub callers : ℕ
+
+-- of the caller's own commands in what was seen, the first so many
+abbrev pub mine_of : History → ℕ → ℕ → List Command
+mine_of seen caller made = take made (own seen caller)
+
+-- the longer of two histories, the first where they are as long
+abbrev pub longer : History → History → History
+longer xs ys = if nat_lt (length xs) (length ys) then ys else xs
+
+-- a seat that has seen nothing
+abbrev pub new_seat : ℕ → ℕ → Book → ℕ → SeatIs
+new_seat tag callers book caller = record { tag = tag; caller = caller; callers = callers; book = book; seen = []; mine = [] }
+
+-- the seats of callers 1, 2, ..
+pub record AreSeated (tag callers : ℕ) (book : Book) (seats : List SeatIs) : Type 0 where
+  pub each : (k : ℕ) (s : SeatIs) → slice_get seats k ≡ Some s → s ≡ new_seat tag callers book (k + 1)
+
+-- the seat is of this tag, saw a beginning of the history, and gave its caller's commands there
+abbrev pub IsAccounted : ℕ → History → SeatIs → Type 0
+IsAccounted tag history s = (s.tag ≡ tag) × IsPrefix s.seen history × (own history s.caller ≡ s.mine)
+
+-- each seat is accounted for, and each caller has one
+pub record AreAll (tag callers : ℕ) (history : History) (seats : List SeatIs) : Type 0 where
+  pub each : (k : ℕ) (s : SeatIs) → slice_get seats k ≡ Some s → IsAccounted tag history s
+  pub none_missing : (caller : ℕ) → 0 < caller → caller ≤ callers → (k : ℕ) × (s : SeatIs) × (slice_get seats k ≡ Some s) × (s.caller ≡ caller)
+
+-- ---- codes
+
+abbrev pub seat_code : Coded SeatIs
+seat_code =
+    code_by (ℕ × (ℕ × (ℕ × (Book × (History × List Command))))) (coded× coded_ℕ (coded× coded_ℕ (coded× coded_ℕ (coded× book_coded (coded× history_code (coded_list command_code))))))
+    (λ s. (s.tag, (s.caller, (s.callers, (s.book, (s.seen, s.mine)))))) (λ p. record { tag = p.0; caller = p.1.0; callers = p.1.1.0; book = p.1.1.1.0; seen = p.1.1.1.1.0; mine = p.1.1.1.1.1 }) (λ _. refl)
+
+abbrev answer_parts : Applied → ℕ ⊎ (ℕ ⊎ ℕ)
+answer_parts (answer.Registered n) = inl n
+answer_parts (answer.Deleted n) = inr (inl n)
+answer_parts (answer.Cleared n) = inr (inr n)
+
+abbrev answer_made : ℕ ⊎ (ℕ ⊎ ℕ) → Applied
+answer_made (inl n) = answer.Registered n
+answer_made (inr (inl n)) = answer.Deleted n
+answer_made (inr (inr n)) = answer.Cleared n
+
+pub answer_again : (a : Applied) → answer_made (answer_parts a) ≡ a
+answer_again (answer.Registered n) = refl
+answer_again (answer.Deleted n) = refl
+answer_again (answer.Cleared n) = refl
+
+abbrev pub answer_code : Coded Applied
+answer_code = code_by (ℕ ⊎ (ℕ ⊎ ℕ)) (coded⊎ coded_ℕ (coded⊎ coded_ℕ coded_ℕ)) answer_parts answer_made answer_again
+
+abbrev pub receipt_code : Coded ReceiptIs
+receipt_code =
+    code_by (ℕ × (Book × (History × Applied))) (coded× coded_ℕ (coded× book_coded (coded× history_code answer_code)))
+    (λ r. (r.tag, (r.book, (r.history, r.applied)))) (λ p. record { tag = p.0; book = p.1.0; history = p.1.1.0; applied = p.1.1.1 }) (λ _. refl)

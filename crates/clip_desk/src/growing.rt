@@ -1,0 +1,43 @@
+//! The registry after one command more, beside the one before it.
+ghost use Rattle.std.specs.Prelude.{◌≡◌, ◌≢◌, ◌<◌, ◌≤◌, IfOk, IsTrue, IsFalse};
+ghost use Rattle.clip_model.specs.History.{fits, has_room, applied};
+ghost use Rattle.clip_registry.specs.Command.{command_of, answer_of};
+ghost use Rattle.clip_registry.specs.RegistryState.{state_after};
+
+use crate::refused::Refused;
+use clip_model::MOST_CALLERS;
+use clip_registry::{Applied, Command, Refused as Declined, Registrar, View};
+
+/// A registrar that has taken a command, a view of it, and the answer.
+#[derive(Drop)]
+pub struct Grown {
+    pub registrar: Registrar,
+    pub view: View,
+    pub applied: Applied,
+}
+
+/// The registry after a caller's next command, where the registrar stays as it is: `Full` where the command has no room,
+/// and `NoMemory` where an allocation failed. It costs that of `Registrar::apply` while a view is held, and a step for
+/// each query or id that the command lists.
+pub fn grow(registrar: &Registrar, caller: u32, command: &Command) -> Result<Grown, Refused>
+    requires fits { IsTrue (fits (command_of command.now)) }
+    requires caller { (0 < caller) × (caller ≤ MOST_CALLERS) }
+    ensures registrar { IfOk result (λ n. n.registrar ≡ state_after registrar.now caller (command_of command.now)) }
+    ensures view { IfOk result (λ n. n.view ≡ n.registrar) }
+    ensures applied { IfOk result (λ n. n.applied ≡ answer_of (command_of command.now) (applied registrar.now.history (command_of command.now))) }
+    ensures full { result ≡ Err Refused.Full → IsFalse (has_room registrar.now.history (command_of command.now)) }
+    ensures never_foreign { result ≢ Err Refused.Foreign }
+{
+    let mut registrar = registrar.copy()?;
+    let applied = match registrar.apply(caller, command.copy()?) {
+        Ok(applied) => applied,
+        Err((_, Declined::Full)) => return Err(Refused::Full),
+        Err((_, Declined::NoMemory)) => return Err(Refused::NoMemory),
+    };
+    let view = registrar.view()?;
+    Ok(Grown {
+        registrar,
+        view,
+        applied,
+    })
+}

@@ -1,0 +1,162 @@
+//! The ends and seats of a desk, before it has a name.
+ghost use Rattle.std.specs.Prelude.{◌≡◌, ◌↔◌, ◌+◌, ◌<◌, ◌≤◌, [], ◌∷◌, ◌++◌, length, IfOk, OnOk, vec_len};
+ghost use Rattle.left_right.specs.Sides.{view};
+ghost use Rattle.clip_chronicle.specs.Ends.{IsOf};
+ghost use Rattle.clip_desk.specs.Seats.{new_seat, AreSeated};
+ghost use Rattle.clip_desk.specs.Locked.{IsSettled};
+
+use crate::refused::NewRefused;
+use crate::seat::Seat;
+use clip_chronicle::{Front, Head, Notes, Published, WriterEnd, open_chronicle, publish};
+use clip_model::MOST_CALLERS;
+use clip_registry::Registrar;
+use clip_words::NoMemory;
+use left_right::writer::Writer;
+use std::alloc::Global;
+use std::marker::Model;
+use std::sync::Wait;
+
+/// All that a desk is made of, and its seats. It has no `Drop`: hand it to `Desk::open`.
+pub struct DeskParts {
+    pub(crate) registrar: Registrar,
+    pub(crate) writer: WriterEnd,
+    pub(crate) head: Head,
+    pub(crate) front: Front,
+    pub(crate) seats: Vec<Seat>,
+    pub(crate) tag: u64,
+    pub(crate) callers: u32,
+}
+
+impl Model for DeskParts {
+    ghost use Rattle.std.specs.Prelude.{◌≡◌, [], vec_len};
+    ghost use Rattle.clip_desk.specs.Seats.{PartsIs, AreSeated};
+    ghost use Rattle.clip_desk.specs.Locked.{IsSettled};
+
+    ghost Value = { PartsIs };
+
+    ghost view = { λ p. record { tag = p.tag; callers = p.callers; book = p.front.seen.book } };
+
+    ghost invariant = { λ p. IsSettled p.front.seen.book p.callers p.registrar p.head p.front p.writer.desk.shown.value × (p.registrar.history ≡ []) × AreSeated p.tag p.callers p.front.seen.book p.seats.items × (vec_len p.seats ≡ p.callers) };
+}
+
+/// The seat of a caller, whose end knows what the writer has shown.
+fn seat_one(
+    writer: &mut WriterEnd,
+    front: &Front,
+    tag: u64,
+    caller: u32,
+    callers: u32,
+) -> Result<Seat, NoMemory>
+    requires told { IsOf front.now.seen.book callers (view writer.old.desk.place) }
+    requires caller { (0 < caller) × (caller ≤ callers) × (callers ≤ MOST_CALLERS) }
+    requires empty { front.now.seen.log ≡ [] }
+    ensures seat { IfOk result (λ s. s ≡ new_seat tag callers front.now.seen.book caller) }
+    ensures kept { (view writer.new.desk.place ≡ view writer.old.desk.place) × (writer.new.desk.shown ≡ writer.old.desk.shown) }
+{
+    let mut end = writer.factory().reader()?;
+    end.learn::<Notes>(writer.tell::<Notes>());
+    Ok(Seat::new(end, front.again(), tag, caller, callers))
+}
+
+/// The seats of callers 1, 2, ..
+fn seat_all(
+    alloc: Global,
+    writer: &mut WriterEnd,
+    front: &Front,
+    tag: u64,
+    callers: u32,
+) -> Result<Vec<Seat>, NoMemory>
+    requires told { IsOf front.now.seen.book callers (view writer.old.desk.place) }
+    requires few { callers ≤ MOST_CALLERS }
+    requires empty { front.now.seen.log ≡ [] }
+    ensures seats { IfOk result (λ v. AreSeated tag callers front.now.seen.book v.items × (vec_len v ≡ callers)) }
+    ensures kept { writer.new.desk.shown ≡ writer.old.desk.shown }
+{
+    let mut seats = Vec::new(alloc);
+    for number in 0..callers {
+        let seat = seat_one(writer, front, tag, number + 1, callers)?;
+        seats.push(seat)?;
+    }
+    Ok(seats)
+}
+
+/// Three times the value that a desk publishes first.
+fn first_values(
+    registrar: &Registrar,
+    front: &Front,
+    callers: u32,
+) -> Result<(Published, Published, Published), NoMemory>
+    requires { (front.now.seen.log ≡ []) × (registrar.now.history ≡ []) }
+    ensures same { IfOk result (λ t. (t.1 ≡ t.0) × (t.2 ≡ t.0)) }
+    ensures first { IfOk result (λ t. (t.0.view ≡ registrar.now) × (t.0.front ≡ front.now) × (t.0.callers ≡ callers)) }
+{
+    let first = Published {
+        view: registrar.view()?,
+        front: front.again(),
+        callers,
+    };
+    let second = first.copy()?;
+    let third = first.copy()?;
+    Ok((first, second, third))
+}
+
+/// The writer of new ends, which knows what it has shown.
+fn open_ends<R: Wait>(
+    rt: &R,
+    alloc: Global,
+    registrar: &Registrar,
+    front: &Front,
+    callers: u32,
+) -> Result<WriterEnd, NoMemory>
+    requires { (front.now.seen.log ≡ []) × (registrar.now.history ≡ []) × (0 < callers) × (callers ≤ MOST_CALLERS) }
+    ensures shown { IfOk result (λ w. (w.desk.shown.value.view ≡ registrar.now) × (w.desk.shown.value.front ≡ front.now) × (w.desk.shown.value.callers ≡ callers)) }
+    ensures told { IfOk result (λ w. IsOf front.now.seen.book callers (view w.desk.place)) }
+{
+    let (first, second, third) = first_values(registrar, front, callers)?;
+    let writer = Writer::new(alloc, first, second, callers as usize)?;
+    let (writer, shown) = publish(rt, writer, third);
+    if shown.is_err() {
+        writer.take(rt);
+        return Err(NoMemory);
+    }
+    Ok(writer)
+}
+
+impl DeskParts {
+    /// The parts of a desk of this tag, with an empty registry and a seat for each caller: `TooMany` where there are more
+    /// than `MOST_CALLERS` callers, and `NoMemory` where an allocation failed. It never waits, since nobody reads yet. It
+    /// costs a step for each caller.
+    pub fn new<R: Wait>(
+        rt: &R,
+        alloc: Global,
+        tag: u64,
+        callers: u32,
+    ) -> Result<DeskParts, NewRefused>
+        requires { 0 < callers }
+        ensures ok { IfOk result (λ p. (p.tag ≡ tag) × (p.callers ≡ callers)) }
+        ensures few { OnOk result (callers ≤ MOST_CALLERS) }
+        ensures many { (result ≡ Err NewRefused.TooMany) ↔ (MOST_CALLERS < callers) }
+    {
+        if callers > MOST_CALLERS {
+            return Err(NewRefused::TooMany);
+        }
+        let (head, front) = open_chronicle();
+        let registrar = Registrar::new(alloc);
+        let Ok(mut writer) = open_ends(rt, alloc, &registrar, &front, callers) else {
+            return Err(NewRefused::NoMemory);
+        };
+        let Ok(seats) = seat_all(alloc, &mut writer, &front, tag, callers) else {
+            writer.take(rt);
+            return Err(NewRefused::NoMemory);
+        };
+        Ok(DeskParts {
+            registrar,
+            writer,
+            head,
+            front,
+            seats,
+            tag,
+            callers,
+        })
+    }
+}

@@ -1,0 +1,193 @@
+//! A caller's seat, and the receipt of a commit.
+ghost use Rattle.std.specs.Prelude.{◌≡◌, ◌+◌, ◌<◌, ◌≤◌, ◌⊎◌, [], ◌∷◌, ◌++◌, length, take, IsTrue, IfOk};
+ghost use mathlib.Core.List.{IsPrefix};
+ghost use Rattle.left_right.specs.Sides.{view};
+ghost use Rattle.clip_model.specs.History.{own, IsLegal};
+ghost use Rattle.clip_chronicle.specs.Callers.{IsBy};
+ghost use Rattle.clip_chronicle.specs.Ends.{IsOf};
+ghost use Rattle.clip_desk.specs.Seats.{longer};
+
+use clip_chronicle::{Front, Published, ReaderEnd, read_here};
+use clip_model::{MOST_CALLERS, MOST_ENTRIES};
+use clip_registry::{Applied, View};
+use clip_words::NoMemory;
+use std::marker::Model;
+
+/// One caller's place at a desk, seen as the longest history that it got and the commands that were committed with it.
+#[derive(Drop)]
+pub struct Seat {
+    end: ReaderEnd,
+    front: Front,
+    tag: u64,
+    caller: u32,
+    callers: u32,
+    made: u32,
+}
+
+impl Model for Seat {
+    ghost use Rattle.std.specs.Prelude.{◌≡◌, ◌<◌, ◌≤◌, length};
+    ghost use Rattle.left_right.specs.Sides.{view as known_at};
+    ghost use Rattle.clip_model.specs.declared.limits.TheConstants.{MOST_CALLERS};
+    ghost use Rattle.clip_model.specs.History.{own};
+    ghost use Rattle.clip_chronicle.specs.Ends.{IsOf};
+    ghost use Rattle.clip_desk.specs.Seats.{SeatIs, seat_code, mine_of};
+
+    ghost Value = { SeatIs };
+
+    ghost coded = { seat_code };
+
+    ghost view = { λ s. record { tag = s.tag; caller = s.caller; callers = s.callers; book = s.front.seen.book; seen = s.front.seen.log; mine = mine_of s.front.seen.log s.caller s.made } };
+
+    ghost invariant = { λ s. IsOf s.front.seen.book s.callers (known_at s.end.place) × (s.made ≤ length (own s.front.seen.log s.caller)) × (0 < s.caller) × (s.caller ≤ s.callers) × (s.callers ≤ MOST_CALLERS) };
+}
+
+/// What a commit answers, seen as the history that ends with its command, and the answer.
+#[derive(Drop)]
+pub struct Receipt {
+    front: Front,
+    tag: u64,
+    applied: Applied,
+}
+
+impl Model for Receipt {
+    ghost use Rattle.clip_desk.specs.Seats.{ReceiptIs, receipt_code};
+
+    ghost Value = { ReceiptIs };
+
+    ghost coded = { receipt_code };
+
+    ghost view = { λ r. record { tag = r.tag; book = r.front.seen.book; history = r.front.seen.log; applied = r.applied } };
+}
+
+impl Receipt {
+    /// The receipt of the last command of a history. Constant time.
+    pub(crate) fn new(tag: u64, front: Front, applied: Applied) -> Receipt
+        ensures { result ≡ record { tag = tag; book = front.seen.book; history = front.seen.log; applied = applied } }
+    {
+        Receipt {
+            front,
+            tag,
+            applied,
+        }
+    }
+
+    /// How many commands the history has, this one included. Constant time.
+    pub fn place(&self) -> u64
+        ensures { result ≡ length self.now.history }
+    {
+        self.front.count as u64
+    }
+
+    /// The answer to the command. Constant time.
+    pub fn applied(&self) -> Applied
+        ensures { result ≡ self.now.applied }
+    {
+        self.applied
+    }
+}
+
+impl Seat {
+    /// The seat of a caller, which has seen nothing. Constant time.
+    pub(crate) fn new(end: ReaderEnd, front: Front, tag: u64, caller: u32, callers: u32) -> Seat
+        requires end { IsOf front.seen.book callers (view end.place) }
+        requires caller { (0 < caller) × (caller ≤ callers) × (callers ≤ MOST_CALLERS) }
+        requires empty { front.seen.log ≡ [] }
+        ensures { result ≡ record { tag = tag; caller = caller; callers = callers; book = front.seen.book; seen = []; mine = [] } }
+    {
+        Seat {
+            end,
+            front,
+            tag,
+            caller,
+            callers,
+            made: 0,
+        }
+    }
+
+    /// The tag of the seat's desk. Constant time.
+    pub fn tag(&self) -> u64
+        ensures { result ≡ self.now.tag }
+    {
+        self.tag
+    }
+
+    /// The caller's number, from 1. Constant time.
+    pub fn caller(&self) -> u32
+        ensures caller { result ≡ self.now.caller }
+        ensures known { (0 < result) × (result ≤ self.now.callers) × (self.now.callers ≤ MOST_CALLERS) }
+    {
+        self.caller
+    }
+
+    /// The registry as it was last published, whose history goes on from all that the seat has seen, with the commands
+    /// that were committed with the seat as all of its caller's. `NoMemory` where a count of holders is at its end. It
+    /// waits for nobody, and costs that of `View::number_of`.
+    pub fn look(&mut self) -> Result<View, NoMemory>
+        ensures seen { IfOk result (λ v. v.history ≡ self.new.seen) }
+        ensures mine { IfOk result (λ v. own v.history self.old.caller ≡ self.old.mine) }
+        ensures legal { IfOk result (λ v. IsLegal v.history × IsBy self.old.callers v.history) }
+        ensures later { IsPrefix self.old.seen self.new.seen }
+        ensures same { self.new ≡ record self.old { seen = self.new.seen } }
+    {
+        let answer = read_here(&mut self.end);
+        let Ok(Published { view, front, .. }) = answer else {
+            return Err(NoMemory);
+        };
+        if front.count < self.front.count {
+            return Err(NoMemory);
+        }
+        self.front.meet(&front);
+        let there = view.number_of(self.caller);
+        self.front = front;
+        if there != self.made {
+            return Err(NoMemory);
+        }
+        Ok(view)
+    }
+
+    /// Takes in the history of a receipt of the seat's desk: afterwards the seat has seen the longer of its own and that.
+    /// It waits for nobody, and takes no memory. Constant time.
+    pub fn learn(&mut self, receipt: &Receipt)
+        requires desk { receipt.now.book ≡ self.old.book }
+        ensures one { IsPrefix self.old.seen receipt.now.history ⊎ IsPrefix receipt.now.history self.old.seen }
+        ensures seen { self.new ≡ record self.old { seen = longer self.old.seen receipt.now.history } }
+        ensures mine { IsPrefix self.new.mine (own self.new.seen self.new.caller) }
+    {
+        self.front.meet(&receipt.front);
+        if self.front.count < receipt.front.count {
+            self.front = receipt.front.again();
+        }
+    }
+
+    /// Whether two numbers agree: the history is as long as what was seen at least, and has as many of the caller's
+    /// commands as were committed with the seat. Constant time.
+    pub(crate) fn agrees(&self, front: &Front, there: u32) -> bool
+        requires desk { front.now.seen.book ≡ self.now.book }
+        requires there { there ≡ length (own front.now.seen.log self.now.caller) }
+        ensures { IsTrue result → IsPrefix self.now.seen front.now.seen.log × (own front.now.seen.log self.now.caller ≡ self.now.mine) }
+    {
+        self.front.meet(front);
+        self.front.count <= front.count && self.made == there
+    }
+
+    /// Sees a history that goes on from what was seen. Constant time.
+    pub(crate) fn see(&mut self, front: &Front)
+        requires desk { front.now.seen.book ≡ self.old.book }
+        requires later { IsPrefix self.old.seen front.now.seen.log }
+        ensures { self.new ≡ record self.old { seen = front.now.seen.log } }
+    {
+        self.front = front.again();
+    }
+
+    /// Sees a history that goes on from what was seen, in which the caller's next command is its own. Constant time.
+    pub(crate) fn add(&mut self, front: &Front)
+        requires desk { front.now.seen.book ≡ self.old.book }
+        requires own { IsPrefix self.old.mine (own front.now.seen.log self.old.caller) × (length self.old.mine + 1 ≤ length (own front.now.seen.log self.old.caller)) }
+        requires short { length front.now.seen.log ≤ MOST_ENTRIES }
+        ensures seen { self.new ≡ record self.old { seen = front.now.seen.log; mine = self.new.mine } }
+        ensures mine { self.new.mine ≡ take (length self.old.mine + 1) (own front.now.seen.log self.old.caller) }
+    {
+        self.front = front.again();
+        self.made += 1;
+    }
+}

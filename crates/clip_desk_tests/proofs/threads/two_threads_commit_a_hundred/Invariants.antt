@@ -1,0 +1,5 @@
+use Rattle.clip_desk_tests.proofs.threads.two_threads_commit_a_hundred.Given as goal
+
+-- the desk whose parts were just made
+abbrev pub ghosts-run_two : goal.ghosts-run_two
+ghosts-run_two g a = record { book = a.parts.book; callers = a.parts.callers }

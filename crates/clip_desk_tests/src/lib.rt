@@ -1,0 +1,11 @@
+//! Tests of the desk, by its public calls: worked examples, refusals, and callers in two threads.
+#![tactic(auto)]
+
+#[cfg(test)]
+mod callers;
+#[cfg(test)]
+mod making;
+#[cfg(test)]
+mod refusals;
+#[cfg(test)]
+mod threads;

@@ -1,0 +1,67 @@
+//! What the tests give to calls: commands, and the seats of a desk.
+ghost use Rattle.std.specs.Prelude.{◌≡◌, IfSome, IsTrue};
+ghost use Rattle.clip_model.specs.History.{fits};
+ghost use Rattle.clip_registry.specs.Command.{command_of};
+ghost use Rattle.clip_desk.specs.Locked.{IsSeatOf, AreSeatsOf};
+
+use clip_desk::{Desk, DeskName, Receipt, Seat};
+use clip_registry::Command;
+use clip_segment::Standing;
+use std::alloc::Global;
+use std::process::Abort;
+use std::sync::{Arc, Wait};
+
+/// The command that registers one query, or `None` where an allocation failed.
+fn registering(alloc: Global, id: &str, text: &str) -> Option<Command>
+    ensures { IfSome result (λ c. IsTrue (fits (command_of c))) }
+{
+    let standing = Arc::new(alloc, Standing::read(alloc, id, text, None).ok()?).ok()?;
+    Some(Command::Register(vec![in alloc; standing].ok()?))
+}
+
+/// The command that registers one query.
+pub fn register<R: Abort>(rt: &R, alloc: Global, id: &str, text: &str) -> Command
+    ensures { IsTrue (fits (command_of result)) }
+{
+    match registering(alloc, id, text) {
+        Some(command) => command,
+        None => panic!(rt; "no command"),
+    }
+}
+
+/// The last of the seats.
+pub fn pop_seat<N: DeskName>(seats: &mut Vec<Seat>) -> Option<Seat>
+    requires { AreSeatsOf N.book N.callers seats.old.items }
+    ensures rest { AreSeatsOf N.book N.callers seats.new.items }
+    ensures seat { IfSome result (IsSeatOf N.book N.callers) }
+{
+    seats.pop()
+}
+
+/// Commits a command, which is not refused.
+pub fn commit<N: DeskName, R: Wait + Abort>(
+    rt: &R,
+    desk: &Desk<N>,
+    seat: &mut Seat,
+    command: Command,
+) -> Receipt
+    requires desk { IsSeatOf N.book N.callers seat.old }
+    requires fits { IsTrue (fits (command_of command)) }
+    ensures seat { IsSeatOf N.book N.callers seat.new }
+    ensures receipt { result.book ≡ N.book }
+{
+    match desk.commit(rt, seat, command) {
+        Ok(receipt) => receipt,
+        Err((_, refused)) => panic!(rt; "refused: {refused:?}"),
+    }
+}
+
+/// How many queries a look shows, and how many commands.
+pub fn look<R: Abort>(rt: &R, seat: &mut Seat) -> (u64, u64)
+    ensures { (seat.new.book ≡ seat.old.book) × (seat.new.callers ≡ seat.old.callers) }
+{
+    match seat.look() {
+        Ok(view) => (view.count(), view.place()),
+        Err(_) => panic!(rt; "no look"),
+    }
+}

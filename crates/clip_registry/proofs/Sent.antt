@@ -1,0 +1,69 @@
+-- Threads may hand over and share registrars and views.
+use mathlib.Core.List.{[], ◌∷◌}
+use denote.Param.Send.{IsSend, IsSync, view_send, view_sync, sendable}
+use denote.Param.SendFields.{declared_send, declared_sync, variants_send, variants_sync}
+use Rattle.std.proofs.alloc.Global.TheSendSync as global_sent
+use Rattle.std.below.std_heap.proofs.GlobalAllocator.TheSendSync as allocator_sent
+use Rattle.std.proofs.string.String.TheSendSync as string_sent
+use Rattle.std.proofs.option.Option.TheSendSync as option_sent
+use Rattle.std.proofs.sync.Arc.TheSendSync as arc_sent
+use Rattle.std.proofs.vec.Vec.TheSendSync as vec_sent
+use Rattle.std.proofs.collections.BTreeMap.TheSendSync as btree_map_sent
+use Rattle.clip_segment.proofs.Sent.{standing_send, standing_sync, entry_send, entry_sync, segment_send, segment_sync}
+use Rattle.clip_registry.specs.contracts.command.Command as command
+use Rattle.clip_registry.specs.contracts.command.HistoryEntry as history_entry
+use Rattle.clip_registry.specs.contracts.by_id.ById as by_id
+use Rattle.clip_registry.specs.contracts.by_id.ById.TheInside as by_id_inside
+use Rattle.clip_registry.specs.contracts.roster.Roster as roster
+use Rattle.clip_registry.specs.contracts.roster.Roster.TheInside as roster_inside
+use Rattle.clip_registry.specs.contracts.state.State as state
+use Rattle.clip_registry.specs.contracts.state.State.TheInside as state_inside
+use Rattle.clip_registry.specs.contracts.registrar.Registrar as registrar
+use Rattle.clip_registry.specs.contracts.registrar.Registrar.TheInside as registrar_inside
+use Rattle.clip_registry.specs.contracts.view.View as view
+use Rattle.clip_registry.specs.contracts.view.View.TheInside as view_inside
+
+ruleset global = (sendable, global_sent.the_send, global_sent.the_sync, allocator_sent.the_frees)
+ruleset parts = (global, vec_sent.the_send, vec_sent.the_sync, arc_sent.the_send, arc_sent.the_sync, string_sent.the_send, string_sent.the_sync, option_sent.the_send, option_sent.the_sync)
+
+command_send : IsSend command.the_row
+command_send = variants_send command.enum ((search (parts, standing_send, standing_sync), tt), ((search parts, tt), (tt, tt)))
+
+command_sync : IsSync command.the_row
+command_sync = variants_sync command.enum ((search (parts, standing_send, standing_sync), tt), ((search parts, tt), (tt, tt)))
+
+pub history_entry_send : IsSend history_entry.the_row
+history_entry_send = declared_send history_entry.the_type (search global, (search global, (command_send, tt)))
+
+pub history_entry_sync : IsSync history_entry.the_row
+history_entry_sync = declared_sync history_entry.the_type (search global, (search global, (command_sync, tt)))
+
+by_id_send : IsSend by_id.the_row
+by_id_send = view_send by_id_inside.the_row _ _ _ _ (declared_send by_id_inside.the_type (search (parts, btree_map_sent.the_send, entry_send, entry_sync) depth 20, tt))
+
+by_id_sync : IsSync by_id.the_row
+by_id_sync = view_sync by_id_inside.the_row _ _ _ _ (declared_sync by_id_inside.the_type (search (parts, btree_map_sent.the_sync, entry_send, entry_sync) depth 20, tt))
+
+roster_send : IsSend roster.the_row
+roster_send = view_send roster_inside.the_row _ _ _ _ (declared_send roster_inside.the_type (by_id_send, (search global, (search parts, tt))))
+
+roster_sync : IsSync roster.the_row
+roster_sync = view_sync roster_inside.the_row _ _ _ _ (declared_sync roster_inside.the_type (by_id_sync, (search global, (search parts, tt))))
+
+state_send : IsSend state.the_row
+state_send = view_send state_inside.the_row _ _ _ _ (declared_send state_inside.the_type (search (parts, segment_send, segment_sync), (search (parts, history_entry_send, history_entry_sync), (roster_send, (search parts, tt)))))
+
+state_sync : IsSync state.the_row
+state_sync = view_sync state_inside.the_row _ _ _ _ (declared_sync state_inside.the_type (search (parts, segment_send, segment_sync), (search (parts, history_entry_send, history_entry_sync), (roster_sync, (search parts, tt)))))
+
+pub registrar_send : IsSend registrar.the_row
+registrar_send = view_send registrar_inside.the_row _ _ _ _ (declared_send registrar_inside.the_type (search global, (search (parts, state_send, state_sync), tt)))
+
+pub registrar_sync : IsSync registrar.the_row
+registrar_sync = view_sync registrar_inside.the_row _ _ _ _ (declared_sync registrar_inside.the_type (search global, (search (parts, state_send, state_sync), tt)))
+
+pub view_is_send : IsSend view.the_row
+view_is_send = view_send view_inside.the_row _ _ _ _ (declared_send view_inside.the_type (search (parts, state_send, state_sync), tt))
+
+pub view_is_sync : IsSync view.the_row
+view_is_sync = view_sync view_inside.the_row _ _ _ _ (declared_sync view_inside.the_type (search (parts, state_send, state_sync), tt))
