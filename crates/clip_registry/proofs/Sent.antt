@@ -8,10 +8,13 @@ use Rattle.std.proofs.string.String.TheSendSync as string_sent
 use Rattle.std.proofs.option.Option.TheSendSync as option_sent
 use Rattle.std.proofs.sync.Arc.TheSendSync as arc_sent
 use Rattle.std.proofs.vec.Vec.TheSendSync as vec_sent
-use Rattle.std.proofs.collections.BTreeMap.TheSendSync as btree_map_sent
+use Rattle.clip_pieces.proofs.list.SharedList.TheSendSync as list_sent
+use Rattle.clip_pieces.proofs.shared.Shared.TheSendSync as shared_sent
 use Rattle.clip_segment.proofs.Sent.{standing_send, standing_sync, entry_send, entry_sync, segment_send, segment_sync}
 use Rattle.clip_registry.specs.contracts.command.Command as command
 use Rattle.clip_registry.specs.contracts.command.HistoryEntry as history_entry
+use Rattle.clip_registry.specs.contracts.by_id.piece.Piece as piece
+use Rattle.clip_registry.specs.contracts.by_id.piece.Piece.TheInside as piece_inside
 use Rattle.clip_registry.specs.contracts.by_id.ById as by_id
 use Rattle.clip_registry.specs.contracts.by_id.ById.TheInside as by_id_inside
 use Rattle.clip_registry.specs.contracts.roster.Roster as roster
@@ -25,6 +28,7 @@ use Rattle.clip_registry.specs.contracts.view.View.TheInside as view_inside
 
 ruleset global = (sendable, global_sent.the_send, global_sent.the_sync, allocator_sent.the_frees)
 ruleset parts = (global, vec_sent.the_send, vec_sent.the_sync, arc_sent.the_send, arc_sent.the_sync, string_sent.the_send, string_sent.the_sync, option_sent.the_send, option_sent.the_sync)
+ruleset lists = (parts, list_sent.the_send, list_sent.the_sync, shared_sent.the_send, shared_sent.the_sync)
 
 command_send : IsSend command.the_row
 command_send = variants_send command.enum ((search (parts, standing_send, standing_sync), tt), ((search parts, tt), (tt, tt)))
@@ -38,23 +42,29 @@ history_entry_send = declared_send history_entry.the_type (search global, (searc
 pub history_entry_sync : IsSync history_entry.the_row
 history_entry_sync = declared_sync history_entry.the_type (search global, (search global, (command_sync, tt)))
 
+piece_send : IsSend piece.the_row
+piece_send = view_send piece_inside.the_row _ _ _ _ (declared_send piece_inside.the_type (search (parts, entry_send, entry_sync), tt))
+
+piece_sync : IsSync piece.the_row
+piece_sync = view_sync piece_inside.the_row _ _ _ _ (declared_sync piece_inside.the_type (search (parts, entry_send, entry_sync), tt))
+
 by_id_send : IsSend by_id.the_row
-by_id_send = view_send by_id_inside.the_row _ _ _ _ (declared_send by_id_inside.the_type (search (parts, btree_map_sent.the_send, entry_send, entry_sync) depth 20, tt))
+by_id_send = view_send by_id_inside.the_row _ _ _ _ (declared_send by_id_inside.the_type (search (parts, piece_send, piece_sync), (search global, tt)))
 
 by_id_sync : IsSync by_id.the_row
-by_id_sync = view_sync by_id_inside.the_row _ _ _ _ (declared_sync by_id_inside.the_type (search (parts, btree_map_sent.the_sync, entry_send, entry_sync) depth 20, tt))
+by_id_sync = view_sync by_id_inside.the_row _ _ _ _ (declared_sync by_id_inside.the_type (search (parts, piece_send, piece_sync), (search global, tt)))
 
 roster_send : IsSend roster.the_row
-roster_send = view_send roster_inside.the_row _ _ _ _ (declared_send roster_inside.the_type (by_id_send, (search global, (search parts, tt))))
+roster_send = view_send roster_inside.the_row _ _ _ _ (declared_send roster_inside.the_type (by_id_send, (search global, (search lists, tt))))
 
 roster_sync : IsSync roster.the_row
-roster_sync = view_sync roster_inside.the_row _ _ _ _ (declared_sync roster_inside.the_type (by_id_sync, (search global, (search parts, tt))))
+roster_sync = view_sync roster_inside.the_row _ _ _ _ (declared_sync roster_inside.the_type (by_id_sync, (search global, (search lists, tt))))
 
 state_send : IsSend state.the_row
-state_send = view_send state_inside.the_row _ _ _ _ (declared_send state_inside.the_type (search (parts, segment_send, segment_sync), (search (parts, history_entry_send, history_entry_sync), (roster_send, (search parts, tt)))))
+state_send = view_send state_inside.the_row _ _ _ _ (declared_send state_inside.the_type (search (parts, segment_send, segment_sync), (search (lists, history_entry_send, history_entry_sync), (roster_send, (search parts, tt)))))
 
 state_sync : IsSync state.the_row
-state_sync = view_sync state_inside.the_row _ _ _ _ (declared_sync state_inside.the_type (search (parts, segment_send, segment_sync), (search (parts, history_entry_send, history_entry_sync), (roster_sync, (search parts, tt)))))
+state_sync = view_sync state_inside.the_row _ _ _ _ (declared_sync state_inside.the_type (search (parts, segment_send, segment_sync), (search (lists, history_entry_send, history_entry_sync), (roster_sync, (search parts, tt)))))
 
 pub registrar_send : IsSend registrar.the_row
 registrar_send = view_send registrar_inside.the_row _ _ _ _ (declared_send registrar_inside.the_type (search global, (search (parts, state_send, state_sync), tt)))

@@ -9,7 +9,6 @@ mod command;
 mod held;
 mod history;
 mod merging;
-mod numbers;
 mod purging;
 mod registrar;
 mod roster;
