@@ -1,0 +1,5 @@
+use Rattle.busy_desk.proofs.main.Given as goal
+
+-- the desk whose parts were just made
+abbrev pub ghosts-play : goal.ghosts-play
+ghosts-play g a = record { book = a.parts.book; callers = a.parts.callers }

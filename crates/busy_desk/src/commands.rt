@@ -1,0 +1,33 @@
+//! Commands on numbered queries.
+use anyhow::Result;
+use clip_registry::Command;
+use clip_segment::Standing;
+use std::alloc::Global;
+use std::sync::Arc;
+
+/// How many words the queries are made of.
+const WORDS: u64 = 10_000;
+
+/// The query of a number: two words, both wanted.
+fn standing(alloc: Global, number: u64) -> Result<Standing> {
+    let id = format!(in alloc; "q{number}")?;
+    let first = number % WORDS;
+    let second = number / 7 % WORDS;
+    let text = format!(in alloc; "+word{first} +word{second}")?;
+    Ok(Standing::read(alloc, id.as_str(), text.as_str(), None)?)
+}
+
+/// A register of the queries from one number up to before another.
+pub fn register_from(alloc: Global, from: u64, end: u64) -> Result<Command> {
+    let mut list = Vec::new(alloc);
+    for number in from..end {
+        list.push(Arc::new(alloc, standing(alloc, number)?)?)?;
+    }
+    Ok(Command::Register(list))
+}
+
+/// A delete of the query of a number.
+pub fn delete_one(alloc: Global, number: u64) -> Result<Command> {
+    let id = format!(in alloc; "q{number}")?;
+    Ok(Command::Delete(vec![in alloc; id]?))
+}

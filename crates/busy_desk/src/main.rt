@@ -1,0 +1,174 @@
+//! A desk of two callers: one commits while the other holds a look. Its words say how many queries are registered first,
+//! in lists, and how many are registered and deleted after that, one by one.
+#![tactic(auto)]
+
+ghost use Rattle.std.specs.Prelude.{◌≡◌, IfSome, IsTrue};
+ghost use Rattle.clip_desk.specs.Locked.{IsSeatOf, AreSeatsOf};
+ghost use Rattle.clip_model.specs.History.{fits};
+ghost use Rattle.clip_registry.specs.Command.{command_of};
+
+mod commands;
+
+use anyhow::{Result, bail};
+use clip_desk::{Desk, DeskName, DeskParts, Seat};
+use clip_registry::{Command, View};
+use commands::{delete_one, register_from};
+use std::alloc::Global;
+use std::env;
+use std::marker::Brand;
+use std::rt::Env;
+use std::sync::Wait;
+
+/// The most queries of one list.
+const MOST_LISTED: u64 = 1024;
+
+/// How many queries are registered in lists, and then one by one, and how many are deleted one by one.
+#[derive(Clone, Copy)]
+struct Work {
+    listed: u64,
+    registers: u64,
+    deletes: u64,
+}
+
+/// The numbers that the program's words name.
+fn work_of<R: Env + AllocGlobal>(rt: &R) -> Result<Work> {
+    let mut numbers = Vec::new(rt.alloc());
+    for word in env::args(rt)?.skip(1) {
+        numbers.push(word.parse::<u64>()?)?;
+    }
+    match numbers.as_slice() {
+        [listed, registers, deletes] => Ok(Work {
+            listed: *listed,
+            registers: *registers,
+            deletes: *deletes,
+        }),
+        _ => bail!("usage: busy_desk LISTED REGISTERS DELETES"),
+    }
+}
+
+/// Commits a command, which is not refused.
+fn commit<N: DeskName, R: Wait>(
+    rt: &R,
+    desk: &Desk<N>,
+    seat: &mut Seat,
+    command: Command,
+) -> Result<()>
+    requires desk { IsSeatOf N.book N.callers seat.old }
+    ensures seat { IsSeatOf N.book N.callers seat.new }
+{
+    if !command.fits() {
+        bail!("the command does not fit");
+    }
+    match desk.commit(rt, seat, command) {
+        Ok(_) => Ok(()),
+        Err((_, refused)) => Err(refused.into()),
+    }
+}
+
+/// Registers queries in lists.
+fn fill<N: DeskName, R: Wait>(
+    rt: &R,
+    alloc: Global,
+    desk: &Desk<N>,
+    seat: &mut Seat,
+    listed: u64,
+) -> Result<()>
+    requires { IsSeatOf N.book N.callers seat.old }
+    ensures { IsSeatOf N.book N.callers seat.new }
+{
+    for list in 0..listed.div_ceil(MOST_LISTED) {
+        let first = list.saturating_mul(MOST_LISTED);
+        let end = listed.min(first.saturating_add(MOST_LISTED));
+        commit(rt, desk, seat, register_from(alloc, first, end)?)?;
+    }
+    Ok(())
+}
+
+/// Registers queries one by one, each while a look is held that was taken just before.
+fn register_each<N: DeskName, R: Wait>(
+    rt: &R,
+    alloc: Global,
+    desk: &Desk<N>,
+    writer: &mut Seat,
+    reader: &mut Seat,
+    work: Work,
+) -> Result<()>
+    requires { IsSeatOf N.book N.callers writer.old × IsSeatOf N.book N.callers reader.old }
+    ensures { IsSeatOf N.book N.callers writer.new × IsSeatOf N.book N.callers reader.new }
+{
+    for number in 0..work.registers {
+        let held = reader.look()?;
+        let from = work.listed.saturating_add(number);
+        commit(rt, desk, writer, register_from(alloc, from, from.saturating_add(1))?)?;
+        drop(held);
+    }
+    Ok(())
+}
+
+/// Deletes queries one by one, each while a look is held that was taken just before.
+fn delete_each<N: DeskName, R: Wait>(
+    rt: &R,
+    alloc: Global,
+    desk: &Desk<N>,
+    writer: &mut Seat,
+    reader: &mut Seat,
+    work: Work,
+) -> Result<()>
+    requires { IsSeatOf N.book N.callers writer.old × IsSeatOf N.book N.callers reader.old }
+    ensures { IsSeatOf N.book N.callers writer.new × IsSeatOf N.book N.callers reader.new }
+{
+    for number in 0..work.deletes {
+        let held = reader.look()?;
+        commit(rt, desk, writer, delete_one(alloc, number)?)?;
+        drop(held);
+    }
+    Ok(())
+}
+
+/// Does the work at a desk, and gives a last look.
+fn work_at<N: DeskName, R: Wait>(
+    rt: &R,
+    alloc: Global,
+    desk: &Desk<N>,
+    mut seats: Vec<Seat>,
+    work: Work,
+) -> Result<View>
+    requires { AreSeatsOf N.book N.callers seats.items }
+{
+    let (Some(mut reader), Some(mut writer)) = (seat_of::<N>(&mut seats), seat_of::<N>(&mut seats))
+    else {
+        bail!("a desk of two callers has two seats");
+    };
+    fill(rt, alloc, desk, &mut writer, work.listed)?;
+    register_each(rt, alloc, desk, &mut writer, &mut reader, work)?;
+    delete_each(rt, alloc, desk, &mut writer, &mut reader, work)?;
+    Ok(reader.look()?)
+}
+
+/// The last of the seats.
+fn seat_of<N: DeskName>(seats: &mut Vec<Seat>) -> Option<Seat>
+    requires { AreSeatsOf N.book N.callers seats.old.items }
+    ensures rest { AreSeatsOf N.book N.callers seats.new.items }
+    ensures seat { IfSome result (IsSeatOf N.book N.callers) }
+{
+    seats.pop()
+}
+
+/// Opens a desk of these parts, does the work at it, and ends it.
+fn play<N: DeskName, R: Wait>(rt: &R, alloc: Global, parts: DeskParts, work: Work) -> Result<View>
+    requires { (parts.book ≡ N.book) × (parts.callers ≡ N.callers) }
+{
+    let (desk, seats) = Desk::<N>::open(parts);
+    let last = work_at(rt, alloc, &desk, seats, work);
+    desk.end(rt);
+    last
+}
+
+fn main(rt: HostRuntime) -> Result<()> {
+    let work = work_of(&rt)?;
+    let alloc = rt.alloc();
+    let parts = DeskParts::new(&rt, alloc, 1, 2)?;
+    let last = play::<Brand, _>(&rt, alloc, parts, work)?;
+    println!(rt; "{} queries after {} commands", last.count(), last.place())?;
+    Ok(())
+}
