@@ -27,7 +27,9 @@ use Rattle.clip_registry.specs.contracts.view.View as view
 use Rattle.clip_registry.specs.contracts.view.View.TheInside as view_inside
 
 ruleset global = (sendable, global_sent.the_send, global_sent.the_sync, allocator_sent.the_frees)
+
 ruleset parts = (global, vec_sent.the_send, vec_sent.the_sync, arc_sent.the_send, arc_sent.the_sync, string_sent.the_send, string_sent.the_sync, option_sent.the_send, option_sent.the_sync)
+
 ruleset lists = (parts, list_sent.the_send, list_sent.the_sync, shared_sent.the_send, shared_sent.the_sync)
 
 command_send : IsSend command.the_row
