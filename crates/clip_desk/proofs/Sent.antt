@@ -1,11 +1,9 @@
 -- Threads may hand over seats, and share a desk.
-use mathlib.Core.List.{[], ◌∷◌}
 use denote.RattleType.{RattleType}
 use denote.Param.Send.{IsSend, IsSync, view_send, view_sync, sendable}
 use denote.Param.SendFields.{declared_send, declared_sync}
 use Rattle.std.proofs.alloc.Global.TheSendSync as global_sent
 use Rattle.std.below.std_heap.proofs.GlobalAllocator.TheSendSync as allocator_sent
-use Rattle.std.proofs.option.Option.TheSendSync as option_sent
 use Rattle.std.proofs.sync.Mutex.TheSendSync as mutex_sent
 use Rattle.left_right.proofs.reader.Reader.TheSendSync as reader_sent
 use Rattle.left_right.proofs.writer.Writer.TheSendSync as writer_sent

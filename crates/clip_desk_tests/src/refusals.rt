@@ -29,11 +29,7 @@ fn a_desk_is_closed_with_all_its_seats(rt: HostRuntime) -> Result<(), Fail> {
     Ok(())
 }
 
-fn run_close<N: DeskName, R: Wait + Abort>(
-    rt: &R,
-    alloc: Global,
-    parts: DeskParts,
-)
+fn run_close<N: DeskName, R: Wait + Abort>(rt: &R, alloc: Global, parts: DeskParts)
     requires { (parts.book ≡ N.book) × (parts.callers ≡ N.callers) }
 {
     let none = Vec::new(alloc);
@@ -56,12 +52,7 @@ fn run_close<N: DeskName, R: Wait + Abort>(
     }
 }
 
-fn commit_four<N: DeskName, R: Wait + Abort>(
-    rt: &R,
-    alloc: Global,
-    desk: &Desk<N>,
-    seat: &mut Seat,
-)
+fn commit_four<N: DeskName, R: Wait + Abort>(rt: &R, alloc: Global, desk: &Desk<N>, seat: &mut Seat)
     requires { IsSeatOf N.book N.callers seat.old }
     ensures { IsSeatOf N.book N.callers seat.new }
 {
@@ -87,7 +78,10 @@ fn check_numbers<R: Abort>(rt: &R, closed: &Closed) {
 
 #[test]
 fn a_foreign_seat_is_refused(rt: HostRuntime) -> Result<(), Fail> {
-    match (DeskParts::new(&rt, rt.alloc(), 1, 1), DeskParts::new(&rt, rt.alloc(), 2, 1)) {
+    match (
+        DeskParts::new(&rt, rt.alloc(), 1, 1),
+        DeskParts::new(&rt, rt.alloc(), 2, 1),
+    ) {
         (Ok(parts), Ok(others)) => run_foreign::<Brand, Brand, _>(&rt, rt.alloc(), parts, others),
         _ => panic!(&rt; "two desks"),
     }
