@@ -18,8 +18,8 @@ use std::sync::{Mutex, MutexGuard, Wait};
 
 /// A registry that callers share. It has no `Drop`, as a writer's end can't be dropped: end it by `close` or `end`.
 pub struct Desk<N: DeskName> {
-    locked: Mutex<Locked<N>>,
-    tag: u64,
+    pub(crate) locked: Mutex<Locked<N>>,
+    pub(crate) tag: u64,
     callers: u32,
 }
 

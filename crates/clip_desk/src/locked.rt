@@ -35,10 +35,10 @@ impl DeskName for Brand {
 
 /// What a desk's lock keeps, seen as the registry. What was published last is that registry too.
 pub struct Locked<N: DeskName> {
-    registrar: Registrar,
-    writer: WriterEnd,
+    pub(crate) registrar: Registrar,
+    pub(crate) writer: WriterEnd,
     head: Head,
-    front: Front,
+    pub(crate) front: Front,
     of: PhantomData<N>,
 }
 

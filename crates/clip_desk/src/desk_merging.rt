@@ -1,0 +1,126 @@
+//! Merges and purges of a shared desk. What is registered and the history stay.
+ghost use Rattle.std.specs.Prelude.{◌≡◌, ◌≢◌, ◌↔◌, ◌+◌, ◌<◌, ◌≤◌};
+
+use crate::desk::Desk;
+use crate::locked::DeskName;
+use crate::refused::Refused;
+use crate::seat::Seat;
+use clip_registry::{Installed, MergeJob, Merged};
+use clip_words::NoMemory;
+use crossbeam_channel::Receiver;
+use std::sync::{MutexGuard, Wait};
+
+/// What one merge did.
+#[derive(Clone, Copy, Debug, PartialEq, Eq)]
+pub enum MergeTurn {
+    /// There were no four neighbouring segments of one level.
+    Nothing,
+    /// The oldest four such segments are one now.
+    Installed,
+    /// The four did not stand any more when their merge was done, and nothing was changed.
+    Stale,
+}
+
+/// What a desk's merging thread is told.
+#[derive(Clone, Copy, Debug, PartialEq, Eq)]
+pub enum Nudge {
+    /// There may be segments to merge.
+    Merge,
+    /// No more nudges come.
+    Stop,
+}
+
+/// Takes the nudges that stand in a channel, up to the first `Stop`, and says whether there was one. It costs a step for
+/// each of them.
+fn take_standing<R: Wait>(rt: &R, nudges: &Receiver<Nudge>) -> bool {
+    for _ in 0..nudges.len() {
+        if let Ok(Nudge::Stop) = nudges.try_recv(rt) {
+            return true;
+        }
+    }
+    false
+}
+
+impl<N: DeskName> Desk<N> {
+    /// Leaves each segment with just its live entries, takes the empty ones away, and publishes that: `Foreign` for a seat
+    /// of another tag, and `NoMemory` where an allocation failed, with nothing changed. The seat stays as it is. It may wait
+    /// for other callers' commits, and for readers that look. It costs that of `Registrar::purge`.
+    pub fn purge<R: Wait>(&self, rt: &R, seat: &mut Seat) -> Result<(), Refused>
+        ensures foreign { (result ≡ Err Refused.Foreign) ↔ (seat.old.tag ≢ self.now.tag) }
+        ensures never_full { result ≢ Err Refused.Full }
+        ensures seat { seat.new ≡ seat.old }
+    {
+        if seat.tag() != self.tag {
+            return Err(Refused::Foreign);
+        }
+        let mut guard = self.locked.lock(rt);
+        let answer = guard.purge(rt);
+        MutexGuard::unlock(guard);
+        match answer {
+            Ok(()) => Ok(()),
+            Err(_) => Err(Refused::NoMemory),
+        }
+    }
+
+    /// A job over the oldest four neighbouring segments of one level, where there are such four.
+    fn begin<R: Wait>(&self, rt: &R) -> Result<Option<MergeJob>, NoMemory> {
+        let guard = self.locked.lock(rt);
+        let job = guard.begin();
+        MutexGuard::unlock(guard);
+        job
+    }
+
+    /// Installs a merge, and publishes it.
+    fn install<R: Wait>(&self, rt: &R, merged: Merged) -> Result<Installed, NoMemory> {
+        let mut guard = self.locked.lock(rt);
+        let answer = guard.install(rt, merged);
+        MutexGuard::unlock(guard);
+        answer
+    }
+
+    /// Merges the oldest four neighbouring segments of one level, where there are such four, and publishes that. What is
+    /// registered stays, and so does the history: commits of other threads while it merges are kept. It may find its merge
+    /// stale where another thread merged or purged, or a clear came between. `NoMemory` where an allocation failed, with
+    /// nothing changed; a later call may merge them.
+    ///
+    /// It may wait for other callers' commits, and for readers that look. It costs that of `Registrar::begin`, and where
+    /// there are four that of `MergeJob::run` and of `Registrar::install`. Commits go on while the job is run.
+    pub fn merge_once<R: Wait>(&self, rt: &R) -> Result<MergeTurn, NoMemory> {
+        let Some(job) = self.begin(rt)? else {
+            return Ok(MergeTurn::Nothing);
+        };
+        let merged = job.run()?;
+        match self.install(rt, merged)? {
+            Installed::Done => Ok(MergeTurn::Installed),
+            Installed::Stale => Ok(MergeTurn::Stale),
+        }
+    }
+
+    /// Merges until there is nothing to merge, or a merge is stale or refused.
+    fn merge_all<R: Wait>(&self, rt: &R) {
+        for _ in rt.forever() {
+            let Ok(MergeTurn::Installed) = self.merge_once(rt) else {
+                return;
+            };
+        }
+    }
+
+    /// Merges at each nudge, until a `Stop` comes or the channel is closed. It takes all nudges that stand in the channel
+    /// at once, and then merges until nothing is left to merge, so one `Merge` does for many. Where a merge is stale, or is
+    /// refused for want of memory, nothing is changed, and the next nudge merges again. A `Stop` ends it after the merges
+    /// that stood before it.
+    ///
+    /// It waits for nudges, for other callers' commits, and for readers that look. Each merge costs that of `merge_once`.
+    pub fn serve_merges<R: Wait>(&self, rt: &R, nudges: &Receiver<Nudge>) {
+        for _ in rt.forever() {
+            let Ok(Nudge::Merge) = nudges.recv(rt) else {
+                return;
+            };
+            let stops = take_standing(rt, nudges);
+            self.merge_all(rt);
+            if stops {
+                return;
+            }
+        }
+    }
+}

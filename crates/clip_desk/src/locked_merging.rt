@@ -1,0 +1,65 @@
+//! Merges and purges of what the lock keeps: other segments, and the same history.
+ghost use Rattle.std.specs.Prelude.{◌≡◌, ◌<◌, ◌≤◌, ℕ, Ok, None, IfOk, IfSome, OnOk, OnErr};
+ghost use Rattle.clip_merge.specs.Plan.{IsRun};
+ghost use Rattle.clip_registry.specs.Merging.{IsBegun, IsInstalled, IsStale, purged};
+
+use crate::locked::{DeskName, Locked};
+use clip_chronicle::show;
+use clip_registry::{Installed, MergeJob, Merged, Registrar};
+use clip_words::NoMemory;
+use std::sync::Wait;
+
+impl<N: DeskName> Locked<N> {
+    /// Publishes a registry of the same history, and keeps it. `NoMemory` where an allocation failed, with nothing
+    /// changed. It may wait for readers that look.
+    fn put<R: Wait>(&mut self, rt: &R, registrar: Registrar) -> Result<(), NoMemory>
+        requires { registrar.history ≡ self.old.history }
+        ensures there { OnOk result (self.new ≡ registrar) }
+        ensures unchanged { OnErr result (self.new ≡ self.old) }
+    {
+        let view = registrar.view()?;
+        let front = self.front.again();
+        show(rt, &mut self.writer, view, front)?;
+        self.registrar = registrar;
+        Ok(())
+    }
+
+    /// Leaves each segment with just its live entries, takes the empty ones away, and publishes that. The history is kept,
+    /// and so is what is registered. `NoMemory` where an allocation failed, with nothing changed. It may wait for readers
+    /// that look, and costs that of `Registrar::purge`.
+    pub fn purge<R: Wait>(&mut self, rt: &R) -> Result<(), NoMemory>
+        ensures purged { OnOk result (self.new ≡ purged self.old) }
+        ensures unchanged { OnErr result (self.new ≡ self.old) }
+    {
+        let mut next = self.registrar.copy()?;
+        next.purge()?;
+        self.put(rt, next)
+    }
+
+    /// Begins a merge: a job over the oldest four neighbouring segments of one level, or `None` where there are no such
+    /// four. `NoMemory` where an allocation failed. It costs that of `Registrar::begin`.
+    pub fn begin(&self) -> Result<Option<MergeJob>, NoMemory>
+        ensures begun { IfOk result (λ job. IfSome job (IsBegun self.now)) }
+        ensures nothing { result ≡ Ok None → (first : ℕ) → IsRun self.now.segments first → ⊥ }
+    {
+        self.registrar.begin()
+    }
+
+    /// Installs a merge, wherever it was begun, and publishes the registry with it; a stale one changes and publishes
+    /// nothing. The history is kept, and so is what is registered. `NoMemory` where an allocation failed, with nothing
+    /// changed and the merge dropped. It may wait for readers that look, and costs that of `Registrar::install`.
+    pub fn install<R: Wait>(&mut self, rt: &R, merged: Merged) -> Result<Installed, NoMemory>
+        ensures done { result ≡ Ok Installed.Done → IsInstalled self.old self.new merged }
+        ensures stale { result ≡ Ok Installed.Stale → IsStale self.old merged }
+        ensures unchanged { (result ≡ Ok Installed.Done → ⊥) → self.new ≡ self.old }
+    {
+        let mut next = self.registrar.copy()?;
+        match next.install(merged)? {
+            Installed::Done => {
+                self.put(rt, next)?;
+                Ok(Installed::Done)
+            }
+            Installed::Stale => Ok(Installed::Stale),
+        }
+    }
+}
