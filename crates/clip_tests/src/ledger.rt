@@ -1,37 +1,11 @@
 //! The ledger: worked examples.
+use crate::making::alerts;
 use clip_ledger::{Ledger, Row};
 use clip_listen::Note;
-use clip_match::{Alert, Alerts};
 use clip_words::NoMemory;
 use std::alloc::{AllocError, Global};
 use std::sync::ArcStr;
 use std::test::Fail;
-
-/// A text, or none.
-fn shared(alloc: Global, text: Option<&str>) -> Result<Option<ArcStr>, AllocError> {
-    match text {
-        Some(text) => Ok(Some(ArcStr::from_str(alloc, text)?)),
-        None => Ok(None),
-    }
-}
-
-/// The alerts of article a1 on queries, each with the name of its listener or none.
-fn alerts(alloc: Global, queries: &[(&str, Option<&str>)]) -> Result<Alerts, AllocError> {
-    let mut alerts = Vec::new(alloc);
-    for (query, listener) in queries {
-        alerts.push(Alert {
-            query: ArcStr::from_str(alloc, query)?,
-            article: ArcStr::from_str(alloc, "a1")?,
-            listener: shared(alloc, *listener)?,
-        })?;
-    }
-    Ok(Alerts {
-        article: ArcStr::from_str(alloc, "a1")?,
-        place: 3,
-        asked: 3,
-        alerts,
-    })
-}
 
 /// Notes, each of a listener, a query and a text.
 fn notes(alloc: Global, notes: &[(&str, &str, &str)]) -> Result<Vec<Note>, AllocError> {
@@ -60,7 +34,7 @@ fn lines(alloc: Global, rows: &[Row]) -> Result<String, AllocError> {
     for row in rows {
         let (line, article, query) = (row.line, &row.article, &row.query);
         let (listener, said) = (or_dash(&row.listener), or_dash(&row.text));
-        text.push_str(&format!(in alloc; "{line} {article} {query} {listener} {said}\n")?)?;
+        write!(text, "{line} {article} {query} {listener} {said}\n")?;
     }
     Ok(text)
 }

@@ -2,51 +2,24 @@
 ghost use Rattle.std.specs.Prelude.{◌≡◌, IfOk};
 ghost use Rattle.clip_listen.specs.Heard.{style_value};
 
+use crate::making::{alert, alerts};
 use clip_listen::{Folder, Listener, Listeners, Named, Note, Render, Style, Teller, Wording};
-use clip_match::{Alert, Alerts};
+use clip_match::Alert;
 use clip_words::NoMemory;
 use std::alloc::{AllocError, Global};
 use std::cell::Cell;
-use std::sync::ArcStr;
 use std::test::Fail;
 
-/// The alert of article a1 on a query, with the name of its listener or none.
-fn alert(alloc: Global, query: &str, listener: Option<&str>) -> Result<Alert, AllocError> {
-    let listener = match listener {
-        Some(name) => Some(ArcStr::from_str(alloc, name)?),
-        None => None,
-    };
-    Ok(Alert {
-        query: ArcStr::from_str(alloc, query)?,
-        article: ArcStr::from_str(alloc, "a1")?,
-        listener,
-    })
-}
-
-/// The alerts of article a1 on queries, each with the name of its listener or none.
-fn alerts(alloc: Global, queries: &[(&str, Option<&str>)]) -> Result<Alerts, AllocError> {
-    let mut alerts = Vec::new(alloc);
-    for (query, listener) in queries {
-        alerts.push(alert(alloc, query, *listener)?)?;
-    }
-    Ok(Alerts {
-        article: ArcStr::from_str(alloc, "a1")?,
-        place: 1,
-        asked: 3,
-        alerts,
-    })
-}
-
 /// A folder of the style of these texts.
-fn folder(alloc: Global, head: &str, middle: &str) -> Result<Folder<Style>, NoMemory> {
+fn folder(alloc: Global, head: &str, middle: &str) -> Result<Box<Folder<Style>>, NoMemory> {
     let render = Render::in_style(Style::new(alloc, head, middle)?)?;
-    Ok(Folder::new(alloc, render))
+    Ok(Box::new(alloc, Folder::new(alloc, render))?)
 }
 
 /// A teller of the style of these texts.
-fn teller(alloc: Global, head: &str, middle: &str) -> Result<Teller<Style>, NoMemory> {
+fn teller(alloc: Global, head: &str, middle: &str) -> Result<Box<Teller<Style>>, NoMemory> {
     let render = Render::in_style(Style::new(alloc, head, middle)?)?;
-    Ok(Teller::new(render))
+    Ok(Box::new(alloc, Teller::new(render))?)
 }
 
 /// A listener of the test's own, which keeps nothing.
@@ -108,22 +81,18 @@ fn folder_of_once(alloc: Global) -> Result<Folder<Once>, NoMemory> {
     Ok(Folder::new(alloc, Render::new(style, wording)))
 }
 
-/// The notes as lines: the listener, the query and the text.
-fn lines(alloc: Global, notes: &[Note]) -> Result<String, AllocError> {
-    let mut text = String::new(alloc);
+/// Adds the notes as lines: the listener, the query and the text.
+fn add_notes(text: &mut String, notes: &[Note]) -> Result<(), AllocError> {
     for note in notes {
         let (listener, query, said) = (&note.listener, &note.query, &note.text);
-        text.push_str(&format!(in alloc; "{listener} {query} {said}\n")?)?;
+        write!(text, "{listener} {query} {said}\n")?;
     }
-    Ok(text)
+    Ok(())
 }
 
-/// Adds a listener as a line: its name, and the queries of the alerts that it heard, or `-` where it doesn't tell them.
-fn add_heard(text: &mut String, name: &str, heard: Option<&[Alert]>) -> Result<(), AllocError> {
+/// Adds a name and the queries of the alerts that were heard, as a line.
+fn add_heard(text: &mut String, name: &str, heard: &[Alert]) -> Result<(), AllocError> {
     text.push_str(name)?;
-    let Some(heard) = heard else {
-        return text.push_str(" -\n");
-    };
     for alert in heard {
         text.push_str(" ")?;
         text.push_str(&alert.query)?;
@@ -131,113 +100,115 @@ fn add_heard(text: &mut String, name: &str, heard: Option<&[Alert]>) -> Result<(
     text.push_str("\n")
 }
 
-/// What each listener heard, as lines.
-fn all_heard(alloc: Global, listeners: Listeners) -> Result<String, AllocError> {
-    let mut text = String::new(alloc);
-    for part in &listeners.into_parts() {
-        add_heard(&mut text, part.0.as_str(), part.1.heard())?;
+/// Adds what each listener heard that tells it, as lines.
+fn add_all_heard(text: &mut String, parts: &[Named]) -> Result<(), AllocError> {
+    for part in parts {
+        if let Some(heard) = part.1.heard() {
+            add_heard(text, part.0.as_str(), heard)?;
+        }
     }
+    Ok(())
+}
+
+/// The listeners under their names.
+fn named(
+    alloc: Global,
+    mail: Box<dyn Listener + Send>,
+    feed: Box<dyn Listener + Send>,
+    card: Box<dyn Listener + Send>,
+) -> Result<Vec<Named>, AllocError> {
+    let mut parts: Vec<Named> = Vec::new(alloc);
+    parts.push((String::from_str(alloc, "mail")?, mail))?;
+    parts.push((String::from_str(alloc, "feed")?, feed))?;
+    parts.push((String::from_str(alloc, "card")?, card))?;
+    Ok(parts)
+}
+
+/// The name of a desk, and a teller with it.
+fn desk(alloc: Global, number: u32) -> Result<(String, Box<Teller<Style>>), NoMemory> {
+    let name = format!(in alloc; "desk{number}")?;
+    let head = format!(in alloc; "{name}: ")?;
+    let teller = teller(alloc, &head, " in ")?;
+    Ok((name, teller))
+}
+
+/// What is said of the alerts on queries, and what each listener heard that tells it, as lines.
+fn told(
+    alloc: Global,
+    parts: Vec<Named>,
+    queries: &[(&str, Option<&str>)],
+) -> Result<String, Fail> {
+    let mut listeners = Listeners::new(parts).ok().ok_or("a name repeats")?;
+    let notes = listeners.deliver(alloc, &alerts(alloc, queries)?)?;
+    let mut text = String::new(alloc);
+    add_notes(&mut text, &notes)?;
+    add_all_heard(&mut text, &listeners.into_parts())?;
     Ok(text)
 }
 
-#[test]
-fn each_alert_is_heard_by_the_listener_of_its_query_alone(rt: HostRuntime) -> Result<(), Fail> {
-    let alloc = rt.alloc();
-    let mut parts: Vec<Named> = Vec::new(alloc);
-    let mail = Box::new(alloc, folder(alloc, "mail: ", " in ")?)?;
-    parts.push((String::from_str(alloc, "mail")?, mail))?;
-    let feed = Box::new(alloc, folder(alloc, "feed ", "/")?)?;
-    parts.push((String::from_str(alloc, "feed")?, feed))?;
-    let mut listeners = Listeners::new(parts).ok().ok_or("a name repeats")?;
-    let queries = [("q1", Some("mail")), ("q2", Some("feed")), ("q3", None)];
-    let notes = listeners.deliver(alloc, &alerts(alloc, &queries)?)?;
-    let wanted = "mail q1 mail: q1 in a1\nfeed q2 feed q2/a1\n";
-    assert_eq!(rt; lines(alloc, &notes)?.as_str(), wanted);
-    assert_eq!(rt; all_heard(alloc, listeners)?.as_str(), "mail q1\nfeed q2\n");
-    Ok(())
-}
+/// Queries, each with the name of its listener or none.
+static QUERIES: [(&str, Option<&str>); 7] = [
+    ("q1", Some("card")),
+    ("q2", Some("feed")),
+    ("q3", Some("desk300")),
+    ("q4", Some("mail")),
+    ("q5", None),
+    ("q6", Some("desk299")),
+    ("q7", Some("desk0")),
+];
+
+/// What is said of their alerts, and what `mail` heard.
+const TOLD: &str = "\
+card q1 card q1 on a1
+feed q2 feed q2/a1
+mail q4 mail: q4 in a1
+desk299 q6 desk299: q6 in a1
+desk0 q7 desk0: q7 in a1
+mail q4
+";
 
 #[test]
-fn a_listener_of_ones_own_stands_beside_the_two_kinds(rt: HostRuntime) -> Result<(), Fail> {
-    let alloc = rt.alloc();
-    let mut parts: Vec<Named> = Vec::new(alloc);
-    let mail = Box::new(alloc, folder(alloc, "mail: ", " in ")?)?;
-    parts.push((String::from_str(alloc, "mail")?, mail))?;
-    let feed = Box::new(alloc, teller(alloc, "feed ", "/")?)?;
-    parts.push((String::from_str(alloc, "feed")?, feed))?;
-    let card = Box::new(alloc, Postcard { sent: false })?;
-    parts.push((String::from_str(alloc, "card")?, card))?;
-    let mut listeners = Listeners::new(parts).ok().ok_or("a name repeats")?;
-    let queries = [
-        ("q1", Some("card")),
-        ("q2", Some("feed")),
-        ("q3", Some("fax")),
-        ("q4", Some("mail")),
-    ];
-    let notes = listeners.deliver(alloc, &alerts(alloc, &queries)?)?;
-    let wanted = "card q1 card q1 on a1\nfeed q2 feed q2/a1\nmail q4 mail: q4 in a1\n";
-    assert_eq!(rt; lines(alloc, &notes)?.as_str(), wanted);
-    assert_eq!(rt;
-        all_heard(alloc, listeners)?.as_str(),
-        "mail q4\nfeed -\ncard -\n"
-    );
-    Ok(())
-}
-
-#[test]
-fn a_name_that_repeats_hands_the_listeners_back(rt: HostRuntime) -> Result<(), Fail> {
-    let alloc = rt.alloc();
-    let mut parts: Vec<Named> = Vec::new(alloc);
-    let first = Box::new(alloc, folder(alloc, "mail: ", " in ")?)?;
-    parts.push((String::from_str(alloc, "mail")?, first))?;
-    let second = Box::new(alloc, teller(alloc, "feed ", "/")?)?;
-    parts.push((String::from_str(alloc, "mail")?, second))?;
-    let twice = Listeners::new(parts).err().ok_or("both names were taken")?;
-    assert_eq!(rt; twice.parts.len(), 2);
-    assert!(rt; twice.parts[0].1.heard().is_some());
-    assert!(rt; twice.parts[1].1.heard().is_none());
-    Ok(())
-}
-
-#[test]
-fn among_many_listeners_each_alert_is_heard_by_its_own(rt: HostRuntime) -> Result<(), Fail> {
-    let alloc = rt.alloc();
-    let mut parts: Vec<Named> = Vec::new(alloc);
-    for number in 0..300 {
-        let head = format!(in alloc; "{number}: ")?;
-        let desk = Box::new(alloc, teller(alloc, head.as_str(), " in ")?)?;
-        parts.push((format!(in alloc; "desk{number}")?, desk))?;
+fn among_listeners_of_each_kind_each_alert_is_heard_by_its_own(
+    rt: HostRuntime,
+) -> Result<(), Fail> {
+    let mail = folder(rt.alloc(), "mail: ", " in ")?;
+    let feed = teller(rt.alloc(), "feed ", "/")?;
+    let card = Box::new(rt.alloc(), Postcard { sent: false })?;
+    let mut parts = named(rt.alloc(), mail, feed, card)?;
+    for number in 0..300u32 {
+        let (name, teller) = desk(rt.alloc(), number)?;
+        parts.push((name, teller))?;
     }
-    let mut listeners = Listeners::new(parts).ok().ok_or("a name repeats")?;
-    let queries = [
-        ("q1", Some("desk299")),
-        ("q2", Some("desk300")),
-        ("q3", Some("desk0")),
-        ("q4", Some("desk17")),
-    ];
-    let notes = listeners.deliver(alloc, &alerts(alloc, &queries)?)?;
-    let wanted = "desk299 q1 299: q1 in a1\ndesk0 q3 0: q3 in a1\ndesk17 q4 17: q4 in a1\n";
-    assert_eq!(rt; lines(alloc, &notes)?.as_str(), wanted);
-    let mut parts = listeners.into_parts();
-    let last = Box::new(alloc, teller(alloc, "", "")?)?;
-    parts.push((String::from_str(alloc, "desk0")?, last))?;
-    let twice = Listeners::new(parts).err().ok_or("both names were taken")?;
-    assert_eq!(rt; twice.parts.len(), 301);
+    let told = told(rt.alloc(), parts, &QUERIES)?;
+    assert!(rt; told.as_str() == TOLD, "{told}");
     Ok(())
+}
+
+/// What a folder says of the alert on a query, or `refused`.
+fn said(alloc: Global, folder: &mut Folder<Once>, query: &str) -> Result<String, AllocError> {
+    let alert = alert(alloc, query, None)?;
+    match folder.hear(alloc, &alert) {
+        Ok(said) => Ok(said),
+        Err(NoMemory) => String::from_str(alloc, "refused"),
+    }
+}
+
+/// What a folder whose wording refuses its second call says of two alerts, and what it heard.
+fn told_by_once(alloc: Global) -> Result<String, NoMemory> {
+    let mut folder = folder_of_once(alloc)?;
+    let mut text = said(alloc, &mut folder, "q1")?;
+    text.push_str(&said(alloc, &mut folder, "q2")?)?;
+    if let Some(heard) = folder.heard() {
+        add_heard(&mut text, " once", heard)?;
+    }
+    Ok(text)
 }
 
 #[test]
 fn a_folder_asks_its_wording_and_hears_nothing_where_it_refuses(
     rt: HostRuntime,
 ) -> Result<(), Fail> {
-    let alloc = rt.alloc();
-    let mut folder = folder_of_once(alloc)?;
-    let first = alert(alloc, "q1", None)?;
-    assert_eq!(rt; folder.hear(alloc, &first)?.as_str(), "xq1a1");
-    let second = alert(alloc, "q2", None)?;
-    assert!(rt; folder.hear(alloc, &second).is_err());
-    let mut text = String::new(alloc);
-    add_heard(&mut text, "once", folder.heard())?;
-    assert_eq!(rt; text.as_str(), "once q1\n");
+    let told = told_by_once(rt.alloc())?;
+    assert!(rt; told.as_str() == "xq1a1refused once q1\n", "{told}");
     Ok(())
 }

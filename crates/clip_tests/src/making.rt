@@ -1,10 +1,11 @@
-//! What the tests give to calls: long texts, standing queries, entries, a segment, articles.
+//! What the tests give to calls: long texts, standing queries, entries, a segment, articles, alerts.
 ghost use Rattle.std.specs.Prelude.{◌≡◌, IfOk};
 
+use clip_match::{Alert, Alerts};
 use clip_meaning::{Article, ArticleFault};
 use clip_segment::{Entry, Segment, Standing};
 use std::alloc::{AllocError, Global};
-use std::sync::Arc;
+use std::sync::{Arc, ArcStr};
 use std::test::Fail;
 
 /// Adds a piece to a text, so many times.
@@ -68,4 +69,31 @@ fn pairs(alloc: Global, fields: &[(&str, &str)]) -> Result<Vec<(String, String)>
 /// The article of an id and of fields, each a name and a text, or why it is refused.
 pub fn article(alloc: Global, id: &str, fields: &[(&str, &str)]) -> Result<Article, ArticleFault> {
     Article::read(alloc, id, &pairs(alloc, fields)?)
+}
+
+/// The alert of article a1 on a query, with the name of its listener or none.
+pub fn alert(alloc: Global, query: &str, listener: Option<&str>) -> Result<Alert, AllocError> {
+    let listener = match listener {
+        Some(name) => Some(ArcStr::from_str(alloc, name)?),
+        None => None,
+    };
+    Ok(Alert {
+        query: ArcStr::from_str(alloc, query)?,
+        article: ArcStr::from_str(alloc, "a1")?,
+        listener,
+    })
+}
+
+/// The alerts of article a1 on queries, each with the name of its listener or none.
+pub fn alerts(alloc: Global, queries: &[(&str, Option<&str>)]) -> Result<Alerts, AllocError> {
+    let mut alerts = Vec::new(alloc);
+    for (query, listener) in queries {
+        alerts.push(alert(alloc, query, *listener)?)?;
+    }
+    Ok(Alerts {
+        article: ArcStr::from_str(alloc, "a1")?,
+        place: 3,
+        asked: 3,
+        alerts,
+    })
 }

@@ -1,97 +1,11 @@
-//! Articles, and what holds of them: worked examples.
+//! Articles: worked examples.
 use crate::making::article;
-use clip_grammar::fault::QueryFault;
-use clip_meaning::{Article, ArticleFault, Field, holds};
-use clip_syntax::read_query;
+use clip_meaning::{Article, ArticleFault, Field};
 use std::alloc::{AllocError, Global};
 use std::test::Fail;
 
 /// Fields, each a name and a text.
 type Fields = &'static [(&'static str, &'static str)];
-
-/// Each the text of a query, the fields of an article, and whether the query holds of the article.
-static HOLDING: [(&str, Fields, bool); 32] = [
-    // everything holds of no words
-    ("*:*", &[("text", "")], true),
-    ("*:*", &[], true),
-    // either word of a disjunction is enough
-    ("tea coffee", &[("text", "tea")], true),
-    ("tea coffee", &[("text", "coffee")], true),
-    ("tea coffee", &[("text", "coffee tea coffee")], true),
-    ("tea coffee", &[("text", "cocoa")], false),
-    // a prefix is compared with folded words
-    ("strass*", &[("text", "Straße")], true),
-    ("strass*", &[("text", "stras strata")], false),
-    ("tea*", &[("text", "a teapot")], true),
-    // a range takes in its closed ends alone
-    ("{m TO p]", &[("text", "m")], false),
-    ("{m TO p]", &[("text", "n")], true),
-    ("{m TO p]", &[("text", "p")], true),
-    ("{m TO p]", &[("text", "é")], false),
-    ("[* TO m}", &[("text", "a")], true),
-    ("[* TO m}", &[("text", "m")], false),
-    ("[* TO m}", &[("text", "n")], false),
-    ("[* TO m}", &[("text", "")], false),
-    ("[m TO *]", &[("text", "a")], false),
-    ("[m TO *]", &[("text", "m")], true),
-    ("[m TO *]", &[("text", "é")], true),
-    // only what is excluded never holds
-    ("-spam", &[("text", "ham")], false),
-    ("*:* -spam", &[("text", "ham")], true),
-    ("*:* -spam", &[("text", "ham spam")], false),
-    // a phrase stands in order without gaps
-    ("\"wi fi\"", &[("text", "Wi-Fi")], true),
-    ("\"wi fi\"", &[("text", "wi wi fi")], true),
-    ("\"wi fi\"", &[("text", "fi wi")], false),
-    ("\"wi fi\"", &[("text", "wi and fi wi")], false),
-    // a nested group counts as one clause
-    (
-        "title:(+tea -\"green tea\") milk",
-        &[("title", "Black tea")],
-        true,
-    ),
-    (
-        "title:(+tea -\"green tea\") milk",
-        &[("title", "green tea"), ("text", "milk")],
-        true,
-    ),
-    (
-        "title:(+tea -\"green tea\") milk",
-        &[("title", "green tea")],
-        false,
-    ),
-    // two words may meet a prefix and a range
-    (
-        "+extraordinarily* +[a TO b]",
-        &[("text", "extraordinarily")],
-        false,
-    ),
-    (
-        "+extraordinarily* +[a TO b]",
-        &[("text", "extraordinarily ab")],
-        true,
-    ),
-];
-
-/// Whether the query of a text holds of an article.
-fn query_holds(alloc: Global, query: &str, article: &Article) -> Result<bool, QueryFault> {
-    Ok(holds(&read_query(alloc, query)?, article))
-}
-
-/// Whether the query of a text holds of the article of these fields.
-fn holds_of(alloc: Global, query: &str, fields: Fields) -> Result<bool, Fail> {
-    let article = article(alloc, "a1", fields)?;
-    Ok(query_holds(alloc, query, &article)?)
-}
-
-#[test]
-fn a_query_holds_of_just_the_articles_that_it_means(rt: HostRuntime) -> Result<(), Fail> {
-    for (query, fields, wanted) in &HOLDING {
-        let found = holds_of(rt.alloc(), query, fields)?;
-        assert!(rt; found == *wanted, "{query}");
-    }
-    Ok(())
-}
 
 /// Each an id, fields, and the article or why it is refused: its id, and of each field the name, the words, and the
 /// postings, each a word and its position.

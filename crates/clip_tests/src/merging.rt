@@ -1,6 +1,6 @@
 //! Merging and purging, by scripts worked by hand.
 use crate::script::{Step, play};
-use clip_registry::{Installed, MergeJob, Merged, Registrar};
+use clip_registry::{Installed, MergeJob, Registrar};
 use std::alloc::Global;
 use std::process::Abort;
 use std::test::Fail;
@@ -67,37 +67,39 @@ fn begun(rt: &impl Abort, registrar: &Registrar) -> Result<MergeJob, Fail> {
     Ok(job.expect(rt, "a job"))
 }
 
-/// Installs a merge: whether it was stale.
-fn is_stale(registrar: &mut Registrar, merged: Merged) -> Result<bool, Fail> {
-    Ok(registrar.install(merged)? == Installed::Stale)
+/// Installs what the job merges: whether it was stale.
+fn is_stale(registrar: &mut Registrar, job: &MergeJob) -> Result<bool, Fail> {
+    Ok(registrar.install(job.run()?)? == Installed::Stale)
 }
 
-#[test]
-fn a_merge_is_installed_once(rt: HostRuntime) -> Result<(), Fail> {
-    let mut registrar = four(&rt, rt.alloc())?;
-    let job = begun(&rt, &registrar)?;
-    play(&rt, rt.alloc(), &mut registrar, &SECOND_GONE)?;
-    assert!(rt; !is_stale(&mut registrar, job.run()?)?);
-    play(&rt, rt.alloc(), &mut registrar, &MERGED)?;
-    assert!(rt; is_stale(&mut registrar, job.run()?)?);
-    play(&rt, rt.alloc(), &mut registrar, &MERGED)
-}
-
-/// Merges the four, one of which is then deleted, and purges.
-fn merge_and_purge(rt: &impl Abort, alloc: Global, registrar: &mut Registrar) -> Result<(), Fail> {
-    let merged = begun(rt, registrar)?.run()?;
-    play(rt, alloc, registrar, &SECOND_GONE)?;
-    assert!(rt; !is_stale(registrar, merged)?);
-    Ok(registrar.purge()?)
-}
-
-#[test]
-fn a_purge_drops_what_was_deleted_since(rt: HostRuntime) -> Result<(), Fail> {
-    let mut registrar = four(&rt, rt.alloc())?;
-    merge_and_purge(&rt, rt.alloc(), &mut registrar)?;
-    play(&rt, rt.alloc(), &mut registrar, &PURGED)?;
-    assert!(rt; registrar.begin()?.is_none());
+/// Begins a merge, plays the script, and installs the merge, which is to be stale or not.
+fn merge_around(
+    rt: &impl Abort,
+    alloc: Global,
+    registrar: &mut Registrar,
+    script: &[(Step, &str)],
+    wanted: bool,
+) -> Result<(), Fail> {
+    let job = begun(rt, registrar)?;
+    play(rt, alloc, registrar, script)?;
+    assert!(rt; is_stale(registrar, &job)? == wanted);
     Ok(())
+}
+
+#[test]
+fn a_purge_drops_what_was_deleted_while_a_merge_was_open(rt: HostRuntime) -> Result<(), Fail> {
+    let mut registrar = four(&rt, rt.alloc())?;
+    merge_around(&rt, rt.alloc(), &mut registrar, &SECOND_GONE, false)?;
+    play(&rt, rt.alloc(), &mut registrar, &MERGED)?;
+    registrar.purge()?;
+    play(&rt, rt.alloc(), &mut registrar, &PURGED)
+}
+
+#[test]
+fn a_merge_is_stale_after_a_clear(rt: HostRuntime) -> Result<(), Fail> {
+    let mut registrar = four(&rt, rt.alloc())?;
+    merge_around(&rt, rt.alloc(), &mut registrar, &CLEARED, true)?;
+    play(&rt, rt.alloc(), &mut registrar, &NOTHING)
 }
 
 #[test]
@@ -106,21 +108,4 @@ fn a_purge_takes_empty_segments_away(rt: HostRuntime) -> Result<(), Fail> {
     play(&rt, rt.alloc(), &mut registrar, &THINNED)?;
     registrar.purge()?;
     play(&rt, rt.alloc(), &mut registrar, &LEFT)
-}
-
-#[test]
-fn nothing_is_begun_where_nothing_is_registered(rt: HostRuntime) -> Result<(), Fail> {
-    let mut registrar = Registrar::new(rt.alloc());
-    assert!(rt; registrar.begin()?.is_none());
-    registrar.purge()?;
-    Ok(())
-}
-
-#[test]
-fn a_merge_is_stale_after_a_clear(rt: HostRuntime) -> Result<(), Fail> {
-    let mut registrar = four(&rt, rt.alloc())?;
-    let merged = begun(&rt, &registrar)?.run()?;
-    play(&rt, rt.alloc(), &mut registrar, &CLEARED)?;
-    assert!(rt; is_stale(&mut registrar, merged)?);
-    play(&rt, rt.alloc(), &mut registrar, &NOTHING)
 }

@@ -8,7 +8,7 @@ use std::alloc::{AllocError, Global};
 use std::test::Fail;
 
 /// An event in plain numbers: ids, words, merges and batches go by theirs.
-#[derive(Clone, Copy, Debug, PartialEq, Eq)]
+#[derive(Clone, Copy)]
 enum Turn {
     /// The query of an id is a word.
     Register(u64, u64),
@@ -191,39 +191,51 @@ fn due(
     }
 }
 
-/// How many batches were finished, each with what it is to give, up to the first that was not.
-fn finished_well(alloc: Global, turns: &[Turn], answers: &[TraceAnswer]) -> Result<u64, Fail> {
-    let mut finished = 0u64;
+/// Whether each batch that was finished gave what it was to give.
+fn is_finished_well(alloc: Global, turns: &[Turn], answers: &[TraceAnswer]) -> Result<bool, Fail> {
     for (place, (turn, answer)) in turns.iter().zip(answers).enumerate() {
         if let (Turn::Finish(batch), TraceAnswer::Finished(all)) = (*turn, answer) {
             if found(alloc, all)? != due(alloc, turns, answers, place, batch)? {
-                return Ok(finished);
+                return Ok(false);
             }
-            finished = finished.saturating_add(1);
         }
     }
-    Ok(finished)
+    Ok(true)
+}
+
+/// How many batches were finished, and how many merges were installed.
+fn counts(answers: &[TraceAnswer]) -> (u64, u64) {
+    let (mut finished, mut installed) = (0u64, 0u64);
+    for answer in answers {
+        match answer {
+            TraceAnswer::Finished(_) => finished = finished.saturating_add(1),
+            TraceAnswer::Installed => installed = installed.saturating_add(1),
+            _ => {}
+        }
+    }
+    (finished, installed)
+}
+
+/// Plays the trace of a seed: whether each batch was finished well, how many were, and how many merges were installed.
+fn played(alloc: Global, seed: u64) -> Result<(bool, u64, u64), Fail> {
+    let turns = turns(alloc, seed)?;
+    let answers = trace(alloc, events(alloc, &turns)?)?;
+    let (finished, installed) = counts(&answers);
+    Ok((
+        is_finished_well(alloc, &turns, &answers)?,
+        finished,
+        installed,
+    ))
 }
 
 #[test]
 fn batches_of_random_traces_are_finished_with_what_was_due_at_their_look(
     rt: HostRuntime,
 ) -> Result<(), Fail> {
-    let alloc = rt.alloc();
     for seed in 1..6u64 {
-        let turns = turns(alloc, seed)?;
-        let answers = trace(alloc, events(alloc, &turns)?)?;
-        let finished = finished_well(alloc, &turns, &answers)?;
-        let all = answers
-            .iter()
-            .filter(|a| matches!(a, TraceAnswer::Finished(_)))
-            .count();
-        assert_eq!(rt; finished, all as u64, "seed {seed}");
-        assert!(rt; all > 25, "seed {seed}: {all} finished");
-        let installed = answers
-            .iter()
-            .filter(|a| matches!(a, TraceAnswer::Installed))
-            .count();
+        let (is_well, finished, installed) = played(rt.alloc(), seed)?;
+        assert!(rt; is_well, "seed {seed}");
+        assert!(rt; finished > 25, "seed {seed}: {finished} finished");
         assert!(rt; installed > 0, "seed {seed}: {installed} installed");
     }
     Ok(())

@@ -1,4 +1,4 @@
-//! The registry, candidates and alerts: scripts worked by hand, and limits.
+//! The registry and candidates: scripts worked by hand, and its limit.
 use crate::making::standing;
 use crate::script::{Step, answer, play};
 use clip_registry::{Command, Registrar};
@@ -65,58 +65,6 @@ static SHARING: [(Step, &str); 8] = [
     (Step::Candidates(""), ""),
 ];
 
-/// The candidates are asked, and those that hold are alerted by id.
-static ALERTING: [(Step, &str); 6] = [
-    (Step::Listen("q9", "tea", "desk"), "Registered(1)"),
-    (
-        Step::Register(&[
-            ("q2", "coffee"),
-            ("q10", "+tea -milk"),
-            ("q3", "+tea +milk"),
-        ]),
-        "Registered(3)",
-    ),
-    (
-        Step::Batch(&[
-            ("b", "tea"),
-            ("a", "Tea, milk"),
-            ("b", ""),
-            ("a", "coffee tea"),
-        ]),
-        "b 2 2 q10/b/- q9/b/desk. a 2 3 q3/a/- q9/a/desk. b 2 0. a 2 3 q10/a/- q2/a/- q9/a/desk. ",
-    ),
-    (Step::Match("b", "tea"), "b 2 2 q10/b/- q9/b/desk. "),
-    (Step::Match("a", "Tea, milk"), "a 2 3 q3/a/- q9/a/desk. "),
-    (Step::Batch(&[]), ""),
-];
-
-/// A query that was replaced, deleted or cleared is not alerted.
-static LETTING_GO: [(Step, &str); 8] = [
-    (
-        Step::Register(&[("q1", "tea"), ("q2", "tea")]),
-        "Registered(2)",
-    ),
-    (
-        Step::Batch(&[("a1", "tea"), ("a2", "coffee")]),
-        "a1 1 2 q1/a1/- q2/a1/-. a2 1 0. ",
-    ),
-    (Step::Register(&[("q1", "coffee")]), "Registered(1)"),
-    (
-        Step::Batch(&[("a1", "tea"), ("a2", "coffee")]),
-        "a1 2 1 q2/a1/-. a2 2 1 q1/a2/-. ",
-    ),
-    (Step::Delete(&["q2"]), "Deleted(1)"),
-    (
-        Step::Batch(&[("a1", "tea"), ("a2", "coffee")]),
-        "a1 3 0. a2 3 1 q1/a2/-. ",
-    ),
-    (Step::Clear(1), "Cleared(1)"),
-    (
-        Step::Batch(&[("a1", "tea"), ("a2", "coffee")]),
-        "a1 4 0. a2 4 0. ",
-    ),
-];
-
 /// Plays a script with a new registrar.
 fn play_anew(rt: &impl Abort, alloc: Global, script: &[(Step, &str)]) -> Result<(), Fail> {
     let mut registrar = Registrar::new(alloc);
@@ -124,41 +72,11 @@ fn play_anew(rt: &impl Abort, alloc: Global, script: &[(Step, &str)]) -> Result<
 }
 
 #[test]
-fn a_query_takes_the_place_of_the_one_with_its_id(rt: HostRuntime) -> Result<(), Fail> {
-    play_anew(&rt, rt.alloc(), &REPLACING)
-}
-
-#[test]
-fn a_delete_counts_the_distinct_ids_that_are_there_and_a_clear_all_queries(
-    rt: HostRuntime,
-) -> Result<(), Fail> {
-    play_anew(&rt, rt.alloc(), &DELETING)
-}
-
-#[test]
-fn commands_are_numbered_by_caller(rt: HostRuntime) -> Result<(), Fail> {
-    play_anew(&rt, rt.alloc(), &NUMBERING)
-}
-
-#[test]
-fn just_the_live_queries_that_share_a_key_are_candidates_by_seq(
-    rt: HostRuntime,
-) -> Result<(), Fail> {
+fn each_step_of_a_script_gives_what_stands_beside_it(rt: HostRuntime) -> Result<(), Fail> {
+    play_anew(&rt, rt.alloc(), &REPLACING)?;
+    play_anew(&rt, rt.alloc(), &DELETING)?;
+    play_anew(&rt, rt.alloc(), &NUMBERING)?;
     play_anew(&rt, rt.alloc(), &SHARING)
-}
-
-#[test]
-fn the_candidates_are_asked_and_those_that_hold_are_alerted_by_id(
-    rt: HostRuntime,
-) -> Result<(), Fail> {
-    play_anew(&rt, rt.alloc(), &ALERTING)
-}
-
-#[test]
-fn a_query_that_was_replaced_or_deleted_or_cleared_is_not_alerted(
-    rt: HostRuntime,
-) -> Result<(), Fail> {
-    play_anew(&rt, rt.alloc(), &LETTING_GO)
 }
 
 /// A clear of two queries.
@@ -171,13 +89,6 @@ fn a_view_that_is_held_stays_while_the_registrar_goes_on(rt: HostRuntime) -> Res
     let held = registrar.view()?;
     play(&rt, rt.alloc(), &mut registrar, &CLEARED)?;
     assert!(rt; held.count() == 2);
-    Ok(())
-}
-
-#[test]
-fn a_list_of_1024_fits_and_of_1025_does_not(rt: HostRuntime) -> Result<(), Fail> {
-    assert!(rt; numbered(rt.alloc(), 0, 1024)?.fits());
-    assert!(rt; !numbered(rt.alloc(), 0, 1025)?.fits());
     Ok(())
 }
 

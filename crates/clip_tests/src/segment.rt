@@ -1,10 +1,8 @@
 //! Standing queries, entries and segments: worked examples and limits.
-use crate::making::{article, owned, segment, spelled};
+use crate::making::segment;
 use crate::showing::tree;
 use clip_extract::Key;
-use clip_registry::Command;
 use clip_segment::{Segment, Standing, StandingFault};
-use clip_words::is_id;
 use std::alloc::{AllocError, Global};
 use std::sync::ArcStr;
 use std::test::Fail;
@@ -46,46 +44,6 @@ fn a_standing_query_is_read_or_its_first_refusal_is_answered(rt: HostRuntime) ->
     for (id, text, wanted) in &STANDINGS {
         let told = standing_or_fault(rt.alloc(), id, text)?;
         assert!(rt; told.as_str() == *wanted, "{told}");
-    }
-    Ok(())
-}
-
-/// Pieces of an id, each so many times, and whether it is one.
-static IDS: [(&[(&str, usize)], bool); 6] = [
-    (&[], false),
-    (&[("a", 1)], true),
-    (&[("a", 256)], true),
-    (&[("a", 257)], false),
-    (&[("é", 127), ("a", 2)], true),
-    (&[("é", 127), ("a", 3)], false),
-];
-
-/// Whether a delete of an id fits.
-fn delete_takes(alloc: Global, id: &str) -> Result<bool, AllocError> {
-    Ok(Command::Delete(owned(alloc, &[id])?).fits())
-}
-
-/// Whether a standing query may have an id.
-fn standing_takes(alloc: Global, id: &str) -> bool {
-    Standing::read(alloc, id, "tea", None).is_ok()
-}
-
-/// Whether an article may have an id.
-fn article_takes(alloc: Global, id: &str) -> bool {
-    article(alloc, id, &[]).is_ok()
-}
-
-/// Whether a text is an id, and whether an article, a standing query and a delete may have it as one.
-fn taken(alloc: Global, id: &str) -> Result<[bool; 4], AllocError> {
-    let (article, standing) = (article_takes(alloc, id), standing_takes(alloc, id));
-    Ok([is_id(id), article, standing, delete_takes(alloc, id)?])
-}
-
-#[test]
-fn an_id_has_1_to_256_bytes(rt: HostRuntime) -> Result<(), Fail> {
-    for (pieces, wanted) in &IDS {
-        let id = spelled(rt.alloc(), pieces)?;
-        assert!(rt; taken(rt.alloc(), &id)? == [*wanted; 4]);
     }
     Ok(())
 }

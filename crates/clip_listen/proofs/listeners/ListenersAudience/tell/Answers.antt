@@ -1,4 +1,5 @@
-use Rattle.std.proofs.Common.{sym, refl, ap, option_map}
+use Rattle.std.proofs.Common.{sym, refl, ap, option_map, arith}
+use Rattle.std.proofs.lemmas.Grind.{common_steps}
 use Rattle.clip_match.specs.Alerts.{alert_value}
 use Rattle.clip_listen.proofs.Hearing.{unnamed}
 use Rattle.std.specs.Arc.{arc_str_bytes}
@@ -16,3 +17,10 @@ returns-in_default-place-clause-note g c = sym (not_here _ (λ _. refl) (alert_v
 
 pub returns-in_default-place-clause-ok : goal.returns-in_default-place-clause-ok
 returns-in_default-place-clause-ok g c = sym (not_here _ (λ _. refl) (alert_value c.args.alert.now) _ _ c.args.self.now.parts.items (sym (ap (option_map arc_str_bytes) c.in-Some.is)) c.as_str.ensures.value c.in_default-place.ensures).0
+
+-- Answered here, so that a wrong body is refused at once.
+pub returns-clause-note : goal.returns-clause-note
+returns-clause-note g c = grind (arith, common_steps)
+
+pub returns-clause-ok : goal.returns-clause-ok
+returns-clause-ok g c = grind (arith, common_steps)
