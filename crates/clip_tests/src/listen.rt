@@ -184,6 +184,39 @@ fn among_listeners_of_each_kind_each_alert_is_heard_by_its_own(
     Ok(())
 }
 
+/// Two listeners under one name, the first of which tells what it heard.
+fn named_alike(
+    alloc: Global,
+    first: Box<dyn Listener + Send>,
+    second: Box<dyn Listener + Send>,
+) -> Result<Vec<Named>, AllocError> {
+    let mut parts: Vec<Named> = Vec::new(alloc);
+    parts.push((String::from_str(alloc, "mail")?, first))?;
+    parts.push((String::from_str(alloc, "mail")?, second))?;
+    Ok(parts)
+}
+
+/// Which of the listeners that were handed back tell what they heard, a letter for each; `taken` where none were.
+fn handed_back(alloc: Global, parts: Vec<Named>) -> Result<String, AllocError> {
+    let Err(twice) = Listeners::new(parts) else {
+        return String::from_str(alloc, "taken");
+    };
+    let mut text = String::new(alloc);
+    for part in &twice.parts {
+        text.push_str(if part.1.heard().is_some() { "t" } else { "n" })?;
+    }
+    Ok(text)
+}
+
+#[test]
+fn a_name_that_repeats_hands_the_listeners_back(rt: HostRuntime) -> Result<(), Fail> {
+    let first = folder(rt.alloc(), "mail: ", " in ")?;
+    let second = teller(rt.alloc(), "feed ", "/")?;
+    let back = handed_back(rt.alloc(), named_alike(rt.alloc(), first, second)?)?;
+    assert!(rt; back.as_str() == "tn", "{back}");
+    Ok(())
+}
+
 /// What a folder says of the alert on a query, or `refused`.
 fn said(alloc: Global, folder: &mut Folder<Once>, query: &str) -> Result<String, AllocError> {
     let alert = alert(alloc, query, None)?;

@@ -1,8 +1,12 @@
-//! Which segments are merged next: worked examples.
-use crate::making::entry;
-use clip_merge::plan;
+//! Which segments are merged next, and segments with just the live entries of others: worked examples.
+ghost use Rattle.std.specs.Prelude.{◌≡◌, ◌∷◌, [], IfOk, map};
+ghost use Rattle.std.specs.Arc.{arc_value};
+ghost use Rattle.clip_segment.specs.Segment.{all_entries};
+
+use crate::making::{entry, segment};
+use clip_merge::{Live, merge, plan, purge};
 use clip_segment::Segment;
-use std::alloc::Global;
+use std::alloc::{AllocError, Global};
 use std::sync::Arc;
 use std::test::Fail;
 
@@ -36,5 +40,62 @@ fn four_neighbours_of_one_level_are_merged(rt: HostRuntime) -> Result<(), Fail> 
     for (lengths, wanted) in &PLANS {
         assert!(rt; planned(rt.alloc(), lengths)? == *wanted);
     }
+    Ok(())
+}
+
+/// The seqs of a segment's entries, each with a space after it.
+fn seqs(alloc: Global, segment: &Segment) -> Result<String, AllocError> {
+    let mut text = String::new(alloc);
+    for entry in segment.entries() {
+        let seq = entry.seq();
+        write!(text, "{seq} ")?;
+    }
+    Ok(text)
+}
+
+/// The segment of one entry.
+fn single(alloc: Global, seq: u64) -> Result<Arc<Segment>, Fail>
+    ensures { IfOk result (λ segment. map (λ entry. entry.seq) segment.value ≡ seq ∷ []) }
+{
+    let entries = vec![in alloc; entry(alloc, seq, "tea")?]?;
+    Ok(Arc::new(alloc, Segment::build(alloc, entries)?)?)
+}
+
+/// Four segments of one entry each.
+fn singles(alloc: Global) -> Result<Vec<Arc<Segment>>, Fail>
+    ensures { IfOk result (λ singles.
+        map (λ entry. entry.seq) (all_entries (map arc_value singles.items)) ≡ 1 ∷ 2 ∷ 3 ∷ 4 ∷ []) }
+{
+    Ok(vec![in alloc;
+        single(alloc, 1)?,
+        single(alloc, 2)?,
+        single(alloc, 3)?,
+        single(alloc, 4)?,
+    ]?)
+}
+
+/// Those segments merged, where all but the second entry are live.
+fn merged(alloc: Global) -> Result<Segment, Fail> {
+    let live = Live::of(vec![in alloc; 1, 3, 4]?);
+    Ok(merge(alloc, &singles(alloc)?, &live)?)
+}
+
+#[test]
+fn a_merge_keeps_the_live_entries(rt: HostRuntime) -> Result<(), Fail> {
+    let merged = merged(rt.alloc())?;
+    assert!(rt; seqs(rt.alloc(), &merged)?.as_str() == "1 3 4 ");
+    Ok(())
+}
+
+/// The segment of two entries, purged where the first is live.
+fn purged(alloc: Global) -> Result<Segment, Fail> {
+    let segment = Arc::new(alloc, segment(alloc)?)?;
+    Ok(purge(alloc, &segment, &Live::of(vec![in alloc; 1]?))?)
+}
+
+#[test]
+fn a_purge_keeps_the_live_entries(rt: HostRuntime) -> Result<(), Fail> {
+    let purged = purged(rt.alloc())?;
+    assert!(rt; seqs(rt.alloc(), &purged)?.as_str() == "1 ");
     Ok(())
 }

@@ -1,4 +1,4 @@
-//! The registry and candidates: scripts worked by hand, and its limit.
+//! The registry, candidates and alerts: scripts worked by hand, and limits.
 use crate::making::standing;
 use crate::script::{Step, answer, play};
 use clip_registry::{Command, Registrar};
@@ -65,6 +65,58 @@ static SHARING: [(Step, &str); 8] = [
     (Step::Candidates(""), ""),
 ];
 
+/// The candidates are asked, and those that hold are alerted by id.
+static ALERTING: [(Step, &str); 6] = [
+    (Step::Listen("q9", "tea", "desk"), "Registered(1)"),
+    (
+        Step::Register(&[
+            ("q2", "coffee"),
+            ("q10", "+tea -milk"),
+            ("q3", "+tea +milk"),
+        ]),
+        "Registered(3)",
+    ),
+    (
+        Step::Batch(&[
+            ("b", "tea"),
+            ("a", "Tea, milk"),
+            ("b", ""),
+            ("a", "coffee tea"),
+        ]),
+        "b 2 2 q10/b/- q9/b/desk. a 2 3 q3/a/- q9/a/desk. b 2 0. a 2 3 q10/a/- q2/a/- q9/a/desk. ",
+    ),
+    (Step::Match("b", "tea"), "b 2 2 q10/b/- q9/b/desk. "),
+    (Step::Match("a", "Tea, milk"), "a 2 3 q3/a/- q9/a/desk. "),
+    (Step::Batch(&[]), ""),
+];
+
+/// A query that was replaced, deleted or cleared is not alerted.
+static LETTING_GO: [(Step, &str); 8] = [
+    (
+        Step::Register(&[("q1", "tea"), ("q2", "tea")]),
+        "Registered(2)",
+    ),
+    (
+        Step::Batch(&[("a1", "tea"), ("a2", "coffee")]),
+        "a1 1 2 q1/a1/- q2/a1/-. a2 1 0. ",
+    ),
+    (Step::Register(&[("q1", "coffee")]), "Registered(1)"),
+    (
+        Step::Batch(&[("a1", "tea"), ("a2", "coffee")]),
+        "a1 2 1 q2/a1/-. a2 2 1 q1/a2/-. ",
+    ),
+    (Step::Delete(&["q2"]), "Deleted(1)"),
+    (
+        Step::Batch(&[("a1", "tea"), ("a2", "coffee")]),
+        "a1 3 0. a2 3 1 q1/a2/-. ",
+    ),
+    (Step::Clear(1), "Cleared(1)"),
+    (
+        Step::Batch(&[("a1", "tea"), ("a2", "coffee")]),
+        "a1 4 0. a2 4 0. ",
+    ),
+];
+
 /// Plays a script with a new registrar.
 fn play_anew(rt: &impl Abort, alloc: Global, script: &[(Step, &str)]) -> Result<(), Fail> {
     let mut registrar = Registrar::new(alloc);
@@ -76,7 +128,9 @@ fn each_step_of_a_script_gives_what_stands_beside_it(rt: HostRuntime) -> Result<
     play_anew(&rt, rt.alloc(), &REPLACING)?;
     play_anew(&rt, rt.alloc(), &DELETING)?;
     play_anew(&rt, rt.alloc(), &NUMBERING)?;
-    play_anew(&rt, rt.alloc(), &SHARING)
+    play_anew(&rt, rt.alloc(), &SHARING)?;
+    play_anew(&rt, rt.alloc(), &ALERTING)?;
+    play_anew(&rt, rt.alloc(), &LETTING_GO)
 }
 
 /// A clear of two queries.

@@ -1,5 +1,7 @@
 //! Scripts: steps with a registrar, and what each is to give.
 use crate::making::{article, owned, standing};
+use clip_match::{Alerts, match_article, match_batch};
+use clip_meaning::Article;
 use clip_model::MOST_CALLERS;
 use clip_presearch::candidates;
 use clip_registry::{Command, Registrar, View};
@@ -13,6 +15,8 @@ use std::test::Fail;
 pub enum Step {
     /// A register of queries, each an id and a text: the answer.
     Register(&'static [(&'static str, &'static str)]),
+    /// A register of one query with a listener: an id, a text, and the listener's name. The answer.
+    Listen(&'static str, &'static str, &'static str),
     /// A delete of ids: the answer.
     Delete(&'static [&'static str]),
     /// A clear by a caller: the answer.
@@ -27,6 +31,10 @@ pub enum Step {
     History,
     /// The ids of the candidates of the article of a text.
     Candidates(&'static str),
+    /// The alerts of one article: an id and a text.
+    Match(&'static str, &'static str),
+    /// The alerts of articles, each an id and a text.
+    Batch(&'static [(&'static str, &'static str)]),
 }
 
 /// The answer to a command of a caller.
@@ -52,6 +60,13 @@ fn standings(alloc: Global, queries: &[(&str, &str)]) -> Result<Vec<Arc<Standing
         standings.push(standing(alloc, id, text)?)?;
     }
     Ok(standings)
+}
+
+/// A list of one standing query with a listener.
+fn listening(alloc: Global, id: &str, text: &str, name: &str) -> Result<Vec<Arc<Standing>>, Fail> {
+    let name = String::from_str(alloc, name)?;
+    let standing = Standing::read(alloc, id, text, Some(name))?;
+    Ok(vec![in alloc; Arc::new(alloc, standing)?]?)
 }
 
 /// How many commands were accepted, and how many queries are there.
@@ -94,13 +109,18 @@ fn history(alloc: Global, registrar: &Registrar) -> Result<String, AllocError> {
     Ok(text)
 }
 
+/// The article of an id and of a text in its field `text`.
+fn article_of(alloc: Global, id: &str, text: &str) -> Result<Article, Fail> {
+    Ok(article(alloc, id, &[("text", text)])?)
+}
+
 /// The candidates of the article of a text.
 pub fn candidates_of<'a>(
     alloc: Global,
     view: &'a View,
     text: &str,
 ) -> Result<Vec<&'a Entry>, Fail> {
-    let article = article(alloc, "a1", &[("text", text)])?;
+    let article = article_of(alloc, "a1", text)?;
     Ok(candidates(alloc, view, &article)?)
 }
 
@@ -114,12 +134,54 @@ fn candidate_ids(alloc: Global, view: &View, text: &str) -> Result<String, Fail>
     Ok(ids)
 }
 
+/// The articles of ids and texts.
+fn articles(alloc: Global, texts: &[(&str, &str)]) -> Result<Vec<Article>, Fail> {
+    let mut articles = Vec::new(alloc);
+    for (id, text) in texts {
+        articles.push(article_of(alloc, id, text)?)?;
+    }
+    Ok(articles)
+}
+
+/// Adds alerts: the article, the place and how many were asked, of each alert the query, the article and the listener,
+/// and a full stop.
+fn add_alerts(text: &mut String, found: &Alerts) -> Result<(), AllocError> {
+    let (article, place, asked) = (&found.article, found.place, found.asked);
+    write!(text, "{article} {place} {asked}")?;
+    for alert in &found.alerts {
+        let (query, article) = (&alert.query, &alert.article);
+        let listener = alert.listener.as_deref().unwrap_or("-");
+        write!(text, " {query}/{article}/{listener}")?;
+    }
+    text.push_str(". ")
+}
+
+/// The alerts of one article.
+fn matched(alloc: Global, view: &View, id: &str, text: &str) -> Result<String, Fail> {
+    let mut told = String::new(alloc);
+    let article = article_of(alloc, id, text)?;
+    add_alerts(&mut told, &match_article(alloc, view, &article)?)?;
+    Ok(told)
+}
+
+/// The alerts of articles.
+fn batch_matched(alloc: Global, view: &View, texts: &[(&str, &str)]) -> Result<String, Fail> {
+    let mut told = String::new(alloc);
+    let articles = articles(alloc, texts)?;
+    for found in match_batch(alloc, view, &articles)?.iter() {
+        add_alerts(&mut told, found)?;
+    }
+    Ok(told)
+}
+
 /// What a step asks of a view.
 fn viewed(alloc: Global, view: &View, step: &Step) -> Result<String, Fail> {
     match step {
         Step::Segments => Ok(segments(alloc, view)?),
         Step::Text(id) => Ok(String::from_str(alloc, view.text_of(id).unwrap_or("none"))?),
         Step::Candidates(text) => candidate_ids(alloc, view, text),
+        Step::Match(id, text) => matched(alloc, view, id, text),
+        Step::Batch(texts) => batch_matched(alloc, view, texts),
         _ => Ok(count(alloc, view)?),
     }
 }
@@ -128,6 +190,10 @@ fn viewed(alloc: Global, view: &View, step: &Step) -> Result<String, Fail> {
 fn command(alloc: Global, step: &Step) -> Result<Option<(u32, Command)>, Fail> {
     match step {
         Step::Register(queries) => Ok(Some((1, Command::Register(standings(alloc, queries)?)))),
+        Step::Listen(id, text, name) => {
+            let standings = listening(alloc, id, text, name)?;
+            Ok(Some((1, Command::Register(standings))))
+        }
         Step::Delete(ids) => Ok(Some((1, Command::Delete(owned(alloc, ids)?)))),
         Step::Clear(caller) => Ok(Some((*caller, Command::Clear))),
         _ => Ok(None),
