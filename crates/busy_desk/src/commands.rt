@@ -26,8 +26,22 @@ pub fn register_from(alloc: Global, from: u64, end: u64) -> Result<Command> {
     Ok(Command::Register(list))
 }
 
-/// A delete of the query of a number.
-pub fn delete_one(alloc: Global, number: u64) -> Result<Command> {
-    let id = format!(in alloc; "q{number}")?;
-    Ok(Command::Delete(vec![in alloc; id]?))
+/// What becomes of one query.
+#[derive(Clone, Copy, Debug, PartialEq, Eq)]
+pub enum Change {
+    /// It is registered.
+    Register,
+    /// It is deleted.
+    Delete,
+}
+
+/// The command that makes a change to the query of a number.
+pub fn change_one(alloc: Global, change: Change, number: u64) -> Result<Command> {
+    match change {
+        Change::Register => register_from(alloc, number, number.saturating_add(1)),
+        Change::Delete => {
+            let id = format!(in alloc; "q{number}")?;
+            Ok(Command::Delete(vec![in alloc; id]?))
+        }
+    }
 }

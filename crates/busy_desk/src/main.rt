@@ -12,10 +12,11 @@ mod commands;
 use anyhow::{Result, bail};
 use clip_desk::{Desk, DeskName, DeskParts, Seat};
 use clip_registry::{Command, View};
-use commands::{delete_one, register_from};
+use commands::{Change, change_one, register_from};
 use std::alloc::Global;
 use std::env;
 use std::marker::Brand;
+use std::ops::Range;
 use std::rt::Env;
 use std::sync::Wait;
 
@@ -84,42 +85,22 @@ fn fill<N: DeskName, R: Wait>(
     Ok(())
 }
 
-/// Registers queries one by one, each while a look is held that was taken just before.
-fn register_each<N: DeskName, R: Wait>(
+/// Commits the same change to queries of successive numbers, each while a look is held that was taken just before.
+fn change_each<N: DeskName, R: Wait>(
     rt: &R,
     alloc: Global,
     desk: &Desk<N>,
     writer: &mut Seat,
     reader: &mut Seat,
-    work: Work,
+    change: Change,
+    numbers: Range<u64>,
 ) -> Result<()>
     requires { IsSeatOf N.book N.callers writer.old × IsSeatOf N.book N.callers reader.old }
     ensures { IsSeatOf N.book N.callers writer.new × IsSeatOf N.book N.callers reader.new }
 {
-    for number in 0..work.registers {
+    for number in numbers {
         let held = reader.look()?;
-        let from = work.listed.saturating_add(number);
-        commit(rt, desk, writer, register_from(alloc, from, from.saturating_add(1))?)?;
-        drop(held);
-    }
-    Ok(())
-}
-
-/// Deletes queries one by one, each while a look is held that was taken just before.
-fn delete_each<N: DeskName, R: Wait>(
-    rt: &R,
-    alloc: Global,
-    desk: &Desk<N>,
-    writer: &mut Seat,
-    reader: &mut Seat,
-    work: Work,
-) -> Result<()>
-    requires { IsSeatOf N.book N.callers writer.old × IsSeatOf N.book N.callers reader.old }
-    ensures { IsSeatOf N.book N.callers writer.new × IsSeatOf N.book N.callers reader.new }
-{
-    for number in 0..work.deletes {
-        let held = reader.look()?;
-        commit(rt, desk, writer, delete_one(alloc, number)?)?;
+        commit(rt, desk, writer, change_one(alloc, change, number)?)?;
         drop(held);
     }
     Ok(())
@@ -140,8 +121,26 @@ fn work_at<N: DeskName, R: Wait>(
         bail!("a desk of two callers has two seats");
     };
     fill(rt, alloc, desk, &mut writer, work.listed)?;
-    register_each(rt, alloc, desk, &mut writer, &mut reader, work)?;
-    delete_each(rt, alloc, desk, &mut writer, &mut reader, work)?;
+    let new = work.listed..work.listed.saturating_add(work.registers);
+    change_each(
+        rt,
+        alloc,
+        desk,
+        &mut writer,
+        &mut reader,
+        Change::Register,
+        new,
+    )?;
+    let old = 0..work.deletes;
+    change_each(
+        rt,
+        alloc,
+        desk,
+        &mut writer,
+        &mut reader,
+        Change::Delete,
+        old,
+    )?;
     Ok(reader.look()?)
 }
 

@@ -1,10 +1,9 @@
 -- Each step of an end keeps the rule.
-use Rattle.std.proofs.Common.{◌≡◌, ℕ, ◌≢◌, List, [], ◌∷◌, ◌++◌, fold, set, sym, refl, ap, ◌∙◌, subst, ⊎_elim, Option, None, Some, zero, suc, Result, Ok, Err, MatchResult}
+use Rattle.std.proofs.Common.{◌≡◌, ℕ, ◌≢◌, List, [], ◌∷◌, ◌++◌, fold, set, sym, refl, ◌∙◌, subst, ⊎_elim, Option, None, Some, zero, suc, Result, Ok, Err, MatchResult}
 use mathlib.Core.Option.{some, some-injective, some-ne-none}
-use mathlib.Core.List.{IsPrefix}
 use lib.ListN.{get_elem?}
 use Rattle.left_right.specs.Register.{Admits, TurnsAt, Forks, Merges}
-use Rattle.atomic_table.proofs.Lists.{at_set, at_snoc, set_again}
+use Rattle.atomic_table.proofs.Lists.{at_set, at_snoc}
 use Rattle.logbook.specs.Pages.{Book}
 use Rattle.clip_chronicle.specs.declared.published.Published.{Published}
 use Rattle.clip_chronicle.specs.Ends.{Continues, Fits, Keeps, Sees, IsOf, StaysOf}

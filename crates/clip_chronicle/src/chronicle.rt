@@ -1,4 +1,4 @@
-// The history as a token that can be copied: what was seen of it stays a beginning of it for good.
+//! The history as a token that can be copied: what was seen of it stays a beginning of it for good.
 ghost use Rattle.std.specs.Prelude.{◌≡◌, ◌+◌, ◌==◌, ◌<◌, ◌≤◌, ◌^◌, ◌++◌, ◌∷◌, ◌⊎◌, [], length, MatchBool};
 ghost use mathlib.Core.List.{IsPrefix};
 ghost use Rattle.clip_chronicle.specs.Chronicle.{head_of};
@@ -12,6 +12,7 @@ use std::marker::Model;
 
 /// An entry of the history, as the chronicle keeps it. No value of it is made.
 pub struct Line {
+    /// The entry.
     pub entry: HistoryEntry,
 }
 
@@ -26,7 +27,7 @@ impl Model for Line {
     ghost view = { λ l. entry_of l.entry };
 }
 
-/// The rule of the chronicle.
+/// The rule of the chronicle: its word is the length of the history.
 pub struct Law;
 
 impl Rule<Line, u64> for Law {
@@ -78,15 +79,17 @@ impl Plain<HistoryEntry, Line, u64> for Add {
 /// The word of a chronicle: the length of its history.
 pub type Head = Word<Line, u64, Law>;
 
-/// A beginning of the history, and its length.
+/// A beginning of the history, which any later history begins with, and its length.
 #[derive(Drop)]
 pub struct Front {
+    /// How many entries it has.
     pub count: usize,
+    /// What was seen, a token of no bytes.
     pub seen: Seen<Line, u64, Law>,
     pub ghost counted: { count ≡ length seen.log },
 }
 
-/// A new chronicle, with an empty history.
+/// The word of a new chronicle, and its empty history. Constant time.
 pub fn open_chronicle() -> (Head, Front)
     ensures head { result.0 ≡ head_of result.1.seen.book }
     ensures empty { result.1.seen.log ≡ [] }
@@ -97,7 +100,7 @@ pub fn open_chronicle() -> (Head, Front)
 }
 
 impl Front {
-    /// A copy.
+    /// A copy. Constant time.
     pub fn again(&self) -> Front
         ensures { result ≡ self.now }
     {
@@ -107,7 +110,7 @@ impl Front {
         }
     }
 
-    /// Of two beginnings of one history one begins the other.
+    /// Shows that of two beginnings of one history one begins the other. It does nothing at run time.
     pub fn meet(&self, other: &Front)
         requires { other.now.seen.book ≡ self.now.seen.book }
         ensures shorter { length self.now.seen.log ≤ length other.now.seen.log → IsPrefix self.now.seen.log other.now.seen.log }
@@ -117,7 +120,7 @@ impl Front {
         both.learn(&other.seen);
     }
 
-    /// Adds an entry to all that was seen, and says whether it did. It did not where the history is longer.
+    /// Adds an entry to all that was seen, and says whether it did: it did not where the history is longer. Constant time.
     pub fn add(&mut self, head: &Head, entry: &HistoryEntry) -> bool
         requires head { head.now ≡ head_of self.old.seen.book }
         requires room { length self.old.seen.log < 2 ^ 62 }

@@ -12,8 +12,8 @@ use core::mem::replace_with;
 use std::alloc::AllocError;
 use std::sync::Wait;
 
-/// A copy of what is published. It waits for nobody.
-pub fn read(end: ReaderEnd) -> (ReaderEnd, Result<Published, AllocError>)
+/// A copy of what is published, or `AllocError` where a count of holders is at its end. It waits for nobody.
+fn read(end: ReaderEnd) -> (ReaderEnd, Result<Published, AllocError>)
     ensures read { IfOk result.1 (λ p. (view result.0.place ≡ Some p) × Fits p (view end.place)) }
     ensures kept { StaysOf (view end.place) (view result.0.place) }
 {
@@ -26,7 +26,8 @@ pub fn read(end: ReaderEnd) -> (ReaderEnd, Result<Published, AllocError>)
     }
 }
 
-/// The same, where the end stays in its place.
+/// A copy of what is published, or `AllocError` where a count of holders is at its end. It goes on from what the end saw
+/// before. It waits for nobody. Constant time.
 pub fn read_here(end: &mut ReaderEnd) -> Result<Published, AllocError>
     ensures read { IfOk result (λ p. (view end.new.place ≡ Some p) × Fits p (view end.old.place)) }
     ensures kept { StaysOf (view end.old.place) (view end.new.place) }
@@ -34,7 +35,8 @@ pub fn read_here(end: &mut ReaderEnd) -> Result<Published, AllocError>
     replace_with(end, (), |end, _nothing| read(end))
 }
 
-/// Publishes a value that continues the one before, or leaves it.
+/// Publishes a value that goes on from the one before; after an `AllocError` that one stays published. It may wait for
+/// readers that read. Constant time.
 pub fn publish<R: Wait>(
     rt: &R,
     writer: WriterEnd,
@@ -50,7 +52,8 @@ pub fn publish<R: Wait>(
     writer.publish_as::<Sight, R>(rt)
 }
 
-/// The same, where the writer stays in its place: a view of the history that the front has.
+/// Publishes a view whose history is the front's and goes on from the one before; after an `AllocError` that one stays
+/// published. It may wait for readers that read. Constant time.
 pub fn show<R: Wait>(
     rt: &R,
     writer: &mut WriterEnd,
@@ -72,6 +75,7 @@ pub fn show<R: Wait>(
     publish_here(rt, writer, next)
 }
 
+/// The same for any value that goes on from the one before.
 fn publish_here<R: Wait>(rt: &R, writer: &mut WriterEnd, next: Published) -> Result<(), AllocError>
     requires { Continues writer.old.desk.shown.value next }
     ensures { MatchResult result (λ _. writer.new.desk.shown.value ≡ next) (λ _. writer.new.desk.shown.value ≡ writer.old.desk.shown.value) }

@@ -13,17 +13,21 @@ use left_right::reader::Reader;
 use left_right::writer::Writer;
 use std::alloc::AllocError;
 
-/// A view, the token of its history, and how many callers the desk has.
+/// What a desk publishes: a view, the beginning that its history is, and how many callers the desk has.
 #[derive(Drop)]
 pub struct Published {
+    /// The registry as it stood.
     pub view: View,
+    /// Its history.
     pub front: Front,
+    /// Callers are numbered from 1 to this.
     pub callers: u32,
     pub ghost same: { front.seen.log ≡ view.history } by { Coded-set history_code _ _ },
     pub ghost callers_are: { IsBy callers view.history },
 }
 
 impl Published {
+    /// A copy, or `AllocError` where a count of holders is at its end. Constant time.
     pub fn copy(&self) -> Result<Published, AllocError>
         ensures { IfOk result (λ p. p ≡ self.now) }
     {
@@ -99,6 +103,8 @@ impl Join<Option<Published>> for Notes {
     ghost spent = { None };
 }
 
+/// The end by which a seat reads.
 pub type ReaderEnd = Reader<Published, Option<Published>, Rules>;
 
+/// The end by which a desk publishes. It has no `Drop`: end it by `take`.
 pub type WriterEnd = Writer<Published, Published, Option<Published>, Rules>;

@@ -1,3 +1,4 @@
 pub mod Histories
 pub mod Commits
 pub mod Seating
+pub mod Sent

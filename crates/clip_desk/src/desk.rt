@@ -74,6 +74,13 @@ impl<N: DeskName> Desk<N> {
         (desk, seats)
     }
 
+    /// The tag of the desk, which its seats and receipts carry. Constant time.
+    pub fn tag(&self) -> u64
+        ensures { result ≡ self.now.tag }
+    {
+        self.tag
+    }
+
     /// Accepts a command as the next of the seat's caller, publishes the registry after it, and answers the receipt of the
     /// history that ends with it; or hands the command back: `Foreign` for a seat of another tag, `Full` where it has no
     /// room, and `NoMemory` where an allocation failed. It may wait for other callers' commits, and for readers that look.

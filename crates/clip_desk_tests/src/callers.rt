@@ -18,11 +18,7 @@ fn a_caller_sees_what_another_committed(rt: HostRuntime) -> Result<(), Fail> {
     Ok(())
 }
 
-fn run_both<N: DeskName, R: Wait + Abort>(
-    rt: &R,
-    alloc: Global,
-    parts: DeskParts,
-)
+fn run_both<N: DeskName, R: Wait + Abort>(rt: &R, alloc: Global, parts: DeskParts)
     requires { (parts.book ≡ N.book) × (parts.callers ≡ N.callers) }
 {
     let (desk, mut seats) = Desk::<N>::open(parts);

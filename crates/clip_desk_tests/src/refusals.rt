@@ -29,11 +29,7 @@ fn a_desk_is_closed_with_all_its_seats(rt: HostRuntime) -> Result<(), Fail> {
     Ok(())
 }
 
-fn run_close<N: DeskName, R: Wait + Abort>(
-    rt: &R,
-    alloc: Global,
-    parts: DeskParts,
-)
+fn run_close<N: DeskName, R: Wait + Abort>(rt: &R, alloc: Global, parts: DeskParts)
     requires { (parts.book ≡ N.book) × (parts.callers ≡ N.callers) }
 {
     let none = Vec::new(alloc);
@@ -56,12 +52,7 @@ fn run_close<N: DeskName, R: Wait + Abort>(
     }
 }
 
-fn commit_four<N: DeskName, R: Wait + Abort>(
-    rt: &R,
-    alloc: Global,
-    desk: &Desk<N>,
-    seat: &mut Seat,
-)
+fn commit_four<N: DeskName, R: Wait + Abort>(rt: &R, alloc: Global, desk: &Desk<N>, seat: &mut Seat)
     requires { IsSeatOf N.book N.callers seat.old }
     ensures { IsSeatOf N.book N.callers seat.new }
 {
@@ -82,5 +73,51 @@ fn check_numbers<R: Abort>(rt: &R, closed: &Closed) {
             }
             None => panic!(rt; "an entry"),
         }
+    }
+}
+
+#[test]
+fn a_foreign_seat_is_refused(rt: HostRuntime) -> Result<(), Fail> {
+    match (
+        DeskParts::new(&rt, rt.alloc(), 1, 1),
+        DeskParts::new(&rt, rt.alloc(), 2, 1),
+    ) {
+        (Ok(parts), Ok(others)) => run_foreign::<Brand, Brand, _>(&rt, rt.alloc(), parts, others),
+        _ => panic!(&rt; "two desks"),
+    }
+    Ok(())
+}
+
+fn run_foreign<N: DeskName, M: DeskName, R: Wait + Abort>(
+    rt: &R,
+    alloc: Global,
+    parts: DeskParts,
+    others: DeskParts,
+)
+    requires one { (parts.book ≡ N.book) × (parts.callers ≡ N.callers) }
+    requires other { (others.book ≡ M.book) × (others.callers ≡ M.callers) }
+{
+    let (desk, _) = Desk::<N>::open(parts);
+    let (other, mut strangers) = Desk::<M>::open(others);
+    match pop_seat::<M>(&mut strangers) {
+        Some(mut stranger) => hand_back(rt, &desk, &mut stranger, register(rt, alloc, "q1", "tea")),
+        None => panic!(rt; "one seat"),
+    }
+    desk.end(rt);
+    other.end(rt);
+}
+
+fn hand_back<N: DeskName, R: Wait + Abort>(
+    rt: &R,
+    desk: &Desk<N>,
+    stranger: &mut Seat,
+    command: Command,
+)
+    requires fits { IsTrue (fits (command_of command)) }
+{
+    assert!(rt; stranger.tag() != desk.tag(), "two tags");
+    match desk.commit(rt, stranger, command) {
+        Err((Command::Register(standings), Refused::Foreign)) => assert_eq!(rt; standings.len(), 1),
+        _ => panic!(rt; "the seat is of another desk"),
     }
 }

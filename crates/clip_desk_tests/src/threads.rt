@@ -12,7 +12,13 @@ use std::test::Fail;
 use std::thread::{Threads, join};
 
 /// Registers one of fifty queries, and looks.
-fn one_turn<N: DeskName, R: Wait + Abort>(rt: &R, alloc: Global, desk: &Desk<N>, seat: &mut Seat, name: &str)
+fn one_turn<N: DeskName, R: Wait + Abort>(
+    rt: &R,
+    alloc: Global,
+    desk: &Desk<N>,
+    seat: &mut Seat,
+    name: &str,
+)
     requires { IsSeatOf N.book N.callers seat.old }
     ensures { IsSeatOf N.book N.callers seat.new }
 {
@@ -23,7 +29,13 @@ fn one_turn<N: DeskName, R: Wait + Abort>(rt: &R, alloc: Global, desk: &Desk<N>,
 }
 
 /// Registers a query fifty times, with looks between.
-fn fifty<N: DeskName, R: Wait + Abort>(rt: &R, alloc: Global, desk: &Desk<N>, mut seat: Seat, name: &str) -> Seat
+fn fifty<N: DeskName, R: Wait + Abort>(
+    rt: &R,
+    alloc: Global,
+    desk: &Desk<N>,
+    mut seat: Seat,
+    name: &str,
+) -> Seat
     requires { IsSeatOf N.book N.callers seat }
     ensures { IsSeatOf N.book N.callers result }
 {

@@ -1,6 +1,5 @@
 -- Threads may hand over and share queries, as they may their texts.
 use denote.Param.Send.{IsSend, IsSync, recorded_send, recorded_sync, sendable}
-use denote.RattleType.{RattleType}
 use denote.Struct.Tuple.{Tuple, tuple_type}
 use denote.Param.SendFields.{declared_send, declared_sync, as_row_send, as_row_sync}
 use denote.Struct.Field.{row_field}
@@ -8,7 +7,6 @@ use mathlib.Core.List.{[], ◌∷◌}
 use Rattle.clip_grammar.specs.contracts.query.Occur as occur
 use Rattle.std.specs.contracts.alloc.Global as global
 use Rattle.std.specs.contracts.impls.GlobalAllocator.TheImpl.{ghosts}
-use Rattle.std.specs.contracts.sync.ArcStr as arc_str
 use Rattle.std.proofs.alloc.Global.TheSendSync as global_sent
 use Rattle.std.below.std_heap.proofs.GlobalAllocator.TheSendSync as allocator_sent
 use Rattle.std.proofs.sync.ArcStr.TheSendSync as arc_str_sent

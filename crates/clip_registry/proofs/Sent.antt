@@ -1,5 +1,4 @@
 -- Threads may hand over and share registrars and views.
-use mathlib.Core.List.{[], ◌∷◌}
 use denote.Param.Send.{IsSend, IsSync, view_send, view_sync, sendable}
 use denote.Param.SendFields.{declared_send, declared_sync, variants_send, variants_sync}
 use Rattle.std.proofs.alloc.Global.TheSendSync as global_sent
@@ -27,7 +26,9 @@ use Rattle.clip_registry.specs.contracts.view.View as view
 use Rattle.clip_registry.specs.contracts.view.View.TheInside as view_inside
 
 ruleset global = (sendable, global_sent.the_send, global_sent.the_sync, allocator_sent.the_frees)
+
 ruleset parts = (global, vec_sent.the_send, vec_sent.the_sync, arc_sent.the_send, arc_sent.the_sync, string_sent.the_send, string_sent.the_sync, option_sent.the_send, option_sent.the_sync)
+
 ruleset lists = (parts, list_sent.the_send, list_sent.the_sync, shared_sent.the_send, shared_sent.the_sync)
 
 command_send : IsSend command.the_row

@@ -1,5 +1,4 @@
 -- Threads may hand over and share standing queries, entries and segments.
-use mathlib.Core.List.{[], ◌∷◌}
 use denote.Param.Send.{IsSend, IsSync, view_send, view_sync, sendable}
 use denote.Param.SendFields.{declared_send, declared_sync}
 use Rattle.std.proofs.alloc.Global.TheSendSync as global_sent

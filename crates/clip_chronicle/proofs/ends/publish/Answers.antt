@@ -1,4 +1,4 @@
-use Rattle.std.proofs.Common.{◌≡◌, ◌∙◌, ◌++◌, ◌∷◌, [], drop, fold, sym, ap, subst, List, Some, Option}
+use Rattle.std.proofs.Common.{◌≡◌, ◌∙◌, [], drop, fold, sym, ap, subst, Some}
 use Rattle.left_right.specs.Sides.{view}
 use Rattle.clip_chronicle.specs.declared.published.Published.{Published}
 use Rattle.clip_chronicle.specs.Ends.{Continues, Sees}

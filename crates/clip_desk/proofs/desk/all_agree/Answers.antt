@@ -1,5 +1,5 @@
 use Rattle.std.proofs.Common.{refl, arith}
-use Rattle.clip_desk.specs.Seats.{SeatIs, IsAccounted}
+use Rattle.clip_desk.specs.Seats.{IsAccounted}
 use Rattle.clip_desk.proofs.Seating.{item_more, item_inside}
 use Rattle.clip_desk.proofs.desk.all_agree.Goals as goal
 

@@ -1,4 +1,4 @@
-use Rattle.std.proofs.Common.{◌∙◌, ◌+◌, subst, sym, arith, List, length}
+use Rattle.std.proofs.Common.{◌∙◌, subst, sym, arith, List}
 use Rattle.std.proofs.lemmas.Grind.{common_steps}
 use Rattle.clip_desk.specs.Seats.{SeatIs, AreSeated}
 use Rattle.clip_desk.proofs.Seating.{seated_more}

@@ -1,4 +1,4 @@
-use Rattle.std.proofs.Common.{ap, subst, List, length}
+use Rattle.std.proofs.Common.{ap, subst, List}
 use mathlib.Core.List.{IsPrefix}
 use Rattle.clip_model.specs.History.{HistoryEntry}
 use Rattle.clip_chronicle.proofs.Fronts.{prefix_shorter}

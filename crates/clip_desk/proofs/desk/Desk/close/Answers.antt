@@ -1,8 +1,7 @@
-use Rattle.std.proofs.Common.{◌≡◌, ◌∙◌, ◌≤◌, ℕ, List, Some, slice_get, refl, sym, ap, subst}
+use Rattle.std.proofs.Common.{◌∙◌, ◌≤◌, ℕ, slice_get, refl, sym, ap, subst}
 use Rattle.clip_model.specs.History.{History}
-use Rattle.clip_model.specs.History.{IsLegal}
 use Rattle.clip_chronicle.specs.Callers.{IsBy}
-use Rattle.clip_desk.specs.Seats.{SeatIs, AreAll, IsAccounted}
+use Rattle.clip_desk.specs.Seats.{IsAccounted}
 use Rattle.clip_desk.proofs.desk.Desk.close.Goals as goal
 
 pub all_agree-requires : goal.all_agree-requires

@@ -1,5 +1,4 @@
-use Rattle.std.proofs.Common.{◌≡◌, ◌<◌, ◌≤◌, ◌∙◌, ◌++◌, ◌∷◌, [], ℕ, List, length, take, ap, sym, refl, subst, arith}
-use mathlib.Core.List.{IsPrefix}
+use Rattle.std.proofs.Common.{◌≡◌, ◌<◌, ◌≤◌, ◌∙◌, ℕ, ap, sym, refl, subst, arith}
 use Rattle.clip_model.specs.History.{own, with_command, IsLegal}
 use Rattle.clip_registry.specs.Command.{command_of}
 use Rattle.clip_chronicle.specs.Callers.{IsBy}

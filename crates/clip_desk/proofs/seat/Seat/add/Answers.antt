@@ -1,4 +1,4 @@
-use Rattle.std.proofs.Common.{◌≡◌, arith, ap, length}
+use Rattle.std.proofs.Common.{arith, ap, length}
 use Rattle.std.proofs.lemmas.List.{length-take-le}
 use Rattle.clip_model.proofs.Counting.{own_length}
 use Rattle.clip_model.specs.History.{own}

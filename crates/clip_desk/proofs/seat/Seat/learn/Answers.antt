@@ -1,4 +1,4 @@
-use Rattle.std.proofs.Common.{arith, ap, drop, subst, take}
+use Rattle.std.proofs.Common.{drop, subst, take}
 use mathlib.Core.List.{IsPrefix}
 use Rattle.std.proofs.lemmas.List.{take-append-drop}
 use Rattle.clip_desk.specs.Seats.{SeatIs}

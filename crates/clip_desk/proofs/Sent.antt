@@ -1,0 +1,32 @@
+-- Threads may hand over seats, and share a desk.
+use denote.RattleType.{RattleType}
+use denote.Param.Send.{IsSend, IsSync, view_send, view_sync, sendable}
+use denote.Param.SendFields.{declared_send, declared_sync}
+use Rattle.std.proofs.alloc.Global.TheSendSync as global_sent
+use Rattle.std.below.std_heap.proofs.GlobalAllocator.TheSendSync as allocator_sent
+use Rattle.std.proofs.sync.Mutex.TheSendSync as mutex_sent
+use Rattle.left_right.proofs.reader.Reader.TheSendSync as reader_sent
+use Rattle.left_right.proofs.writer.Writer.TheSendSync as writer_sent
+use Rattle.logbook.proofs.Word.TheSendSync as word_sent
+use Rattle.clip_registry.proofs.Sent.{registrar_send}
+use Rattle.clip_chronicle.proofs.chronicle.Front.TheSendSync as front_sent
+use Rattle.clip_chronicle.proofs.Sent.{published_send, published_sync}
+use Rattle.clip_desk.specs.declared.locked.DeskName.{Ghosts}
+use Rattle.clip_desk.specs.contracts.seat.Seat as seat
+use Rattle.clip_desk.specs.contracts.seat.Seat.TheInside as seat_inside
+use Rattle.clip_desk.specs.contracts.locked.Locked as locked
+use Rattle.clip_desk.specs.contracts.locked.Locked.TheInside as locked_inside
+use Rattle.clip_desk.specs.contracts.desk.Desk as desk
+use Rattle.clip_desk.specs.contracts.desk.Desk.TheInside as desk_inside
+
+ruleset global = (sendable, global_sent.the_send, global_sent.the_sync, allocator_sent.the_frees, published_send, published_sync)
+
+pub seat_send : IsSend seat.the_row
+seat_send = view_send seat_inside.the_row _ _ _ _ (declared_send seat_inside.the_type (search (global, reader_sent.the_send) depth 20, (front_sent.the_send, (search sendable, (search sendable, (search sendable, (search sendable, tt)))))))
+
+module _ (N : RattleType) (g : Ghosts N.Denot) where
+  locked_send : IsSend (locked.the_row N g)
+  locked_send = view_send (locked_inside.the_row N g) _ _ _ _ (declared_send (locked_inside.the_type N g) (registrar_send, (search (global, writer_sent.the_send) depth 20, (search (global, word_sent.the_send), (front_sent.the_send, (search sendable, tt))))))
+
+  pub desk_sync : IsSync (desk.the_row N g)
+  desk_sync = view_sync (desk_inside.the_row N g) _ _ _ _ (declared_sync (desk_inside.the_type N g) (search (global, mutex_sent.the_sync, locked_send), (search sendable, (search sendable, tt))))
