@@ -12,12 +12,7 @@ use std::sync::Wait;
 use std::test::Fail;
 
 /// Four commits, each of which adds a segment of one entry.
-fn commit_four<N: DeskName, R: Wait + Abort>(
-    rt: &R,
-    alloc: Global,
-    desk: &Desk<N>,
-    seat: &mut Seat,
-)
+fn commit_four<N: DeskName, R: Wait + Abort>(rt: &R, alloc: Global, desk: &Desk<N>, seat: &mut Seat)
     requires { IsSeatOf N.book N.callers seat.old }
     ensures { IsSeatOf N.book N.callers seat.new }
 {
@@ -50,11 +45,7 @@ fn four_segments_become_one(rt: HostRuntime) -> Result<(), Fail> {
     Ok(())
 }
 
-fn run_merge<N: DeskName, R: Wait + Abort>(
-    rt: &R,
-    alloc: Global,
-    parts: DeskParts,
-)
+fn run_merge<N: DeskName, R: Wait + Abort>(rt: &R, alloc: Global, parts: DeskParts)
     requires { (parts.book ≡ N.book) × (parts.callers ≡ N.callers) }
 {
     let (desk, mut seats) = Desk::<N>::open(parts);
@@ -80,11 +71,7 @@ fn a_purge_leaves_no_dead_entry(rt: HostRuntime) -> Result<(), Fail> {
     Ok(())
 }
 
-fn run_purge<N: DeskName, R: Wait + Abort>(
-    rt: &R,
-    alloc: Global,
-    parts: DeskParts,
-)
+fn run_purge<N: DeskName, R: Wait + Abort>(rt: &R, alloc: Global, parts: DeskParts)
     requires { (parts.book ≡ N.book) × (parts.callers ≡ N.callers) }
 {
     let (desk, mut seats) = Desk::<N>::open(parts);
@@ -108,11 +95,7 @@ fn nudges_are_served_until_stop(rt: HostRuntime) -> Result<(), Fail> {
     Ok(())
 }
 
-fn run_nudges<N: DeskName, R: Wait + Abort>(
-    rt: &R,
-    alloc: Global,
-    parts: DeskParts,
-)
+fn run_nudges<N: DeskName, R: Wait + Abort>(rt: &R, alloc: Global, parts: DeskParts)
     requires { (parts.book ≡ N.book) × (parts.callers ≡ N.callers) }
 {
     let (desk, mut seats) = Desk::<N>::open(parts);
