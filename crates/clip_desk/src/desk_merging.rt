@@ -1,5 +1,5 @@
 //! Merges and purges of a shared desk. What is registered and the history stay.
-ghost use Rattle.std.specs.Prelude.{◌≡◌, ◌≢◌, ◌↔◌, ◌+◌, ◌<◌, ◌≤◌};
+ghost use Rattle.std.specs.Prelude.{◌≡◌, ◌≢◌, ◌↔◌};
 
 use crate::desk::Desk;
 use crate::locked::DeskName;
@@ -56,10 +56,8 @@ impl<N: DeskName> Desk<N> {
         let mut guard = self.locked.lock(rt);
         let answer = guard.purge(rt);
         MutexGuard::unlock(guard);
-        match answer {
-            Ok(()) => Ok(()),
-            Err(_) => Err(Refused::NoMemory),
-        }
+        answer?;
+        Ok(())
     }
 
     /// A job over the oldest four neighbouring segments of one level, where there are such four.

@@ -1,0 +1,5 @@
+use Rattle.clip_desk_tests.proofs.merging.four_segments_become_one.Given as goal
+
+-- the desk whose parts were just made
+abbrev pub ghosts-run_merge : goal.ghosts-run_merge
+ghosts-run_merge g a = record { book = a.parts.book; callers = a.parts.callers }

@@ -1,0 +1,123 @@
+//! Merges and purges of a shared desk, as looks show them.
+ghost use Rattle.std.specs.Prelude.{◌≡◌};
+ghost use Rattle.clip_desk.specs.Locked.{IsSeatOf};
+
+use crate::making::{commit, pop_seat, register};
+use clip_desk::{Desk, DeskName, DeskParts, MergeTurn, Nudge, Seat};
+use crossbeam_channel::unbounded;
+use std::alloc::Global;
+use std::marker::Brand;
+use std::process::Abort;
+use std::sync::Wait;
+use std::test::Fail;
+
+/// Four commits, each of which adds a segment of one entry.
+fn commit_four<N: DeskName, R: Wait + Abort>(rt: &R, alloc: Global, desk: &Desk<N>, seat: &mut Seat)
+    requires { IsSeatOf N.book N.callers seat.old }
+    ensures { IsSeatOf N.book N.callers seat.new }
+{
+    commit(rt, desk, seat, register(rt, alloc, "q1", "tea"));
+    commit(rt, desk, seat, register(rt, alloc, "q2", "coffee"));
+    commit(rt, desk, seat, register(rt, alloc, "q3", "milk"));
+    commit(rt, desk, seat, register(rt, alloc, "q4", "water"));
+}
+
+/// How many segments a look shows, and how many entries they have.
+fn look_inside<R: Abort>(rt: &R, seat: &mut Seat) -> (usize, usize)
+    ensures { (seat.new.book ≡ seat.old.book) × (seat.new.callers ≡ seat.old.callers) }
+{
+    let view = match seat.look() {
+        Ok(view) => view,
+        Err(_) => panic!(rt; "no look"),
+    };
+    let segments = view.segments();
+    let mut entries = 0usize;
+    for segment in segments {
+        entries = entries.wrapping_add(segment.len());
+    }
+    (segments.len(), entries)
+}
+
+#[test]
+fn four_segments_become_one(rt: HostRuntime) -> Result<(), Fail> {
+    let parts = DeskParts::new(&rt, rt.alloc(), 1, 1)?;
+    run_merge::<Brand, _>(&rt, rt.alloc(), parts);
+    Ok(())
+}
+
+fn run_merge<N: DeskName, R: Wait + Abort>(rt: &R, alloc: Global, parts: DeskParts)
+    requires { (parts.book ≡ N.book) × (parts.callers ≡ N.callers) }
+{
+    let (desk, mut seats) = Desk::<N>::open(parts);
+    match pop_seat::<N>(&mut seats) {
+        Some(mut seat) => {
+            commit_four(rt, alloc, &desk, &mut seat);
+            assert_eq!(rt; look_inside(rt, &mut seat), (4, 4));
+            assert_eq!(rt; desk.merge_once(rt), Ok(MergeTurn::Installed));
+            assert_eq!(rt; look_inside(rt, &mut seat), (1, 4));
+            assert_eq!(rt; desk.merge_once(rt), Ok(MergeTurn::Nothing));
+            assert_eq!(rt; desk.purge(rt, &mut seat), Ok(()));
+            assert_eq!(rt; look_inside(rt, &mut seat), (1, 4));
+        }
+        None => panic!(rt; "one seat"),
+    }
+    desk.end(rt);
+}
+
+#[test]
+fn a_purge_leaves_no_dead_entry(rt: HostRuntime) -> Result<(), Fail> {
+    let parts = DeskParts::new(&rt, rt.alloc(), 1, 1)?;
+    run_purge::<Brand, _>(&rt, rt.alloc(), parts);
+    Ok(())
+}
+
+fn run_purge<N: DeskName, R: Wait + Abort>(rt: &R, alloc: Global, parts: DeskParts)
+    requires { (parts.book ≡ N.book) × (parts.callers ≡ N.callers) }
+{
+    let (desk, mut seats) = Desk::<N>::open(parts);
+    match pop_seat::<N>(&mut seats) {
+        Some(mut seat) => {
+            commit(rt, &desk, &mut seat, register(rt, alloc, "q1", "tea"));
+            commit(rt, &desk, &mut seat, register(rt, alloc, "q1", "coffee"));
+            assert_eq!(rt; look_inside(rt, &mut seat), (2, 2));
+            assert_eq!(rt; desk.purge(rt, &mut seat), Ok(()));
+            assert_eq!(rt; look_inside(rt, &mut seat), (1, 1));
+        }
+        None => panic!(rt; "one seat"),
+    }
+    desk.end(rt);
+}
+
+#[test]
+fn nudges_are_served_until_stop(rt: HostRuntime) -> Result<(), Fail> {
+    let parts = DeskParts::new(&rt, rt.alloc(), 1, 1)?;
+    run_nudges::<Brand, _>(&rt, rt.alloc(), parts);
+    Ok(())
+}
+
+fn run_nudges<N: DeskName, R: Wait + Abort>(rt: &R, alloc: Global, parts: DeskParts)
+    requires { (parts.book ≡ N.book) × (parts.callers ≡ N.callers) }
+{
+    let (desk, mut seats) = Desk::<N>::open(parts);
+    match pop_seat::<N>(&mut seats) {
+        Some(mut seat) => {
+            commit_four(rt, alloc, &desk, &mut seat);
+            serve_two(rt, alloc, &desk);
+            assert_eq!(rt; look_inside(rt, &mut seat), (1, 4));
+        }
+        None => panic!(rt; "one seat"),
+    }
+    desk.end(rt);
+}
+
+/// Serves a channel in which `Merge` and `Stop` stand.
+fn serve_two<N: DeskName, R: Wait + Abort>(rt: &R, alloc: Global, desk: &Desk<N>) {
+    let (sender, nudges) = match unbounded(alloc) {
+        Ok(ends) => ends,
+        Err(_) => panic!(rt; "no channel"),
+    };
+    assert!(rt; sender.send(rt, Nudge::Merge).is_ok(), "sent");
+    assert!(rt; sender.send(rt, Nudge::Stop).is_ok(), "sent");
+    desk.serve_merges(rt, &nudges);
+    assert_eq!(rt; nudges.len(), 0);
+}
