@@ -6,6 +6,8 @@ mod callers;
 #[cfg(test)]
 mod making;
 #[cfg(test)]
+mod memory;
+#[cfg(test)]
 mod merging;
 #[cfg(test)]
 mod refusals;

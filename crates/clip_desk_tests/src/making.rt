@@ -12,7 +12,7 @@ use std::process::Abort;
 use std::sync::{Arc, Wait};
 
 /// The command that registers one query, or `None` where an allocation failed.
-fn registering(alloc: Global, id: &str, text: &str) -> Option<Command>
+pub fn registering(alloc: Global, id: &str, text: &str) -> Option<Command>
     ensures { IfSome result (λ c. IsTrue (fits (command_of c))) }
 {
     let standing = Arc::new(alloc, Standing::read(alloc, id, text, None).ok()?).ok()?;
