@@ -7,7 +7,7 @@ use Rattle.clip_desk.proofs.locked.Locked.commit.Goals as goal
 
 pub show-requires-clause-callers : goal.show-requires-clause-callers
 show-requires-clause-callers g c =
-    let i = c.self.invariant in
+    let i = c.self.invariant.0 in
     let seen = c.self.inside.front.seen.log in
     let caller = c.args.seat.now.caller in
     let command = command_of c.args.command in
@@ -26,12 +26,12 @@ add-requires-clause-own g c =
     let caller = c.args.seat.now.caller in
     let command = command_of c.args.command in
     let after = c.follow.new.self.seen.log in
-    let is : after ≡ with_command seen caller command = followed c.self.inside.registrar c.in-Ok.grown.registrar seen after caller c.caller-caller.result command c.if-not-follow.ensures.added c.in-Ok.ensures.registrar c.self.invariant.log c.caller-caller.ensures.caller in
+    let is : after ≡ with_command seen caller command = followed c.self.inside.registrar c.in-Ok.grown.registrar seen after caller c.caller-caller.result command c.if-not-follow.ensures.added c.in-Ok.ensures.registrar c.self.invariant.0.log c.caller-caller.ensures.caller in
     own_fits seen after c.args.seat.now.mine caller command is (c.if-not-agrees.ensures refl).1
 
 pub returns-clause-legal : goal.returns-clause-legal
 returns-clause-legal g c =
-    let i = c.self.invariant in
+    let i = c.self.invariant.0 in
     let seen = c.self.inside.front.seen.log in
     let caller = c.args.seat.now.caller in
     let command = command_of c.args.command in
@@ -54,7 +54,7 @@ returns-clause-seen g c =
     let command = command_of c.args.command in
     let after = c.new.result.history in
     let front : after ≡ c.follow.new.self.seen.log = ap (λ r. r.history) c.new.ensures ∙ ap (λ f. f.seen.log) c.again-2.ensures in
-    let is : after ≡ with_command seen caller command = followed c.self.inside.registrar c.in-Ok.grown.registrar seen after caller c.caller-caller.result command (front ∙ c.if-not-follow.ensures.added) c.in-Ok.ensures.registrar c.self.invariant.log c.caller-caller.ensures.caller in
+    let is : after ≡ with_command seen caller command = followed c.self.inside.registrar c.in-Ok.grown.registrar seen after caller c.caller-caller.result command (front ∙ c.if-not-follow.ensures.added) c.in-Ok.ensures.registrar c.self.invariant.0.log c.caller-caller.ensures.caller in
     (seen_grown c.args.seat.now.seen seen after caller command (c.if-not-agrees.ensures refl).0 is, ap (λ s. s.seen) c.add.ensures.seen ∙ sym front)
 
 pub returns-clause-mine : goal.returns-clause-mine
@@ -65,7 +65,7 @@ returns-clause-mine g c =
     let mine = c.args.seat.now.mine in
     let after = c.follow.new.self.seen.log in
     let front : c.new.result.history ≡ after = ap (λ r. r.history) c.new.ensures ∙ ap (λ f. f.seen.log) c.again-2.ensures in
-    let is : after ≡ with_command seen caller command = followed c.self.inside.registrar c.in-Ok.grown.registrar seen after caller c.caller-caller.result command c.if-not-follow.ensures.added c.in-Ok.ensures.registrar c.self.invariant.log c.caller-caller.ensures.caller in
+    let is : after ≡ with_command seen caller command = followed c.self.inside.registrar c.in-Ok.grown.registrar seen after caller c.caller-caller.result command c.if-not-follow.ensures.added c.in-Ok.ensures.registrar c.self.invariant.0.log c.caller-caller.ensures.caller in
     let own_is = (c.if-not-agrees.ensures refl).1 in
     let more = c.add.ensures.mine ∙ mine_grown seen after mine caller command is own_is in
     (ap (λ h. own h caller) front ∙ own_grown seen after mine caller command is own_is ∙ sym more, more)
@@ -77,5 +77,5 @@ returns-clause-later g c =
     let command = command_of c.args.command in
     let after = c.add.new.self.seen in
     let front : after ≡ c.follow.new.self.seen.log = ap (λ s. s.seen) c.add.ensures.seen in
-    let is : after ≡ with_command seen caller command = followed c.self.inside.registrar c.in-Ok.grown.registrar seen after caller c.caller-caller.result command (front ∙ c.if-not-follow.ensures.added) c.in-Ok.ensures.registrar c.self.invariant.log c.caller-caller.ensures.caller in
+    let is : after ≡ with_command seen caller command = followed c.self.inside.registrar c.in-Ok.grown.registrar seen after caller c.caller-caller.result command (front ∙ c.if-not-follow.ensures.added) c.in-Ok.ensures.registrar c.self.invariant.0.log c.caller-caller.ensures.caller in
     seen_grown c.args.seat.now.seen seen after caller command (c.if-not-agrees.ensures refl).0 is
