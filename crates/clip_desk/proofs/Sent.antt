@@ -11,6 +11,8 @@ use Rattle.logbook.proofs.Word.TheSendSync as word_sent
 use Rattle.clip_registry.proofs.Sent.{registrar_send}
 use Rattle.clip_chronicle.proofs.chronicle.Front.TheSendSync as front_sent
 use Rattle.clip_chronicle.proofs.Sent.{published_send, published_sync}
+use Rattle.clip_listen.specs.declared.update_listener.UpdateListener as heard
+use Rattle.clip_listen.proofs.update_listeners.UpdateListeners.TheSendSync as updates_sent
 use Rattle.clip_desk.specs.declared.locked.DeskName.{Ghosts}
 use Rattle.clip_desk.specs.contracts.seat.Seat as seat
 use Rattle.clip_desk.specs.contracts.seat.Seat.TheInside as seat_inside
@@ -24,9 +26,10 @@ ruleset global = (sendable, global_sent.the_send, global_sent.the_sync, allocato
 pub seat_send : IsSend seat.the_row
 seat_send = view_send seat_inside.the_row _ _ _ _ (declared_send seat_inside.the_type (search (global, reader_sent.the_send) depth 20, (front_sent.the_send, (search sendable, (search sendable, (search sendable, (search sendable, tt)))))))
 
-module _ (N : RattleType) (g : Ghosts N.Denot) where
-  locked_send : IsSend (locked.the_row N g)
-  locked_send = view_send (locked_inside.the_row N g) _ _ _ _ (declared_send (locked_inside.the_type N g) (registrar_send, (search (global, writer_sent.the_send) depth 20, (search (global, word_sent.the_send), (front_sent.the_send, (search sendable, tt))))))
+module _ (N L : RattleType) (g : Ghosts N.Denot) (h : heard.Ghosts L.Denot) (sent : IsSend L) where
+  locked_send : IsSend (locked.the_row N L g h)
+  locked_send = view_send (locked_inside.the_row N L g h) _ _ _ _
+  (declared_send (locked_inside.the_type N L g h) (registrar_send, (search (global, writer_sent.the_send) depth 20, (search (global, word_sent.the_send), (front_sent.the_send, (search (sendable, updates_sent.the_send, sent), (search global, (search sendable, tt))))))))
 
-  pub desk_sync : IsSync (desk.the_row N g)
-  desk_sync = view_sync (desk_inside.the_row N g) _ _ _ _ (declared_sync (desk_inside.the_type N g) (search (global, mutex_sent.the_sync, locked_send), (search sendable, (search sendable, tt))))
+  pub desk_sync : IsSync (desk.the_row N L g h)
+  desk_sync = view_sync (desk_inside.the_row N L g h) _ _ _ _ (declared_sync (desk_inside.the_type N L g h) (search (global, mutex_sent.the_sync, locked_send), (search sendable, (search sendable, tt))))

@@ -1,9 +1,21 @@
-use Rattle.std.proofs.Common.{◌≡◌, ◌<◌, ◌≤◌, ◌∙◌, ℕ, ap, sym, refl, subst, arith}
-use Rattle.clip_model.specs.History.{own, with_command, IsLegal}
+use Rattle.std.proofs.Common.{◌≡◌, ◌<◌, ◌≤◌, ◌∙◌, ℕ, [], ◌∷◌, ◌++◌, ap, sym, refl, subst, arith, rules}
+use Rattle.clip_model.specs.History.{History, next_entry, own, with_command, IsLegal}
 use Rattle.clip_registry.specs.Command.{command_of}
 use Rattle.clip_chronicle.specs.Callers.{IsBy}
+use Rattle.clip_listen.specs.Updates.{AllFollow}
+use Rattle.clip_listen.proofs.Following.{all_follow_entry}
 use Rattle.clip_desk.proofs.Commits.{followed, own_grown, mine_grown, own_fits, seen_grown, by_grown}
 use Rattle.clip_desk.proofs.locked.Locked.commit.Goals as goal
+
+pub invariant_of-self-2 : goal.invariant_of-self-2
+invariant_of-self-2 g c =
+    let before = c.self.inside.registrar.history in
+    let next = c.in-Ok.grown.registrar in
+    let e = next_entry before c.caller-caller.result (command_of c.args.command) in
+    let history : next.history ≡ before ++ e ∷ [] = ap (λ s. s.history) c.in-Ok.ensures.registrar in
+    let told = c.tell_last.new.updates in
+    (search rules, subst (λ (h : History). AllFollow g.N.DeskName.heard_before h told) (sym history)
+    (all_follow_entry g.N.DeskName.heard_before before c.self.inside.updates told c.self.invariant.1 e (c.tell_last.ensures before e history)))
 
 pub show-requires-clause-callers : goal.show-requires-clause-callers
 show-requires-clause-callers g c =
