@@ -156,7 +156,12 @@ fn seat_of<N: DeskName>(seats: &mut Vec<Seat>) -> Option<Seat>
 }
 
 /// Opens a desk of these parts, does the work at it, and ends it.
-fn play<N: DeskName, R: Wait>(rt: &R, alloc: Global, parts: DeskParts<UpdateLog>, work: Work) -> Result<View>
+fn play<N: DeskName, R: Wait>(
+    rt: &R,
+    alloc: Global,
+    parts: DeskParts<UpdateLog>,
+    work: Work,
+) -> Result<View>
     requires { (parts.book ≡ N.book) × (parts.callers ≡ N.callers) × (N.heard_before ≡ heard_at parts.updates) }
 {
     let (desk, seats) = Desk::<N, UpdateLog>::open(parts);

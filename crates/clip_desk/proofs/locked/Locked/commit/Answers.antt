@@ -13,9 +13,11 @@ invariant_of-self-2 g c =
     let next = c.in-Ok.grown.registrar in
     let e = next_entry before c.caller-caller.result (command_of c.args.command) in
     let history : next.history ≡ before ++ e ∷ [] = ap (λ s. s.history) c.in-Ok.ensures.registrar in
-    let told = c.tell_last.new.updates in
-    (search rules, subst (λ (h : History). AllFollow g.N.DeskName.heard_before h told) (sym history)
-    (all_follow_entry g.N.DeskName.heard_before before c.self.inside.updates told c.self.invariant.1 e (c.tell_last.ensures before e history)))
+    let told = c.tell_last.new.updates in (
+      search rules,
+      subst (λ (h : History). AllFollow g.N.DeskName.heard_before h told) (sym history)
+          (all_follow_entry g.N.DeskName.heard_before before c.self.inside.updates told c.self.invariant.1 e (c.tell_last.ensures before e history)),
+    )
 
 pub show-requires-clause-callers : goal.show-requires-clause-callers
 show-requires-clause-callers g c =
