@@ -54,7 +54,12 @@ fn run_close<N: DeskName, R: Wait + Abort>(rt: &R, alloc: Global, parts: DeskPar
     }
 }
 
-fn commit_four<N: DeskName, R: Wait + Abort>(rt: &R, alloc: Global, desk: &Desk<N, UpdateLog>, seat: &mut Seat)
+fn commit_four<N: DeskName, R: Wait + Abort>(
+    rt: &R,
+    alloc: Global,
+    desk: &Desk<N, UpdateLog>,
+    seat: &mut Seat,
+)
     requires { IsSeatOf N.book N.callers seat.old }
     ensures { IsSeatOf N.book N.callers seat.new }
 {
