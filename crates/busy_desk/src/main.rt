@@ -3,6 +3,7 @@
 #![tactic(auto)]
 
 ghost use Rattle.std.specs.Prelude.{◌≡◌, IfSome, IsTrue};
+ghost use Rattle.clip_listen.specs.Updates.{heard_at};
 ghost use Rattle.clip_desk.specs.Locked.{IsSeatOf, AreSeatsOf};
 ghost use Rattle.clip_model.specs.History.{fits};
 ghost use Rattle.clip_registry.specs.Command.{command_of};
@@ -11,6 +12,7 @@ mod commands;
 
 use anyhow::{Result, bail};
 use clip_desk::{Desk, DeskName, DeskParts, Seat};
+use clip_listen::{UpdateListeners, UpdateLog};
 use clip_registry::{Command, View};
 use commands::{Change, change_one, register_from};
 use std::alloc::Global;
@@ -50,7 +52,7 @@ fn work_of<R: Env + AllocGlobal>(rt: &R) -> Result<Work> {
 /// Commits a command, which is not refused.
 fn commit<N: DeskName, R: Wait>(
     rt: &R,
-    desk: &Desk<N>,
+    desk: &Desk<N, UpdateLog>,
     seat: &mut Seat,
     command: Command,
 ) -> Result<()>
@@ -70,7 +72,7 @@ fn commit<N: DeskName, R: Wait>(
 fn fill<N: DeskName, R: Wait>(
     rt: &R,
     alloc: Global,
-    desk: &Desk<N>,
+    desk: &Desk<N, UpdateLog>,
     seat: &mut Seat,
     listed: u64,
 ) -> Result<()>
@@ -89,7 +91,7 @@ fn fill<N: DeskName, R: Wait>(
 fn change_each<N: DeskName, R: Wait>(
     rt: &R,
     alloc: Global,
-    desk: &Desk<N>,
+    desk: &Desk<N, UpdateLog>,
     writer: &mut Seat,
     reader: &mut Seat,
     change: Change,
@@ -110,7 +112,7 @@ fn change_each<N: DeskName, R: Wait>(
 fn work_at<N: DeskName, R: Wait>(
     rt: &R,
     alloc: Global,
-    desk: &Desk<N>,
+    desk: &Desk<N, UpdateLog>,
     mut seats: Vec<Seat>,
     work: Work,
 ) -> Result<View>
@@ -154,19 +156,35 @@ fn seat_of<N: DeskName>(seats: &mut Vec<Seat>) -> Option<Seat>
 }
 
 /// Opens a desk of these parts, does the work at it, and ends it.
-fn play<N: DeskName, R: Wait>(rt: &R, alloc: Global, parts: DeskParts, work: Work) -> Result<View>
-    requires { (parts.book ≡ N.book) × (parts.callers ≡ N.callers) }
+fn play<N: DeskName, R: Wait>(
+    rt: &R,
+    alloc: Global,
+    parts: DeskParts<UpdateLog>,
+    work: Work,
+) -> Result<View>
+    requires { (parts.book ≡ N.book) × (parts.callers ≡ N.callers) × (N.heard_before ≡ heard_at parts.updates) }
 {
-    let (desk, seats) = Desk::<N>::open(parts);
+    let (desk, seats) = Desk::<N, UpdateLog>::open(parts);
     let last = work_at(rt, alloc, &desk, seats, work);
     desk.end(rt);
     last
 }
 
+/// The parts of a desk of two callers, without listeners.
+fn parts_of<R: Wait>(rt: &R, alloc: Global) -> Result<DeskParts<UpdateLog>> {
+    let Ok(updates) = UpdateListeners::new(alloc, Vec::new(alloc)) else {
+        bail!("no memory");
+    };
+    match DeskParts::new(rt, alloc, 1, 2, updates) {
+        Ok(parts) => Ok(parts),
+        Err((_, refused)) => Err(refused.into()),
+    }
+}
+
 fn main(rt: HostRuntime) -> Result<()> {
     let work = work_of(&rt)?;
     let alloc = rt.alloc();
-    let parts = DeskParts::new(&rt, alloc, 1, 2)?;
+    let parts = parts_of(&rt, alloc)?;
     let last = play::<Brand, _>(&rt, alloc, parts, work)?;
     println!(rt; "{} queries after {} commands", last.count(), last.place())?;
     Ok(())

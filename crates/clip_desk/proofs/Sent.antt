@@ -1,9 +1,14 @@
 -- Threads may hand over seats, and share a desk.
+use mathlib.Core.List.{[], ◌∷◌}
 use denote.RattleType.{RattleType}
+use denote.Builtin.{bool}
+use denote.Struct.Field.{row_field}
+use denote.Struct.Tuple.{Tuple, tuple_type}
 use denote.Param.Send.{IsSend, IsSync, view_send, view_sync, sendable}
-use denote.Param.SendFields.{declared_send, declared_sync}
+use denote.Param.SendFields.{declared_send, declared_sync, as_row_send}
 use Rattle.std.proofs.alloc.Global.TheSendSync as global_sent
 use Rattle.std.below.std_heap.proofs.GlobalAllocator.TheSendSync as allocator_sent
+use Rattle.std.proofs.vec.Vec.TheSendSync as vec_sent
 use Rattle.std.proofs.sync.Mutex.TheSendSync as mutex_sent
 use Rattle.left_right.proofs.reader.Reader.TheSendSync as reader_sent
 use Rattle.left_right.proofs.writer.Writer.TheSendSync as writer_sent
@@ -11,6 +16,9 @@ use Rattle.logbook.proofs.Word.TheSendSync as word_sent
 use Rattle.clip_registry.proofs.Sent.{registrar_send}
 use Rattle.clip_chronicle.proofs.chronicle.Front.TheSendSync as front_sent
 use Rattle.clip_chronicle.proofs.Sent.{published_send, published_sync}
+use Rattle.clip_listen.specs.declared.update_listener.UpdateListener as heard
+use Rattle.clip_listen.specs.contracts.update_listeners.UpdateListeners as updates
+use Rattle.clip_listen.specs.contracts.update_listeners.UpdateListeners.TheInside as updates_inside
 use Rattle.clip_desk.specs.declared.locked.DeskName.{Ghosts}
 use Rattle.clip_desk.specs.contracts.seat.Seat as seat
 use Rattle.clip_desk.specs.contracts.seat.Seat.TheInside as seat_inside
@@ -24,9 +32,16 @@ ruleset global = (sendable, global_sent.the_send, global_sent.the_sync, allocato
 pub seat_send : IsSend seat.the_row
 seat_send = view_send seat_inside.the_row _ _ _ _ (declared_send seat_inside.the_type (search (global, reader_sent.the_send) depth 20, (front_sent.the_send, (search sendable, (search sendable, (search sendable, (search sendable, tt)))))))
 
-module _ (N : RattleType) (g : Ghosts N.Denot) where
-  locked_send : IsSend (locked.the_row N g)
-  locked_send = view_send (locked_inside.the_row N g) _ _ _ _ (declared_send (locked_inside.the_type N g) (registrar_send, (search (global, writer_sent.the_send) depth 20, (search (global, word_sent.the_send), (front_sent.the_send, (search sendable, tt))))))
+module _ (N L : RattleType) (g : Ghosts N.Denot) (h : heard.Ghosts L.Denot) (sent : IsSend L) where
+  part_send : IsSend (Tuple (L ∷ bool ∷ []))
+  part_send = declared_send (tuple_type (L ∷ bool ∷ [])) (as_row_send (row_field L) sent, (search sendable, tt))
 
-  pub desk_sync : IsSync (desk.the_row N g)
-  desk_sync = view_sync (desk_inside.the_row N g) _ _ _ _ (declared_sync (desk_inside.the_type N g) (search (global, mutex_sent.the_sync, locked_send), (search sendable, (search sendable, tt))))
+  updates_send : IsSend (updates.the_row L h)
+  updates_send = view_send (updates_inside.the_row L h) _ _ _ _ (declared_send (updates_inside.the_type L h) (search (global, vec_sent.the_send, part_send) depth 20, tt))
+
+  locked_send : IsSend (locked.the_row N L g h)
+  locked_send = view_send (locked_inside.the_row N L g h) _ _ _ _
+      (declared_send (locked_inside.the_type N L g h) (registrar_send, (search (global, writer_sent.the_send) depth 20, (search (global, word_sent.the_send), (front_sent.the_send, (updates_send, (search global, (search sendable, tt))))))))
+
+  pub desk_sync : IsSync (desk.the_row N L g h)
+  desk_sync = view_sync (desk_inside.the_row N L g h) _ _ _ _ (declared_sync (desk_inside.the_type N L g h) (search (global, mutex_sent.the_sync, locked_send), (search sendable, (search sendable, tt))))

@@ -6,6 +6,7 @@ use mathlib.Core.List.{IsPrefix}
 use Rattle.logbook.specs.Pages.{Book, book_coded}
 use Rattle.clip_model.specs.History.{History, Command, own, command_code, history_code}
 use Rattle.clip_registry.specs.declared.command.Applied.{Applied}
+use Rattle.clip_listen.specs.Updates.{Heard}
 use Rattle.clip_registry.specs.declared.command.Applied.TheVariants as answer
 
 -- seen: the longest history that the seat got; mine: the commands committed with it, in order
@@ -24,11 +25,12 @@ pub record ReceiptIs : Type 0 where
   pub history : History
   pub applied : Applied
 
--- the parts of a desk: its tag, its callers and its book
+-- the parts of a desk: its tag, its callers, its book, and what its listeners have heard
 pub record PartsIs : Type 0 where
   pub tag : ℕ
   pub callers : ℕ
   pub book : Book
+  pub updates : List Heard
 
 -- what contracts see of a desk
 pub record DeskIs : Type 0 where

@@ -1,10 +1,11 @@
 //! The desk that callers in threads share.
-ghost use Rattle.std.specs.Prelude.{◌≡◌, ◌≢◌, ◌↔◌, ℕ, ◌+◌, ◌<◌, ◌≤◌, List, [], ◌∷◌, ◌++◌, slice_get, IfOk, IfErr, OnOk, OnErr, IsTrue, IsFalse, vec_len};
+ghost use Rattle.std.specs.Prelude.{◌≡◌, ◌≢◌, ◌↔◌, ℕ, ◌+◌, ◌<◌, ◌≤◌, List, [], ◌∷◌, ◌++◌, slice_get, IfOk, IfErr, OnOk, OnErr, IsTrue, IsFalse, vec_len, map};
 ghost use mathlib.Core.List.{IsPrefix};
 ghost use Rattle.clip_model.specs.History.{own, fits, has_room, applied, with_command, IsLegal};
 ghost use Rattle.clip_model.specs.History as model;
 ghost use Rattle.clip_registry.specs.Command.{command_of, answer_of};
 ghost use Rattle.clip_chronicle.specs.Callers.{IsBy};
+ghost use Rattle.clip_listen.specs.Updates.{AllFollow, heard_at, heard_by};
 ghost use Rattle.clip_desk.specs.Seats.{SeatIs, AreSeated, IsAccounted, AreAll};
 ghost use Rattle.clip_desk.specs.Locked.{IsSeatOf, AreSeatsOf};
 
@@ -12,18 +13,19 @@ use crate::locked::{DeskName, Locked};
 use crate::parts::DeskParts;
 use crate::refused::Refused;
 use crate::seat::{Receipt, Seat};
+use clip_listen::UpdateListener;
 use clip_registry::{Command, Registrar};
 use std::marker::Model;
 use std::sync::{Mutex, MutexGuard, Wait};
 
-/// A registry that callers share. It has no `Drop`, as a writer's end can't be dropped: end it by `close` or `end`.
-pub struct Desk<N: DeskName> {
-    pub(crate) locked: Mutex<Locked<N>>,
+/// A registry that callers share, and the listeners that hear of its changes. It has no `Drop`, as a writer's end can't be dropped: end it by `close` or `end`.
+pub struct Desk<N: DeskName, L: UpdateListener> {
+    pub(crate) locked: Mutex<Locked<N, L>>,
     pub(crate) tag: u64,
     callers: u32,
 }
 
-impl<N: DeskName> Model for Desk<N> {
+impl<N: DeskName, L: UpdateListener> Model for Desk<N, L> {
     ghost use Rattle.std.specs.Prelude.{◌≡◌};
     ghost use Rattle.clip_desk.specs.Seats.{DeskIs};
 
@@ -36,23 +38,25 @@ impl<N: DeskName> Model for Desk<N> {
 
 /// What a desk leaves.
 #[derive(Drop)]
-pub struct Closed {
+pub struct Closed<L: UpdateListener> {
     /// The registry at its end, with its history.
     pub registrar: Registrar,
+    /// The update listeners, in order, each with its mark: whether it missed an event.
+    pub updates: Vec<(L, bool)>,
 }
 
 /// What comes back from a desk that could not be closed.
-pub struct SeatMissing<N: DeskName> {
+pub struct SeatMissing<N: DeskName, L: UpdateListener> {
     /// The desk, which goes on.
-    pub desk: Desk<N>,
+    pub desk: Desk<N, L>,
     /// The seats that were handed in.
     pub seats: Vec<Seat>,
 }
 
-impl<N: DeskName> Desk<N> {
-    /// A desk, and the seats of callers 1, 2, .. Constant time.
-    pub fn open(parts: DeskParts) -> (Desk<N>, Vec<Seat>)
-        requires { (parts.book ≡ N.book) × (parts.callers ≡ N.callers) }
+impl<N: DeskName, L: UpdateListener> Desk<N, L> {
+    /// A desk, and the seats of callers 1, 2, .. Its name says what its listeners had heard. Constant time.
+    pub fn open(parts: DeskParts<L>) -> (Desk<N, L>, Vec<Seat>)
+        requires { (parts.book ≡ N.book) × (parts.callers ≡ N.callers) × (N.heard_before ≡ heard_at parts.updates) }
         ensures desk { (result.0.tag ≡ parts.tag) × (result.0.callers ≡ parts.callers) }
         ensures seats { AreSeated parts.tag parts.callers parts.book result.1.items × (vec_len result.1 ≡ parts.callers) }
         ensures all { AreSeatsOf N.book N.callers result.1.items }
@@ -63,11 +67,13 @@ impl<N: DeskName> Desk<N> {
             head,
             front,
             seats,
+            updates,
+            alloc,
             tag,
             callers,
         } = parts;
         let desk = Desk {
-            locked: Mutex::new(Locked::new(registrar, writer, head, front)),
+            locked: Mutex::new(Locked::new(registrar, writer, head, front, updates, alloc)),
             tag,
             callers,
         };
@@ -81,10 +87,11 @@ impl<N: DeskName> Desk<N> {
         self.tag
     }
 
-    /// Accepts a command as the next of the seat's caller, publishes the registry after it, and answers the receipt of the
-    /// history that ends with it; or hands the command back: `Foreign` for a seat of another tag, `Full` where it has no
-    /// room, and `NoMemory` where an allocation failed. It may wait for other callers' commits, and for readers that look.
-    /// It costs that of `Registrar::apply` while a view is held.
+    /// Accepts a command as the next of the seat's caller, publishes the registry after it, tells the listeners of it, and
+    /// answers the receipt of the history that ends with it; or tells nothing and hands the command back: `Foreign` for a
+    /// seat of another tag, `Full` where it has no room, and `NoMemory` where an allocation failed. It may wait for other
+    /// callers' commits, and for readers that look. It costs that of `Registrar::apply` while a view is held, and what each
+    /// listener takes.
     pub fn commit<R: Wait>(
         &self,
         rt: &R,
@@ -116,13 +123,16 @@ impl<N: DeskName> Desk<N> {
         answer
     }
 
-    /// Ends the desk with all its seats: `SeatMissing` where a caller's seat isn't there or one is of another tag, and then
-    /// desk and seats come back. It may wait for readers that look. It costs a search among the seats for each caller, and
+    /// Ends the desk with all its seats, and gives the registry and the listeners. Each unmarked listener has heard, purges
+    /// left out, what it had heard before and then one event for each entry of the history, in order; a marked one some
+    /// first ones of these. `SeatMissing` where a caller's seat isn't there or one is of another tag, and then desk and
+    /// seats come back. It may wait for readers that look. It costs a search among the seats for each caller, and
     /// that of `Registrar::number_of` for each seat.
-    pub fn close<R: Wait>(self, rt: &R, seats: Vec<Seat>) -> Result<Closed, SeatMissing<N>>
+    pub fn close<R: Wait>(self, rt: &R, seats: Vec<Seat>) -> Result<Closed<L>, SeatMissing<N, L>>
         requires { (k : ℕ) (s : SeatIs) → slice_get seats.items k ≡ Some s → s.tag ≡ self.tag → IsSeatOf N.book N.callers s }
         ensures legal { IfOk result (λ c. IsLegal c.registrar.history × IsBy self.callers c.registrar.history) }
         ensures seats { IfOk result (λ c. AreAll self.tag self.callers c.registrar.history seats.items) }
+        ensures told { IfOk result (λ c. AllFollow N.heard_before c.registrar.history (map (heard_by L.heard) c.updates.items)) }
         ensures back { IfErr result (λ e. (e.desk ≡ self) × (e.seats.items ≡ seats.items)) }
     {
         let Self {
@@ -139,9 +149,8 @@ impl<N: DeskName> Desk<N> {
             };
             return Err(SeatMissing { desk, seats });
         }
-        Ok(Closed {
-            registrar: locked.end(rt),
-        })
+        let (registrar, updates) = locked.end(rt);
+        Ok(Closed { registrar, updates })
     }
 
     /// Ends the desk without its seats. It may wait for readers that look, and takes no memory.
@@ -156,7 +165,11 @@ impl<N: DeskName> Desk<N> {
 }
 
 /// Whether each seat is of this tag, and its numbers agree.
-fn all_agree<N: DeskName>(locked: &Locked<N>, seats: &[Seat], tag: u64) -> bool
+fn all_agree<N: DeskName, L: UpdateListener>(
+    locked: &Locked<N, L>,
+    seats: &[Seat],
+    tag: u64,
+) -> bool
     requires { (k : ℕ) (s : SeatIs) → slice_get seats.now k ≡ Some s → s.tag ≡ tag → IsSeatOf N.book N.callers s }
     ensures { IsTrue result → (k : ℕ) (s : SeatIs) → slice_get seats.now k ≡ Some s → IsAccounted tag locked.now.history s }
 {

@@ -5,6 +5,7 @@ use crate::desk::Desk;
 use crate::locked::DeskName;
 use crate::refused::Refused;
 use crate::seat::Seat;
+use clip_listen::UpdateListener;
 use clip_registry::{Installed, MergeJob, Merged};
 use clip_words::NoMemory;
 use crossbeam_channel::Receiver;
@@ -41,10 +42,11 @@ fn take_standing<R: Wait>(rt: &R, nudges: &Receiver<Nudge>) -> bool {
     false
 }
 
-impl<N: DeskName> Desk<N> {
-    /// Leaves each segment with just its live entries, takes the empty ones away, and publishes that: `Foreign` for a seat
-    /// of another tag, and `NoMemory` where an allocation failed, with nothing changed. The seat stays as it is. It may wait
-    /// for other callers' commits, and for readers that look. It costs that of `Registrar::purge`.
+impl<N: DeskName, L: UpdateListener> Desk<N, L> {
+    /// Leaves each segment with just its live entries, takes the empty ones away, publishes that, and tells the listeners:
+    /// `Foreign` for a seat of another tag, and `NoMemory` where an allocation failed, with nothing changed and nothing
+    /// told. The seat stays as it is. It may wait for other callers' commits, and for readers that look. It costs that of
+    /// `Registrar::purge`, and what each listener takes.
     pub fn purge<R: Wait>(&self, rt: &R, seat: &mut Seat) -> Result<(), Refused>
         ensures foreign { (result ≡ Err Refused.Foreign) ↔ (seat.old.tag ≢ self.now.tag) }
         ensures never_full { result ≢ Err Refused.Full }

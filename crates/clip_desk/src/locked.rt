@@ -1,49 +1,63 @@
 //! What the lock keeps: the registrar, the writer's end and the word of the chronicle.
-ghost use Rattle.std.specs.Prelude.{◌≡◌, ◌≢◌, ◌<◌, ◌≤◌, [], ◌∷◌, ◌++◌, IfOk, IfErr, OnOk, OnErr, IsTrue, IsFalse};
+ghost use Rattle.std.specs.Prelude.{◌≡◌, ◌≢◌, ◌<◌, ◌≤◌, [], ◌∷◌, ◌++◌, IfOk, IfErr, OnOk, OnErr, IsTrue, IsFalse, map};
 ghost use mathlib.Core.List.{IsPrefix};
-ghost use Rattle.clip_model.specs.History.{own, fits, has_room, applied, with_command, IsLegal};
+ghost use Rattle.clip_model.specs.History.{History, HistoryEntry, own, fits, has_room, applied, with_command, IsLegal};
 ghost use Rattle.clip_registry.specs.Command.{command_of, answer_of};
 ghost use Rattle.clip_registry.specs.RegistryState.{state_after};
 ghost use Rattle.clip_chronicle.specs.Callers.{IsBy};
+ghost use Rattle.clip_listen.specs.Updates.{AllFollow, AreTold, event_of, heard_by};
 ghost use Rattle.clip_desk.specs.Locked.{IsSettled, IsSeatOf};
 
 use crate::growing::{Grown, grow};
 use crate::refused::Refused;
 use crate::seat::{Receipt, Seat};
 use clip_chronicle::{Front, Head, WriterEnd, show};
+use clip_listen::{Update, UpdateListener, UpdateListeners};
 use clip_registry::{Command, Registrar};
+use std::alloc::Global;
 use std::marker::{Brand, Model, PhantomData};
 use std::sync::Wait;
 
-/// Names one desk, in contracts only: its book, and how many callers it has.
+/// Names one desk, in contracts only: its book, how many callers it has, and what the listener in each place had heard
+/// before it.
 pub trait DeskName {
-    ghost use Rattle.std.specs.Prelude.{ℕ};
+    ghost use Rattle.std.specs.Prelude.{ℕ, List};
     ghost use Rattle.logbook.specs.Pages.{Book};
+    ghost use Rattle.clip_listen.specs.Updates.{Event};
 
     ghost book: { Book };
 
     ghost callers: { ℕ };
+
+    ghost heard_before: { ℕ → List Event };
 }
 
 impl DeskName for Brand {
+    ghost use Rattle.std.specs.Prelude.{[]};
     ghost use Rattle.clip_chronicle.specs.Chronicle.{no_book};
 
     ghost book = { no_book };
 
     ghost callers = { 0 };
+
+    ghost heard_before = { λ k. [] };
 }
 
-/// What a desk's lock keeps, seen as the registry. What was published last is that registry too.
-pub struct Locked<N: DeskName> {
+/// What a desk's lock keeps, seen as the registry. What was published last is that registry too, and the listeners have
+/// heard of its history.
+pub struct Locked<N: DeskName, L: UpdateListener> {
     pub(crate) registrar: Registrar,
     pub(crate) writer: WriterEnd,
     head: Head,
     pub(crate) front: Front,
+    pub(crate) updates: UpdateListeners<L>,
+    pub(crate) alloc: Global,
     of: PhantomData<N>,
 }
 
-impl<N: DeskName> Model for Locked<N> {
+impl<N: DeskName, L: UpdateListener> Model for Locked<N, L> {
     ghost use Rattle.clip_registry.specs.RegistryState.{RegistryState, state_code};
+    ghost use Rattle.clip_listen.specs.Updates.{AllFollow};
     ghost use Rattle.clip_desk.specs.Locked.{IsSettled};
 
     ghost Value = { RegistryState };
@@ -52,18 +66,34 @@ impl<N: DeskName> Model for Locked<N> {
 
     ghost view = { λ s. s.registrar };
 
-    ghost invariant = { λ s. IsSettled N.book N.callers s.registrar s.head s.front s.writer.desk.shown.value };
+    ghost invariant = { λ s. IsSettled N.book N.callers s.registrar s.head s.front s.writer.desk.shown.value × AllFollow N.heard_before s.registrar.history s.updates };
 }
 
-impl<N: DeskName> Locked<N> {
+/// Tells the listeners of the last entry of a registry, where there is one.
+fn tell_last<L: UpdateListener>(
+    alloc: Global,
+    registrar: &Registrar,
+    updates: &mut UpdateListeners<L>,
+)
+    ensures { (before : History) (e : HistoryEntry) → registrar.now.history ≡ before ++ e ∷ [] → AreTold (event_of e.command) updates.old updates.new }
+{
+    if let Some(entry) = registrar.history().last() {
+        updates.tell(alloc, Update::of(&entry.command));
+    }
+}
+
+impl<N: DeskName, L: UpdateListener> Locked<N, L> {
     /// The lock's content of a desk that begins. Constant time.
     pub(crate) fn new(
         registrar: Registrar,
         writer: WriterEnd,
         head: Head,
         front: Front,
-    ) -> Locked<N>
-        requires { IsSettled N.book N.callers registrar head front writer.desk.shown.value }
+        updates: UpdateListeners<L>,
+        alloc: Global,
+    ) -> Locked<N, L>
+        requires settled { IsSettled N.book N.callers registrar head front writer.desk.shown.value }
+        requires follow { AllFollow N.heard_before registrar.history updates }
         ensures { result ≡ registrar }
     {
         Locked {
@@ -71,14 +101,16 @@ impl<N: DeskName> Locked<N> {
             writer,
             head,
             front,
+            updates,
+            alloc,
             of: PhantomData,
         }
     }
 
-    /// Accepts a command as the next of the seat's caller, publishes the registry after it, and answers the receipt of the
-    /// history that ends with it; or leaves the registry and hands the command back: `Full` where it has no room, and
-    /// `NoMemory` where an allocation failed. It may wait for readers that look. It costs that of `Registrar::apply` while
-    /// a view is held.
+    /// Accepts a command as the next of the seat's caller, publishes the registry after it, tells the listeners of it, and
+    /// answers the receipt of the history that ends with it; or leaves the registry, tells nothing, and hands the command
+    /// back: `Full` where it has no room, and `NoMemory` where an allocation failed. It may wait for readers that look. It
+    /// costs that of `Registrar::apply` while a view is held, and what each listener takes.
     pub fn commit<R: Wait>(
         &mut self,
         rt: &R,
@@ -129,6 +161,7 @@ impl<N: DeskName> Locked<N> {
         };
         self.registrar = registrar;
         self.front = front;
+        tell_last(self.alloc, &self.registrar, &mut self.updates);
         seat.add(&self.front);
         Ok(Receipt::new(seat.tag(), self.front.again(), applied))
     }
@@ -144,20 +177,23 @@ impl<N: DeskName> Locked<N> {
         seat.agrees(&self.front, self.registrar.number_of(seat.caller()))
     }
 
-    /// Ends the writer, and gives the registrar. It may wait for readers that look.
-    pub(crate) fn end<R: Wait>(self, rt: &R) -> Registrar
-        ensures same { result ≡ self }
-        ensures legal { IsLegal result.history × IsBy N.callers result.history }
+    /// Ends the writer, and gives the registrar, and the listeners with their marks. It may wait for readers that look.
+    pub(crate) fn end<R: Wait>(self, rt: &R) -> (Registrar, Vec<(L, bool)>)
+        ensures same { result.0 ≡ self }
+        ensures legal { IsLegal result.0.history × IsBy N.callers result.0.history }
+        ensures follow { AllFollow N.heard_before result.0.history (map (heard_by L.heard) result.1.items) }
     {
         let Self {
             registrar,
             writer,
             head: _,
             front: _,
+            updates,
+            alloc: _,
             of: _,
         } = self;
         let _ = registrar.history();
         writer.take(rt);
-        registrar
+        (registrar, updates.into_parts())
     }
 }

@@ -5,11 +5,12 @@ ghost use Rattle.clip_registry.specs.Merging.{IsBegun, IsInstalled, IsStale, pur
 
 use crate::locked::{DeskName, Locked};
 use clip_chronicle::show;
+use clip_listen::{Update, UpdateListener};
 use clip_registry::{Installed, MergeJob, Merged, Registrar};
 use clip_words::NoMemory;
 use std::sync::Wait;
 
-impl<N: DeskName> Locked<N> {
+impl<N: DeskName, L: UpdateListener> Locked<N, L> {
     /// Publishes a registry of the same history, and keeps it. `NoMemory` where an allocation failed, with nothing
     /// changed. It may wait for readers that look.
     fn put<R: Wait>(&mut self, rt: &R, registrar: Registrar) -> Result<(), NoMemory>
@@ -24,16 +25,18 @@ impl<N: DeskName> Locked<N> {
         Ok(())
     }
 
-    /// Leaves each segment with just its live entries, takes the empty ones away, and publishes that. The history is kept,
-    /// and so is what is registered. `NoMemory` where an allocation failed, with nothing changed. It may wait for readers
-    /// that look, and costs that of `Registrar::purge`.
+    /// Leaves each segment with just its live entries, takes the empty ones away, publishes that, and tells the listeners.
+    /// The history is kept, and so is what is registered. `NoMemory` where an allocation failed, with nothing changed and
+    /// nothing told. It may wait for readers that look, and costs that of `Registrar::purge` and what each listener takes.
     pub fn purge<R: Wait>(&mut self, rt: &R) -> Result<(), NoMemory>
         ensures purged { OnOk result (self.new ≡ purged self.old) }
         ensures unchanged { OnErr result (self.new ≡ self.old) }
     {
         let mut next = self.registrar.copy()?;
         next.purge()?;
-        self.put(rt, next)
+        self.put(rt, next)?;
+        self.updates.tell(self.alloc, Update::Purged);
+        Ok(())
     }
 
     /// Begins a merge: a job over the oldest four neighbouring segments of one level, or `None` where there are no such

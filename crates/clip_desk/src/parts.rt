@@ -1,5 +1,5 @@
 //! The ends and seats of a desk, before it has a name.
-ghost use Rattle.std.specs.Prelude.{◌≡◌, ◌↔◌, ◌+◌, ◌<◌, ◌≤◌, [], ◌∷◌, ◌++◌, length, IfOk, OnOk, vec_len};
+ghost use Rattle.std.specs.Prelude.{◌≡◌, ◌↔◌, ◌+◌, ◌<◌, ◌≤◌, [], ◌∷◌, ◌++◌, length, IfOk, IfErr, OnOk, vec_len};
 ghost use Rattle.left_right.specs.Sides.{view};
 ghost use Rattle.clip_chronicle.specs.Ends.{IsOf};
 ghost use Rattle.clip_desk.specs.Seats.{new_seat, AreSeated};
@@ -8,6 +8,7 @@ ghost use Rattle.clip_desk.specs.Locked.{IsSettled};
 use crate::refused::NewRefused;
 use crate::seat::Seat;
 use clip_chronicle::{Front, Head, Notes, Published, WriterEnd, open_chronicle, publish};
+use clip_listen::{UpdateListener, UpdateListeners};
 use clip_model::MOST_CALLERS;
 use clip_registry::Registrar;
 use clip_words::NoMemory;
@@ -16,25 +17,27 @@ use std::alloc::Global;
 use std::marker::Model;
 use std::sync::Wait;
 
-/// All that a desk is made of, and its seats. It has no `Drop`: hand it to `Desk::open`.
-pub struct DeskParts {
+/// All that a desk is made of, with its seats and its listeners. It has no `Drop`: hand it to `Desk::open`.
+pub struct DeskParts<L: UpdateListener> {
     pub(crate) registrar: Registrar,
     pub(crate) writer: WriterEnd,
     pub(crate) head: Head,
     pub(crate) front: Front,
     pub(crate) seats: Vec<Seat>,
+    pub(crate) updates: UpdateListeners<L>,
+    pub(crate) alloc: Global,
     pub(crate) tag: u64,
     pub(crate) callers: u32,
 }
 
-impl Model for DeskParts {
+impl<L: UpdateListener> Model for DeskParts<L> {
     ghost use Rattle.std.specs.Prelude.{◌≡◌, [], vec_len};
     ghost use Rattle.clip_desk.specs.Seats.{PartsIs, AreSeated};
     ghost use Rattle.clip_desk.specs.Locked.{IsSettled};
 
     ghost Value = { PartsIs };
 
-    ghost view = { λ p. record { tag = p.tag; callers = p.callers; book = p.front.seen.book } };
+    ghost view = { λ p. record { tag = p.tag; callers = p.callers; book = p.front.seen.book; updates = p.updates } };
 
     ghost invariant = { λ p. IsSettled p.front.seen.book p.callers p.registrar p.head p.front p.writer.desk.shown.value × (p.registrar.history ≡ []) × AreSeated p.tag p.callers p.front.seen.book p.seats.items × (vec_len p.seats ≡ p.callers) };
 }
@@ -122,32 +125,35 @@ fn open_ends<R: Wait>(
     Ok(writer)
 }
 
-impl DeskParts {
-    /// The parts of a desk of this tag, with an empty registry and a seat for each caller: `TooMany` where there are more
-    /// than `MOST_CALLERS` callers, and `NoMemory` where an allocation failed. It never waits, since nobody reads yet. It
+impl<L: UpdateListener> DeskParts<L> {
+    /// The parts of a desk of this tag, with an empty registry, a seat for each caller, and these listeners; or the
+    /// listeners back: `TooMany` where there are more than `MOST_CALLERS` callers, and `NoMemory` where an allocation
+    /// failed. The listeners are told nothing. It never waits, since nobody reads yet. It
     /// costs a step for each caller.
     pub fn new<R: Wait>(
         rt: &R,
         alloc: Global,
         tag: u64,
         callers: u32,
-    ) -> Result<DeskParts, NewRefused>
+        updates: UpdateListeners<L>,
+    ) -> Result<DeskParts<L>, (UpdateListeners<L>, NewRefused)>
         requires { 0 < callers }
-        ensures ok { IfOk result (λ p. (p.tag ≡ tag) × (p.callers ≡ callers)) }
+        ensures ok { IfOk result (λ p. (p.tag ≡ tag) × (p.callers ≡ callers) × (p.updates ≡ updates)) }
+        ensures back { IfErr result (λ e. e.0 ≡ updates) }
         ensures few { OnOk result (callers ≤ MOST_CALLERS) }
-        ensures many { (result ≡ Err NewRefused.TooMany) ↔ (MOST_CALLERS < callers) }
+        ensures many { (result ≡ Err (updates, NewRefused.TooMany)) ↔ (MOST_CALLERS < callers) }
     {
         if callers > MOST_CALLERS {
-            return Err(NewRefused::TooMany);
+            return Err((updates, NewRefused::TooMany));
         }
         let (head, front) = open_chronicle();
         let registrar = Registrar::new(alloc);
         let Ok(mut writer) = open_ends(rt, alloc, &registrar, &front, callers) else {
-            return Err(NewRefused::NoMemory);
+            return Err((updates, NewRefused::NoMemory));
         };
         let Ok(seats) = seat_all(alloc, &mut writer, &front, tag, callers) else {
             writer.take(rt);
-            return Err(NewRefused::NoMemory);
+            return Err((updates, NewRefused::NoMemory));
         };
         Ok(DeskParts {
             registrar,
@@ -155,6 +161,8 @@ impl DeskParts {
             head,
             front,
             seats,
+            updates,
+            alloc,
             tag,
             callers,
         })

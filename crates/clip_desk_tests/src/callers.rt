@@ -1,9 +1,11 @@
 //! Two callers at a desk: what one committed the other looks at, with its receipt and without.
 ghost use Rattle.std.specs.Prelude.{◌≡◌};
+ghost use Rattle.clip_listen.specs.Updates.{heard_at};
 ghost use Rattle.clip_desk.specs.Locked.{IsSeatOf};
 
-use crate::making::{commit, look, pop_seat, register};
+use crate::making::{commit, look, parts_of, pop_seat, register};
 use clip_desk::{Desk, DeskName, DeskParts, Seat};
+use clip_listen::UpdateLog;
 use clip_registry::Applied;
 use std::alloc::Global;
 use std::marker::Brand;
@@ -13,15 +15,15 @@ use std::test::Fail;
 
 #[test]
 fn a_caller_sees_what_another_committed(rt: HostRuntime) -> Result<(), Fail> {
-    let parts = DeskParts::new(&rt, rt.alloc(), 1, 2)?;
+    let parts = parts_of(&rt, rt.alloc(), 1, 2)?;
     run_both::<Brand, _>(&rt, rt.alloc(), parts);
     Ok(())
 }
 
-fn run_both<N: DeskName, R: Wait + Abort>(rt: &R, alloc: Global, parts: DeskParts)
-    requires { (parts.book ≡ N.book) × (parts.callers ≡ N.callers) }
+fn run_both<N: DeskName, R: Wait + Abort>(rt: &R, alloc: Global, parts: DeskParts<UpdateLog>)
+    requires { (parts.book ≡ N.book) × (parts.callers ≡ N.callers) × (N.heard_before ≡ heard_at parts.updates) }
 {
-    let (desk, mut seats) = Desk::<N>::open(parts);
+    let (desk, mut seats) = Desk::<N, UpdateLog>::open(parts);
     match (pop_seat::<N>(&mut seats), pop_seat::<N>(&mut seats)) {
         (Some(second), Some(first)) => take_turns(rt, alloc, &desk, first, second),
         _ => panic!(rt; "two seats"),
@@ -32,7 +34,7 @@ fn run_both<N: DeskName, R: Wait + Abort>(rt: &R, alloc: Global, parts: DeskPart
 fn take_turns<N: DeskName, R: Wait + Abort>(
     rt: &R,
     alloc: Global,
-    desk: &Desk<N>,
+    desk: &Desk<N, UpdateLog>,
     mut first: Seat,
     mut second: Seat,
 )

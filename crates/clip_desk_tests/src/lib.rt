@@ -4,6 +4,8 @@
 #[cfg(test)]
 mod callers;
 #[cfg(test)]
+mod listening;
+#[cfg(test)]
 mod making;
 #[cfg(test)]
 mod memory;

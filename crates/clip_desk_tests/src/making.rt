@@ -1,10 +1,11 @@
 //! What the tests give to calls: commands, and the seats of a desk.
-ghost use Rattle.std.specs.Prelude.{◌≡◌, IfSome, IsTrue};
+ghost use Rattle.std.specs.Prelude.{◌≡◌, ◌<◌, IfSome, IsTrue};
 ghost use Rattle.clip_model.specs.History.{fits};
 ghost use Rattle.clip_registry.specs.Command.{command_of};
 ghost use Rattle.clip_desk.specs.Locked.{IsSeatOf, AreSeatsOf};
 
-use clip_desk::{Desk, DeskName, Receipt, Seat};
+use clip_desk::{Desk, DeskName, DeskParts, NewRefused, Receipt, Seat};
+use clip_listen::{UpdateListeners, UpdateLog};
 use clip_registry::Command;
 use clip_segment::Standing;
 use std::alloc::Global;
@@ -29,6 +30,37 @@ pub fn register<R: Abort>(rt: &R, alloc: Global, id: &str, text: &str) -> Comman
     }
 }
 
+/// The parts of a desk with these logs.
+pub fn parts_with<R: Wait>(
+    rt: &R,
+    alloc: Global,
+    tag: u64,
+    callers: u32,
+    logs: Vec<UpdateLog>,
+) -> Result<DeskParts<UpdateLog>, NewRefused>
+    requires { 0 < callers }
+{
+    let Ok(updates) = UpdateListeners::new(alloc, logs) else {
+        return Err(NewRefused::NoMemory);
+    };
+    match DeskParts::new(rt, alloc, tag, callers, updates) {
+        Ok(parts) => Ok(parts),
+        Err((_, refused)) => Err(refused),
+    }
+}
+
+/// The parts of a desk without listeners.
+pub fn parts_of<R: Wait>(
+    rt: &R,
+    alloc: Global,
+    tag: u64,
+    callers: u32,
+) -> Result<DeskParts<UpdateLog>, NewRefused>
+    requires { 0 < callers }
+{
+    parts_with(rt, alloc, tag, callers, Vec::new(alloc))
+}
+
 /// The last of the seats.
 pub fn pop_seat<N: DeskName>(seats: &mut Vec<Seat>) -> Option<Seat>
     requires { AreSeatsOf N.book N.callers seats.old.items }
@@ -41,7 +73,7 @@ pub fn pop_seat<N: DeskName>(seats: &mut Vec<Seat>) -> Option<Seat>
 /// Commits a command, which is not refused.
 pub fn commit<N: DeskName, R: Wait + Abort>(
     rt: &R,
-    desk: &Desk<N>,
+    desk: &Desk<N, UpdateLog>,
     seat: &mut Seat,
     command: Command,
 ) -> Receipt

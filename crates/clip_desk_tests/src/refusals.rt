@@ -2,10 +2,12 @@
 ghost use Rattle.std.specs.Prelude.{◌≡◌, ◌≢◌, IfOk, IsTrue};
 ghost use Rattle.clip_model.specs.History.{fits};
 ghost use Rattle.clip_registry.specs.Command.{command_of};
+ghost use Rattle.clip_listen.specs.Updates.{heard_at};
 ghost use Rattle.clip_desk.specs.Locked.{IsSeatOf, AreSeatsOf};
 
-use crate::making::{commit, pop_seat, register};
+use crate::making::{commit, parts_of, pop_seat, register};
 use clip_desk::{Closed, Desk, DeskName, DeskParts, NewRefused, Refused, Seat, SeatMissing};
+use clip_listen::UpdateLog;
 use clip_registry::Command;
 use std::alloc::Global;
 use std::marker::Brand;
@@ -15,7 +17,7 @@ use std::test::Fail;
 
 #[test]
 fn a_desk_has_64_callers_at_most(rt: HostRuntime) -> Result<(), Fail> {
-    match DeskParts::new(&rt, rt.alloc(), 1, 65) {
+    match parts_of(&rt, rt.alloc(), 1, 65) {
         Ok(parts) => run_close::<Brand, _>(&rt, rt.alloc(), parts),
         Err(refused) => assert_eq!(rt; refused, NewRefused::TooMany),
     }
@@ -24,16 +26,16 @@ fn a_desk_has_64_callers_at_most(rt: HostRuntime) -> Result<(), Fail> {
 
 #[test]
 fn a_desk_is_closed_with_all_its_seats(rt: HostRuntime) -> Result<(), Fail> {
-    let parts = DeskParts::new(&rt, rt.alloc(), 1, 1)?;
+    let parts = parts_of(&rt, rt.alloc(), 1, 1)?;
     run_close::<Brand, _>(&rt, rt.alloc(), parts);
     Ok(())
 }
 
-fn run_close<N: DeskName, R: Wait + Abort>(rt: &R, alloc: Global, parts: DeskParts)
-    requires { (parts.book ≡ N.book) × (parts.callers ≡ N.callers) }
+fn run_close<N: DeskName, R: Wait + Abort>(rt: &R, alloc: Global, parts: DeskParts<UpdateLog>)
+    requires { (parts.book ≡ N.book) × (parts.callers ≡ N.callers) × (N.heard_before ≡ heard_at parts.updates) }
 {
     let none = Vec::new(alloc);
-    let (desk, mut seats) = Desk::<N>::open(parts);
+    let (desk, mut seats) = Desk::<N, UpdateLog>::open(parts);
     let Some(mut seat) = pop_seat::<N>(&mut seats) else {
         panic!(rt; "one seat")
     };
@@ -52,7 +54,12 @@ fn run_close<N: DeskName, R: Wait + Abort>(rt: &R, alloc: Global, parts: DeskPar
     }
 }
 
-fn commit_four<N: DeskName, R: Wait + Abort>(rt: &R, alloc: Global, desk: &Desk<N>, seat: &mut Seat)
+fn commit_four<N: DeskName, R: Wait + Abort>(
+    rt: &R,
+    alloc: Global,
+    desk: &Desk<N, UpdateLog>,
+    seat: &mut Seat,
+)
     requires { IsSeatOf N.book N.callers seat.old }
     ensures { IsSeatOf N.book N.callers seat.new }
 {
@@ -62,7 +69,7 @@ fn commit_four<N: DeskName, R: Wait + Abort>(rt: &R, alloc: Global, desk: &Desk<
     commit(rt, desk, seat, register(rt, alloc, "q3", "milk"));
 }
 
-fn check_numbers<R: Abort>(rt: &R, closed: &Closed) {
+fn check_numbers<R: Abort>(rt: &R, closed: &Closed<UpdateLog>) {
     let history = closed.registrar.history();
     assert_eq!(rt; history.len(), 4);
     for place in 0..4usize {
@@ -79,8 +86,8 @@ fn check_numbers<R: Abort>(rt: &R, closed: &Closed) {
 #[test]
 fn a_foreign_seat_is_refused(rt: HostRuntime) -> Result<(), Fail> {
     match (
-        DeskParts::new(&rt, rt.alloc(), 1, 1),
-        DeskParts::new(&rt, rt.alloc(), 2, 1),
+        parts_of(&rt, rt.alloc(), 1, 1),
+        parts_of(&rt, rt.alloc(), 2, 1),
     ) {
         (Ok(parts), Ok(others)) => run_foreign::<Brand, Brand, _>(&rt, rt.alloc(), parts, others),
         _ => panic!(&rt; "two desks"),
@@ -91,14 +98,14 @@ fn a_foreign_seat_is_refused(rt: HostRuntime) -> Result<(), Fail> {
 fn run_foreign<N: DeskName, M: DeskName, R: Wait + Abort>(
     rt: &R,
     alloc: Global,
-    parts: DeskParts,
-    others: DeskParts,
+    parts: DeskParts<UpdateLog>,
+    others: DeskParts<UpdateLog>,
 )
-    requires one { (parts.book ≡ N.book) × (parts.callers ≡ N.callers) }
-    requires other { (others.book ≡ M.book) × (others.callers ≡ M.callers) }
+    requires one { (parts.book ≡ N.book) × (parts.callers ≡ N.callers) × (N.heard_before ≡ heard_at parts.updates) }
+    requires other { (others.book ≡ M.book) × (others.callers ≡ M.callers) × (M.heard_before ≡ heard_at others.updates) }
 {
-    let (desk, _) = Desk::<N>::open(parts);
-    let (other, mut strangers) = Desk::<M>::open(others);
+    let (desk, _) = Desk::<N, UpdateLog>::open(parts);
+    let (other, mut strangers) = Desk::<M, UpdateLog>::open(others);
     match pop_seat::<M>(&mut strangers) {
         Some(mut stranger) => hand_back(rt, &desk, &mut stranger, register(rt, alloc, "q1", "tea")),
         None => panic!(rt; "one seat"),
@@ -109,7 +116,7 @@ fn run_foreign<N: DeskName, M: DeskName, R: Wait + Abort>(
 
 fn hand_back<N: DeskName, R: Wait + Abort>(
     rt: &R,
-    desk: &Desk<N>,
+    desk: &Desk<N, UpdateLog>,
     stranger: &mut Seat,
     command: Command,
 )

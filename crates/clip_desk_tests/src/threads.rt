@@ -1,9 +1,11 @@
 //! Callers in two threads.
 ghost use Rattle.std.specs.Prelude.{◌≡◌};
+ghost use Rattle.clip_listen.specs.Updates.{heard_at};
 ghost use Rattle.clip_desk.specs.Locked.{IsSeatOf};
 
-use crate::making::{commit, look, pop_seat, register};
+use crate::making::{commit, look, parts_of, pop_seat, register};
 use clip_desk::{Desk, DeskName, DeskParts, Seat};
+use clip_listen::UpdateLog;
 use std::alloc::Global;
 use std::marker::Brand;
 use std::process::Abort;
@@ -15,7 +17,7 @@ use std::thread::{Threads, join};
 fn one_turn<N: DeskName, R: Wait + Abort>(
     rt: &R,
     alloc: Global,
-    desk: &Desk<N>,
+    desk: &Desk<N, UpdateLog>,
     seat: &mut Seat,
     name: &str,
 )
@@ -32,7 +34,7 @@ fn one_turn<N: DeskName, R: Wait + Abort>(
 fn fifty<N: DeskName, R: Wait + Abort>(
     rt: &R,
     alloc: Global,
-    desk: &Desk<N>,
+    desk: &Desk<N, UpdateLog>,
     mut seat: Seat,
     name: &str,
 ) -> Seat
@@ -47,7 +49,7 @@ fn fifty<N: DeskName, R: Wait + Abort>(
 
 #[test]
 fn two_threads_commit_a_hundred(rt: HostRuntime) -> Result<(), Fail> {
-    let parts = DeskParts::new(&rt, rt.alloc(), 1, 2)?;
+    let parts = parts_of(&rt, rt.alloc(), 1, 2)?;
     run_two::<Brand, _>(&rt, rt.alloc(), parts);
     Ok(())
 }
@@ -55,11 +57,11 @@ fn two_threads_commit_a_hundred(rt: HostRuntime) -> Result<(), Fail> {
 fn run_two<N: DeskName + Send + Sync, R: Threads + Wait + Abort + Sync>(
     rt: &R,
     alloc: Global,
-    parts: DeskParts,
+    parts: DeskParts<UpdateLog>,
 )
-    requires { (parts.book ≡ N.book) × (parts.callers ≡ N.callers) }
+    requires { (parts.book ≡ N.book) × (parts.callers ≡ N.callers) × (N.heard_before ≡ heard_at parts.updates) }
 {
-    let (desk, mut seats) = Desk::<N>::open(parts);
+    let (desk, mut seats) = Desk::<N, UpdateLog>::open(parts);
     match (pop_seat::<N>(&mut seats), pop_seat::<N>(&mut seats)) {
         (Some(two), Some(one)) => {
             let (one, two) = join(

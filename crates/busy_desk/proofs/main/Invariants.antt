@@ -1,5 +1,6 @@
+use Rattle.clip_listen.specs.Updates.{heard_at}
 use Rattle.busy_desk.proofs.main.Given as goal
 
 -- the desk whose parts were just made
 abbrev pub ghosts-play : goal.ghosts-play
-ghosts-play g a = record { book = a.parts.book; callers = a.parts.callers }
+ghosts-play g a = record { book = a.parts.book; callers = a.parts.callers; heard_before = heard_at a.parts.updates }

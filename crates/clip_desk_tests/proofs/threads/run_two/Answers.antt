@@ -9,6 +9,9 @@ use denote.Struct.Field.{row_field, shr_ref_field}
 use denote.Struct.Tuple.{TupleAt, type_at}
 use Rattle.std.specs.contracts.alloc.Global as global
 use Rattle.std.proofs.alloc.Global.TheSendSync as global_sent
+use Rattle.clip_listen.specs.contracts.update_listener.UpdateLog as log
+use Rattle.clip_listen.specs.contracts.update_listener.UpdateLogUpdateListener.TheImpl as log_impl
+use Rattle.clip_listen.proofs.update_listener.UpdateLog.TheSendSync as log_sent
 use Rattle.clip_desk.specs.contracts.seat.Seat as seat
 use Rattle.clip_desk.specs.contracts.desk.Desk as desk
 use Rattle.clip_desk.proofs.Sent.{seat_send, desk_sync}
@@ -24,10 +27,12 @@ pub join-one-requires-send-F : goal.join-one-requires-send-F
 join-one-requires-send-F g c κs within =
     let rt = (shr_ref_field (record { mir = named 6; lft = κs.1.1.1.1.1.1.0 }) (param 1 g.row.R) tt).row in
     let alloc = (shr_ref_field (record { mir = named 7; lft = κs.1.1.1.1.1.1.1.0 }) global.the_row tt).row in
-    let shared = (shr_ref_field (record { mir = named 8; lft = κs.1.1.1.1.1.1.1.1.0 }) (desk.the_row (param 0 g.row.N) g.N.DeskName) tt).row in
+    let N = param 0 g.row.N in
+    let synced : IsSync (desk.the_row N log.the_row g.N.DeskName log_impl.ghosts) = desk_sync N log.the_row g.N.DeskName log_impl.ghosts log_sent.the_send in
+    let shared = (shr_ref_field (record { mir = named 8; lft = κs.1.1.1.1.1.1.1.1.0 }) (desk.the_row N log.the_row g.N.DeskName log_impl.ghosts) tt).row in
     let name = rows.name-11 g.row.N g.row.R g.N.laws g.R.laws g.N.DeskName g.N.DeskName-dict g.R.Threads g.R.Threads-dict g.R.Wait g.R.Wait-dict g.R.Abort g.R.Abort-dict in
     let captures : IsSend (TupleAt name (rt ∷ alloc ∷ shared ∷ seat.the_row ∷ [])) = captures_send name rt alloc shared seat.the_row
-    (search (sendable, c.type_bounds.sync-R)) (search (sendable, global_sent.the_sync)) (search (sendable, desk_sync)) seat_send in
+    (search (sendable, c.type_bounds.sync-R)) (search (sendable, global_sent.the_sync)) (search (sendable, synced)) seat_send in
     param_send 1 _ (arg_send _ no (TupleAt name (rt ∷ alloc ∷ shared ∷ seat.the_row ∷ [])) captures)
 
 pub join-one-requires-send-A : goal.join-one-requires-send-A

@@ -9,11 +9,11 @@ all_agree-requires g c k s at tag = c.requires k s (ap (λ l. slice_get l k) (sy
 
 pub returns-clause-legal : goal.returns-clause-legal
 returns-clause-legal g c =
-    (c.end.ensures.legal.0, subst (λ n. IsBy n c.end.result.history) (sym c.self.invariant ∙ ap (λ d. d.callers) c.self.view_is) c.end.ensures.legal.1)
+    (c.end-registrar.ensures.legal.0, subst (λ n. IsBy n c.end-registrar.result.0.history) (sym c.self.invariant ∙ ap (λ d. d.callers) c.self.view_is) c.end-registrar.ensures.legal.1)
 
 pub returns-clause-seats : goal.returns-clause-seats
 returns-clause-seats g c =
-    let same = ap (λ s. s.history) c.end.ensures.same in
+    let same = ap (λ s. s.history) c.end-registrar.ensures.same in
     let tag = ap (λ d. d.tag) c.self.view_is in
     record {
       each = λ k s at. subst (λ (h : History). IsAccounted c.args.self.tag h s) (sym same) (subst (λ (t : ℕ). IsAccounted t c.into_inner-locked.result.history s) tag (c.if-not-all_agree.ensures refl k s (ap (λ l. slice_get l k) c.as_slice.ensures.value ∙ at)));

@@ -1,4 +1,7 @@
-use Rattle.std.proofs.Common.{◌∙◌, ap}
+use Rattle.std.proofs.Common.{◌∙◌, ℕ, List, ap, sym, subst}
+use Rattle.clip_model.specs.History.{History}
+use Rattle.clip_listen.specs.Updates.{Event, AllFollow, heard_at}
+use Rattle.clip_listen.proofs.Following.{all_follow_first}
 use Rattle.clip_desk.proofs.Seating.{seated_of}
 use Rattle.clip_desk.proofs.desk.Desk.open.Goals as goal
 
@@ -6,3 +9,10 @@ pub returns-clause-all : goal.returns-clause-all
 returns-clause-all g c =
     let p = c.parts.inside in
     seated_of p.tag p.callers g.N.DeskName.callers p.front.seen.book g.N.DeskName.book p.seats.items c.parts.invariant.2 (ap (λ x. x.book) c.parts.view_is ∙ c.requires.0) (ap (λ x. x.callers) c.parts.view_is ∙ c.requires.1)
+
+pub new-requires-clause-follow : goal.new-requires-clause-follow
+new-requires-clause-follow g c =
+    let p = c.parts.inside in
+    let heard = ap heard_at (ap (λ x. x.updates) c.parts.view_is) ∙ sym c.requires.2 in
+    subst (λ (before : ℕ → List Event). AllFollow before p.registrar.history p.updates) heard
+    (subst (λ (h : History). AllFollow (heard_at p.updates) h p.updates) (sym c.parts.invariant.1) (all_follow_first p.updates))

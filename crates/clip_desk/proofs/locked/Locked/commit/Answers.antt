@@ -1,13 +1,27 @@
-use Rattle.std.proofs.Common.{◌≡◌, ◌<◌, ◌≤◌, ◌∙◌, ℕ, ap, sym, refl, subst, arith}
-use Rattle.clip_model.specs.History.{own, with_command, IsLegal}
+use Rattle.std.proofs.Common.{◌≡◌, ◌<◌, ◌≤◌, ◌∙◌, ℕ, [], ◌∷◌, ◌++◌, ap, sym, refl, subst, arith, rules}
+use Rattle.clip_model.specs.History.{History, next_entry, own, with_command, IsLegal}
 use Rattle.clip_registry.specs.Command.{command_of}
 use Rattle.clip_chronicle.specs.Callers.{IsBy}
+use Rattle.clip_listen.specs.Updates.{AllFollow}
+use Rattle.clip_listen.proofs.Following.{all_follow_entry}
 use Rattle.clip_desk.proofs.Commits.{followed, own_grown, mine_grown, own_fits, seen_grown, by_grown}
 use Rattle.clip_desk.proofs.locked.Locked.commit.Goals as goal
 
+pub invariant_of-self-2 : goal.invariant_of-self-2
+invariant_of-self-2 g c =
+    let before = c.self.inside.registrar.history in
+    let next = c.in-Ok.grown.registrar in
+    let e = next_entry before c.caller-caller.result (command_of c.args.command) in
+    let history : next.history ≡ before ++ e ∷ [] = ap (λ s. s.history) c.in-Ok.ensures.registrar in
+    let told = c.tell_last.new.updates in (
+      search rules,
+      subst (λ (h : History). AllFollow g.N.DeskName.heard_before h told) (sym history)
+          (all_follow_entry g.N.DeskName.heard_before before c.self.inside.updates told c.self.invariant.1 e (c.tell_last.ensures before e history)),
+    )
+
 pub show-requires-clause-callers : goal.show-requires-clause-callers
 show-requires-clause-callers g c =
-    let i = c.self.invariant in
+    let i = c.self.invariant.0 in
     let seen = c.self.inside.front.seen.log in
     let caller = c.args.seat.now.caller in
     let command = command_of c.args.command in
@@ -26,12 +40,12 @@ add-requires-clause-own g c =
     let caller = c.args.seat.now.caller in
     let command = command_of c.args.command in
     let after = c.follow.new.self.seen.log in
-    let is : after ≡ with_command seen caller command = followed c.self.inside.registrar c.in-Ok.grown.registrar seen after caller c.caller-caller.result command c.if-not-follow.ensures.added c.in-Ok.ensures.registrar c.self.invariant.log c.caller-caller.ensures.caller in
+    let is : after ≡ with_command seen caller command = followed c.self.inside.registrar c.in-Ok.grown.registrar seen after caller c.caller-caller.result command c.if-not-follow.ensures.added c.in-Ok.ensures.registrar c.self.invariant.0.log c.caller-caller.ensures.caller in
     own_fits seen after c.args.seat.now.mine caller command is (c.if-not-agrees.ensures refl).1
 
 pub returns-clause-legal : goal.returns-clause-legal
 returns-clause-legal g c =
-    let i = c.self.invariant in
+    let i = c.self.invariant.0 in
     let seen = c.self.inside.front.seen.log in
     let caller = c.args.seat.now.caller in
     let command = command_of c.args.command in
@@ -54,7 +68,7 @@ returns-clause-seen g c =
     let command = command_of c.args.command in
     let after = c.new.result.history in
     let front : after ≡ c.follow.new.self.seen.log = ap (λ r. r.history) c.new.ensures ∙ ap (λ f. f.seen.log) c.again-2.ensures in
-    let is : after ≡ with_command seen caller command = followed c.self.inside.registrar c.in-Ok.grown.registrar seen after caller c.caller-caller.result command (front ∙ c.if-not-follow.ensures.added) c.in-Ok.ensures.registrar c.self.invariant.log c.caller-caller.ensures.caller in
+    let is : after ≡ with_command seen caller command = followed c.self.inside.registrar c.in-Ok.grown.registrar seen after caller c.caller-caller.result command (front ∙ c.if-not-follow.ensures.added) c.in-Ok.ensures.registrar c.self.invariant.0.log c.caller-caller.ensures.caller in
     (seen_grown c.args.seat.now.seen seen after caller command (c.if-not-agrees.ensures refl).0 is, ap (λ s. s.seen) c.add.ensures.seen ∙ sym front)
 
 pub returns-clause-mine : goal.returns-clause-mine
@@ -65,7 +79,7 @@ returns-clause-mine g c =
     let mine = c.args.seat.now.mine in
     let after = c.follow.new.self.seen.log in
     let front : c.new.result.history ≡ after = ap (λ r. r.history) c.new.ensures ∙ ap (λ f. f.seen.log) c.again-2.ensures in
-    let is : after ≡ with_command seen caller command = followed c.self.inside.registrar c.in-Ok.grown.registrar seen after caller c.caller-caller.result command c.if-not-follow.ensures.added c.in-Ok.ensures.registrar c.self.invariant.log c.caller-caller.ensures.caller in
+    let is : after ≡ with_command seen caller command = followed c.self.inside.registrar c.in-Ok.grown.registrar seen after caller c.caller-caller.result command c.if-not-follow.ensures.added c.in-Ok.ensures.registrar c.self.invariant.0.log c.caller-caller.ensures.caller in
     let own_is = (c.if-not-agrees.ensures refl).1 in
     let more = c.add.ensures.mine ∙ mine_grown seen after mine caller command is own_is in
     (ap (λ h. own h caller) front ∙ own_grown seen after mine caller command is own_is ∙ sym more, more)
@@ -77,5 +91,5 @@ returns-clause-later g c =
     let command = command_of c.args.command in
     let after = c.add.new.self.seen in
     let front : after ≡ c.follow.new.self.seen.log = ap (λ s. s.seen) c.add.ensures.seen in
-    let is : after ≡ with_command seen caller command = followed c.self.inside.registrar c.in-Ok.grown.registrar seen after caller c.caller-caller.result command (front ∙ c.if-not-follow.ensures.added) c.in-Ok.ensures.registrar c.self.invariant.log c.caller-caller.ensures.caller in
+    let is : after ≡ with_command seen caller command = followed c.self.inside.registrar c.in-Ok.grown.registrar seen after caller c.caller-caller.result command (front ∙ c.if-not-follow.ensures.added) c.in-Ok.ensures.registrar c.self.invariant.0.log c.caller-caller.ensures.caller in
     seen_grown c.args.seat.now.seen seen after caller command (c.if-not-agrees.ensures refl).0 is
