@@ -2,10 +2,12 @@
 //! Where memory is ample no commit is refused, so this is to be run with an allocation that fails
 //! (`rt try --test --fail-alloc N`).
 ghost use Rattle.std.specs.Prelude.{◌≡◌};
+ghost use Rattle.clip_listen.specs.Updates.{heard_at};
 ghost use Rattle.clip_desk.specs.Locked.{IsSeatOf};
 
-use crate::making::{pop_seat, registering};
+use crate::making::{parts_of, pop_seat, registering};
 use clip_desk::{Desk, DeskName, DeskParts, Seat};
+use clip_listen::UpdateLog;
 use std::alloc::Global;
 use std::marker::Brand;
 use std::process::Abort;
@@ -13,15 +15,15 @@ use std::sync::Wait;
 
 #[test]
 fn a_refused_commit_is_accepted_when_tried_again(rt: HostRuntime) {
-    if let Ok(parts) = DeskParts::new(&rt, rt.alloc(), 1, 1) {
+    if let Ok(parts) = parts_of(&rt, rt.alloc(), 1, 1) {
         run_again::<Brand, _>(&rt, rt.alloc(), parts);
     }
 }
 
-fn run_again<N: DeskName, R: Wait + Abort>(rt: &R, alloc: Global, parts: DeskParts)
-    requires { (parts.book ≡ N.book) × (parts.callers ≡ N.callers) }
+fn run_again<N: DeskName, R: Wait + Abort>(rt: &R, alloc: Global, parts: DeskParts<UpdateLog>)
+    requires { (parts.book ≡ N.book) × (parts.callers ≡ N.callers) × (N.heard_before ≡ heard_at parts.updates) }
 {
-    let (desk, mut seats) = Desk::<N>::open(parts);
+    let (desk, mut seats) = Desk::<N, UpdateLog>::open(parts);
     if let Some(mut seat) = pop_seat::<N>(&mut seats) {
         let mut accepted = 0u64;
         for _ in 0..20u32 {
@@ -39,7 +41,7 @@ fn run_again<N: DeskName, R: Wait + Abort>(rt: &R, alloc: Global, parts: DeskPar
 fn commit_twice_at_most<N: DeskName, R: Wait + Abort>(
     rt: &R,
     alloc: Global,
-    desk: &Desk<N>,
+    desk: &Desk<N, UpdateLog>,
     seat: &mut Seat,
 ) -> u64
     requires { IsSeatOf N.book N.callers seat.old }

@@ -1,9 +1,11 @@
 //! Merges and purges of a shared desk, as looks show them.
 ghost use Rattle.std.specs.Prelude.{◌≡◌};
+ghost use Rattle.clip_listen.specs.Updates.{heard_at};
 ghost use Rattle.clip_desk.specs.Locked.{IsSeatOf};
 
-use crate::making::{commit, pop_seat, register};
+use crate::making::{commit, parts_of, pop_seat, register};
 use clip_desk::{Desk, DeskName, DeskParts, MergeTurn, Nudge, Seat};
+use clip_listen::UpdateLog;
 use crossbeam_channel::unbounded;
 use std::alloc::Global;
 use std::marker::Brand;
@@ -12,7 +14,12 @@ use std::sync::Wait;
 use std::test::Fail;
 
 /// Four commits, each of which adds a segment of one entry.
-fn commit_four<N: DeskName, R: Wait + Abort>(rt: &R, alloc: Global, desk: &Desk<N>, seat: &mut Seat)
+fn commit_four<N: DeskName, R: Wait + Abort>(
+    rt: &R,
+    alloc: Global,
+    desk: &Desk<N, UpdateLog>,
+    seat: &mut Seat,
+)
     requires { IsSeatOf N.book N.callers seat.old }
     ensures { IsSeatOf N.book N.callers seat.new }
 {
@@ -40,15 +47,15 @@ fn look_inside<R: Abort>(rt: &R, seat: &mut Seat) -> (usize, usize)
 
 #[test]
 fn four_segments_become_one(rt: HostRuntime) -> Result<(), Fail> {
-    let parts = DeskParts::new(&rt, rt.alloc(), 1, 1)?;
+    let parts = parts_of(&rt, rt.alloc(), 1, 1)?;
     run_merge::<Brand, _>(&rt, rt.alloc(), parts);
     Ok(())
 }
 
-fn run_merge<N: DeskName, R: Wait + Abort>(rt: &R, alloc: Global, parts: DeskParts)
-    requires { (parts.book ≡ N.book) × (parts.callers ≡ N.callers) }
+fn run_merge<N: DeskName, R: Wait + Abort>(rt: &R, alloc: Global, parts: DeskParts<UpdateLog>)
+    requires { (parts.book ≡ N.book) × (parts.callers ≡ N.callers) × (N.heard_before ≡ heard_at parts.updates) }
 {
-    let (desk, mut seats) = Desk::<N>::open(parts);
+    let (desk, mut seats) = Desk::<N, UpdateLog>::open(parts);
     match pop_seat::<N>(&mut seats) {
         Some(mut seat) => {
             commit_four(rt, alloc, &desk, &mut seat);
@@ -66,15 +73,15 @@ fn run_merge<N: DeskName, R: Wait + Abort>(rt: &R, alloc: Global, parts: DeskPar
 
 #[test]
 fn a_purge_leaves_no_dead_entry(rt: HostRuntime) -> Result<(), Fail> {
-    let parts = DeskParts::new(&rt, rt.alloc(), 1, 1)?;
+    let parts = parts_of(&rt, rt.alloc(), 1, 1)?;
     run_purge::<Brand, _>(&rt, rt.alloc(), parts);
     Ok(())
 }
 
-fn run_purge<N: DeskName, R: Wait + Abort>(rt: &R, alloc: Global, parts: DeskParts)
-    requires { (parts.book ≡ N.book) × (parts.callers ≡ N.callers) }
+fn run_purge<N: DeskName, R: Wait + Abort>(rt: &R, alloc: Global, parts: DeskParts<UpdateLog>)
+    requires { (parts.book ≡ N.book) × (parts.callers ≡ N.callers) × (N.heard_before ≡ heard_at parts.updates) }
 {
-    let (desk, mut seats) = Desk::<N>::open(parts);
+    let (desk, mut seats) = Desk::<N, UpdateLog>::open(parts);
     match pop_seat::<N>(&mut seats) {
         Some(mut seat) => {
             commit(rt, &desk, &mut seat, register(rt, alloc, "q1", "tea"));
@@ -90,15 +97,15 @@ fn run_purge<N: DeskName, R: Wait + Abort>(rt: &R, alloc: Global, parts: DeskPar
 
 #[test]
 fn nudges_are_served_until_stop(rt: HostRuntime) -> Result<(), Fail> {
-    let parts = DeskParts::new(&rt, rt.alloc(), 1, 1)?;
+    let parts = parts_of(&rt, rt.alloc(), 1, 1)?;
     run_nudges::<Brand, _>(&rt, rt.alloc(), parts);
     Ok(())
 }
 
-fn run_nudges<N: DeskName, R: Wait + Abort>(rt: &R, alloc: Global, parts: DeskParts)
-    requires { (parts.book ≡ N.book) × (parts.callers ≡ N.callers) }
+fn run_nudges<N: DeskName, R: Wait + Abort>(rt: &R, alloc: Global, parts: DeskParts<UpdateLog>)
+    requires { (parts.book ≡ N.book) × (parts.callers ≡ N.callers) × (N.heard_before ≡ heard_at parts.updates) }
 {
-    let (desk, mut seats) = Desk::<N>::open(parts);
+    let (desk, mut seats) = Desk::<N, UpdateLog>::open(parts);
     match pop_seat::<N>(&mut seats) {
         Some(mut seat) => {
             commit_four(rt, alloc, &desk, &mut seat);
@@ -111,7 +118,7 @@ fn run_nudges<N: DeskName, R: Wait + Abort>(rt: &R, alloc: Global, parts: DeskPa
 }
 
 /// Serves a channel in which `Merge` and `Stop` stand.
-fn serve_two<N: DeskName, R: Wait + Abort>(rt: &R, alloc: Global, desk: &Desk<N>) {
+fn serve_two<N: DeskName, R: Wait + Abort>(rt: &R, alloc: Global, desk: &Desk<N, UpdateLog>) {
     let (sender, nudges) = match unbounded(alloc) {
         Ok(ends) => ends,
         Err(_) => panic!(rt; "no channel"),
