@@ -3,7 +3,7 @@ ghost use Rattle.std.specs.Prelude.{◌≡◌};
 ghost use Rattle.clip_listen.specs.Updates.{heard_at};
 ghost use Rattle.clip_desk.specs.Locked.{IsSeatOf};
 
-use crate::making::{commit, parts_with, pop_seat, register};
+use crate::making::{commit_four, parts_with, pop_seat};
 use clip_desk::{Closed, Desk, DeskName, DeskParts, Seat};
 use clip_listen::{UpdateEvent, UpdateLog};
 use std::alloc::Global;
@@ -27,24 +27,9 @@ fn run_purge<N: DeskName, R: Wait + Abort>(rt: &R, alloc: Global, parts: DeskPar
     let Some(mut seat) = pop_seat::<N>(&mut seats) else {
         panic!(rt; "one seat")
     };
-    commit_queries(rt, alloc, &desk, &mut seat);
+    commit_four(rt, alloc, &desk, &mut seat);
     assert_eq!(rt; desk.purge(rt, &mut seat), Ok(()));
     close_one(rt, alloc, desk, seat);
-}
-
-fn commit_queries<N: DeskName, R: Wait + Abort>(
-    rt: &R,
-    alloc: Global,
-    desk: &Desk<N, UpdateLog>,
-    seat: &mut Seat,
-)
-    requires { IsSeatOf N.book N.callers seat.old }
-    ensures { IsSeatOf N.book N.callers seat.new }
-{
-    commit(rt, desk, seat, register(rt, alloc, "q1", "tea"));
-    commit(rt, desk, seat, register(rt, alloc, "q2", "coffee"));
-    commit(rt, desk, seat, register(rt, alloc, "q3", "milk"));
-    commit(rt, desk, seat, register(rt, alloc, "q4", "juice"));
 }
 
 fn close_one<N: DeskName, R: Wait + Abort>(

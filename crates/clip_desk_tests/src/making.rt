@@ -88,6 +88,22 @@ pub fn commit<N: DeskName, R: Wait + Abort>(
     }
 }
 
+/// Registers q1 to q4, each by a commit of its own.
+pub fn commit_four<N: DeskName, R: Wait + Abort>(
+    rt: &R,
+    alloc: Global,
+    desk: &Desk<N, UpdateLog>,
+    seat: &mut Seat,
+)
+    requires { IsSeatOf N.book N.callers seat.old }
+    ensures { IsSeatOf N.book N.callers seat.new }
+{
+    commit(rt, desk, seat, register(rt, alloc, "q1", "tea"));
+    commit(rt, desk, seat, register(rt, alloc, "q2", "coffee"));
+    commit(rt, desk, seat, register(rt, alloc, "q3", "milk"));
+    commit(rt, desk, seat, register(rt, alloc, "q4", "water"));
+}
+
 /// How many queries a look shows, and how many commands.
 pub fn look<R: Abort>(rt: &R, seat: &mut Seat) -> (u64, u64)
     ensures { (seat.new.book ≡ seat.old.book) × (seat.new.callers ≡ seat.old.callers) }

@@ -3,7 +3,7 @@ ghost use Rattle.std.specs.Prelude.{◌≡◌};
 ghost use Rattle.clip_listen.specs.Updates.{heard_at};
 ghost use Rattle.clip_desk.specs.Locked.{IsSeatOf};
 
-use crate::making::{commit, parts_of, pop_seat, register};
+use crate::making::{commit, commit_four, parts_of, pop_seat, register};
 use clip_desk::{Desk, DeskName, DeskParts, MergeTurn, Nudge, Seat};
 use clip_listen::UpdateLog;
 use crossbeam_channel::unbounded;
@@ -12,22 +12,6 @@ use std::marker::Brand;
 use std::process::Abort;
 use std::sync::Wait;
 use std::test::Fail;
-
-/// Four commits, each of which adds a segment of one entry.
-fn commit_four<N: DeskName, R: Wait + Abort>(
-    rt: &R,
-    alloc: Global,
-    desk: &Desk<N, UpdateLog>,
-    seat: &mut Seat,
-)
-    requires { IsSeatOf N.book N.callers seat.old }
-    ensures { IsSeatOf N.book N.callers seat.new }
-{
-    commit(rt, desk, seat, register(rt, alloc, "q1", "tea"));
-    commit(rt, desk, seat, register(rt, alloc, "q2", "coffee"));
-    commit(rt, desk, seat, register(rt, alloc, "q3", "milk"));
-    commit(rt, desk, seat, register(rt, alloc, "q4", "water"));
-}
 
 /// How many segments a look shows, and how many entries they have.
 fn look_inside<R: Abort>(rt: &R, seat: &mut Seat) -> (usize, usize)

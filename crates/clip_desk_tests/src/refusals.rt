@@ -39,7 +39,7 @@ fn run_close<N: DeskName, R: Wait + Abort>(rt: &R, alloc: Global, parts: DeskPar
     let Some(mut seat) = pop_seat::<N>(&mut seats) else {
         panic!(rt; "one seat")
     };
-    commit_four(rt, alloc, &desk, &mut seat);
+    commit_around_a_clear(rt, alloc, &desk, &mut seat);
     let SeatMissing { desk, seats: _ } = match desk.close(rt, none) {
         Ok(_) => panic!(rt; "a seat is missing"),
         Err(missing) => missing,
@@ -54,7 +54,7 @@ fn run_close<N: DeskName, R: Wait + Abort>(rt: &R, alloc: Global, parts: DeskPar
     }
 }
 
-fn commit_four<N: DeskName, R: Wait + Abort>(
+fn commit_around_a_clear<N: DeskName, R: Wait + Abort>(
     rt: &R,
     alloc: Global,
     desk: &Desk<N, UpdateLog>,
