@@ -1,20 +1,63 @@
 //! The words that the program is given, and how it ends.
 ghost use Rattle.std.specs.Prelude.{◌≡◌};
-ghost use Rattle.clip_command_line.specs.CommandLine.{mode_of, ending_of};
+ghost use Rattle.clip_command_line.specs.CommandLine.{digit_of, workers_of, plain_mode, mode_of, ending_of};
 
 use crate::mode::Mode;
-use clip_stream::RunFault;
+use clip_stream::{MOST_WORKERS, RunFault};
 
-/// What the words after the program's name ask for: `run` or `trace` alone, all else is None.
+/// How many workers match where the words name no number.
+pub const USUAL_WORKERS: u32 = 4;
+
+/// The number of workers that a word names: one or two digits, and at most 64.
+fn workers_of(word: &str) -> Option<u32>
+    ensures { result ≡ workers_of word.now }
+{
+    let number = match word.as_bytes() {
+        [units] => digit_of(*units)?,
+        [tens, units] => 10 * digit_of(*tens)? + digit_of(*units)?,
+        _ => return None,
+    };
+    if number <= MOST_WORKERS {
+        Some(number)
+    } else {
+        None
+    }
+}
+
+/// The number that a digit names.
+fn digit_of(byte: u8) -> Option<u32>
+    ensures { result ≡ digit_of byte }
+{
+    if byte.is_ascii_digit() {
+        Some((byte - b'0') as u32)
+    } else {
+        None
+    }
+}
+
+/// What one word asks for: `run` or `trace`.
+fn plain_mode(word: &str) -> Option<Mode>
+    ensures { result ≡ plain_mode word.now }
+{
+    if word == "run" {
+        Some(Mode::Run(USUAL_WORKERS))
+    } else if word == "trace" {
+        Some(Mode::Trace)
+    } else {
+        None
+    }
+}
+
+/// What the words after the program's name ask for: `run`, `run` and a number of workers of one or two digits and at most
+/// 64, or `trace`; all else is None. Linear in the words' first bytes.
 pub fn mode(words: &[String]) -> Option<Mode>
     ensures { result ≡ mode_of words.now }
 {
     match words {
-        [word] => {
+        [word] => plain_mode(word.as_str()),
+        [word, number] => {
             if word.as_str() == "run" {
-                Some(Mode::Run)
-            } else if word.as_str() == "trace" {
-                Some(Mode::Trace)
+                Some(Mode::Run(workers_of(number.as_str())?))
             } else {
                 None
             }

@@ -4,24 +4,38 @@ use clip_stream::RunFault;
 use std::alloc::Global;
 use std::test::Fail;
 
-/// What one word asks for.
-fn asked(alloc: Global, word: &str) -> Result<Option<Mode>, Fail> {
-    let words = vec![in alloc; String::from_str(alloc, word)?]?;
-    Ok(command_line::mode(&words))
+/// What these words ask for.
+fn asked(alloc: Global, words: &[&str]) -> Result<Option<Mode>, Fail> {
+    let mut owned = Vec::new(alloc);
+    for word in words {
+        owned.push(String::from_str(alloc, word)?)?;
+    }
+    Ok(command_line::mode(&owned))
 }
 
 #[test]
 fn run_and_trace_are_taken_by_themselves(rt: HostRuntime) -> Result<(), Fail> {
     let alloc = rt.alloc();
-    assert_eq!(rt; asked(alloc, "run")?, Some(Mode::Run));
-    assert_eq!(rt; asked(alloc, "trace")?, Some(Mode::Trace));
-    assert_eq!(rt; asked(alloc, "runs")?, None);
-    let two = vec![in alloc;
-        String::from_str(alloc, "run")?,
-        String::from_str(alloc, "4")?,
-    ]?;
-    assert_eq!(rt; command_line::mode(&two), None);
-    assert_eq!(rt; command_line::mode(&[]), None);
+    assert_eq!(rt; asked(alloc, &["run"])?, Some(Mode::Run(4)));
+    assert_eq!(rt; asked(alloc, &["trace"])?, Some(Mode::Trace));
+    assert_eq!(rt; asked(alloc, &["runs"])?, None);
+    assert_eq!(rt; asked(alloc, &["trace", "4"])?, None);
+    assert_eq!(rt; asked(alloc, &["4"])?, None);
+    assert_eq!(rt; asked(alloc, &[])?, None);
+    Ok(())
+}
+
+#[test]
+fn a_run_takes_up_to_64_workers(rt: HostRuntime) -> Result<(), Fail> {
+    let alloc = rt.alloc();
+    assert_eq!(rt; asked(alloc, &["run", "0"])?, Some(Mode::Run(0)));
+    assert_eq!(rt; asked(alloc, &["run", "4"])?, Some(Mode::Run(4)));
+    assert_eq!(rt; asked(alloc, &["run", "64"])?, Some(Mode::Run(64)));
+    assert_eq!(rt; asked(alloc, &["run", "65"])?, None);
+    assert_eq!(rt; asked(alloc, &["run", "x"])?, None);
+    assert_eq!(rt; asked(alloc, &["run", ""])?, None);
+    assert_eq!(rt; asked(alloc, &["run", "004"])?, None);
+    assert_eq!(rt; asked(alloc, &["run", "4", "4"])?, None);
     Ok(())
 }
 

@@ -9,6 +9,6 @@ mod outbox;
 
 pub use device::{Failed, Sink, Source, StdSink, StdSource};
 pub use fault::RunFault;
-pub use limits::{MOST_LINE_BYTES, MOST_READS};
+pub use limits::{MOST_LINE_BYTES, MOST_READS, MOST_WORKERS};
 pub use lines::LineReader;
 pub use outbox::Outbox;
