@@ -1,6 +1,6 @@
 //! The words that the program is given, and how it ends.
-ghost use Rattle.std.specs.Prelude.{◌≡◌};
-ghost use Rattle.clip_command_line.specs.CommandLine.{digit_of, workers_of, plain_mode, mode_of, ending_of};
+ghost use Rattle.std.specs.Prelude.{◌≡◌, ◌≤◌, IfSome};
+ghost use Rattle.clip_command_line.specs.CommandLine.{HasFewWorkers, digit_of, workers_of, plain_mode, mode_of, ending_of};
 
 use crate::mode::Mode;
 use clip_stream::{MOST_WORKERS, RunFault};
@@ -10,7 +10,8 @@ pub const USUAL_WORKERS: u32 = 4;
 
 /// The number of workers that a word names: one or two digits, and at most 64.
 fn workers_of(word: &str) -> Option<u32>
-    ensures { result ≡ workers_of word.now }
+    ensures named { result ≡ workers_of word.now }
+    ensures few { IfSome result (λ n. n ≤ MOST_WORKERS) }
 {
     let number = match word.as_bytes() {
         [units] => digit_of(*units)?,
@@ -37,7 +38,8 @@ fn digit_of(byte: u8) -> Option<u32>
 
 /// What one word asks for: `run` or `trace`.
 fn plain_mode(word: &str) -> Option<Mode>
-    ensures { result ≡ plain_mode word.now }
+    ensures named { result ≡ plain_mode word.now }
+    ensures few { IfSome result HasFewWorkers }
 {
     if word == "run" {
         Some(Mode::Run(USUAL_WORKERS))
@@ -51,7 +53,8 @@ fn plain_mode(word: &str) -> Option<Mode>
 /// What the words after the program's name ask for: `run`, `run` and a number of workers of one or two digits and at most
 /// 64, or `trace`; all else is None. Linear in the words' first bytes.
 pub fn mode(words: &[String]) -> Option<Mode>
-    ensures { result ≡ mode_of words.now }
+    ensures named { result ≡ mode_of words.now }
+    ensures few { IfSome result HasFewWorkers }
 {
     match words {
         [word] => plain_mode(word.as_str()),
