@@ -82,6 +82,12 @@ class Engine:
         seconds = time.perf_counter() - start
         return Exchange(b"".join(held).splitlines(), seconds, self.cpu_seconds() - cpu)
 
+    def exchange_in_lock_step(self, lines: Sequence[bytes]) -> Exchange:
+        """Sends each line once the one before it is answered; the seconds are those from sends to replies."""
+        runs = [self.exchange([line]) for line in lines]
+        return Exchange([reply for run in runs for reply in run.replies], sum(run.seconds for run in runs),
+                        sum(run.cpu_seconds for run in runs))
+
     def _read(self) -> bytes:
         block = os.read(self._output, 1 << 20)
         if not block:

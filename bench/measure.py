@@ -74,12 +74,14 @@ def articles_in(run: Exchange) -> int:
     return sum(reply.count(b'"article":') for reply in run.replies)
 
 
-def in_turn(engines: Sequence[Engine], passes: Sequence[list[bytes]]) -> Iterator[tuple[int, Exchange]]:
+def in_turn(engines: Sequence[Engine], passes: Sequence[list[bytes]],
+            in_lock_step: bool = False) -> Iterator[tuple[int, Exchange]]:
     """Each pass by each engine, the first and the last engine beginning in turn; with the place of the engine."""
     places = list(range(len(engines)))
     for lines in passes:
         for place in places:
-            yield place, engines[place].exchange(lines)
+            engine = engines[place]
+            yield place, engine.exchange_in_lock_step(lines) if in_lock_step else engine.exchange(lines)
         places.reverse()
 
 
@@ -97,7 +99,7 @@ def run_scenario(engines: Sequence[Engine], scenario: Scenario) -> list[Result]:
         check_count(result)
         result.grown_bytes = engine.resident_bytes() - start
         result.warming.append(engine.exchange(scenario.warm))
-    for place, run in in_turn(engines, scenario.timed):
+    for place, run in in_turn(engines, scenario.timed, scenario.in_lock_step):
         results[place].matching.append(run)
     for result in results:
         check_articles(result)

@@ -34,7 +34,8 @@ class Scenario:
     """The lines of a row, in passes. Where two engines are compared, they take the passes in turn.
 
     `steady` says that the timed lines leave the registered queries as they
-    are, so that replies can be judged by the queries alone.
+    are, so that replies can be judged by the queries alone. `in_lock_step` says
+    that each timed line is sent once the one before it is answered.
     """
 
     size: Size
@@ -42,6 +43,7 @@ class Scenario:
     warm: list[bytes]
     timed: list[list[bytes]]
     steady: bool = True
+    in_lock_step: bool = False
 
 
 def cut(lines: list[bytes], passes: int) -> list[list[bytes]]:
@@ -75,6 +77,11 @@ def full_lines(workload: Workload, size: Size) -> Scenario:
 def batches(workload: Workload, size: Size) -> Scenario:
     """Queries in lines of 1,024, then 16 articles a line."""
     return scenario_of(workload, size, 1_024, 16)
+
+
+def lock_step(workload: Workload, size: Size) -> Scenario:
+    """Queries in lines of 1,024, then one article a line, each once the one before it is answered."""
+    return replace(full_lines(workload, size), in_lock_step=True)
 
 
 def one_a_line(workload: Workload, size: Size) -> Scenario:
@@ -111,6 +118,7 @@ def changes(workload: Workload, size: Size) -> Scenario:
 SCENARIOS: dict[str, Callable[[Workload, Size], Scenario]] = {
     "full-lines": full_lines,
     "batches": batches,
+    "lock-step": lock_step,
     "one-a-line": one_a_line,
     "churn": churn,
     "changes": changes,

@@ -1,15 +1,19 @@
-//! Runs each example file with the listeners `mail` and `feed`, plays each trace, and compares what is written with the file
+//! Runs each example file with the listeners `mail` and `feed` and with several numbers of workers, plays each trace, and compares what is written with the file
 //! beside it.
 #![tactic(auto)]
 
 use anyhow::{Result, bail};
-use clip_front::{Settings, run, run_trace};
+use clip_front::{Settings, run_trace};
 use clip_listen::{Listener, Listeners, Named, Render, Style, Teller};
-use clip_stream::{StdSink, StdSource};
+use clip_match::OpenGate;
+use clip_stream::{MOST_WORKERS, StdSink, StdSource};
 use clip_words::NoMemory;
+use clip_workers::run;
 use std::alloc::Global;
 use std::fs;
 use std::fs::Files;
+use std::sync::Wait;
+use std::thread::Threads;
 
 /// The examples: of each the requests stand in NAME.jsonl, and the replies in NAME.out.
 const EXAMPLES: [&str; 14] = [
@@ -91,8 +95,17 @@ fn named(
     Ok(parts)
 }
 
-/// Runs an example with listeners of its own, whose replies are to be the wanted bytes.
-fn played(alloc: Global, requests: &[u8], wanted: &[u8]) -> Result<Outcome> {
+/// The numbers of workers that each example is run with.
+const WORKERS: [u32; 5] = [0, 1, 2, 4, 64];
+
+/// Runs an example with listeners of its own and so many workers, whose replies are to be the wanted bytes.
+fn played_by<R: Threads + Wait + Sync + AllocGlobal>(
+    rt: &R,
+    workers: u32,
+    requests: &[u8],
+    wanted: &[u8],
+) -> Result<Outcome> {
+    let alloc = rt.alloc();
     let mail = Box::new(alloc, teller(alloc, "mail: ", " in ")?)?;
     let feed = Box::new(alloc, teller(alloc, "feed ", "/")?)?;
     let Ok(mut listeners) = Listeners::new(named(alloc, mail, feed)?) else {
@@ -101,9 +114,36 @@ fn played(alloc: Global, requests: &[u8], wanted: &[u8]) -> Result<Outcome> {
     let mut replies = Vec::new(alloc);
     let mut source = StdSource::new(requests);
     let mut sink = StdSink::new(&mut replies);
-    let settings = Settings { keeps_rows: false };
-    let ended = run(alloc, &mut source, &mut sink, &mut listeners, settings);
+    let settings = Settings {
+        keeps_rows: false,
+        workers: workers.min(MOST_WORKERS),
+    };
+    let gate = OpenGate;
+    let ended = run(
+        rt,
+        alloc,
+        &mut source,
+        &mut sink,
+        &mut listeners,
+        settings,
+        &gate,
+    );
     Ok(compared(ended.is_ok(), &replies, wanted))
+}
+
+/// Runs an example with each number of workers, up to the first by which it is not as shown.
+fn played<R: Threads + Wait + Sync + AllocGlobal>(
+    rt: &R,
+    requests: &[u8],
+    wanted: &[u8],
+) -> Result<Outcome> {
+    for workers in WORKERS {
+        let outcome = played_by(rt, workers, requests, wanted)?;
+        if outcome != Outcome::AsShown {
+            return Ok(outcome);
+        }
+    }
+    Ok(Outcome::AsShown)
 }
 
 /// Plays a trace, whose replies are to be the wanted bytes.
@@ -123,7 +163,7 @@ fn file<R: AllocGlobal + Files>(rt: &R, name: &str, ending: &str) -> Result<Vec<
 fn main(rt: HostRuntime) -> Result<()> {
     for name in EXAMPLES {
         let wanted = file(&rt, name, "out")?;
-        let ended = played(rt.alloc(), &file(&rt, name, "jsonl")?, &wanted)?;
+        let ended = played(&rt, &file(&rt, name, "jsonl")?, &wanted)?;
         println!(rt; "{name}: {}", ended.word())?;
     }
     for name in TRACES {

@@ -1,20 +1,27 @@
-//! `pressclip run`: requests on standard input, replies on standard output, and two listeners, `mail` and `feed`.
+//! `pressclip run [workers]`: requests on standard input, replies on standard output, and two listeners, `mail` and
+//! `feed`.
 //! `pressclip trace`: events on standard input, their answers on standard output.
 #![tactic(auto)]
+
+ghost use Rattle.std.specs.Prelude.{◌≤◌};
 
 mod listeners;
 
 use clip_command_line::{Mode, command_line, ending};
-use clip_front::{Ended, Settings, run, run_trace};
+use clip_front::{Ended, Settings, run_trace};
 use clip_listen::Listeners;
-use clip_stream::{RunFault, StdSink, StdSource};
+use clip_match::OpenGate;
+use clip_stream::{MOST_WORKERS, RunFault, StdSink, StdSource};
+use clip_workers::run;
 use listeners::{feed, mail, named};
 use std::io::ErrorKind;
 use std::process::ExitCode;
 use std::rt::Env;
+use std::sync::Wait;
+use std::thread::Threads;
 use std::{env, io};
 
-const USAGE: &str = "usage: pressclip run | pressclip trace";
+const USAGE: &str = "usage: pressclip run [workers] | pressclip trace";
 
 /// The words after the program's name.
 fn words_of<R: Env + AllocGlobal>(rt: &R) -> io::Result<Vec<String>> {
@@ -33,8 +40,13 @@ fn end_with<R: Eprint>(rt: &R, status: u8, text: &str) -> ExitCode {
     ExitCode::from(status)
 }
 
-/// Runs over the standard streams, with the program's listeners. No rows are kept.
-fn run_heard<R: Input + Print + AllocGlobal>(rt: &R) -> Result<Ended, RunFault> {
+/// Runs over the standard streams, with so many workers and the program's listeners. No rows are kept.
+fn run_heard<R: Input + Print + Threads + Wait + Sync + AllocGlobal>(
+    rt: &R,
+    workers: u32,
+) -> Result<Ended, RunFault>
+    requires { workers ≤ MOST_WORKERS }
+{
     let alloc = rt.alloc();
     let mail = Box::new(alloc, mail(alloc)?)?;
     let feed = Box::new(alloc, feed(alloc)?)?;
@@ -43,8 +55,19 @@ fn run_heard<R: Input + Print + AllocGlobal>(rt: &R) -> Result<Ended, RunFault> 
     };
     let mut source = StdSource::new(rt.reader());
     let mut sink = StdSink::new(io::writer(rt));
-    let settings = Settings { keeps_rows: false };
-    run(alloc, &mut source, &mut sink, &mut listeners, settings)
+    let settings = Settings {
+        keeps_rows: false,
+        workers,
+    };
+    run(
+        rt,
+        alloc,
+        &mut source,
+        &mut sink,
+        &mut listeners,
+        settings,
+        &OpenGate,
+    )
 }
 
 /// Plays a trace over the standard streams.
@@ -63,7 +86,7 @@ fn end<R: Eprint>(rt: &R, outcome: &Result<Ended, RunFault>) -> ExitCode {
 fn main(rt: HostRuntime) -> ExitCode {
     match words_of(&rt) {
         Ok(words) => match command_line::mode(&words) {
-            Some(Mode::Run) => end(&rt, &run_heard(&rt)),
+            Some(Mode::Run(workers)) => end(&rt, &run_heard(&rt, workers)),
             Some(Mode::Trace) => end(&rt, &run_traced(&rt)),
             None => end_with(&rt, 2, USAGE),
         },

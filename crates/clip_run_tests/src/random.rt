@@ -163,5 +163,7 @@ fn a_long_run_answers_as_a_plain_filter(rt: HostRuntime) -> Result<(), Fail> {
     for line in 1..=LINES {
         script.add(line)?;
     }
-    is_answered_by(&rt, script.requests.as_bytes(), LINES, &script.replies)
+    let requests = script.requests.as_bytes();
+    is_answered_by(&rt, requests, 100_000, LINES, &script.replies)?;
+    is_answered_by(&rt, requests, 1, LINES, &script.replies)
 }

@@ -1,10 +1,12 @@
-//! Tests of the front, by whole runs.
+//! Tests of runs and of traces over devices in memory.
 #![tactic(auto)]
 
 #[cfg(test)]
 mod devices;
 #[cfg(test)]
 mod failing_devices;
+#[cfg(test)]
+mod gates;
 #[cfg(test)]
 mod heard;
 #[cfg(test)]

@@ -1,13 +1,16 @@
 //! Alerts that are heard in a run, and the ledger that is left.
 use crate::devices::{Failing, MANY, blank_tape, script_of};
-use crate::runs::text_of;
-use clip_front::{Settings, run};
+use crate::runs::{WORKERS, text_of, with_workers};
+use clip_front::Settings;
 use clip_listen::{Folder, Listener, Listeners, Named, Render, Style, Teller};
-use clip_match::Alert;
+use clip_match::{Alert, OpenGate};
 use clip_words::NoMemory;
+use clip_workers::run;
 use std::alloc::{AllocError, Global};
 use std::process::Abort;
+use std::sync::Wait;
 use std::test::Fail;
+use std::thread::Threads;
 
 /// A register of three queries for two listeners and none, a match, a register for a name that is not here, and a count.
 const LINES: [&str; 4] = [
@@ -56,8 +59,9 @@ fn queries_of(alloc: Global, heard: Option<&[Alert]>) -> Result<String, AllocErr
 }
 
 /// The lines are answered by the replies, `mail` and `feed` have heard these, and the ledger has so many rows.
-fn is_heard<R: Abort + AllocGlobal>(
+fn is_heard<R: Threads + Wait + Sync + Abort + AllocGlobal>(
     rt: &R,
+    workers: u32,
     parts: Vec<Named>,
     keeps_rows: bool,
     heard: [&str; 2],
@@ -67,8 +71,19 @@ fn is_heard<R: Abort + AllocGlobal>(
     let input = text_of(rt.alloc(), &LINES)?;
     let mut source = script_of(input.as_bytes(), 1000, MANY);
     let mut sink = blank_tape(rt.alloc(), 1000, Failing::Write, MANY);
-    let settings = Settings { keeps_rows };
-    let ended = run(rt.alloc(), &mut source, &mut sink, &mut listeners, settings)?;
+    let settings = Settings {
+        keeps_rows,
+        ..with_workers(workers)
+    };
+    let ended = run(
+        rt,
+        rt.alloc(),
+        &mut source,
+        &mut sink,
+        &mut listeners,
+        settings,
+        &OpenGate,
+    )?;
     assert_eq!(rt;
         sink.taken.as_slice(),
         text_of(rt.alloc(), &REPLIES)?.as_bytes()
@@ -87,9 +102,13 @@ fn each_listener_hears_its_own_alerts_and_the_ledger_has_a_row_for_each(
     rt: HostRuntime,
 ) -> Result<(), Fail> {
     let alloc = rt.alloc();
-    let mail = Box::new(alloc, Folder::new(alloc, render(alloc, "mail: ", " in ")?))?;
-    let feed = Box::new(alloc, Folder::new(alloc, render(alloc, "feed ", "/")?))?;
-    is_heard(&rt, named(alloc, mail, feed)?, true, ["q1 ", "q2 "], 3)
+    for workers in WORKERS {
+        let mail = Box::new(alloc, Folder::new(alloc, render(alloc, "mail: ", " in ")?))?;
+        let feed = Box::new(alloc, Folder::new(alloc, render(alloc, "feed ", "/")?))?;
+        let parts = named(alloc, mail, feed)?;
+        is_heard(&rt, workers, parts, true, ["q1 ", "q2 "], 3)?;
+    }
+    Ok(())
 }
 
 #[test]
@@ -97,5 +116,5 @@ fn tellers_say_the_same_and_keep_nothing(rt: HostRuntime) -> Result<(), Fail> {
     let alloc = rt.alloc();
     let mail = Box::new(alloc, Teller::new(render(alloc, "mail: ", " in ")?))?;
     let feed = Box::new(alloc, Teller::new(render(alloc, "feed ", "/")?))?;
-    is_heard(&rt, named(alloc, mail, feed)?, false, ["-", "-"], 0)
+    is_heard(&rt, 2, named(alloc, mail, feed)?, false, ["-", "-"], 0)
 }

@@ -2,21 +2,26 @@
 ghost use Rattle.std.specs.Prelude.{None, false};
 
 use crate::devices::{Failing, MANY, blank_tape, script_of};
-use crate::runs::{PRESS, run_unheard, text_of};
+use crate::runs::{PRESS, WORKERS, run_unheard, text_of};
 use clip_stream::{Failed, Sink, Source, StdSink, StdSource};
 use std::cell::Cell;
 use std::io;
 use std::io::Write;
+use std::process::Abort;
+use std::sync::Wait;
 use std::test::Fail;
+use std::thread::Threads;
 
 #[test]
 fn ten_lines_of_one_read_are_answered_by_one_write(rt: HostRuntime) -> Result<(), Fail> {
     let input = text_of(rt.alloc(), &[r#"{"op":"count"}"#; 10])?;
-    let mut source = script_of(input.as_bytes(), 1000, MANY);
-    let mut sink = blank_tape(rt.alloc(), 1000, Failing::Write, MANY);
-    let ended = run_unheard(rt.alloc(), &mut source, &mut sink)?;
-    assert_eq!(rt; ended.lines, 10);
-    assert_eq!(rt; sink.writes, 1);
+    for workers in WORKERS {
+        let mut source = script_of(input.as_bytes(), 1000, MANY);
+        let mut sink = blank_tape(rt.alloc(), 1000, Failing::Write, MANY);
+        let ended = run_unheard(&rt, workers, &mut source, &mut sink)?;
+        assert_eq!(rt; ended.lines, 10);
+        assert_eq!(rt; sink.writes, 1);
+    }
     Ok(())
 }
 
@@ -95,15 +100,15 @@ impl Sink for Ear<'_> {
     }
 }
 
-#[test]
-fn a_client_that_waits_for_each_reply_gets_it(rt: HostRuntime) -> Result<(), Fail> {
-    let mut lines = Vec::new(rt.alloc());
-    for line in [PRESS[0], PRESS[1], r#"{"op":"count"}"#, "no request"] {
-        lines.push(text_of(rt.alloc(), &[line])?)?;
-    }
+/// A client that sends these lines in lock step gets a reply to each before it sends the next.
+fn waits_for_each<H: Threads + Wait + Sync + Abort + AllocGlobal>(
+    rt: &H,
+    workers: u32,
+    lines: &[String],
+) -> Result<(), Fail> {
     let replies = Cell::new(0);
     let mut client = Client {
-        lines: &lines,
+        lines,
         sent: 0,
         replies: &replies,
         reads: 0,
@@ -115,9 +120,21 @@ fn a_client_that_waits_for_each_reply_gets_it(rt: HostRuntime) -> Result<(), Fai
         replies: &replies,
         flushed: false,
     };
-    let ended = run_unheard(rt.alloc(), &mut client, &mut ear)?;
-    assert_eq!(rt; ended.lines, 4);
-    assert_eq!(rt; replies.get(), 4);
+    let ended = run_unheard(rt, workers, &mut client, &mut ear)?;
+    assert_eq!(rt; ended.lines, lines.len() as u64);
+    assert_eq!(rt; replies.get(), lines.len());
+    Ok(())
+}
+
+#[test]
+fn a_client_that_waits_for_each_reply_gets_it(rt: HostRuntime) -> Result<(), Fail> {
+    let mut lines = Vec::new(rt.alloc());
+    for line in [PRESS[0], PRESS[1], r#"{"op":"count"}"#, "no request"] {
+        lines.push(text_of(rt.alloc(), &[line])?)?;
+    }
+    for workers in WORKERS {
+        waits_for_each(&rt, workers, &lines)?;
+    }
     Ok(())
 }
 
@@ -149,7 +166,7 @@ fn a_flush_reaches_the_writer_of_std(rt: HostRuntime) -> Result<(), Fail> {
         held: 0,
         sent: &sent,
     });
-    assert_eq!(rt; run_unheard(rt.alloc(), &mut source, &mut sink)?.lines, 2);
+    assert_eq!(rt; run_unheard(&rt, 2, &mut source, &mut sink)?.lines, 2);
     // The replies have 93 bytes.
     assert_eq!(rt; sent.get(), 93);
     Ok(())
