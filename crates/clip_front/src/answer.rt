@@ -174,9 +174,9 @@ fn show(alloc: Global, view: &View, id: &str) -> Result<Reply, NoMemory>
     }
 }
 
-/// What is done at a line.
+/// What is done about a line.
 #[derive(Drop)]
-enum Step {
+enum Response {
     /// It is answered by this reply.
     Reply(Reply),
     /// These articles are to be matched.
@@ -184,29 +184,29 @@ enum Step {
 }
 
 /// Does what a line says, but for the matching: changes apply to the registry, all else is answered by its view.
-fn step<A: Audience, H: Registry>(
+fn respond<A: Audience, H: Registry>(
     alloc: Global,
     registry: &mut H,
     audience: &A,
     line: Line,
-) -> Result<Step, NoMemory>
+) -> Result<Response, NoMemory>
     requires { is_within (line_view line) ≡ true }
-    ensures { IfOk result (λ step. Comes (names_in (A.hearers audience.now)) (H.history_in registry.old)
-        (H.history_in registry.new) (line_view line) step) }
+    ensures { IfOk result (λ response. Comes (names_in (A.hearers audience.now)) (H.history_in registry.old)
+        (H.history_in registry.new) (line_view line) response) }
 {
     match line {
-        Line::Blank => Ok(Step::Reply(Reply::Nothing)),
-        Line::Refused(reason) => Ok(Step::Reply(Reply::Refused(reason))),
-        Line::Register(listings) => Ok(Step::Reply(register(alloc, registry, audience, listings)?)),
-        Line::Delete(ids) => Ok(Step::Reply(apply(registry, Command::Delete(ids))?)),
-        Line::Clear => Ok(Step::Reply(apply(registry, Command::Clear)?)),
+        Line::Blank => Ok(Response::Reply(Reply::Nothing)),
+        Line::Refused(reason) => Ok(Response::Reply(Reply::Refused(reason))),
+        Line::Register(listings) => Ok(Response::Reply(register(alloc, registry, audience, listings)?)),
+        Line::Delete(ids) => Ok(Response::Reply(apply(registry, Command::Delete(ids))?)),
+        Line::Clear => Ok(Response::Reply(apply(registry, Command::Clear)?)),
         Line::Purge => {
             registry.purge_dead()?;
-            Ok(Step::Reply(Reply::Purged))
+            Ok(Response::Reply(Reply::Purged))
         }
-        Line::Count => Ok(Step::Reply(Reply::Counted(registry.look()?.count()))),
-        Line::Show(id) => Ok(Step::Reply(show(alloc, &registry.look()?, id.as_str())?)),
-        Line::Match(articles) => Ok(Step::Match(articles)),
+        Line::Count => Ok(Response::Reply(Reply::Counted(registry.look()?.count()))),
+        Line::Show(id) => Ok(Response::Reply(show(alloc, &registry.look()?, id.as_str())?)),
+        Line::Match(articles) => Ok(Response::Match(articles)),
     }
 }
 
@@ -236,8 +236,8 @@ pub fn take_line<A: Audience, H: Registry>(
         (H.history_in registry.new) number bytes.now taken) }
 {
     let line = Line::of_bytes(alloc, bytes)?;
-    match step(alloc, registry, audience, line)? {
-        Step::Reply(reply) => Ok(Taken::Text(reply.text(alloc, number)?)),
-        Step::Match(articles) => Ok(Taken::Articles(articles)),
+    match respond(alloc, registry, audience, line)? {
+        Response::Reply(reply) => Ok(Taken::Text(reply.text(alloc, number)?)),
+        Response::Match(articles) => Ok(Taken::Articles(articles)),
     }
 }

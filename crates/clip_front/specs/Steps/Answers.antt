@@ -18,8 +18,8 @@ use Rattle.clip_front.specs.Steps.Taking.{IsQuiet}
 use Rattle.clip_front.specs.Steps.Views.{reply_view}
 use Rattle.clip_front.specs.declared.answer.ListFault.{ListFault}
 use Rattle.clip_front.specs.declared.answer.ListFault.TheVariants as fault
-use Rattle.clip_front.specs.declared.answer.Step.{Step}
-use Rattle.clip_front.specs.declared.answer.Step.TheVariants as step
+use Rattle.clip_front.specs.declared.answer.Response.{Response}
+use Rattle.clip_front.specs.declared.answer.Response.TheVariants as response
 use Rattle.clip_front.specs.declared.books.Books.{Books}
 use Rattle.clip_front.specs.declared.refusal.Refusal.TheVariants as reason
 use Rattle.clip_front.specs.declared.refusal.Unread.{Unread}
@@ -58,9 +58,9 @@ abbrev pub Settles : List (List ℕ) → History → History → Outline → Rep
 Settles names old new o r = (m : Meaning) × MeansOutline names old o m × Replies old new m r
 
 -- The line is answered so, or it lists these articles.
-abbrev pub Comes : List (List ℕ) → History → History → Outline → Step → Type 0
-Comes names old new o (step.Reply r) = Settles names old new o (reply_view r)
-Comes names old new o (step.Match articles) = (o ≡ matches articles.items) × (new ≡ old)
+abbrev pub Comes : List (List ℕ) → History → History → Outline → Response → Type 0
+Comes names old new o (response.Reply r) = Settles names old new o (reply_view r)
+Comes names old new o (response.Match articles) = (o ≡ matches articles.items) × (new ≡ old)
 
 -- ---- any line
 
