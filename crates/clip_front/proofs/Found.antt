@@ -1,16 +1,15 @@
 -- What was found of a line's articles is all that the line gives.
-use Rattle.std.proofs.Common.{◌≡◌, ℕ, List, [], ◌∷◌, ◌++◌, map, refl, sym, ap, ap₂, ◌∙◌}
+use Rattle.std.proofs.Common.{◌≡◌, ℕ, List, [], ◌∷◌, ◌++◌, map, refl, ap, ap₂, ◌∙◌}
 use Rattle.std.specs.Arc.{arc_str_bytes}
 use Rattle.std.specs.Prelude.{flat_map}
 use Rattle.clip_meaning.specs.Article.{ArticleValue}
 use Rattle.clip_model.specs.Alerts.{alerts}
-use Rattle.clip_model.specs.History.{History}
 use Rattle.clip_match.specs.Alerts.{AlertsValue, alerts_due}
 use Rattle.clip_listen.specs.Heard.{Hearer, note_value}
 use Rattle.clip_listen.specs.declared.note.Note.{Note}
 use Rattle.clip_registry.specs.RegistryState.{RegistryState}
 use Rattle.clip_front.specs.LineMeaning.{matching}
-use Rattle.clip_front.specs.Outcome.{Outcome, given, rows_of_article}
+use Rattle.clip_front.specs.Outcome.{given, rows_of_article}
 use Rattle.clip_front.specs.Reply.{alerts_shown, alerts_of_all, matched, reply_text, texts_said}
 use Rattle.clip_front.specs.Steps.Found.{told_in, rows_in, found_text, found_outcome}
 use Rattle.clip_front.specs.Steps.Views.{alerts_ids}

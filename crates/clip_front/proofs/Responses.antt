@@ -1,6 +1,6 @@
 -- What each kind of line leaves.
 use Rattle.std.proofs.Common.{◌≡◌, ℕ, List, [], ◌++◌, map, Bool, true, false, cond, refl, sym, ap, ap₂, ◌∙◌, subst, append-nil}
-use Rattle.std.specs.Prelude.{Option, Some, None}
+use Rattle.std.specs.Prelude.{Some, None}
 use Rattle.clip_model.specs.History.{History, Command, Register, Delete, Clear, has_room}
 use Rattle.clip_listen.specs.Heard.{Hearer, told_all, HearsFront}
 use Rattle.clip_listen.proofs.Hearing.{told_none, no_front}
@@ -11,11 +11,10 @@ use Rattle.clip_registry.specs.Command.{answer_of}
 use Rattle.clip_registry.specs.RegistryState.{RegistryState}
 use Rattle.clip_registry.specs.declared.command.Applied.{Applied}
 use Rattle.clip_front.specs.declared.books.Books.{Books}
-use Rattle.clip_front.specs.declared.refusal.Refusal.{Refusal}
 use Rattle.clip_front.specs.declared.refusal.Refusal.TheVariants.{Full}
 use Rattle.clip_front.specs.LineMeaning.{Meaning, Means, nothing, refusal, refusal_at, command, purging, counting, showing, matching, judged, after}
 use Rattle.clip_front.specs.Outcome.{alerts_told, rows_posted, kept_rows, given, names_in}
-use Rattle.clip_front.specs.Reply.{Reply, accepted, alerts_of_all, answer_to, refused, reply_text}
+use Rattle.clip_front.specs.Reply.{Reply, accepted, alerts_of_all, refused, reply_text}
 use Rattle.clip_front.specs.Steps.Answers.{Held, held, Replies, Settles, GoesOn, Answers, Breaks}
 use Rattle.clip_front.specs.Steps.Found.{told_in, rows_in, found_text, found_outcome}
 use Rattle.clip_front.specs.Steps.Outline.{Outline, outline, matches, MeansOutline}

@@ -197,7 +197,9 @@ fn respond<A: Audience, H: Registry>(
     match line {
         Line::Blank => Ok(Response::Reply(Reply::Nothing)),
         Line::Refused(reason) => Ok(Response::Reply(Reply::Refused(reason))),
-        Line::Register(listings) => Ok(Response::Reply(register(alloc, registry, audience, listings)?)),
+        Line::Register(listings) => Ok(Response::Reply(register(
+            alloc, registry, audience, listings,
+        )?)),
         Line::Delete(ids) => Ok(Response::Reply(apply(registry, Command::Delete(ids))?)),
         Line::Clear => Ok(Response::Reply(apply(registry, Command::Clear)?)),
         Line::Purge => {

@@ -1,7 +1,7 @@
 //! Alerts that are heard in a run, and the ledger that is left.
 use crate::devices::{Failing, MANY, blank_tape, script_of};
 use crate::runs::text_of;
-use clip_front::{Settings, run};
+use clip_front::{Settings, run_alone};
 use clip_listen::{Folder, Listener, Listeners, Named, Render, Style, Teller};
 use clip_match::Alert;
 use clip_words::NoMemory;
@@ -67,8 +67,11 @@ fn is_heard<R: Abort + AllocGlobal>(
     let input = text_of(rt.alloc(), &LINES)?;
     let mut source = script_of(input.as_bytes(), 1000, MANY);
     let mut sink = blank_tape(rt.alloc(), 1000, Failing::Write, MANY);
-    let settings = Settings { keeps_rows };
-    let ended = run(rt.alloc(), &mut source, &mut sink, &mut listeners, settings)?;
+    let settings = Settings {
+        keeps_rows,
+        workers: 0,
+    };
+    let ended = run_alone(rt.alloc(), &mut source, &mut sink, &mut listeners, settings)?;
     assert_eq!(rt;
         sink.taken.as_slice(),
         text_of(rt.alloc(), &REPLIES)?.as_bytes()

@@ -2,7 +2,7 @@
 ghost use Rattle.std.specs.Prelude.{◌≡◌, false};
 
 use crate::devices::{Failing, MANY, blank_tape, script_of};
-use clip_front::{Ended, Settings, run};
+use clip_front::{Ended, Settings, run_alone};
 use clip_listen::Listeners;
 use clip_stream::{RunFault, Sink, Source};
 use std::alloc::Global;
@@ -32,8 +32,11 @@ pub fn run_unheard<R: Source, W: Sink>(
     let Ok(mut listeners) = Listeners::new(Vec::new(alloc)) else {
         return Err(RunFault::NoMemory);
     };
-    let settings = Settings { keeps_rows: false };
-    run(alloc, reader, writer, &mut listeners, settings)
+    let settings = Settings {
+        keeps_rows: false,
+        workers: 0,
+    };
+    run_alone(alloc, reader, writer, &mut listeners, settings)
 }
 
 /// The bytes are answered by this text, in `count` lines.

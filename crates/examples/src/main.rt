@@ -3,7 +3,7 @@
 #![tactic(auto)]
 
 use anyhow::{Result, bail};
-use clip_front::{Settings, run, run_trace};
+use clip_front::{Settings, run_alone, run_trace};
 use clip_listen::{Listener, Listeners, Named, Render, Style, Teller};
 use clip_stream::{StdSink, StdSource};
 use clip_words::NoMemory;
@@ -101,8 +101,11 @@ fn played(alloc: Global, requests: &[u8], wanted: &[u8]) -> Result<Outcome> {
     let mut replies = Vec::new(alloc);
     let mut source = StdSource::new(requests);
     let mut sink = StdSink::new(&mut replies);
-    let settings = Settings { keeps_rows: false };
-    let ended = run(alloc, &mut source, &mut sink, &mut listeners, settings);
+    let settings = Settings {
+        keeps_rows: false,
+        workers: 0,
+    };
+    let ended = run_alone(alloc, &mut source, &mut sink, &mut listeners, settings);
     Ok(compared(ended.is_ok(), &replies, wanted))
 }
 

@@ -5,7 +5,7 @@
 mod listeners;
 
 use clip_command_line::{Mode, command_line, ending};
-use clip_front::{Ended, Settings, run, run_trace};
+use clip_front::{Ended, Settings, run_alone, run_trace};
 use clip_listen::Listeners;
 use clip_stream::{RunFault, StdSink, StdSource};
 use listeners::{feed, mail, named};
@@ -43,8 +43,11 @@ fn run_heard<R: Input + Print + AllocGlobal>(rt: &R) -> Result<Ended, RunFault> 
     };
     let mut source = StdSource::new(rt.reader());
     let mut sink = StdSink::new(io::writer(rt));
-    let settings = Settings { keeps_rows: false };
-    run(alloc, &mut source, &mut sink, &mut listeners, settings)
+    let settings = Settings {
+        keeps_rows: false,
+        workers: 0,
+    };
+    run_alone(alloc, &mut source, &mut sink, &mut listeners, settings)
 }
 
 /// Plays a trace over the standard streams.

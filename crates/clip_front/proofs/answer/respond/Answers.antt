@@ -1,9 +1,13 @@
-use Rattle.std.proofs.Common.{refl, ap, ◌∙◌}
+use Rattle.std.proofs.Common.{◌≡◌, ℕ, List, refl, ap, ◌∙◌}
 use Rattle.std.specs.FinMap as finite
-use Rattle.clip_model.specs.History.{replay}
+use Rattle.clip_listen.specs.Heard.{Hearer}
+use Rattle.clip_model.specs.History.{History, replay}
 use Rattle.clip_front.specs.LineMeaning.{nothing, refusal, purging, counting, showing}
-use Rattle.clip_front.specs.Reply.{answer_to, counted}
+use Rattle.clip_front.specs.Reply.{Reply, answer_to, counted}
 use Rattle.clip_front.proofs.answer.respond.Goals as goal
+
+shown_as : (seen h : History) (id : List ℕ) (r : Reply) → seen ≡ h → ((hearers : List Hearer) → r ≡ answer_to hearers seen (showing id)) → (hearers : List Hearer) → r ≡ answer_to hearers h (showing id)
+shown_as seen h id r same shows hearers = shows hearers ∙ ap (λ x. answer_to hearers x (showing id)) same
 
 pub returns-in-Blank : goal.returns-in-Blank
 returns-in-Blank g c = rw c.in-Blank.is (nothing, refl, record { quiet = tt; history = refl; reply = λ hearers. refl })
@@ -23,4 +27,4 @@ pub returns-in_ok-show-in-Show : goal.returns-in_ok-show-in-Show
 returns-in_ok-show-in-Show g c =
     let look = c.in_ok-look-in-Show.ensures in
     let id = c.as_str.result.now in
-    rw (c.in-Show.is, ← c.as_str.ensures.value) (showing id, refl, record { quiet = tt; history = look.same; reply = λ hearers. c.in_ok-show-in-Show.ensures hearers ∙ ap (λ h. answer_to hearers h (showing id)) look.view })
+    rw (c.in-Show.is, ← c.as_str.ensures.value) (showing id, refl, record { quiet = tt; history = look.same; reply = shown_as _ _ id _ look.view c.in_ok-show-in-Show.ensures })

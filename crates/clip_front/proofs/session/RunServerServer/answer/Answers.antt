@@ -1,6 +1,6 @@
-use Rattle.std.proofs.lemmas.Result.{IfOk-weaker}
+use Rattle.std.proofs.lemmas.Result.{IfOk-weaker, IfErr-weaker}
 use Rattle.clip_front.proofs.Progress.{on_err}
-use Rattle.clip_front.proofs.Responses.{answers_quiet, answers_matched, breaks_untold}
+use Rattle.clip_front.proofs.Responses.{answers_quiet, answers_matched, breaks_untold, breaks_matched}
 use Rattle.clip_front.proofs.session.RunServerServer.answer.Goals as goal
 
 pub returns-in_err-text-clause-err : goal.returns-in_err-text-clause-err
@@ -24,3 +24,13 @@ returns-in_ok-view-in-Articles-clause-ok g c =
     (λ text goes.
     answers_matched (hearers c.args.audience.now) (hearers c.answer_match.new.audience) c.args.self.now.books c.answer_match.new.books c.args.self.now.registrar.history c.take_line.new.registry.history c.in_ok-view-in-Articles.view.history c.look.new.self.history c.args.number c.args.bytes.now text.items c.in-Articles.articles.items taken.0 taken.1 look.view look.same goes)
     matched
+
+pub returns-in_ok-view-in-Articles-clause-err : goal.returns-in_ok-view-in-Articles-clause-err
+returns-in_ok-view-in-Articles-clause-err g c =
+    let hearers = g.A.Audience.hearers in
+    let taken = rw c.in-Articles.is at c.in_ok-text.ensures in
+    let front = rw c.deref.ensures.value at c.answer_match.ensures.err in
+    IfErr-weaker c.answer_match.result _ _
+    (λ _ heard.
+    breaks_matched (hearers c.args.audience.now) (hearers c.answer_match.new.audience) c.args.self.now.books c.answer_match.new.books c.args.self.now.registrar.history c.take_line.new.registry.history c.in_ok-view-in-Articles.view.history c.look.new.self.history c.args.bytes.now c.in-Articles.articles.items taken.0 taken.1 c.in_ok-view-in-Articles.ensures.view heard)
+    front
