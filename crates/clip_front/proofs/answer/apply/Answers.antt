@@ -1,6 +1,15 @@
-use Rattle.std.proofs.Common.{ap, ◌∙◌}
-use Rattle.clip_front.proofs.Responses.{judges_accepted}
+use Rattle.clip_registry.specs.Command.{command_of}
+use Rattle.clip_front.proofs.Responses.{replies_accepted, replies_full}
 use Rattle.clip_front.proofs.answer.apply.Goals as goal
 
-pub returns-in-Ok : goal.returns-in-Ok
-returns-in-Ok c = judges_accepted _ _ _ c.in-Ok.applied _ (c.merge_turn.ensures.history ∙ ap (λ s. s.history) c.in-Ok.ensures.accepted) c.in-Ok.ensures.room c.in-Ok.ensures.answer c.accepted.ensures
+pub returns-in-Some : goal.returns-in-Some
+returns-in-Some g c =
+    let history = g.H.Registry.history_in in
+    let judged = rw c.in-Some.is at c.in_ok-applied.ensures in
+    replies_accepted (history c.args.registry.now) (history c.accept.new.self) (command_of c.args.command) c.in-Some.applied _ judged.judged c.accepted.ensures
+
+pub returns-in-None : goal.returns-in-None
+returns-in-None g c =
+    let history = g.H.Registry.history_in in
+    let judged = rw c.in-None.is at c.in_ok-applied.ensures in
+    replies_full (history c.args.registry.now) (history c.accept.new.self) (command_of c.args.command) judged.judged
