@@ -105,11 +105,11 @@ fn match_from<R: Threads + Sync, G: Gate>(
     let (front, back) = articles.split_at(articles_in(low, pieces, articles.len()));
     let (first, second) = join(
         rt,
-        || -> Result<Vec<Alerts>, NoMemory>
+        move || -> Result<Vec<Alerts>, NoMemory>
             requires { IsSync R.row × IsSync G.row × (0 < low) × (number + low < 2 ^ 32) }
             ensures { IfOk result (λ found. map alerts_value found.items ≡ map (alerts_due view.entry.now) front.entry.now) }
         { match_from(rt, alloc, view, front, batch, number, low, gate) },
-        || -> Result<Vec<Alerts>, NoMemory>
+        move || -> Result<Vec<Alerts>, NoMemory>
             requires { IsSync R.row × IsSync G.row × (0 < high) × (up + high < 2 ^ 32) }
             ensures { IfOk result (λ found. map alerts_value found.items ≡ map (alerts_due view.entry.now) back.entry.now) }
         { match_from(rt, alloc, view, back, batch, up, high, gate) },

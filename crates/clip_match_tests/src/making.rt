@@ -29,7 +29,10 @@ pub fn three_queries(alloc: Global) -> Result<View, Fail> {
 
 /// The article of an id and of a text in its field `text`.
 pub fn article(alloc: Global, id: &str, text: &str) -> Result<Article, Fail> {
-    let field = (String::from_str(alloc, "text")?, String::from_str(alloc, text)?);
+    let field = (
+        String::from_str(alloc, "text")?,
+        String::from_str(alloc, text)?,
+    );
     Ok(Article::read(alloc, id, &[field])?)
 }
 

@@ -4,9 +4,9 @@
 use crate::gates::{BATCH, Counts};
 use crate::making::{ALERTS_OF_THREE, three_articles, three_queries, told};
 use clip_match::match_pieces;
+use std::alloc::Global;
 use std::process::Abort;
 use std::thread::Threads;
-use std::alloc::Global;
 
 #[test]
 fn what_was_entered_is_left(rt: HostRuntime) {

@@ -16,7 +16,10 @@ fn one_article_is_matched_alike_by_each_call(rt: HostRuntime) -> Result<(), Fail
     let wanted = "a1 1 1 q1/a1. ";
     let one = vec![in alloc; match_article(alloc, &view, &articles[0])?]?;
     assert_eq!(rt; told(alloc, &one)?.as_str(), wanted);
-    assert_eq!(rt; told(alloc, &match_batch(alloc, &view, &articles)?)?.as_str(), wanted);
+    assert_eq!(rt;
+        told(alloc, &match_batch(alloc, &view, &articles)?)?.as_str(),
+        wanted
+    );
     for workers in [0u32, 1, 2] {
         let found = match_pieces(&rt, alloc, &view, &articles, 1, workers, &OpenGate)?;
         assert_eq!(rt; told(alloc, &found)?.as_str(), wanted);
@@ -29,7 +32,10 @@ fn three_articles_give_what_a_batch_gives(rt: HostRuntime) -> Result<(), Fail> {
     let alloc = rt.alloc();
     let view = three_queries(alloc)?;
     let articles = three_articles(alloc)?;
-    assert_eq!(rt; told(alloc, &match_batch(alloc, &view, &articles)?)?.as_str(), ALERTS_OF_THREE);
+    assert_eq!(rt;
+        told(alloc, &match_batch(alloc, &view, &articles)?)?.as_str(),
+        ALERTS_OF_THREE
+    );
     for workers in [0u32, 1, 2, 3, 4, 64] {
         let found = match_pieces(&rt, alloc, &view, &articles, 1, workers, &OpenGate)?;
         assert_eq!(rt; told(alloc, &found)?.as_str(), ALERTS_OF_THREE);
@@ -55,7 +61,14 @@ fn sums<R: Threads + Abort + Sync>(
 fn each_piece_is_entered_and_left_once(rt: HostRuntime) -> Result<(), Fail> {
     let alloc = rt.alloc();
     let articles = three_articles(alloc)?;
-    for (workers, wanted) in [(0u32, 1u64), (1, 1), (2, 101), (3, 10101), (4, 10101), (64, 10101)] {
+    for (workers, wanted) in [
+        (0u32, 1u64),
+        (1, 1),
+        (2, 101),
+        (3, 10101),
+        (4, 10101),
+        (64, 10101),
+    ] {
         assert_eq!(rt; sums(&rt, alloc, &articles, workers)?, (wanted, wanted));
     }
     for workers in [0u32, 1, 64] {
@@ -80,9 +93,15 @@ fn two_pieces_are_matched_at_one_time(rt: HostRuntime) -> Result<(), Fail> {
     let alloc = rt.alloc();
     let gate = Overlap::new();
     let view = three_queries(alloc)?;
-    let articles = vec![in alloc; article(alloc, "a1", "tea")?, article(alloc, "a2", "coffee")?]?;
+    let articles = vec![in alloc;
+        article(alloc, "a1", "tea")?,
+        article(alloc, "a2", "coffee")?,
+    ]?;
     let found = match_pieces(&rt, alloc, &view, &articles, 1, 2, &gate)?;
-    assert_eq!(rt; told(alloc, &found)?.as_str(), "a1 1 1 q1/a1. a2 1 1 q2/a2. ");
+    assert_eq!(rt;
+        told(alloc, &found)?.as_str(),
+        "a1 1 1 q1/a1. a2 1 1 q2/a2. "
+    );
     assert!(rt; gate.is_met(), "one piece was held to the limit");
     Ok(())
 }
