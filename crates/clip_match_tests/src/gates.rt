@@ -18,6 +18,7 @@ fn mark(batch: u64, piece: u32) -> u64 {
 }
 
 /// Counts how often each piece is entered, and how often left.
+#[derive(Drop)]
 pub struct Counts {
     entered: AtomicU64,
     left: AtomicU64,
@@ -51,6 +52,7 @@ impl Gate for Counts {
 const MOST_TURNS: u32 = 1_000_000;
 
 /// Holds piece 0 until piece 1 has left, and piece 1 until piece 0 has come.
+#[derive(Drop)]
 pub struct Overlap {
     came: AtomicBool,
     left: AtomicBool,

@@ -5,44 +5,42 @@ use clip_registry::{Command, Registrar, View};
 use clip_segment::Standing;
 use std::alloc::{AllocError, Global};
 use std::sync::Arc;
-use std::test::Fail;
 
-/// A shared standing query without a listener.
-fn standing(alloc: Global, id: &str, text: &str) -> Result<Arc<Standing>, Fail> {
-    Ok(Arc::new(alloc, Standing::read(alloc, id, text, None)?)?)
+/// A shared standing query without a listener, or `None` where an allocation failed.
+fn standing(alloc: Global, id: &str, text: &str) -> Option<Arc<Standing>> {
+    Arc::new(alloc, Standing::read(alloc, id, text, None).ok()?).ok()
 }
 
-/// A view with q1 `tea`, q2 `coffee` and q3 `+tea +milk`.
-pub fn three_queries(alloc: Global) -> Result<View, Fail> {
-    let mut registrar = Registrar::new();
+/// A view with q1 `tea`, q2 `coffee` and q3 `+tea +milk`, or `None` where an allocation failed.
+pub fn three_queries(alloc: Global) -> Option<View> {
     let list = vec![in alloc;
         standing(alloc, "q1", "tea")?,
         standing(alloc, "q2", "coffee")?,
         standing(alloc, "q3", "+tea +milk")?,
-    ]?;
-    let command = Command::Register(list);
+    ];
+    let command = Command::Register(list.ok()?);
+    let mut registrar = Registrar::new(alloc);
     if command.fits() {
-        let _ = registrar.apply(1, command);
+        registrar.apply(1, command).ok()?;
     }
-    Ok(registrar.view()?)
+    registrar.view().ok()
 }
 
-/// The article of an id and of a text in its field `text`.
-pub fn article(alloc: Global, id: &str, text: &str) -> Result<Article, Fail> {
-    let field = (
-        String::from_str(alloc, "text")?,
-        String::from_str(alloc, text)?,
-    );
-    Ok(Article::read(alloc, id, &[field])?)
+/// The article of an id and of a text in its field `text`, or `None` where an allocation failed.
+pub fn article(alloc: Global, id: &str, text: &str) -> Option<Article> {
+    let name = String::from_str(alloc, "text").ok()?;
+    let field = (name, String::from_str(alloc, text).ok()?);
+    Article::read(alloc, id, &[field]).ok()
 }
 
-/// The articles a1 `tea`, a2 `coffee milk` and a3 `tea milk`.
-pub fn three_articles(alloc: Global) -> Result<Vec<Article>, Fail> {
-    Ok(vec![in alloc;
+/// The articles a1 `tea`, a2 `coffee milk` and a3 `tea milk`, or `None` where an allocation failed.
+pub fn three_articles(alloc: Global) -> Option<Vec<Article>> {
+    let list = vec![in alloc;
         article(alloc, "a1", "tea")?,
         article(alloc, "a2", "coffee milk")?,
         article(alloc, "a3", "tea milk")?,
-    ]?)
+    ];
+    list.ok()
 }
 
 /// The alerts of the three articles, worked by hand. `+tea +milk` is found by its longer word, so q3 is asked of a2 too.

@@ -14,7 +14,7 @@ fn what_was_entered_is_left(rt: HostRuntime) {
 }
 
 fn match_three<R: Threads + Abort + Sync>(rt: &R, alloc: Global) {
-    let (Ok(view), Ok(articles)) = (three_queries(alloc), three_articles(alloc)) else {
+    let (Some(view), Some(articles)) = (three_queries(alloc), three_articles(alloc)) else {
         return;
     };
     let gate = Counts::new();

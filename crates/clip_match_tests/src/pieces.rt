@@ -11,8 +11,8 @@ use std::thread::Threads;
 #[test]
 fn one_article_is_matched_alike_by_each_call(rt: HostRuntime) -> Result<(), Fail> {
     let alloc = rt.alloc();
-    let view = three_queries(alloc)?;
-    let articles = vec![in alloc; article(alloc, "a1", "tea")?]?;
+    let view = three_queries(alloc).expect(&rt, "a view");
+    let articles = vec![in alloc; article(alloc, "a1", "tea").expect(&rt, "an article")]?;
     let wanted = "a1 1 1 q1/a1. ";
     let one = vec![in alloc; match_article(alloc, &view, &articles[0])?]?;
     assert_eq!(rt; told(alloc, &one)?.as_str(), wanted);
@@ -30,8 +30,8 @@ fn one_article_is_matched_alike_by_each_call(rt: HostRuntime) -> Result<(), Fail
 #[test]
 fn three_articles_give_what_a_batch_gives(rt: HostRuntime) -> Result<(), Fail> {
     let alloc = rt.alloc();
-    let view = three_queries(alloc)?;
-    let articles = three_articles(alloc)?;
+    let view = three_queries(alloc).expect(&rt, "a view");
+    let articles = three_articles(alloc).expect(&rt, "articles");
     assert_eq!(rt;
         told(alloc, &match_batch(alloc, &view, &articles)?)?.as_str(),
         ALERTS_OF_THREE
@@ -51,7 +51,7 @@ fn sums<R: Threads + Abort + Sync>(
     workers: u32,
 ) -> Result<(u64, u64), Fail> {
     let gate = Counts::new();
-    let view = three_queries(alloc)?;
+    let view = three_queries(alloc).expect(rt, "a view");
     let found = match_pieces(rt, alloc, &view, articles, BATCH, workers, &gate)?;
     assert_eq!(rt; found.len(), articles.len());
     Ok(gate.sums())
@@ -60,7 +60,7 @@ fn sums<R: Threads + Abort + Sync>(
 #[test]
 fn each_piece_is_entered_and_left_once(rt: HostRuntime) -> Result<(), Fail> {
     let alloc = rt.alloc();
-    let articles = three_articles(alloc)?;
+    let articles = three_articles(alloc).expect(&rt, "articles");
     for (workers, wanted) in [
         (0u32, 1u64),
         (1, 1),
@@ -81,8 +81,9 @@ fn each_piece_is_entered_and_left_once(rt: HostRuntime) -> Result<(), Fail> {
 fn a_piece_matched_alone_is_entered_and_left(rt: HostRuntime) -> Result<(), Fail> {
     let alloc = rt.alloc();
     let gate = Counts::new();
-    let view = three_queries(alloc)?;
-    let found = match_piece(alloc, &view, &three_articles(alloc)?, BATCH, 2, &gate)?;
+    let view = three_queries(alloc).expect(&rt, "a view");
+    let articles = three_articles(alloc).expect(&rt, "articles");
+    let found = match_piece(alloc, &view, &articles, BATCH, 2, &gate)?;
     assert_eq!(rt; told(alloc, &found)?.as_str(), ALERTS_OF_THREE);
     assert_eq!(rt; gate.sums(), (10000, 10000));
     Ok(())
@@ -92,10 +93,10 @@ fn a_piece_matched_alone_is_entered_and_left(rt: HostRuntime) -> Result<(), Fail
 fn two_pieces_are_matched_at_one_time(rt: HostRuntime) -> Result<(), Fail> {
     let alloc = rt.alloc();
     let gate = Overlap::new();
-    let view = three_queries(alloc)?;
+    let view = three_queries(alloc).expect(&rt, "a view");
     let articles = vec![in alloc;
-        article(alloc, "a1", "tea")?,
-        article(alloc, "a2", "coffee")?,
+        article(alloc, "a1", "tea").expect(&rt, "an article"),
+        article(alloc, "a2", "coffee").expect(&rt, "an article"),
     ]?;
     let found = match_pieces(&rt, alloc, &view, &articles, 1, 2, &gate)?;
     assert_eq!(rt;
