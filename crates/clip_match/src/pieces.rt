@@ -1,0 +1,121 @@
+//! The alerts of a batch, matched in pieces by threads.
+ghost use Rattle.std.specs.Prelude.{◌≡◌, ◌+◌, ◌^◌, ◌<◌, ◌≤◌, map, min, max, length, IfOk};
+ghost use Rattle.std.specs.Thread.{IsSync};
+ghost use Rattle.clip_match.specs.Alerts.{alerts_value, alerts_due};
+
+use crate::alert::Alerts;
+use crate::gate::Gate;
+use crate::matching::match_batch;
+use clip_meaning::Article;
+use clip_registry::View;
+use clip_words::NoMemory;
+use std::alloc::Global;
+use std::thread::{Threads, join};
+
+/// The alerts of a piece of a batch: `match_batch` between the gate's `enter` and its `leave`, which is called also
+/// where memory was refused.
+///
+/// `NoMemory` where an allocation failed. Cost: that of `match_batch`, and of the gate.
+pub fn match_piece<G: Gate>(
+    alloc: Global,
+    view: &View,
+    articles: &[Article],
+    batch: u64,
+    piece: u32,
+    gate: &G,
+) -> Result<Vec<Alerts>, NoMemory>
+    ensures { IfOk result (λ found. map alerts_value found.items ≡ map (alerts_due view.now) articles.now) }
+{
+    gate.enter(batch, piece);
+    let found = match_batch(alloc, view, articles);
+    gate.leave(batch, piece);
+    found
+}
+
+/// The alerts of each article of a batch, in the order of the articles, all at one view: what `match_batch` gives,
+/// whatever the number of workers.
+///
+/// The articles are cut into neighbouring pieces, whose sizes differ by at most one, as many as there are workers, or
+/// as there are articles where these are fewer; 0 workers count as 1. The pieces are numbered from 0 in the order of
+/// the articles. Each is matched between the gate's `enter` and its `leave`, in a thread of its own, or by the caller
+/// where none can be made. One piece takes no thread, and no articles make no piece.
+///
+/// `NoMemory` where an allocation failed, after all pieces have ended. Cost: that of `match_batch`, shared among the
+/// pieces, and the start of a thread for each piece but one. It waits for its threads.
+pub fn match_pieces<R: Threads + Sync, G: Gate>(
+    rt: &R,
+    alloc: Global,
+    view: &View,
+    articles: &[Article],
+    batch: u64,
+    workers: u32,
+    gate: &G,
+) -> Result<Vec<Alerts>, NoMemory>
+    ensures { IfOk result (λ found. map alerts_value found.items ≡ map (alerts_due view.now) articles.now) }
+{
+    if articles.is_empty() {
+        return Ok(Vec::new(alloc));
+    }
+    let pieces = pieces_of(articles.len(), workers.max(1));
+    match_from(rt, alloc, view, articles, batch, 0, pieces, gate)
+}
+
+/// The lesser of two numbers.
+fn pieces_of(articles: usize, workers: u32) -> u32
+    ensures { result ≡ min articles workers }
+{
+    match u32::try_from(articles) {
+        Ok(articles) => articles.min(workers),
+        Err(_) => workers,
+    }
+}
+
+/// How many of the articles are in the first of the pieces, where the first pieces have one more than the others.
+fn articles_in(first: u32, pieces: u32, articles: usize) -> usize
+    requires { (0 < pieces) × (first ≤ pieces) }
+    ensures { result ≤ articles }
+{
+    let each = articles / pieces as usize;
+    let over = articles % pieces as usize;
+    each * first as usize + over.min(first as usize)
+}
+
+/// The alerts of articles that are to be cut into pieces, of which this is the number of the first. The pieces are
+/// halved at each step, so the stack grows as the logarithm of their count.
+#[cycle(pieces)]
+fn match_from<R: Threads + Sync, G: Gate>(
+    rt: &R,
+    alloc: Global,
+    view: &View,
+    articles: &[Article],
+    batch: u64,
+    number: u32,
+    pieces: u32,
+    gate: &G,
+) -> Result<Vec<Alerts>, NoMemory>
+    requires { (0 < pieces) × (number + pieces < 2 ^ 32) }
+    ensures { IfOk result (λ found. map alerts_value found.items ≡ map (alerts_due view.now) articles.now) }
+{
+    if pieces == 1 {
+        return match_piece(alloc, view, articles, batch, number, gate);
+    }
+    let low = pieces / 2;
+    let high = pieces - low;
+    let up = number + low;
+    let (front, back) = articles.split_at(articles_in(low, pieces, articles.len()));
+    let (first, second) = join(
+        rt,
+        move || -> Result<Vec<Alerts>, NoMemory>
+            requires { IsSync R.row × IsSync G.row × (0 < low) × (number + low < 2 ^ 32) }
+            ensures { IfOk result (λ found. map alerts_value found.items ≡ map (alerts_due view.entry.now) front.entry.now) }
+        { match_from(rt, alloc, view, front, batch, number, low, gate) },
+        move || -> Result<Vec<Alerts>, NoMemory>
+            requires { IsSync R.row × IsSync G.row × (0 < high) × (up + high < 2 ^ 32) }
+            ensures { IfOk result (λ found. map alerts_value found.items ≡ map (alerts_due view.entry.now) back.entry.now) }
+        { match_from(rt, alloc, view, back, batch, up, high, gate) },
+    );
+    let mut all = first?;
+    let mut rest = second?;
+    all.append(&mut rest)?;
+    Ok(all)
+}
