@@ -1,10 +1,12 @@
-//! The command line of the program: what its words ask for, and how it ends.
+//! The command line of the program: what its words ask for, its listeners, and how it ends.
 #![tactic(auto)]
 
 pub mod command_line;
+mod listeners;
 mod mode;
 
 pub use command_line::ending;
+pub use listeners::{feed, mail, named};
 pub use mode::Mode;
 
 #[cfg(test)]

@@ -1,13 +1,13 @@
-//! Runs each example file with the listeners `mail` and `feed` and with several numbers of workers, plays each trace, and compares what is written with the file
-//! beside it.
+//! Runs each example file with the listeners of the program and with several numbers of workers, plays each trace, and
+//! compares what is written with the file beside it.
 #![tactic(auto)]
 
 use anyhow::{Result, bail};
+use clip_command_line::{feed, mail, named};
 use clip_front::{Settings, run_trace};
-use clip_listen::{Listener, Listeners, Named, Render, Style, Teller};
+use clip_listen::Listeners;
 use clip_match::OpenGate;
 use clip_stream::{MOST_WORKERS, StdSink, StdSource};
-use clip_words::NoMemory;
 use clip_workers::run;
 use std::alloc::Global;
 use std::fs;
@@ -77,24 +77,6 @@ fn compared(ended_well: bool, replies: &[u8], wanted: &[u8]) -> Outcome {
     }
 }
 
-/// A listener that says its alerts in this style.
-fn teller(alloc: Global, head: &str, middle: &str) -> Result<Teller<Style>, NoMemory> {
-    let style = Style::new(alloc, head, middle)?;
-    Ok(Teller::new(Render::in_style(style)?))
-}
-
-/// The listeners `mail` and `feed`, under their names.
-fn named(
-    alloc: Global,
-    mail: Box<dyn Listener + Send>,
-    feed: Box<dyn Listener + Send>,
-) -> Result<Vec<Named>, NoMemory> {
-    let mut parts: Vec<Named> = Vec::new(alloc);
-    parts.push((String::from_str(alloc, "mail")?, mail))?;
-    parts.push((String::from_str(alloc, "feed")?, feed))?;
-    Ok(parts)
-}
-
 /// The numbers of workers that each example is run with.
 const WORKERS: [u32; 5] = [0, 1, 2, 4, 64];
 
@@ -106,8 +88,8 @@ fn played_by<R: Threads + Wait + Sync + AllocGlobal>(
     wanted: &[u8],
 ) -> Result<Outcome> {
     let alloc = rt.alloc();
-    let mail = Box::new(alloc, teller(alloc, "mail: ", " in ")?)?;
-    let feed = Box::new(alloc, teller(alloc, "feed ", "/")?)?;
+    let mail = Box::new(alloc, mail(alloc)?)?;
+    let feed = Box::new(alloc, feed(alloc)?)?;
     let Ok(mut listeners) = Listeners::new(named(alloc, mail, feed)?) else {
         bail!("two listeners have one name");
     };

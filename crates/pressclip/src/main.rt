@@ -5,15 +5,12 @@
 
 ghost use Rattle.std.specs.Prelude.{◌≤◌};
 
-mod listeners;
-
-use clip_command_line::{Mode, command_line, ending};
+use clip_command_line::{Mode, command_line, ending, feed, mail, named};
 use clip_front::{Ended, Settings, run_trace};
 use clip_listen::Listeners;
 use clip_match::OpenGate;
 use clip_stream::{MOST_WORKERS, RunFault, StdSink, StdSource};
 use clip_workers::run;
-use listeners::{feed, mail, named};
 use std::io::ErrorKind;
 use std::process::ExitCode;
 use std::rt::Env;
