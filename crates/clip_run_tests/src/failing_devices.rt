@@ -10,7 +10,10 @@ use std::test::Fail;
 use std::thread::Threads;
 
 /// A run by so many workers answers the same in pieces of each size.
-fn answers_in_pieces_with<H: Threads + Wait + Sync + Abort + AllocGlobal>(rt: &H, workers: u32) -> Result<(), Fail> {
+fn answers_in_pieces_with<H: Threads + Wait + Sync + Abort + AllocGlobal>(
+    rt: &H,
+    workers: u32,
+) -> Result<(), Fail> {
     let input = text_of(rt.alloc(), &PRESS)?;
     let wanted = text_of(rt.alloc(), &PRESSED)?;
     for piece in 1..200usize {
@@ -32,7 +35,10 @@ fn answers_in_pieces(rt: HostRuntime) -> Result<(), Fail> {
 }
 
 /// A run by so many workers ends with a read fault, and has answered the lines that were read.
-fn fails_to_read<H: Threads + Wait + Sync + Abort + AllocGlobal>(rt: &H, workers: u32) -> Result<(), Fail> {
+fn fails_to_read<H: Threads + Wait + Sync + Abort + AllocGlobal>(
+    rt: &H,
+    workers: u32,
+) -> Result<(), Fail> {
     let input = text_of(rt.alloc(), &PRESS)?;
     let first = text_of(rt.alloc(), &PRESSED[..1])?;
     // The first line has 58 bytes with its line feed, and both have 135.
@@ -53,7 +59,10 @@ fn a_failed_read_is_a_read_fault(rt: HostRuntime) -> Result<(), Fail> {
 }
 
 /// A run by so many workers ends with a write fault, after a front of its replies.
-fn fails_to_write<H: Threads + Wait + Sync + Abort + AllocGlobal>(rt: &H, workers: u32) -> Result<(), Fail> {
+fn fails_to_write<H: Threads + Wait + Sync + Abort + AllocGlobal>(
+    rt: &H,
+    workers: u32,
+) -> Result<(), Fail> {
     let input = text_of(rt.alloc(), &PRESS)?;
     let wanted = text_of(rt.alloc(), &PRESSED)?;
     for failing in [Failing::Write, Failing::WriteOfNothing] {
@@ -77,7 +86,10 @@ fn a_failed_write_is_a_write_fault(rt: HostRuntime) -> Result<(), Fail> {
 }
 
 /// A run by so many workers ends with a write fault where a flush failed.
-fn fails_to_flush<H: Threads + Wait + Sync + Abort + AllocGlobal>(rt: &H, workers: u32) -> Result<(), Fail> {
+fn fails_to_flush<H: Threads + Wait + Sync + Abort + AllocGlobal>(
+    rt: &H,
+    workers: u32,
+) -> Result<(), Fail> {
     let input = text_of(rt.alloc(), &PRESS)?;
     for (well, taken) in [(0, 0), (1, 93)] {
         let mut source = script_of(input.as_bytes(), 1000, MANY);

@@ -83,9 +83,7 @@ const REPLIES: [&str; 3] = [
 ];
 
 #[test]
-fn two_batches_in_flight_cross_and_are_answered_in_line_order(
-    rt: HostRuntime,
-) -> Result<(), Fail> {
+fn two_batches_in_flight_cross_and_are_answered_in_line_order(rt: HostRuntime) -> Result<(), Fail> {
     let alloc = rt.alloc();
     let told = Told {
         first_came: AtomicBool::new(false),
@@ -113,6 +111,9 @@ fn two_batches_in_flight_cross_and_are_answered_in_line_order(
     )?;
     assert_eq!(rt; ended.lines, 3);
     assert_eq!(rt; sink.taken.as_slice(), text_of(alloc, &REPLIES)?.as_bytes());
-    assert!(rt; !gate.told.given_up.load(SeqCst), "a batch waited to the limit");
+    assert!(rt;
+        !gate.told.given_up.load(SeqCst),
+        "a batch waited to the limit"
+    );
     Ok(())
 }

@@ -12,8 +12,6 @@ mod heard;
 #[cfg(test)]
 mod lines;
 #[cfg(test)]
-mod random;
-#[cfg(test)]
 mod replies_on_a_pipe;
 #[cfg(test)]
 mod runs;

@@ -1,5 +1,5 @@
 //! Whole runs over devices in memory.
-ghost use Rattle.std.specs.Prelude.{◌≡◌, ◌<◌, ◌≤◌, false};
+ghost use Rattle.std.specs.Prelude.{◌≡◌, ◌≤◌, false};
 
 use crate::devices::{Failing, MANY, blank_tape, script_of};
 use clip_front::{Ended, Settings};
@@ -52,30 +52,18 @@ pub fn run_unheard<H: Threads + Wait + Sync + AllocGlobal, R: Source, W: Sink>(
         return Err(RunFault::NoMemory);
     };
     let settings = with_workers(workers);
-    run(rt, alloc, reader, writer, &mut listeners, settings, &OpenGate)
+    run(
+        rt,
+        alloc,
+        reader,
+        writer,
+        &mut listeners,
+        settings,
+        &OpenGate,
+    )
 }
 
-/// The bytes are answered by this text, in `count` lines, by every number of workers, where each read gives `piece` bytes.
-pub fn is_answered_by<H: Threads + Wait + Sync + Abort + AllocGlobal>(
-    rt: &H,
-    input: &[u8],
-    piece: usize,
-    count: u64,
-    wanted: &str,
-) -> Result<(), Fail>
-    requires { 0 < piece }
-{
-    for workers in WORKERS {
-        let mut source = script_of(input, piece, MANY);
-        let mut sink = blank_tape(rt.alloc(), 1000, Failing::Write, MANY);
-        let ended = run_unheard(rt, workers, &mut source, &mut sink)?;
-        assert_eq!(rt; ended.lines, count);
-        assert_eq!(rt; sink.taken.as_slice(), wanted.as_bytes(), "{workers} wanted {wanted}");
-    }
-    Ok(())
-}
-
-/// The bytes are answered by these replies, in `count` lines.
+/// The bytes are answered by these replies, in `count` lines, with each number of workers.
 pub fn is_answered<H: Threads + Wait + Sync + Abort + AllocGlobal>(
     rt: &H,
     input: &[u8],
@@ -83,7 +71,18 @@ pub fn is_answered<H: Threads + Wait + Sync + Abort + AllocGlobal>(
     replies: &[&str],
 ) -> Result<(), Fail> {
     let wanted = text_of(rt.alloc(), replies)?;
-    is_answered_by(rt, input, 1000, count, &wanted)
+    for workers in WORKERS {
+        let mut source = script_of(input, 1000, MANY);
+        let mut sink = blank_tape(rt.alloc(), 1000, Failing::Write, MANY);
+        let ended = run_unheard(rt, workers, &mut source, &mut sink)?;
+        assert_eq!(rt; ended.lines, count);
+        assert_eq!(rt;
+            sink.taken.as_slice(),
+            wanted.as_bytes(),
+            "{workers} wanted {wanted}"
+        );
+    }
+    Ok(())
 }
 
 pub fn are_answered<H: Threads + Wait + Sync + Abort + AllocGlobal>(

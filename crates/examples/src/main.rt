@@ -10,13 +10,14 @@ use clip_match::OpenGate;
 use clip_stream::{MOST_WORKERS, StdSink, StdSource};
 use clip_workers::run;
 use std::alloc::Global;
-use std::fs;
 use std::fs::Files;
+use std::io::Read;
 use std::sync::Wait;
 use std::thread::Threads;
+use std::{fs, io};
 
 /// The examples: of each the requests stand in NAME.jsonl, and the replies in NAME.out.
-const EXAMPLES: [&str; 14] = [
+const EXAMPLES: [&str; 15] = [
     "alerts",
     "changes",
     "clippings",
@@ -27,6 +28,7 @@ const EXAMPLES: [&str; 14] = [
     "listeners",
     "meaning",
     "purging",
+    "random_changes",
     "ranges",
     "refusals",
     "shapes",
@@ -80,11 +82,29 @@ fn compared(ended_well: bool, replies: &[u8], wanted: &[u8]) -> Outcome {
 /// The numbers of workers that each example is run with.
 const WORKERS: [u32; 5] = [0, 1, 2, 4, 64];
 
-/// Runs an example with listeners of its own and so many workers, whose replies are to be the wanted bytes.
-fn played_by<R: Threads + Wait + Sync + AllocGlobal>(
+/// Gives one byte at each read.
+#[derive(Drop)]
+struct OneByOne<'a> {
+    rest: &'a [u8],
+}
+
+impl Read for OneByOne<'_> {
+    fn read(&mut self, buffer: &mut [u8]) -> io::Result<usize> {
+        let (Some((first, rest)), Some(place)) = (self.rest.split_first(), buffer.first_mut())
+        else {
+            return Ok(0);
+        };
+        *place = *first;
+        self.rest = rest;
+        Ok(1)
+    }
+}
+
+/// Runs an example with so many workers and the listeners of the program, whose replies are to be the wanted bytes.
+fn played_by<R: Threads + Wait + Sync + AllocGlobal, I: Read + Drop>(
     rt: &R,
     workers: u32,
-    requests: &[u8],
+    requests: I,
     wanted: &[u8],
 ) -> Result<Outcome> {
     let alloc = rt.alloc();
@@ -113,16 +133,20 @@ fn played_by<R: Threads + Wait + Sync + AllocGlobal>(
     Ok(compared(ended.is_ok(), &replies, wanted))
 }
 
-/// Runs an example with each number of workers, up to the first by which it is not as shown.
+/// Runs an example with each number of workers, read whole and a byte at a time, up to the first that is not as shown.
 fn played<R: Threads + Wait + Sync + AllocGlobal>(
     rt: &R,
     requests: &[u8],
     wanted: &[u8],
 ) -> Result<Outcome> {
     for workers in WORKERS {
-        let outcome = played_by(rt, workers, requests, wanted)?;
-        if outcome != Outcome::AsShown {
-            return Ok(outcome);
+        let whole = played_by(rt, workers, requests, wanted)?;
+        if whole != Outcome::AsShown {
+            return Ok(whole);
+        }
+        let one_by_one = played_by(rt, workers, OneByOne { rest: requests }, wanted)?;
+        if one_by_one != Outcome::AsShown {
+            return Ok(one_by_one);
         }
     }
     Ok(Outcome::AsShown)
