@@ -11,7 +11,7 @@ use std::alloc::Global;
 pub trait Server<L> {
     ghost use Rattle.std.specs.Prelude.{◌≡◌, ℕ, List, false, IfOk, OnOk, OnErr};
 
-    /// From the first state to the second by answering the line of this number with this text.
+    /// From the first state to the second by taking the line of this number and answering this text.
     ghost answers: { Self × L → Self × L → ℕ → List ℕ → List ℕ → Type 0 };
 
     /// From the first state to the second by an answering of the line of this number that was broken off.
@@ -20,8 +20,9 @@ pub trait Server<L> {
     /// Nothing is owed to any line that was taken.
     ghost is_settled: { Self × L → Type 0 };
 
-    /// The text of what is answered now that the line of this number is taken. Where no other line stands read already,
-    /// nothing is owed after it. `NoMemory` where the answering was broken off.
+    /// Takes the line of this number, and gives the text of what is answered now. `has_more` says whether another line
+    /// stands read already; where none does, the reader is to be asked, so all that is owed is answered now. `NoMemory`
+    /// where the answering was broken off.
     fn answer(
         &mut self,
         alloc: Global,
@@ -38,8 +39,8 @@ pub trait Server<L> {
 /// Takes the lines one after the other, writes what the server answers, and gives how many lines there were.
 ///
 /// Before it asks the reader for more bytes, every line that was taken is answered, and the answers are written and
-/// flushed: so no client waits for an answer that waits for the client's next line. Between two reads the answers are
-/// gathered, so that the writer gets few writes, and the server may hold some back.
+/// flushed: a client that waits for the answer to its line before it sends the next one gets it. Between two reads the
+/// answers are gathered, so that the writer gets few writes, and the server may hold some back.
 ///
 /// `Read` where a read failed, or 1,099,511,627,776 reads met no end; `Write` where a write or a flush failed, or a
 /// write took nothing; `NoMemory` where an allocation failed or the server answers it. After a fault nothing more is
