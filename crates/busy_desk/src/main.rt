@@ -66,7 +66,9 @@ fn form_of<R: Env + AllocGlobal>(rt: &R) -> Result<Form> {
             "unmerged" => Ok(Form::Beside(commits.parse()?, Merger::Idle)),
             _ => bail!("busy_desk merging COMMITS, or unmerged COMMITS"),
         },
-        _ => bail!("usage: busy_desk LISTED REGISTERS DELETES, or merging COMMITS, or unmerged COMMITS"),
+        _ => bail!(
+            "usage: busy_desk LISTED REGISTERS DELETES, or merging COMMITS, or unmerged COMMITS"
+        ),
     }
 }
 
@@ -228,7 +230,10 @@ fn main(rt: HostRuntime) -> Result<()> {
             println!(rt; "{} queries after {} commands", last.count(), last.place())?;
         }
         Form::Beside(commits, merger) => {
-            print_report(&rt, measure::<Brand, _>(&rt, alloc, parts, commits, merger)?)?;
+            print_report(
+                &rt,
+                measure::<Brand, _>(&rt, alloc, parts, commits, merger)?,
+            )?;
         }
     }
     Ok(())

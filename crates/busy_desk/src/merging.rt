@@ -60,7 +60,10 @@ impl Times {
 
     /// The mean of them in nanoseconds, or 0 where there was none.
     pub fn mean(&self) -> u128 {
-        self.total.as_nanos().checked_div(u128::from(self.count)).unwrap_or(0)
+        self.total
+            .as_nanos()
+            .checked_div(u128::from(self.count))
+            .unwrap_or(0)
     }
 
     /// The longest of them in nanoseconds.

@@ -23,19 +23,20 @@ use std::thread::{Threads, join};
 /// How often the third caller purges.
 const PURGES: u32 = 300;
 
-/// What each thread has.
-#[derive(Drop)]
-struct Room<'a, N: DeskName, R> {
-    rt: &'a R,
+/// What the threads share.
+struct Room<N: DeskName> {
     alloc: Global,
-    desk: &'a Desk<N, UpdateLog>,
-    sender: &'a Sender<Nudge>,
-    nudges: &'a Receiver<Nudge>,
+    desk: Desk<N, UpdateLog>,
+    sender: Sender<Nudge>,
+    nudges: Receiver<Nudge>,
 }
 
 /// The article of a text.
 fn article<R: Abort>(rt: &R, alloc: Global, text: &str) -> Article {
-    let fields = match (String::from_str(alloc, "text"), String::from_str(alloc, text)) {
+    let fields = match (
+        String::from_str(alloc, "text"),
+        String::from_str(alloc, text),
+    ) {
         (Ok(name), Ok(text)) => [(name, text)],
         _ => panic!(rt; "no memory"),
     };
@@ -123,39 +124,45 @@ fn steps<R: Abort>(rt: &R, alloc: Global, caller: u32) -> Vec<Step> {
 }
 
 /// Commits all commands of the seat's caller, nudges the merger after each, and looks now and then.
-fn commit_steps<N: DeskName, R: Wait + Abort>(room: &Room<'_, N, R>, mut seat: Seat) -> Seat
+fn commit_steps<N: DeskName, R: Wait + Abort>(rt: &R, room: &Room<N>, mut seat: Seat) -> Seat
     requires { IsSeatOf N.book N.callers seat }
     ensures { IsSeatOf N.book N.callers result }
 {
-    for (number, step) in steps(room.rt, room.alloc, seat.caller()).iter().enumerate() {
-        let command = command(room.rt, room.alloc, step);
-        commit(room.rt, room.desk, &mut seat, command);
+    for (number, step) in steps(rt, room.alloc, seat.caller()).iter().enumerate() {
+        let command = command(rt, room.alloc, step);
+        commit(rt, &room.desk, &mut seat, command);
         // A nudge that is refused memory is dropped.
-        let _ = room.sender.send(room.rt, Nudge::Merge);
+        let _ = room.sender.send(rt, Nudge::Merge);
         if number % 100 == 99 {
-            check_look(room.rt, room.alloc, &mut seat);
+            check_look(rt, room.alloc, &mut seat);
         }
     }
     seat
 }
 
 /// Purges, and looks now and then.
-fn purge_often<N: DeskName, R: Wait + Abort>(room: &Room<'_, N, R>, mut seat: Seat) -> Seat
+fn purge_often<N: DeskName, R: Wait + Abort>(rt: &R, room: &Room<N>, mut seat: Seat) -> Seat
     requires { IsSeatOf N.book N.callers seat }
     ensures { IsSeatOf N.book N.callers result }
 {
     for number in 0..PURGES {
-        assert_eq!(room.rt; room.desk.purge(room.rt, &mut seat), Ok(()));
+        assert_eq!(rt; room.desk.purge(rt, &mut seat), Ok(()));
         if number % 15 == 14 {
-            check_look(room.rt, room.alloc, &mut seat);
+            check_look(rt, room.alloc, &mut seat);
         }
     }
     seat
 }
 
+/// Merges until it is told to stop.
+fn merge_often<N: DeskName, R: Wait>(rt: &R, room: &Room<N>) {
+    room.desk.serve_merges(rt, &room.nudges);
+}
+
 /// The second caller commits while the third purges.
 fn run_last<N: DeskName + Send + Sync, R: Threads + Wait + Abort + Sync>(
-    room: &Room<'_, N, R>,
+    rt: &R,
+    room: &Room<N>,
     two: Seat,
     three: Seat,
 ) -> (Seat, Seat)
@@ -163,21 +170,22 @@ fn run_last<N: DeskName + Send + Sync, R: Threads + Wait + Abort + Sync>(
     ensures { IsSeatOf N.book N.callers result.0 × IsSeatOf N.book N.callers result.1 }
 {
     join(
-        room.rt,
+        rt,
         || -> Seat
             requires { IsSeatOf N.book N.callers two }
             ensures { IsSeatOf N.book N.callers result }
-        { commit_steps(room, two) },
+        { commit_steps(rt, room, two) },
         || -> Seat
             requires { IsSeatOf N.book N.callers three }
             ensures { IsSeatOf N.book N.callers result }
-        { purge_often(room, three) },
+        { purge_often(rt, room, three) },
     )
 }
 
 /// Two callers commit while the third purges, and then the merger is told to stop.
 fn run_callers<N: DeskName + Send + Sync, R: Threads + Wait + Abort + Sync>(
-    room: &Room<'_, N, R>,
+    rt: &R,
+    room: &Room<N>,
     one: Seat,
     two: Seat,
     three: Seat,
@@ -188,24 +196,25 @@ fn run_callers<N: DeskName + Send + Sync, R: Threads + Wait + Abort + Sync>(
     ensures others { IsSeatOf N.book N.callers result.1.0 × IsSeatOf N.book N.callers result.1.1 }
 {
     let seats = join(
-        room.rt,
+        rt,
         || -> Seat
             requires { IsSeatOf N.book N.callers one }
             ensures { IsSeatOf N.book N.callers result }
-        { commit_steps(room, one) },
+        { commit_steps(rt, room, one) },
         || -> (Seat, Seat)
             requires { IsSeatOf N.book N.callers two × IsSeatOf N.book N.callers three }
             ensures { IsSeatOf N.book N.callers result.0 × IsSeatOf N.book N.callers result.1 }
-        { run_last(room, two, three) },
+        { run_last(rt, room, two, three) },
     );
-    assert!(room.rt; room.sender.send(room.rt, Nudge::Merge).is_ok(), "sent");
-    assert!(room.rt; room.sender.send(room.rt, Nudge::Stop).is_ok(), "sent");
+    assert!(rt; room.sender.send(rt, Nudge::Merge).is_ok(), "sent");
+    assert!(rt; room.sender.send(rt, Nudge::Stop).is_ok(), "sent");
     seats
 }
 
 /// The three callers do their work beside the merger.
 fn run_all<N: DeskName + Send + Sync, R: Threads + Wait + Abort + Sync>(
-    room: &Room<'_, N, R>,
+    rt: &R,
+    room: &Room<N>,
     one: Seat,
     two: Seat,
     three: Seat,
@@ -216,12 +225,12 @@ fn run_all<N: DeskName + Send + Sync, R: Threads + Wait + Abort + Sync>(
     ensures others { IsSeatOf N.book N.callers result.1.0 × IsSeatOf N.book N.callers result.1.1 }
 {
     let (_, seats) = join(
-        room.rt,
-        || room.desk.serve_merges(room.rt, room.nudges),
+        rt,
+        || merge_often(rt, room),
         || -> (Seat, (Seat, Seat))
             requires { IsSeatOf N.book N.callers one × IsSeatOf N.book N.callers two × IsSeatOf N.book N.callers three }
             ensures { IsSeatOf N.book N.callers result.0 × IsSeatOf N.book N.callers result.1.0 × IsSeatOf N.book N.callers result.1.1 }
-        { run_callers(room, one, two, three) },
+        { run_callers(rt, room, one, two, three) },
     );
     seats
 }
@@ -253,27 +262,31 @@ fn run_four<N: DeskName + Send + Sync, R: Threads + Wait + Abort + Sync>(
         panic!(rt; "three seats")
     };
     let room = Room {
-        rt,
         alloc,
-        desk: &desk,
-        sender: &sender,
-        nudges: &nudges,
+        desk,
+        sender,
+        nudges,
     };
-    let (one, (two, three)) = run_all(&room, one, two, three);
-    close_three(rt, alloc, desk, one, two, three);
+    let (one, (two, three)) = run_all(rt, &room, one, two, three);
+    close_three(rt, room, one, two, three);
 }
 
 /// Closes the desk, and checks what it leaves.
 fn close_three<N: DeskName, R: Wait + Abort>(
     rt: &R,
-    alloc: Global,
-    desk: Desk<N, UpdateLog>,
+    room: Room<N>,
     one: Seat,
     two: Seat,
     three: Seat,
 )
     requires { IsSeatOf N.book N.callers one × IsSeatOf N.book N.callers two × IsSeatOf N.book N.callers three }
 {
+    let Room {
+        alloc,
+        desk,
+        sender: _sender,
+        nudges: _nudges,
+    } = room;
     let Ok(all) = Vec::from_array(alloc, [one, two, three]) else {
         desk.end(rt);
         return;
@@ -299,7 +312,10 @@ fn check_closed<R: Abort>(rt: &R, alloc: Global, registrar: &Registrar) {
         Ok(view) => check_registered(rt, &view, &plain),
         Err(_) => panic!(rt; "no view"),
     }
-    assert!(rt; matches!(registrar.begin(), Ok(None)), "nothing is left to merge");
+    assert!(rt;
+        matches!(registrar.begin(), Ok(None)),
+        "nothing is left to merge"
+    );
 }
 
 /// Checks that the caller's commands stand in the history once each and in order.
