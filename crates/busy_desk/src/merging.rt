@@ -1,7 +1,7 @@
 //! A desk at which one thread commits, a second merges, and a third takes looks, with the times that calls took.
 ghost use Rattle.std.specs.Prelude.{◌≡◌};
 ghost use Rattle.clip_listen.specs.Updates.{heard_at};
-ghost use Rattle.clip_desk.specs.Locked.{IsSeatOf, AreSeatsOf};
+ghost use Rattle.clip_desk.specs.Locked.{IsSeatOf};
 
 use crate::commands::{Change, change_one};
 use crate::{commit, seat_of};
@@ -94,32 +94,34 @@ pub struct Report {
     pub queries: u64,
 }
 
-/// What each thread has.
-#[derive(Drop)]
-struct Room<'a, N: DeskName, R> {
-    rt: &'a R,
+/// What the threads share.
+struct Room<N: DeskName> {
     alloc: Global,
-    desk: &'a Desk<N, UpdateLog>,
-    sender: &'a Sender<Nudge>,
-    nudges: &'a Receiver<Nudge>,
-    is_done: &'a AtomicBool,
+    desk: Desk<N, UpdateLog>,
+    sender: Sender<Nudge>,
+    nudges: Receiver<Nudge>,
+    is_done: AtomicBool,
     commits: u64,
     merger: Merger,
 }
 
 /// Registers one query by each commit, and gives the times of the commits alone.
-fn commit_all<N: DeskName, R: Wait + Clock>(room: &Room<'_, N, R>, seat: &mut Seat) -> Result<Times>
+fn commit_all<N: DeskName, R: Wait + Clock>(
+    rt: &R,
+    room: &Room<N>,
+    seat: &mut Seat,
+) -> Result<Times>
     requires { IsSeatOf N.book N.callers seat.old }
 {
     let mut times = Times::none();
     for number in 0..room.commits {
         let command = change_one(room.alloc, Change::Register, number)?;
-        let start = Instant::now(room.rt)?;
-        commit(room.rt, room.desk, seat, command)?;
-        times.add(start.elapsed(room.rt)?);
+        let start = Instant::now(rt)?;
+        commit(rt, &room.desk, seat, command)?;
+        times.add(start.elapsed(rt)?);
         if room.merger == Merger::Nudged {
             // A nudge that is refused memory is dropped.
-            let _ = room.sender.send(room.rt, Nudge::Merge);
+            let _ = room.sender.send(rt, Nudge::Merge);
         }
     }
     Ok(times)
@@ -127,14 +129,15 @@ fn commit_all<N: DeskName, R: Wait + Clock>(room: &Room<'_, N, R>, seat: &mut Se
 
 /// Commits all, and then ends the other threads.
 fn commit_and_end<N: DeskName, R: Wait + Clock>(
-    room: &Room<'_, N, R>,
+    rt: &R,
+    room: &Room<N>,
     mut seat: Seat,
 ) -> (Seat, Result<Times>)
     requires { IsSeatOf N.book N.callers seat }
 {
-    let times = commit_all(room, &mut seat);
+    let times = commit_all(rt, room, &mut seat);
     room.is_done.store(true, Ordering::SeqCst);
-    let _ = room.sender.send(room.rt, Nudge::Stop);
+    let _ = room.sender.send(rt, Nudge::Stop);
     (seat, times)
 }
 
@@ -166,52 +169,64 @@ fn look_once<R: Clock>(
 }
 
 /// Takes looks until all is committed.
-fn look_on<N: DeskName, R: Wait + Clock>(room: &Room<'_, N, R>, mut seat: Seat) -> Result<Looks> {
+fn look_on<N: DeskName, R: Wait + Clock>(rt: &R, room: &Room<N>, mut seat: Seat) -> Result<Looks> {
     let article = article(room.alloc)?;
     let mut taken = Looks {
         looks: Times::none(),
         matches: Times::none(),
     };
-    for _ in room.rt.forever() {
+    for _ in rt.forever() {
         if room.is_done.load(Ordering::SeqCst) {
             break;
         }
-        look_once(room.rt, room.alloc, &mut seat, &article, &mut taken)?;
+        look_once(rt, room.alloc, &mut seat, &article, &mut taken)?;
     }
     Ok(taken)
 }
 
+/// Takes looks until all is committed, or one is refused.
+fn look_or_stop<N: DeskName, R: Wait + Clock>(rt: &R, room: &Room<N>, seat: Seat) -> Option<Looks> {
+    look_on(rt, room, seat).ok()
+}
+
+/// Merges until it is told to stop.
+fn merge_on<N: DeskName, R: Wait>(rt: &R, room: &Room<N>) {
+    room.desk.serve_merges(rt, &room.nudges);
+}
+
 /// One thread commits while another looks.
 fn run_callers<N: DeskName + Send + Sync, R: Threads + Wait + Clock + Sync>(
-    room: &Room<'_, N, R>,
+    rt: &R,
+    room: &Room<N>,
     writer: Seat,
     reader: Seat,
 ) -> (Option<Looks>, (Seat, Result<Times>))
     requires { IsSeatOf N.book N.callers writer }
 {
     join(
-        room.rt,
-        || look_on(room, reader).ok(),
+        rt,
+        || look_or_stop(rt, room, reader),
         || -> (Seat, Result<Times>)
             requires { IsSeatOf N.book N.callers writer }
-        { commit_and_end(room, writer) },
+        { commit_and_end(rt, room, writer) },
     )
 }
 
 /// The two callers do their work beside the merger.
 fn run_all<N: DeskName + Send + Sync, R: Threads + Wait + Clock + Sync>(
-    room: &Room<'_, N, R>,
+    rt: &R,
+    room: &Room<N>,
     writer: Seat,
     reader: Seat,
 ) -> Result<Report>
     requires { IsSeatOf N.book N.callers writer }
 {
     let (_, (looks, (mut seat, commits))) = join(
-        room.rt,
-        || room.desk.serve_merges(room.rt, room.nudges),
+        rt,
+        || merge_on(rt, room),
         || -> (Option<Looks>, (Seat, Result<Times>))
             requires { IsSeatOf N.book N.callers writer }
-        { run_callers(room, writer, reader) },
+        { run_callers(rt, room, writer, reader) },
     );
     let Some(looks) = looks else {
         bail!("a look or a match failed");
@@ -225,35 +240,6 @@ fn run_all<N: DeskName + Send + Sync, R: Threads + Wait + Clock + Sync>(
     })
 }
 
-/// Makes what the threads share, and lets them do their work.
-fn run_at<N: DeskName + Send + Sync, R: Threads + Wait + Clock + Sync>(
-    rt: &R,
-    alloc: Global,
-    desk: &Desk<N, UpdateLog>,
-    mut seats: Vec<Seat>,
-    commits: u64,
-    merger: Merger,
-) -> Result<Report>
-    requires { AreSeatsOf N.book N.callers seats.items }
-{
-    let (Some(reader), Some(writer)) = (seat_of::<N>(&mut seats), seat_of::<N>(&mut seats)) else {
-        bail!("a desk of two callers has two seats");
-    };
-    let (sender, nudges) = unbounded(alloc)?;
-    let is_done = AtomicBool::new(false);
-    let room = Room {
-        rt,
-        alloc,
-        desk,
-        sender: &sender,
-        nudges: &nudges,
-        is_done: &is_done,
-        commits,
-        merger,
-    };
-    run_all(&room, writer, reader)
-}
-
 /// Opens a desk of these parts, commits so often at it while looks are taken, and ends it.
 pub fn measure<N: DeskName + Send + Sync, R: Threads + Wait + Clock + Sync>(
     rt: &R,
@@ -264,8 +250,39 @@ pub fn measure<N: DeskName + Send + Sync, R: Threads + Wait + Clock + Sync>(
 ) -> Result<Report>
     requires { (parts.book ≡ N.book) × (parts.callers ≡ N.callers) × (N.heard_before ≡ heard_at parts.updates) }
 {
-    let (desk, seats) = Desk::<N, UpdateLog>::open(parts);
-    let report = run_at(rt, alloc, &desk, seats, commits, merger);
-    desk.end(rt);
+    let (desk, mut seats) = Desk::<N, UpdateLog>::open(parts);
+    let (Some(reader), Some(writer), Ok((sender, nudges))) = (
+        seat_of::<N>(&mut seats),
+        seat_of::<N>(&mut seats),
+        unbounded(alloc),
+    ) else {
+        desk.end(rt);
+        bail!("a desk of two callers has two seats, and its merger a channel");
+    };
+    let room = Room {
+        alloc,
+        desk,
+        sender,
+        nudges,
+        is_done: AtomicBool::new(false),
+        commits,
+        merger,
+    };
+    let report = run_all(rt, &room, writer, reader);
+    end_room(rt, room);
     report
+}
+
+/// Ends the desk.
+fn end_room<N: DeskName, R: Wait>(rt: &R, room: Room<N>) {
+    let Room {
+        alloc: _,
+        desk,
+        sender: _sender,
+        nudges: _nudges,
+        is_done: _,
+        commits: _,
+        merger: _,
+    } = room;
+    desk.end(rt);
 }

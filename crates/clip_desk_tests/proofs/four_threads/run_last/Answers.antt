@@ -6,7 +6,7 @@ use denote.Struct.Field.{shr_ref_field}
 use Rattle.clip_desk.specs.contracts.seat.Seat as seat
 use Rattle.clip_desk.proofs.Sent.{seat_send}
 use Rattle.clip_desk_tests.specs.contracts.four_threads.Room as room
-use Rattle.clip_desk_tests.proofs.Shared.{room_sync, three_send}
+use Rattle.clip_desk_tests.proofs.four_threads.Shared.{room_sync, three_send}
 use Rattle.clip_desk_tests.proofs.four_threads.run_last.Goals as goal
 
 pub join-requires-send-F : goal.join-requires-send-F
