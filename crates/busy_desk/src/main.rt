@@ -1,5 +1,10 @@
-//! A desk of two callers: one commits while the other holds a look. Its words say how many queries are registered first,
-//! in lists, and how many are registered and deleted after that, one by one.
+//! A desk of two callers, in one of two forms.
+//!
+//! Of three numbers the first says how many queries are registered first, in lists, and the others how many are registered
+//! and deleted after that, one by one, by one caller while the other holds a look.
+//!
+//! After `merging` or `unmerged` a number says how many commits one thread makes, of one query each, while another looks;
+//! a third merges, or does not. The times of the calls are printed.
 #![tactic(auto)]
 
 ghost use Rattle.std.specs.Prelude.{◌≡◌, IfSome, IsTrue};
@@ -9,12 +14,14 @@ ghost use Rattle.clip_model.specs.History.{fits};
 ghost use Rattle.clip_registry.specs.Command.{command_of};
 
 mod commands;
+mod merging;
 
 use anyhow::{Result, bail};
 use clip_desk::{Desk, DeskName, DeskParts, Seat};
 use clip_listen::{UpdateListeners, UpdateLog};
 use clip_registry::{Command, View};
 use commands::{Change, change_one, register_from};
+use merging::{Merger, Report, Times, measure};
 use std::alloc::Global;
 use std::env;
 use std::marker::Brand;
@@ -33,19 +40,35 @@ struct Work {
     deletes: u64,
 }
 
-/// The numbers that the program's words name.
-fn work_of<R: Env + AllocGlobal>(rt: &R) -> Result<Work> {
-    let mut numbers = Vec::new(rt.alloc());
+/// What the program is to do.
+#[derive(Clone, Copy)]
+enum Form {
+    /// Commits while a look is held.
+    Held(Work),
+    /// So many commits beside looks, and beside a merger.
+    Beside(u64, Merger),
+}
+
+/// What the program's words name.
+fn form_of<R: Env + AllocGlobal>(rt: &R) -> Result<Form> {
+    let mut words = Vec::new(rt.alloc());
     for word in env::args(rt)?.skip(1) {
-        numbers.push(word.parse::<u64>()?)?;
+        words.push(word)?;
     }
-    match numbers.as_slice() {
-        [listed, registers, deletes] => Ok(Work {
-            listed: *listed,
-            registers: *registers,
-            deletes: *deletes,
-        }),
-        _ => bail!("usage: busy_desk LISTED REGISTERS DELETES"),
+    match words.as_slice() {
+        [listed, registers, deletes] => Ok(Form::Held(Work {
+            listed: listed.parse()?,
+            registers: registers.parse()?,
+            deletes: deletes.parse()?,
+        })),
+        [kind, commits] => match kind.as_str() {
+            "merging" => Ok(Form::Beside(commits.parse()?, Merger::Nudged)),
+            "unmerged" => Ok(Form::Beside(commits.parse()?, Merger::Idle)),
+            _ => bail!("busy_desk merging COMMITS, or unmerged COMMITS"),
+        },
+        _ => bail!(
+            "usage: busy_desk LISTED REGISTERS DELETES, or merging COMMITS, or unmerged COMMITS"
+        ),
     }
 }
 
@@ -181,11 +204,37 @@ fn parts_of<R: Wait>(rt: &R, alloc: Global) -> Result<DeskParts<UpdateLog>> {
     }
 }
 
+/// Prints how often calls were made, and how many nanoseconds they took: the mean, and the longest.
+fn print_times<R: Print>(rt: &R, name: &str, times: Times) -> Result<()> {
+    let (mean, longest) = (times.mean(), times.longest());
+    println!(rt; "{name} {} {mean} {longest}", times.count())?;
+    Ok(())
+}
+
+fn print_report<R: Print>(rt: &R, report: Report) -> Result<()> {
+    print_times(rt, "commits", report.commits)?;
+    print_times(rt, "looks", report.looks.looks)?;
+    print_times(rt, "matches", report.looks.matches)?;
+    println!(rt; "segments {}", report.segments)?;
+    println!(rt; "queries {}", report.queries)?;
+    Ok(())
+}
+
 fn main(rt: HostRuntime) -> Result<()> {
-    let work = work_of(&rt)?;
+    let form = form_of(&rt)?;
     let alloc = rt.alloc();
     let parts = parts_of(&rt, alloc)?;
-    let last = play::<Brand, _>(&rt, alloc, parts, work)?;
-    println!(rt; "{} queries after {} commands", last.count(), last.place())?;
+    match form {
+        Form::Held(work) => {
+            let last = play::<Brand, _>(&rt, alloc, parts, work)?;
+            println!(rt; "{} queries after {} commands", last.count(), last.place())?;
+        }
+        Form::Beside(commits, merger) => {
+            print_report(
+                &rt,
+                measure::<Brand, _>(&rt, alloc, parts, commits, merger)?,
+            )?;
+        }
+    }
     Ok(())
 }

@@ -6,21 +6,10 @@ use crate::locked::DeskName;
 use crate::refused::Refused;
 use crate::seat::Seat;
 use clip_listen::UpdateListener;
-use clip_registry::{Installed, MergeJob, Merged};
+use clip_registry::{Installed, MergeJob, MergeTurn, Merged};
 use clip_words::NoMemory;
 use crossbeam_channel::Receiver;
 use std::sync::{MutexGuard, Wait};
-
-/// What one merge did.
-#[derive(Clone, Copy, Debug, PartialEq, Eq)]
-pub enum MergeTurn {
-    /// There were no four neighbouring segments of one level.
-    Nothing,
-    /// The oldest four such segments are one now.
-    Installed,
-    /// The four did not stand any more when their merge was done, and nothing was changed.
-    Stale,
-}
 
 /// What a desk's merging thread is told.
 #[derive(Clone, Copy, Debug, PartialEq, Eq)]

@@ -11,7 +11,7 @@ mod refused;
 mod seat;
 
 pub use desk::{Closed, Desk, SeatMissing};
-pub use desk_merging::{MergeTurn, Nudge};
+pub use desk_merging::Nudge;
 pub use locked::{DeskName, Locked};
 pub use parts::DeskParts;
 pub use refused::{NewRefused, Refused};

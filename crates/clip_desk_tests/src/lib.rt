@@ -4,6 +4,8 @@
 #[cfg(test)]
 mod callers;
 #[cfg(test)]
+mod four_threads;
+#[cfg(test)]
 mod listening;
 #[cfg(test)]
 mod making;
@@ -11,6 +13,8 @@ mod making;
 mod memory;
 #[cfg(test)]
 mod merging;
+#[cfg(test)]
+mod plain;
 #[cfg(test)]
 mod refusals;
 #[cfg(test)]

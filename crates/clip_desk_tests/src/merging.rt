@@ -4,8 +4,9 @@ ghost use Rattle.clip_listen.specs.Updates.{heard_at};
 ghost use Rattle.clip_desk.specs.Locked.{IsSeatOf};
 
 use crate::making::{commit, commit_four, parts_of, pop_seat, register};
-use clip_desk::{Desk, DeskName, DeskParts, MergeTurn, Nudge, Seat};
+use clip_desk::{Desk, DeskName, DeskParts, Nudge, Seat};
 use clip_listen::UpdateLog;
+use clip_registry::MergeTurn;
 use crossbeam_channel::unbounded;
 use std::alloc::Global;
 use std::marker::Brand;

@@ -3,19 +3,8 @@ ghost use Rattle.std.specs.Prelude.{◌≡◌, ℕ, Ok};
 ghost use Rattle.clip_merge.specs.Plan.{IsRun};
 ghost use Rattle.clip_front.specs.Steps.Turns.{HasMerged};
 
-use clip_registry::{Installed, Registrar};
+use clip_registry::{Installed, MergeTurn, Registrar};
 use clip_words::NoMemory;
-
-/// What a merge turn did.
-#[derive(Clone, Copy, Debug, PartialEq, Eq)]
-pub enum MergeTurn {
-    /// There were no four neighbouring segments of one level.
-    Nothing,
-    /// The oldest four such segments are one now.
-    Installed,
-    /// The merge was stale, and nothing was changed.
-    Stale,
-}
 
 /// Merges the oldest four neighbouring segments of one level, where there are such four. What is registered stays as it
 /// is. `NoMemory` where an allocation failed, with nothing changed; a later turn may merge them.

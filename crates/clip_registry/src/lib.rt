@@ -18,6 +18,6 @@ mod view;
 
 pub use command::{Applied, Command, HistoryEntry, Refused};
 pub use history::History;
-pub use merging::{Installed, MergeJob, Merged, late_merges_miss_nothing};
+pub use merging::{Installed, MergeJob, MergeTurn, Merged, late_merges_miss_nothing};
 pub use registrar::Registrar;
 pub use view::View;

@@ -72,6 +72,17 @@ pub enum Installed {
     Stale,
 }
 
+/// What a turn of merging did: a job begun where there is one, run, and its merge installed.
+#[derive(Clone, Copy, Debug, PartialEq, Eq)]
+pub enum MergeTurn {
+    /// There were no four neighbouring segments of one level.
+    Nothing,
+    /// The oldest four such segments are one now.
+    Installed,
+    /// The four did not stand any more when their merge was done, and nothing was changed.
+    Stale,
+}
+
 /// Whether the entry is not live, or named.
 fn is_named_if_live(entry: &Entry, roster: &Roster, live: &Live) -> bool
     ensures { result ≡ has_seq_if_live roster.now.registry live.now entry.now }
