@@ -1,11 +1,15 @@
 -- What a desk of one caller says of its history.
-use Rattle.std.proofs.Common.{◌≡◌, ℕ, suc, ◌+◌, ◌<◌, ◌≤◌, ◌==◌, List, [], ◌∷◌, ◌++◌, length, map, filter, Bool, true, false, Some, refl, sym, ap, subst, ◌∙◌, arith, append_assoc, append-nil, length-append, eq-eqb, if◌then◌else◌, IsTrue}
+use Rattle.std.proofs.Common.{◌≡◌, ℕ, suc, ◌+◌, ◌<◌, ◌≤◌, ◌==◌, List, [], ◌∷◌, ◌++◌, length, map, filter, Bool, true, false, refl, sym, ap, subst, ◌∙◌, arith, append_assoc, append-nil, length-append, eq-eqb, if◌then◌else◌, IsTrue, IsFalse}
+use Rattle.std.specs.Prelude.{Some, None}
 use Rattle.std.specs.FinMap as finite
-use Rattle.clip_model.specs.History.{History, HistoryEntry, Command, IsLegal, own, next_entry, with_command, has_room, listed, after_command, replay}
+use Rattle.clip_model.specs.History.{History, HistoryEntry, Command, IsLegal, own, next_entry, with_command, has_room, applied, listed, after_command, replay}
 use Rattle.clip_model.specs.declared.limits.TheConstants.{MOST_LIVE, MOST_ENTRIES}
 use Rattle.clip_model.proofs.Legal.{room_from}
 use Rattle.clip_model.proofs.Replay.{replays_on}
+use Rattle.clip_registry.specs.Command.{answer_of}
+use Rattle.clip_registry.specs.declared.command.Applied.{Applied}
 use Rattle.clip_chronicle.specs.Callers.{IsBy}
+use Rattle.clip_workers.specs.Registry.{IsJudged}
 use Rattle.clip_workers.specs.Alone.{then_alone, history_alone}
 
 -- an entry that caller 1 gives next
@@ -70,3 +74,24 @@ had_room before after c is legal =
     let short = legal.short in
     let long : length after ≡ length before + 1 = ap length is ∙ length-append before (e ∷ []) in
     room_from before c (subst (λ r. finite.len r ≤ MOST_LIVE) same small) (omega (arith, short, long))
+
+-- ---- what the desk's only caller learns
+
+pub accepted : (before after : History) (n caller : ℕ) (old new : List Command) (c : Command) (a : Applied) → after ≡ with_command before caller c → a ≡ answer_of c (applied before c) → IsLegal after → IsBy n after → n ≡ 1 → caller ≡ 1 → own after caller ≡ new → new ≡ old ++ c ∷ []
+    → IsJudged (history_alone old) (history_alone new) c (Some a)
+accepted before after n caller old new c a is answer legal by one first all grown =
+    let added : after ≡ with_command before 1 c = is ∙ ap (λ k. with_command before k c) first in
+    let mine : own after 1 ≡ old ++ c ∷ [] = ap (own after) (sym first) ∙ all ∙ grown in
+    let same : before ≡ history_alone old = before_alone before after n old c added legal by one mine in (
+      subst (λ h. has_room h c ≡ true) same (had_room before after c added legal),
+      ap history_alone grown ∙ alone_more old c,
+      answer ∙ ap (λ h. answer_of c (applied h c)) same,
+    )
+
+pub refused : (seen : History) (n caller : ℕ) (old new : List Command) (c : Command) → IsFalse (has_room seen c) → IsLegal seen → IsBy n seen → n ≡ 1 → caller ≡ 1 → own seen caller ≡ old → new ≡ old → IsJudged (history_alone old) (history_alone new) c None
+refused seen n caller old new c full legal by one first all stays =
+    let same : seen ≡ history_alone old = alone seen n old legal by one (ap (own seen) (sym first) ∙ all) in
+    (subst (λ h. has_room h c ≡ false) same full, ap history_alone stays)
+
+pub looked : (seen : History) (n caller : ℕ) (mine : List Command) → IsLegal seen → IsBy n seen → n ≡ 1 → caller ≡ 1 → own seen caller ≡ mine → seen ≡ history_alone mine
+looked seen n caller mine legal by one first all = alone seen n mine legal by one (ap (own seen) (sym first) ∙ all)

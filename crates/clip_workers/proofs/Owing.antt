@@ -11,7 +11,7 @@ use Rattle.clip_front.proofs.Delivering.{none_posted}
 use Rattle.clip_front.proofs.Meanings.{means_from}
 use Rattle.clip_front.proofs.OneOutcome.{outline_some}
 use Rattle.clip_front.proofs.Outcomes.{followed_assoc, followed_nothing, kept_append, given_kept}
-use Rattle.clip_workers.specs.Owed.{Owed, ready, matched, owed_of, owes, Course, Gave, Pays, Turns, BreaksOff}
+use Rattle.clip_workers.specs.Owed.{Owed, ready, matched, owed_of, owes, Course, Gave, Pays, Turns, BreaksOff, HearsOwed}
 
 -- ---- what was heard changes nothing that is owed
 
@@ -127,10 +127,6 @@ turns_after s t u n line a b p q =
     }
 
 -- ---- where a run is broken off
-
--- of what is owed a front was heard
-abbrev pub HearsOwed : Course → Course → Type 0
-HearsOwed s t = HearsFront (owes s.hearers s.owed).alerts s.hearers t.hearers
 
 pub hears_none : (s t : Course) → t.hearers ≡ s.hearers → HearsOwed s t
 hears_none s t e = subst (λ hs. HearsFront (owes s.hearers s.owed).alerts s.hearers hs) (sym e) (no_front (owes s.hearers s.owed).alerts s.hearers)

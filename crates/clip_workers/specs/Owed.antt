@@ -66,3 +66,21 @@ TurnsIn view s t n line text = Turns (view s) (view t) n line text
 
 abbrev pub BreaksIn : {S : Type 0} → (S → Course) → Breaking S
 BreaksIn view s t n line = BreaksOff (view s) (view t) n line
+
+-- of what is owed, a front of the alerts was heard
+abbrev pub HearsOwed : Course → Course → Type 0
+HearsOwed old new = HearsFront (owes old.hearers old.owed).alerts old.hearers new.hearers
+
+-- a front of what was owed was given, and its text stands at the end
+abbrev pub PaysInto : Course → Course → List ℕ → List ℕ → Type 0
+PaysInto old new before now = (text : List ℕ) × Pays old new text × (now ≡ before ++ text)
+
+-- the course that owes one thing more
+abbrev pub owing : Course → Owed → Course
+owing s o = record { history = s.history; hearers = s.hearers; rows = s.rows; keeps = s.keeps; owed = s.owed ++ o ∷ [] }
+
+-- A front of what was owed was given, its text stands at the end, and a batch is owed to line n.
+pub record TakesBatch (old new : Course) (n : ℕ) (articles : List ArticleValue) (before now : List ℕ) : Type 0 where
+  pub between : Course
+  pub pays : PaysInto old between before now
+  pub takes : new ≡ owing between (matched n between.history articles)

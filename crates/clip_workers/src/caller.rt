@@ -1,15 +1,15 @@
 //! The run as the only caller at a desk.
-ghost use Rattle.std.specs.Prelude.{◌≡◌, IfOk, IsTrue};
-ghost use Rattle.clip_model.specs.History.{fits};
-ghost use Rattle.clip_registry.specs.Command.{command_of};
-ghost use Rattle.clip_workers.specs.Alone.{history_alone, Judged};
+ghost use Rattle.std.specs.Prelude.{◌≡◌};
+ghost use Rattle.clip_workers.specs.Alone.{history_alone};
 ghost use Rattle.clip_workers.specs.Seated.{IsOnly};
 
+use crate::stand_in::Registry;
 use clip_desk::{Desk, DeskName, Nudge, Refused, Seat};
 use clip_listen::UpdateLog;
 use clip_registry::{Applied, Command, View};
 use clip_words::NoMemory;
 use crossbeam_channel::Sender;
+use std::marker::Model;
 use std::sync::Wait;
 
 /// The only caller at a desk, who tells the merging thread of each accepted command.
@@ -18,7 +18,20 @@ pub struct Caller<'a, R, N: DeskName> {
     desk: &'a Desk<N, UpdateLog>,
     seat: Seat,
     nudges: &'a Sender<Nudge>,
-    ghost only: { IsOnly N.book N.callers desk.now seat },
+}
+
+impl<'a, R, N: DeskName> Model for Caller<'a, R, N> {
+    ghost use Rattle.clip_model.specs.History.{History, history_code};
+    ghost use Rattle.clip_workers.specs.Alone.{history_alone};
+    ghost use Rattle.clip_workers.specs.Seated.{IsOnly};
+
+    ghost Value = { History };
+
+    ghost coded = { history_code };
+
+    ghost view = { λ c. history_alone c.seat.mine };
+
+    ghost invariant = { λ c. IsOnly N.book N.callers c.desk.now c.seat };
 }
 
 impl<'a, R: Wait, N: DeskName> Caller<'a, R, N> {
@@ -30,7 +43,7 @@ impl<'a, R: Wait, N: DeskName> Caller<'a, R, N> {
         nudges: &'a Sender<Nudge>,
     ) -> Caller<'a, R, N>
         requires { IsOnly N.book N.callers desk.now seat }
-        ensures { result.seat ≡ seat }
+        ensures { result ≡ history_alone seat.mine }
     {
         Caller {
             rt,
@@ -39,12 +52,12 @@ impl<'a, R: Wait, N: DeskName> Caller<'a, R, N> {
             nudges,
         }
     }
+}
 
-    /// Accepts a command where there is room for it.
-    pub fn accept(&mut self, command: Command) -> Result<Option<Applied>, NoMemory>
-        requires { IsTrue (fits (command_of command)) }
-        ensures { IfOk result (Judged (history_alone self.old.seat.mine) (history_alone self.new.seat.mine) (command_of command)) }
-    {
+impl<'a, R: Wait, N: DeskName> Registry for Caller<'a, R, N> {
+    ghost history_in = { λ h. h };
+
+    fn accept(&mut self, command: Command) -> Result<Option<Applied>, NoMemory> {
         match self.desk.commit(self.rt, &mut self.seat, command) {
             Ok(receipt) => {
                 // A nudge that is refused memory is dropped.
@@ -57,21 +70,14 @@ impl<'a, R: Wait, N: DeskName> Caller<'a, R, N> {
         }
     }
 
-    /// Leaves out what is dead.
-    pub fn purge_dead(&mut self) -> Result<(), NoMemory>
-        ensures { self.new.seat.mine ≡ self.old.seat.mine }
-    {
+    fn purge_dead(&mut self) -> Result<(), NoMemory> {
         match self.desk.purge(self.rt, &mut self.seat) {
             Ok(()) => Ok(()),
             Err(_) => Err(NoMemory),
         }
     }
 
-    /// The registry as it stands.
-    pub fn look(&mut self) -> Result<View, NoMemory>
-        ensures view { IfOk result (λ v. v.history ≡ history_alone self.old.seat.mine) }
-        ensures same { self.new.seat.mine ≡ self.old.seat.mine }
-    {
+    fn look(&mut self) -> Result<View, NoMemory> {
         self.seat.look()
     }
 }
