@@ -7,7 +7,7 @@ use Rattle.clip_listen.specs.Heard.{Hearer, NoteValue, told_all, note_of, notes_
 use Rattle.clip_listen.proofs.Hearing.{told_more, all_notes_kept, front_after, front_of_more}
 use Rattle.clip_ledger.specs.Rows.{RowValue, rows_of}
 use Rattle.clip_front.specs.Outcome.{kept_rows, rows_of_article}
-use Rattle.clip_front.specs.Steps.Answers.{told_in, rows_in}
+use Rattle.clip_front.specs.Steps.Found.{told_in, rows_in}
 use Rattle.clip_front.proofs.Outcomes.{kept_append}
 
 told_append : (vs ws : List AlertsValue) → told_in (vs ++ ws) ≡ told_in vs ++ told_in ws

@@ -1,18 +1,15 @@
 -- Outcomes of lines, one after the other, and what was heard meanwhile.
-use Rattle.std.proofs.Common.{◌≡◌, ℕ, List, [], ◌∷◌, ◌++◌, map, Bool, true, false, cond, refl, ap, ap₂, ◌∙◌, append_assoc, append-nil, inl, inr}
+use Rattle.std.proofs.Common.{◌≡◌, ℕ, List, [], ◌∷◌, ◌++◌, map, Bool, true, false, refl, ap, ap₂, ◌∙◌, append_assoc, append-nil}
 use Rattle.std.specs.Prelude.{flat_map}
 use Rattle.clip_meaning.specs.Article.{ArticleValue}
 use Rattle.clip_model.specs.Alerts.{Alert, alerts}
-use Rattle.clip_model.specs.History.{History, Command, Register, Delete, Clear, has_room}
+use Rattle.clip_model.specs.History.{History}
 use Rattle.clip_listen.specs.Heard.{Hearer, told_all}
 use Rattle.clip_listen.proofs.Hearing.{all_notes_kept}
 use Rattle.clip_ledger.specs.Rows.{RowValue, rows_of}
-use Rattle.clip_front.specs.declared.refusal.Refusal.{Refusal}
-use Rattle.clip_front.specs.LineMeaning.{Meaning, nothing, refusal, refusal_at, command, purging, counting, showing, matching, judged}
+use Rattle.clip_front.specs.LineMeaning.{Meaning, nothing, refusal, refusal_at, command, purging, counting, showing, matching}
 use Rattle.clip_front.specs.Reply.{matched, alerts_shown, alerts_of_all, reply_text, texts_said}
 use Rattle.clip_front.specs.Outcome.{Outcome, nothing_given, followed_by, given, alerts_told, rows_of_article, kept_rows}
-use Rattle.clip_front.specs.Steps.Answers.{alerts_outlined}
-use Rattle.clip_front.specs.Steps.Outline.{Outline, blank, refused, registers, deletes, clears, purges, counts, shows, matches, MeansOutline}
 
 -- ---- one after the other
 
@@ -51,24 +48,3 @@ given_kept front hearers n h counting = refl
 given_kept front hearers n h (showing id) = refl
 given_kept front hearers n h (matching articles) =
     ap₂ (λ t rows. outcome_by t (alerts_of_all h articles) rows) (ap (λ notes. reply_text n (matched (map (alerts_shown h) articles) notes)) (said_kept front hearers (alerts_of_all h articles))) (rows_kept front hearers n h articles)
-
--- ---- the alerts of a line, by its outline
-
-unjudged : (h : History) (c : Command) (b : Bool) (r : Refusal) → alerts_told h (cond b (command c) (refusal r)) ≡ []
-unjudged h c true r = refl
-unjudged h c false r = refl
-
-told-judged : (h : History) (c : Command) (m : Meaning) → m ≡ judged h c → alerts_told h m ≡ []
-told-judged h c m e = ap (alerts_told h) e ∙ unjudged h c (has_room h c) _
-
-pub told-outlined : (names : List (List ℕ)) (h : History) (o : Outline) (m : Meaning) → MeansOutline names h o m → alerts_told h m ≡ alerts_outlined h o
-told-outlined names h blank m e = ap (alerts_told h) e
-told-outlined names h (refused r) m e = ap (alerts_told h) e
-told-outlined names h (registers listings) m (inl f) = ap (alerts_told h) f.3
-told-outlined names h (registers listings) m (inr r) = told-judged h (Register r.0) m r.2
-told-outlined names h (deletes ids) m e = told-judged h (Delete ids) m e
-told-outlined names h clears m e = told-judged h Clear m e
-told-outlined names h purges m e = ap (alerts_told h) e
-told-outlined names h counts m e = ap (alerts_told h) e
-told-outlined names h (shows id) m e = ap (alerts_told h) e
-told-outlined names h (matches articles) m e = ap (alerts_told h) e

@@ -1,62 +1,67 @@
 -- What each kind of line leaves.
-use Rattle.std.proofs.Common.{◌≡◌, ℕ, List, [], ◌∷◌, ◌++◌, map, Bool, true, false, cond, refl, sym, ap, ap₂, ◌∙◌, append-nil}
-use Rattle.std.specs.Prelude.{flat_map}
-use Rattle.clip_meaning.specs.Article.{ArticleValue}
-use Rattle.clip_model.specs.Alerts.{alerts}
-use Rattle.clip_model.specs.History.{History, Command, Register, Delete, Clear, has_room, applied, with_command}
-use Rattle.clip_match.specs.Alerts.{AlertsValue, alerts_due}
-use Rattle.std.specs.Arc.{arc_str_bytes}
-use Rattle.clip_listen.specs.declared.note.Note.{Note}
-use Rattle.clip_listen.specs.Heard.{Hearer, told_all, note_value}
-use Rattle.clip_listen.proofs.Hearing.{told_none}
+use Rattle.std.proofs.Common.{◌≡◌, ℕ, List, [], ◌++◌, map, Bool, true, false, cond, refl, sym, ap, ap₂, ◌∙◌, subst, append-nil}
+use Rattle.std.specs.Prelude.{Option, Some, None}
+use Rattle.clip_model.specs.History.{History, Command, Register, Delete, Clear, has_room}
+use Rattle.clip_listen.specs.Heard.{Hearer, told_all, HearsFront}
+use Rattle.clip_listen.proofs.Hearing.{told_none, no_front}
 use Rattle.clip_ledger.specs.Rows.{RowValue}
+use Rattle.clip_match.specs.Alerts.{AlertsValue, alerts_due}
+use Rattle.clip_meaning.specs.Article.{ArticleValue}
 use Rattle.clip_registry.specs.Command.{answer_of}
 use Rattle.clip_registry.specs.RegistryState.{RegistryState}
 use Rattle.clip_registry.specs.declared.command.Applied.{Applied}
 use Rattle.clip_front.specs.declared.books.Books.{Books}
 use Rattle.clip_front.specs.declared.refusal.Refusal.{Refusal}
-use Rattle.clip_front.specs.LineMeaning.{Meaning, nothing, refusal, refusal_at, command, purging, counting, showing, matching, judged, after}
-use Rattle.clip_front.specs.Reply.{Reply, accepted, alerts_shown, alerts_of_all, answer_to, purged, matched, texts_said}
-use Rattle.clip_front.specs.Outcome.{alerts_told, rows_posted, rows_of_article, kept_rows, names_in}
-use Rattle.clip_front.specs.Steps.Answers.{Held, held, Responds, Settles, IsQuiet, Judges, told_in, rows_in}
-use Rattle.clip_front.specs.Steps.Outline.{Outline, MeansOutline, purges, matches}
-use Rattle.clip_front.specs.Steps.Views.{alerts_ids, applied_view}
+use Rattle.clip_front.specs.declared.refusal.Refusal.TheVariants.{Full}
+use Rattle.clip_front.specs.LineMeaning.{Meaning, Means, nothing, refusal, refusal_at, command, purging, counting, showing, matching, judged, after}
+use Rattle.clip_front.specs.Outcome.{alerts_told, rows_posted, kept_rows, given, names_in}
+use Rattle.clip_front.specs.Reply.{Reply, accepted, alerts_of_all, answer_to, refused, reply_text}
+use Rattle.clip_front.specs.Steps.Answers.{Held, held, Replies, Settles, GoesOn, Answers, Breaks}
+use Rattle.clip_front.specs.Steps.Found.{told_in, rows_in, found_text, found_outcome}
+use Rattle.clip_front.specs.Steps.Outline.{Outline, outline, matches, MeansOutline}
+use Rattle.clip_front.specs.Steps.Registry.{IsJudged}
+use Rattle.clip_front.specs.Steps.Taking.{IsQuiet, TakesQuietly}
+use Rattle.clip_front.specs.Steps.Views.{applied_view}
+use Rattle.clip_front.proofs.Found.{found_given}
+use Rattle.clip_front.proofs.Meanings.{means_from}
+use Rattle.clip_front.proofs.OneOutcome.{outline_some}
 
 -- ---- commands
 
-judged-room : (h : History) (c : Command) → has_room h c ≡ true → judged h c ≡ command c
-judged-room h c room = rw room
+judged-room : (h : History) (c : Command) (b : Bool) → has_room h c ≡ b → judged h c ≡ cond b (command c) (refusal Full)
+judged-room h c b room = ap (λ x. cond x (command c) (refusal Full)) room
 
 applied_view-answer_of : (c : Command) (n : ℕ) → applied_view (answer_of c n) ≡ accepted c n
 applied_view-answer_of (Register standings) n = refl
 applied_view-answer_of (Delete ids) n = refl
 applied_view-answer_of Clear n = refl
 
-pub judges_accepted : (old new : RegistryState) (c : Command) (a : Applied) (r : Reply) → new.history ≡ with_command old.history 1 c → has_room old.history c ≡ true → a ≡ answer_of c (applied old.history c) → r ≡ applied_view a → Judges old new c r
-judges_accepted old new c a r is room answer shows =
-    let accepts = judged-room old.history c room in
-    record {
-      history = is ∙ ap (after old.history) (sym accepts);
-      reply = λ hearers. shows ∙ ap applied_view answer ∙ applied_view-answer_of c _ ∙ ap (answer_to hearers old.history) (sym accepts);
-    }
+replies_as : (old new : History) (m n : Meaning) (r : Reply) → m ≡ n → Replies old new n r → Replies old new m r
+replies_as old new m n r same replies = rw same replies
 
-quiet_command : (c : Command) (b : Bool) (r : Refusal) → IsQuiet (cond b (command c) (refusal r))
-quiet_command c true r = tt
-quiet_command c false r = tt
+pub replies_accepted : (old new : History) (c : Command) (a : Applied) (r : Reply) → IsJudged old new c (Some a) → r ≡ applied_view a → Replies old new (judged old c) r
+replies_accepted old new c a r j shows =
+    replies_as old new (judged old c) (command c) r (judged-room old c true j.0)
+    (record { quiet = tt; history = j.1; reply = λ hearers. shows ∙ ap applied_view j.2 ∙ applied_view-answer_of c _ })
 
-quiet_judged : (h : History) (c : Command) → IsQuiet (judged h c)
-quiet_judged h c = quiet_command c (has_room h c) _
-
-pub settles_judged : (names : List (List ℕ)) (old new : RegistryState) (c : Command) (o : Outline) (r : Reply) → MeansOutline names old.history o (judged old.history c) → Judges old new c r → Settles names old new o r
-settles_judged names old new c o r means j = record { meaning = judged old.history c; means = means; quiet = quiet_judged old.history c; history = j.history; reply = j.reply }
+pub replies_full : (old new : History) (c : Command) → IsJudged old new c None → Replies old new (judged old c) (refused Full)
+replies_full old new c j = replies_as old new (judged old c) (refusal Full) (refused Full) (judged-room old c false j.0) (record { quiet = tt; history = j.1; reply = λ hearers. refl })
 
 -- ---- lines that tell no alert
 
-pub settles_purged : (names : List (List ℕ)) (old new : RegistryState) → new.history ≡ old.history → Settles names old new purges purged
-settles_purged names old new same = record { meaning = purging; means = refl; quiet = tt; history = same; reply = λ hearers. refl }
+-- a line that is settled is taken, and the text of its reply is printed
+pub takes_settled : (names : List (List ℕ)) (old new : History) (n : ℕ) (line text : List ℕ) (o : Outline) (r : Reply) → outline line ≡ o → Settles names old new o r → text ≡ reply_text n r → TakesQuietly names old new n line text
+takes_settled names old new n line text o r said s printed = record {
+  meaning = s.0;
+  means = means_from names old line s.0 (subst (λ x. MeansOutline names old x s.0) (sym said) s.1);
+  quiet = s.2.quiet;
+  history = s.2.history;
+  replies = λ hearers. printed ∙ ap (reply_text n) (s.2.reply hearers);
+}
 
-pub settles_still : (names : List (List ℕ)) (s : RegistryState) (o : Outline) (m : Meaning) (r : Reply) → MeansOutline names s.history o m → IsQuiet m → after s.history m ≡ s.history → ((hearers : List Hearer) → r ≡ answer_to hearers s.history m) → Settles names s s o r
-settles_still names s o m r means quiet same reply = record { meaning = m; means = means; quiet = quiet; history = sym same; reply = reply }
+-- a line that lists these articles is taken as they are
+pub takes_matched : (names : List (List ℕ)) (h : History) (line : List ℕ) (o : Outline) (articles : List ArticleValue) → outline line ≡ o → o ≡ matches articles → Means names h line (matching articles)
+takes_matched names h line o articles said is = means_from names h line (matching articles) (subst (λ x. MeansOutline names h x (matching articles)) (sym (said ∙ is)) refl)
 
 quiet_alerts : (h : History) (m : Meaning) → IsQuiet m → alerts_told h m ≡ []
 quiet_alerts h nothing q = refl
@@ -85,47 +90,56 @@ none_kept false = refl
 abbrev held_by : Bool → History → List Hearer → List RowValue → Held
 held_by keeps h hearers rows = record { history = h; hearers = hearers; rows = rows; keeps = keeps }
 
-pub responds_settled : (hearers : List Hearer) (books : Books) (old new : RegistryState) (n : ℕ) (o : Outline) (r : Reply) → Settles (names_in hearers) old new o r → Responds (held old hearers books) (held new hearers books) n o r
-responds_settled hearers books old new n o r s =
-    let told : hearers ≡ told_all (alerts_told old.history s.meaning) hearers = sym (ap (λ xs. told_all xs hearers) (quiet_alerts old.history s.meaning s.quiet) ∙ told_none hearers) in
-    let rows : books.ledger ≡ books.ledger ++ kept_rows books.keeps_rows (rows_posted hearers n old.history s.meaning) =
-    sym (ap (λ xs. books.ledger ++ kept_rows books.keeps_rows xs) (quiet_rows hearers n old.history s.meaning s.quiet) ∙ ap (λ xs. books.ledger ++ xs) (none_kept books.keeps_rows) ∙ append-nil books.ledger) in
+-- a line that tells no alert leaves the listeners and the rows as they are
+pub answers_quiet : (hearers : List Hearer) (books : Books) (old new : History) (n : ℕ) (line text : List ℕ) → TakesQuietly (names_in hearers) old new n line text → Answers (held old hearers books) (held new hearers books) n line text
+answers_quiet hearers books old new n line text t =
+    let told : hearers ≡ told_all (alerts_told old t.meaning) hearers = sym (ap (λ xs. told_all xs hearers) (quiet_alerts old t.meaning t.quiet) ∙ told_none hearers) in
+    let rows : books.ledger ≡ books.ledger ++ kept_rows books.keeps_rows (rows_posted hearers n old t.meaning) =
+    sym (ap (λ xs. books.ledger ++ kept_rows books.keeps_rows xs) (quiet_rows hearers n old t.meaning t.quiet) ∙ ap (λ xs. books.ledger ++ xs) (none_kept books.keeps_rows) ∙ append-nil books.ledger) in
     record {
-      meaning = s.meaning;
-      means = s.means;
-      goes_on = ap (λ h. held_by books.keeps_rows h hearers books.ledger) s.history ∙ ap₂ (held_by books.keeps_rows (after old.history s.meaning)) told rows;
-      reply = s.reply hearers;
+      meaning = t.meaning;
+      means = t.means;
+      goes_on = record {
+        leaves = ap (λ h. held_by books.keeps_rows h hearers books.ledger) t.history ∙ ap₂ (held_by books.keeps_rows (after old t.meaning)) told rows;
+        replies = t.replies hearers;
+      };
     }
 
 -- ---- matches
 
-shown-alerts_due : (s : RegistryState) (articles : List ArticleValue) → map alerts_ids (map (alerts_due s) articles) ≡ map (alerts_shown s.history) articles
-shown-alerts_due s [] = refl
-shown-alerts_due s (a ∷ articles) = ap (λ rest. alerts_shown s.history a ∷ rest) (shown-alerts_due s articles)
-
-pub told-alerts_due : (s : RegistryState) (articles : List ArticleValue) → told_in (map (alerts_due s) articles) ≡ alerts_of_all s.history articles
-told-alerts_due s [] = refl
-told-alerts_due s (a ∷ articles) = ap (λ rest. alerts s.history a ++ rest) (told-alerts_due s articles)
-
-rows-alerts_due : (hearers : List Hearer) (n : ℕ) (s : RegistryState) (articles : List ArticleValue) → rows_in hearers n (map (alerts_due s) articles) ≡ flat_map (λ a. rows_of_article hearers n (alerts s.history a)) articles
-rows-alerts_due hearers n s [] = refl
-rows-alerts_due hearers n s (a ∷ articles) = ap (λ rest. rows_of_article hearers n (alerts s.history a) ++ rest) (rows-alerts_due hearers n s articles)
-
-pub responds_matched : (s : RegistryState) (hearers heard : List Hearer) (books new_books : Books) (n : ℕ) (articles : List ArticleValue) (found : List AlertsValue) (texts : List (List ℕ)) → found ≡ map (alerts_due s) articles → texts ≡ texts_said hearers (told_in found)
+pub goes_on_matched : (view : RegistryState) (hearers heard : List Hearer) (books new_books : Books) (n : ℕ) (articles : List ArticleValue) (found : List AlertsValue) (text : List ℕ) → found ≡ map (alerts_due view) articles → text ≡ found_text hearers n found
     → heard ≡ told_all (told_in found) hearers → new_books.ledger ≡ books.ledger ++ kept_rows books.keeps_rows (rows_in hearers n found) → new_books.keeps_rows ≡ books.keeps_rows
-    → Responds (held s hearers books) (held s heard new_books) n (matches articles) (matched (map alerts_ids found) texts)
-responds_matched s hearers heard books new_books n articles found texts is said told rows keeps =
-    let all = ap told_in is ∙ told-alerts_due s articles in
-    let posted = ap (rows_in hearers n) is ∙ rows-alerts_due hearers n s articles in
+    → GoesOn (held view.history hearers books) (held view.history heard new_books) n (matching articles) text
+goes_on_matched view hearers heard books new_books n articles found text is printed told rows keeps =
+    let gives : found_outcome hearers n found ≡ given hearers n view.history (matching articles) = found_given view hearers n articles found is in
     record {
-      meaning = matching articles;
-      means = refl;
-      goes_on =
-          ap (λ k. held_by k s.history heard new_books.ledger) keeps
-          ∙ ap₂ (held_by books.keeps_rows s.history) (told ∙ ap (λ xs. told_all xs hearers) all) (rows ∙ ap (λ xs. books.ledger ++ kept_rows books.keeps_rows xs) posted);
-      reply = ap₂ matched (ap (map alerts_ids) is ∙ shown-alerts_due s articles) (said ∙ ap (texts_said hearers) all);
+      leaves =
+          ap (λ k. held_by k view.history heard new_books.ledger) keeps
+          ∙ ap₂ (held_by books.keeps_rows view.history) (told ∙ ap (λ o. told_all o.alerts hearers) gives) (rows ∙ ap (λ o. books.ledger ++ kept_rows books.keeps_rows o.rows) gives);
+      replies = printed ∙ ap (λ o. o.text) gives;
     }
 
-pub texts_of_notes : (notes : List Note) → map (λ n. arc_str_bytes n.text) notes ≡ map (λ n. n.text) (map note_value notes)
-texts_of_notes [] = refl
-texts_of_notes (n ∷ notes) = ap (λ texts. arc_str_bytes n.text ∷ texts) (texts_of_notes notes)
+-- where the registry stood still, so do the lines that it is looked at for
+pub answers_matched : (hearers heard : List Hearer) (books new_books : Books) (old taken seen new : History) (n : ℕ) (line text : List ℕ) (articles : List ArticleValue) → Means (names_in hearers) old line (matching articles) → taken ≡ old → seen ≡ taken → new ≡ taken
+    → GoesOn (held seen hearers books) (held seen heard new_books) n (matching articles) text → Answers (held old hearers books) (held new heard new_books) n line text
+answers_matched hearers heard books new_books old taken seen new n line text articles means still looked same goes =
+    let there : seen ≡ old = looked ∙ still in
+    let here : new ≡ old = same ∙ still in
+    record {
+      meaning = matching articles;
+      means = means;
+      goes_on = subst (λ h. GoesOn (held old hearers books) (held h heard new_books) n (matching articles) text) (sym here) (subst (λ h. GoesOn (held h hearers books) (held h heard new_books) n (matching articles) text) there goes);
+    }
+
+-- ---- lines that were broken off
+
+-- nothing was told
+pub breaks_untold : (old new : History) (hearers : List Hearer) (books new_books : Books) (line : List ℕ) → Breaks (held old hearers books) (held new hearers new_books) line
+breaks_untold old new hearers books new_books line =
+    let m = outline_some (names_in hearers) old (outline line) in
+    record { meaning = m.0; means = means_from (names_in hearers) old line m.0 m.1; heard = no_front _ _ }
+
+pub breaks_matched : (hearers heard : List Hearer) (books new_books : Books) (old taken seen new : History) (line : List ℕ) (articles : List ArticleValue) → Means (names_in hearers) old line (matching articles) → taken ≡ old → seen ≡ taken → HearsFront (alerts_of_all seen articles) hearers heard
+    → Breaks (held old hearers books) (held new heard new_books) line
+breaks_matched hearers heard books new_books old taken seen new line articles means still looked front =
+    record { meaning = matching articles; means = means; heard = subst (λ h. HearsFront (alerts_of_all h articles) hearers heard) (looked ∙ still) front }

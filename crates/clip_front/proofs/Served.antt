@@ -13,17 +13,15 @@ use Rattle.clip_model.specs.Alerts.{Alert}
 use Rattle.clip_model.specs.History.{History}
 use Rattle.clip_listen.specs.Heard.{Hearer, told_all, HearsFront}
 use Rattle.clip_listen.proofs.Hearing.{told_none, told_more, names_told, front_after}
-use Rattle.clip_front.specs.LineMeaning.{is_long, is_blank, json_of, Means, after}
-use Rattle.clip_front.specs.Reply.{reply_text}
+use Rattle.clip_front.specs.LineMeaning.{Meaning, is_long, is_blank, json_of, Means, after}
 use Rattle.clip_front.specs.Outcome.{Outcome, nothing_given, followed_by, given, names_in, kept_rows, Gives, GivesAll, GivesFront}
-use Rattle.clip_front.specs.Steps.Answers.{Held, Answers, alerts_outlined}
+use Rattle.clip_front.specs.Steps.Answers.{Held, Answers, Breaks}
 use Rattle.clip_front.specs.Steps.RunServer.{AnswersIn, BreaksIn}
 use Rattle.clip_front.specs.Steps.Outline.{outline, blank, outline_of_value, MeansOutline}
 use Rattle.clip_front.specs.Steps.Serving.{Serves, StopsAt, ServesAll, ServesFront}
 use Rattle.clip_front.proofs.Delivering.{none_posted}
-use Rattle.clip_front.proofs.Meanings.{means_from}
-use Rattle.clip_front.proofs.OneOutcome.{outline_some}
-use Rattle.clip_front.proofs.Outcomes.{followed_nothing, kept_append, given_kept, told-outlined}
+use Rattle.clip_front.proofs.Meanings.{means_from, means_to}
+use Rattle.clip_front.proofs.Outcomes.{followed_nothing, kept_append, given_kept}
 
 -- ---- a line that is cut says no other thing
 
@@ -60,6 +58,9 @@ outline-cut : (line : List ℕ) → outline (cut line) ≡ outline line
 unfolding outline
 outline-cut line = choose _ _ _ _ _ (cut_is_long line) (λ e. ap (λ l. if is_blank l then blank else outline_of_value (json_of l)) (cut_is_whole line e))
 
+means_cut : (names : List (List ℕ)) (h : History) (line : List ℕ) (m : Meaning) → Means names h (cut line) m → Means names h line m
+means_cut names h line m means = means_from names h line m (subst (λ o. MeansOutline names h o m) (outline-cut line) (means_to names h (cut line) m means))
+
 -- ---- the path of a server
 -- what was heard before changes nothing that is given
 gives_kept : (front : List Alert) (hearers : List Hearer) (n : ℕ) (h : History) (lines : List (List ℕ)) (o : Outcome) → Gives (told_all front hearers) n h lines o → Gives hearers n h lines o
@@ -71,20 +72,19 @@ gives_kept front hearers n h (line ∷ lines) o g =
 
 -- what the line gives
 abbrev given_now : (s t : Held) (n : ℕ) (line text : List ℕ) → Answers s t n line text → Outcome
-given_now s t n line text answers = given s.hearers n s.history answers.responds.meaning
+given_now s t n line text answers = given s.hearers n s.history answers.meaning
 
 heard_now : (s t : Held) (n : ℕ) (line text : List ℕ) (a : Answers s t n line text) → t.hearers ≡ told_all (given_now s t n line text a).alerts s.hearers
-heard_now s t n line text a = ap (λ x. x.hearers) a.responds.goes_on
+heard_now s t n line text a = ap (λ x. x.hearers) a.goes_on.leaves
 
 text_now : (s t : Held) (n : ℕ) (line text : List ℕ) (a : Answers s t n line text) → (given_now s t n line text a).text ≡ text
-text_now s t n line text a = sym (a.printed ∙ ap (reply_text n) a.responds.reply)
+text_now s t n line text a = sym a.goes_on.replies
 
 gives_first : (s t : Held) (n : ℕ) (line text : List ℕ) (lines : List (List ℕ)) (rest : Outcome) (a : Answers s t n (cut line) text) → Gives t.hearers (suc n) t.history lines rest → Gives s.hearers n s.history (line ∷ lines) (followed_by (given_now s t n (cut line) text a) rest)
 gives_first s t n line text lines rest a gives =
-    let m = a.responds.meaning in
-    let said = subst (λ o. MeansOutline (names_in s.hearers) s.history o m) (outline-cut line) a.responds.means in
+    let m = a.meaning in
     let now = given_now s t n (cut line) text a in
-    (m, rest, means_from (names_in s.hearers) s.history line m said, refl, gives_kept now.alerts s.hearers (suc n) (after s.history m) lines rest (subst (λ x. Gives x.hearers (suc n) x.history lines rest) a.responds.goes_on gives))
+    (m, rest, means_cut (names_in s.hearers) s.history line m a.means, refl, gives_kept now.alerts s.hearers (suc n) (after s.history m) lines rest (subst (λ x. Gives x.hearers (suc n) x.history lines rest) a.goes_on.leaves gives))
 
 -- ---- all lines were answered
 
@@ -104,7 +104,7 @@ given_first s t u n line first rest text lines a e more =
       printed = ap₂ (λ x y. x ++ y) (text_now s t n (cut line) first a) more.printed ∙ sym e;
       heard = more.heard ∙ ap (told_all more.outcome.alerts) (heard_now s t n (cut line) first a) ∙ told_more now.alerts more.outcome.alerts s.hearers;
       rows =
-          more.rows ∙ ap (λ x. x.rows ++ kept_rows x.keeps more.outcome.rows) a.responds.goes_on
+          more.rows ∙ ap (λ x. x.rows ++ kept_rows x.keeps more.outcome.rows) a.goes_on.leaves
           ∙ append_assoc s.rows (kept_rows s.keeps now.rows) (kept_rows s.keeps more.outcome.rows) ∙ ap (λ xs. s.rows ++ xs) (kept_append s.keeps now.rows more.outcome.rows);
     }
 
@@ -141,17 +141,15 @@ record BegunBy (s t : Held) (n : ℕ) (lines : List (List ℕ)) (text : List ℕ
   printed : outcome.text ≡ text ++ more
   heard : HearsFront outcome.alerts s.hearers t.hearers
 
-begun_here : (s t : Held) (n : ℕ) (line : List ℕ) → HearsFront (alerts_outlined s.history (outline (cut line))) s.hearers t.hearers → BegunBy s t n (line ∷ []) []
-begun_here s t n line heard =
-    let m = outline_some (names_in s.hearers) s.history (outline line) in
-    let now = given s.hearers n s.history m.0 in
-    let same : alerts_outlined s.history (outline (cut line)) ≡ now.alerts = ap (alerts_outlined s.history) (outline-cut line) ∙ sym (told-outlined (names_in s.hearers) s.history (outline line) m.0 m.1) in
+begun_here : (s t : Held) (n : ℕ) (line : List ℕ) → Breaks s t (cut line) → BegunBy s t n (line ∷ []) []
+begun_here s t n line b =
+    let now = given s.hearers n s.history b.meaning in
     record {
       outcome = now;
-      gives = (m.0, nothing_given, means_from (names_in s.hearers) s.history line m.0 m.1, sym (followed_nothing now), refl);
+      gives = (b.meaning, nothing_given, means_cut (names_in s.hearers) s.history line b.meaning b.means, sym (followed_nothing now), refl);
       more = now.text;
       printed = refl;
-      heard = subst (λ xs. HearsFront xs s.hearers t.hearers) same heard;
+      heard = b.heard;
     }
 
 begun_first : (s t u : Held) (n : ℕ) (line first rest text : List ℕ) (lines : List (List ℕ)) → Answers s t n (cut line) first → text ≡ first ++ rest → BegunBy t u (suc n) lines rest → BegunBy s u n (line ∷ lines) text

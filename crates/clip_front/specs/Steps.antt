@@ -1,7 +1,10 @@
 pub mod Answers
-pub mod RunServer
+pub mod Found
 pub mod Outline
+pub mod Registry
+pub mod RunServer
 pub mod Serving
+pub mod Taking
 pub mod TraceServer
 pub mod TraceOutline
 pub mod Turns

@@ -1,35 +1,30 @@
-//! One line in, one reply out.
-ghost use Rattle.std.specs.Prelude.{◌≡◌, IfOk, OnErr, IsTrue, List, map, string_bytes, option_map, true};
+//! Lines taken: what each comes to, before any alert is told.
+ghost use Rattle.std.specs.Prelude.{◌≡◌, IfOk, IsTrue, List, map, string_bytes, option_map, true};
 ghost use Rattle.std.specs.List.{list_all};
-ghost use Rattle.clip_listen.specs.Heard.{Hearer, HearsFront};
+ghost use Rattle.clip_listen.specs.Heard.{Hearer};
 ghost use Rattle.clip_model.specs.History.{fits};
 ghost use Rattle.clip_registry.specs.Command.{command_of};
 ghost use Rattle.clip_words.specs.Ids.{is_id};
-ghost use Rattle.clip_front.specs.LineMeaning.{is_here, showing};
+ghost use Rattle.clip_front.specs.LineMeaning.{is_here, showing, judged};
 ghost use Rattle.clip_front.specs.Outcome.{names_in};
 ghost use Rattle.clip_front.specs.Reply.{answer_to};
-ghost use Rattle.clip_front.specs.Steps.Answers.{Answers, Judges, ReadsListing, TakesListing, TakesList, Responds, Settles, held, alerts_outlined};
-ghost use Rattle.clip_front.specs.Steps.Outline.{is_within, registers, matches, outline};
+ghost use Rattle.clip_front.specs.Steps.Answers.{ReadsListing, TakesListing, TakesList, Replies, Settles, Comes};
+ghost use Rattle.clip_front.specs.Steps.Outline.{is_within, registers};
+ghost use Rattle.clip_front.specs.Steps.Taking.{Takes};
 ghost use Rattle.clip_front.specs.Steps.Views.{applied_view, line_view, listing_view, reply_view};
 
-use crate::books::Books;
-use crate::deliver::deliver_all;
 use crate::line::Line;
-use crate::merging::merge_turn;
 use crate::refusal::{Refusal, Unread};
+use crate::registry::Registry;
 use crate::reply::Reply;
 use crate::request::Listing;
 use clip_listen::Audience;
-use clip_match::match_batch;
 use clip_meaning::Article;
-use clip_registry::{Applied, Command, Refused, Registrar, View};
+use clip_registry::{Applied, Command, View};
 use clip_segment::{Standing, StandingFault};
 use clip_words::NoMemory;
 use std::alloc::{AllocError, AllocFailed, Global};
 use std::sync::Arc;
-
-/// The caller of each change.
-const CALLER: u32 = 1;
 
 /// Why a list of queries is not registered.
 #[derive(Clone, Copy)]
@@ -138,35 +133,31 @@ pub fn accepted(applied: Applied) -> Reply
     }
 }
 
-/// Applies a command, where there is room for it, and takes a merge turn then.
-fn apply(registrar: &mut Registrar, command: Command) -> Result<Reply, NoMemory>
+/// Accepts a command, where there is room for it.
+fn apply<H: Registry>(registry: &mut H, command: Command) -> Result<Reply, NoMemory>
     requires { IsTrue (fits (command_of command)) }
-    ensures { IfOk result (λ reply. Judges registrar.old registrar.new (command_of command) (reply_view reply)) }
+    ensures { IfOk result (λ reply. Replies (H.history_in registry.old) (H.history_in registry.new)
+        (judged (H.history_in registry.old) (command_of command)) (reply_view reply)) }
 {
-    match registrar.apply(CALLER, command) {
-        Ok(applied) => {
-            // A turn that is refused memory is dropped.
-            let _ = merge_turn(registrar);
-            Ok(accepted(applied))
-        }
-        Err((_, Refused::Full)) => Ok(Reply::Refused(Refusal::Full)),
-        Err((_, Refused::NoMemory)) => Err(NoMemory),
+    match registry.accept(command)? {
+        Some(applied) => Ok(accepted(applied)),
+        None => Ok(Reply::Refused(Refusal::Full)),
     }
 }
 
 /// Registers a list of queries, all or none.
-fn register<A: Audience>(
+fn register<A: Audience, H: Registry>(
     alloc: Global,
-    registrar: &mut Registrar,
+    registry: &mut H,
     audience: &A,
     listings: Vec<Listing>,
 ) -> Result<Reply, NoMemory>
     requires { is_within (registers (map listing_view listings.items)) ≡ true }
-    ensures { IfOk result (λ reply. Settles (names_in (A.hearers audience.now)) registrar.old registrar.new
-        (registers (map listing_view listings.items)) (reply_view reply)) }
+    ensures { IfOk result (λ reply. Settles (names_in (A.hearers audience.now)) (H.history_in registry.old)
+        (H.history_in registry.new) (registers (map listing_view listings.items)) (reply_view reply)) }
 {
     match take_all(alloc, audience, listings) {
-        Ok(standings) => apply(registrar, Command::Register(standings)),
+        Ok(standings) => apply(registry, Command::Register(standings)),
         Err(ListFault::Refused(reason, place)) => Ok(Reply::RefusedAt(reason, place)),
         Err(ListFault::NoMemory) => Err(NoMemory),
     }
@@ -183,86 +174,70 @@ fn show(alloc: Global, view: &View, id: &str) -> Result<Reply, NoMemory>
     }
 }
 
-/// Matches articles at a view, and delivers their alerts.
-fn matching<A: Audience>(
-    alloc: Global,
-    view: &View,
-    audience: &mut A,
-    books: &mut Books,
-    number: u64,
-    articles: &[Article],
-) -> Result<Reply, NoMemory>
-    ensures ok { IfOk result (λ reply. Responds (held view.now (A.hearers audience.old) books.old)
-        (held view.now (A.hearers audience.new) books.new) number (matches articles.now) (reply_view reply)) }
-    ensures err { OnErr result (HearsFront (alerts_outlined view.now.history (matches articles.now))
-        (A.hearers audience.old) (A.hearers audience.new)) }
-{
-    let found = match_batch(alloc, view, articles)?;
-    let notes = deliver_all(alloc, audience, books, number, &found)?;
-    Ok(Reply::Matched(found, notes))
+/// What is done about a line.
+#[derive(Drop)]
+enum Response {
+    /// It is answered by this reply.
+    Reply(Reply),
+    /// These articles are to be matched.
+    Match(Vec<Article>),
 }
 
-/// Answers a line: changes apply to the registrar, all else is answered by its view, and alerts are delivered.
-fn respond<A: Audience>(
+/// Does what a line says, but for the matching: changes apply to the registry, all else is answered by its view.
+fn respond<A: Audience, H: Registry>(
     alloc: Global,
-    registrar: &mut Registrar,
-    audience: &mut A,
-    books: &mut Books,
-    number: u64,
+    registry: &mut H,
+    audience: &A,
     line: Line,
-) -> Result<Reply, NoMemory>
+) -> Result<Response, NoMemory>
     requires { is_within (line_view line) ≡ true }
-    ensures ok { IfOk result (λ reply. Responds (held registrar.old (A.hearers audience.old) books.old)
-        (held registrar.new (A.hearers audience.new) books.new) number (line_view line) (reply_view reply)) }
-    ensures err { OnErr result (HearsFront (alerts_outlined registrar.old.history (line_view line))
-        (A.hearers audience.old) (A.hearers audience.new)) }
+    ensures { IfOk result (λ response. Comes (names_in (A.hearers audience.now)) (H.history_in registry.old)
+        (H.history_in registry.new) (line_view line) response) }
 {
     match line {
-        Line::Blank => Ok(Reply::Nothing),
-        Line::Refused(reason) => Ok(Reply::Refused(reason)),
-        Line::Register(listings) => register(alloc, registrar, audience, listings),
-        Line::Delete(ids) => apply(registrar, Command::Delete(ids)),
-        Line::Clear => apply(registrar, Command::Clear),
+        Line::Blank => Ok(Response::Reply(Reply::Nothing)),
+        Line::Refused(reason) => Ok(Response::Reply(Reply::Refused(reason))),
+        Line::Register(listings) => Ok(Response::Reply(register(alloc, registry, audience, listings)?)),
+        Line::Delete(ids) => Ok(Response::Reply(apply(registry, Command::Delete(ids))?)),
+        Line::Clear => Ok(Response::Reply(apply(registry, Command::Clear)?)),
         Line::Purge => {
-            registrar.purge()?;
-            Ok(Reply::Purged)
+            registry.purge_dead()?;
+            Ok(Response::Reply(Reply::Purged))
         }
-        Line::Count => Ok(Reply::Counted(registrar.view()?.count())),
-        Line::Show(id) => show(alloc, &registrar.view()?, id.as_str()),
-        Line::Match(articles) => {
-            matching(
-                alloc,
-                &registrar.view()?,
-                audience,
-                books,
-                number,
-                &articles,
-            )
-        }
+        Line::Count => Ok(Response::Reply(Reply::Counted(registry.look()?.count()))),
+        Line::Show(id) => Ok(Response::Reply(show(alloc, &registry.look()?, id.as_str())?)),
+        Line::Match(articles) => Ok(Response::Match(articles)),
     }
 }
 
-/// The reply to the line of this number, with its line feed, or nothing for a blank line. The alerts of a match are
-/// delivered before.
+/// What a line comes to.
+#[derive(Drop)]
+pub enum Taken {
+    /// The text of its reply, with its line feed, or nothing for a blank line.
+    Text(Vec<u8>),
+    /// Articles that are to be matched at the registry's view.
+    Articles(Vec<Article>),
+}
+
+/// Takes the line of this number: a change applies to the registry, and all else but a match is answered by its view.
+/// No alert is told.
 ///
-/// `NoMemory` where an allocation failed or a listener answers it; the listeners have heard some first ones of the
-/// line's alerts then. A change costs that of `Registrar::apply` after the reading of its queries, and a merge turn; a
-/// purge costs that of `Registrar::purge`; a match costs that of `match_batch` and of the delivery; a count takes
-/// constant time, and a show one look-up by id.
-pub fn answer<A: Audience>(
+/// `NoMemory` where an allocation failed. A change costs that of `Registry::accept` after the reading of its queries; a
+/// purge costs that of `Registry::purge_dead`; a count takes that of `Registry::look`, and a show one look-up by id
+/// more; a match costs the reading of its articles.
+pub fn take_line<A: Audience, H: Registry>(
     alloc: Global,
-    registrar: &mut Registrar,
-    audience: &mut A,
-    books: &mut Books,
+    registry: &mut H,
+    audience: &A,
     number: u64,
     bytes: &[u8],
-) -> Result<Vec<u8>, NoMemory>
-    ensures ok { IfOk result (λ text. Answers (held registrar.old (A.hearers audience.old) books.old)
-        (held registrar.new (A.hearers audience.new) books.new) number bytes.now text.items) }
-    ensures err { OnErr result (HearsFront (alerts_outlined registrar.old.history (outline bytes.now))
-        (A.hearers audience.old) (A.hearers audience.new)) }
+) -> Result<Taken, NoMemory>
+    ensures { IfOk result (λ taken. Takes (names_in (A.hearers audience.now)) (H.history_in registry.old)
+        (H.history_in registry.new) number bytes.now taken) }
 {
     let line = Line::of_bytes(alloc, bytes)?;
-    let reply = respond(alloc, registrar, audience, books, number, line)?;
-    reply.text(alloc, number)
+    match respond(alloc, registry, audience, line)? {
+        Response::Reply(reply) => Ok(Taken::Text(reply.text(alloc, number)?)),
+        Response::Match(articles) => Ok(Taken::Articles(articles)),
+    }
 }

@@ -3,9 +3,10 @@ ghost use Rattle.std.specs.Prelude.{◌≡◌, ◌++◌, map, IfOk, OnOk, OnErr}
 ghost use Rattle.clip_match.specs.Alerts.{alerts_value};
 ghost use Rattle.clip_listen.specs.Heard.{told_all, note_value, notes_of, alerts_of, HearsFront};
 ghost use Rattle.clip_front.specs.Outcome.{kept_rows, rows_of_article};
-ghost use Rattle.clip_front.specs.Steps.Answers.{told_in, rows_in};
+ghost use Rattle.clip_front.specs.Steps.Found.{told_in, rows_in, found_text};
 
 use crate::books::Books;
+use crate::reply::Reply;
 use clip_listen::{Audience, Note, deliver_to};
 use clip_match::Alerts;
 use clip_words::NoMemory;
@@ -38,7 +39,7 @@ fn deliver_article<A: Audience>(
 ///
 /// `NoMemory` where an allocation failed or a listener answers it; the listeners have heard some first ones of the
 /// alerts then. Cost: that of `deliver_to` and of `Books::post` for each article.
-pub fn deliver_all<A: Audience>(
+fn deliver_all<A: Audience>(
     alloc: Global,
     audience: &mut A,
     books: &mut Books,
@@ -61,4 +62,31 @@ pub fn deliver_all<A: Audience>(
         notes.append(&mut said)?;
     }
     Ok(notes)
+}
+
+/// Delivers the alerts that were found of a line's articles, posts them, and gives the text of the reply to the line of
+/// this number: the ids of the queries of each article, and what the listeners said, all in order.
+///
+/// `NoMemory` where an allocation failed or a listener answers it; the listeners have heard some first ones of the
+/// alerts then, and some first rows may be posted. Cost: that of `deliver_to` and of `Books::post` for each article, and
+/// of the text.
+pub fn deliver_found<A: Audience>(
+    alloc: Global,
+    audience: &mut A,
+    books: &mut Books,
+    number: u64,
+    found: Vec<Alerts>,
+) -> Result<Vec<u8>, NoMemory>
+    ensures text { IfOk result (λ text. text.items
+        ≡ found_text (A.hearers audience.old) number (map alerts_value found.items)) }
+    ensures heard { OnOk result (A.hearers audience.new
+        ≡ told_all (told_in (map alerts_value found.items)) (A.hearers audience.old)) }
+    ensures rows { OnOk result (books.new.ledger ≡ books.old.ledger ++ kept_rows books.old.keeps_rows
+        (rows_in (A.hearers audience.old) number (map alerts_value found.items))) }
+    ensures keeps { books.new.keeps_rows ≡ books.old.keeps_rows }
+    ensures err { OnErr result (HearsFront (told_in (map alerts_value found.items))
+        (A.hearers audience.old) (A.hearers audience.new)) }
+{
+    let notes = deliver_all(alloc, audience, books, number, &found)?;
+    Reply::Matched(found, notes).text(alloc, number)
 }

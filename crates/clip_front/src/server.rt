@@ -7,9 +7,9 @@ use clip_stream::{LineReader, MOST_READS, Outbox, RunFault, Sink, Source};
 use clip_words::NoMemory;
 use std::alloc::Global;
 
-/// What answers lines, with something that is lent to it.
+/// What answers lines, with something that is lent to it. It may owe answers to lines that it has taken.
 pub trait Server<L> {
-    ghost use Rattle.std.specs.Prelude.{ℕ, List, IfOk, OnErr};
+    ghost use Rattle.std.specs.Prelude.{◌≡◌, ℕ, List, false, IfOk, OnOk, OnErr};
 
     /// From the first state to the second by answering the line of this number with this text.
     ghost answers: { Self × L → Self × L → ℕ → List ℕ → List ℕ → Type 0 };
@@ -17,22 +17,29 @@ pub trait Server<L> {
     /// From the first state to the second by an answering of the line of this number that was broken off.
     ghost breaks_off: { Self × L → Self × L → ℕ → List ℕ → Type 0 };
 
-    /// The text that answers the line of this number. `NoMemory` where the answering was broken off.
+    /// Nothing is owed to any line that was taken.
+    ghost is_settled: { Self × L → Type 0 };
+
+    /// The text of what is answered now that the line of this number is taken. Where no other line stands read already,
+    /// nothing is owed after it. `NoMemory` where the answering was broken off.
     fn answer(
         &mut self,
         alloc: Global,
         lent: &mut L,
         number: u64,
         bytes: &[u8],
+        has_more: bool,
     ) -> Result<Vec<u8>, NoMemory>
         ensures ok { IfOk result (λ text. answers (self.old, lent.old) (self.new, lent.new) number bytes.now text.items) }
+        ensures settled { OnOk result (has_more ≡ false → is_settled (self.new, lent.new)) }
         ensures err { OnErr result (breaks_off (self.old, lent.old) (self.new, lent.new) number bytes.now) };
 }
 
-/// Answers the lines one after the other, and gives how many there were.
+/// Takes the lines one after the other, writes what the server answers, and gives how many lines there were.
 ///
-/// Before it asks the reader for more bytes, each answer to a line that was read whole is written and flushed; between
-/// two reads the answers are gathered, so that the writer gets few writes.
+/// Before it asks the reader for more bytes, every line that was taken is answered, and the answers are written and
+/// flushed: so no client waits for an answer that waits for the client's next line. Between two reads the answers are
+/// gathered, so that the writer gets few writes, and the server may hold some back.
 ///
 /// `Read` where a read failed, or 1,099,511,627,776 reads met no end; `Write` where a write or a flush failed, or a
 /// write took nothing; `NoMemory` where an allocation failed or the server answers it. After a fault nothing more is
@@ -49,10 +56,12 @@ pub fn serve<R: Source, W: Sink, L, S: Server<L>>(
     requires unread { R.reads reader.old ≡ 0 }
     requires reader_well { R.has_failed reader.old ≡ false }
     requires writer_well { W.has_failed writer.old ≡ false }
+    requires settled { S.is_settled (server.old, lent.old) }
 
     // Where the bytes are known, the server has answered just their lines, in order, and the writer has taken the answers.
     ensures served { OnOk result (IfSome (R.left reader.old) (ServesAll S.answers
         (server.old, lent.old) (server.new, lent.new) (W.taken writer.old) (W.taken writer.new))) }
+    ensures settled { OnOk result (S.is_settled (server.new, lent.new)) }
     ensures flushed { OnOk result (W.is_flushed writer.new ≡ true) }
     ensures lines { IfOk result (λ count. IfSome (R.left reader.old) (λ input. count ≡ length (lines_of input))) }
 
@@ -72,13 +81,15 @@ pub fn serve<R: Source, W: Sink, L, S: Server<L>>(
     let mut outbox = Outbox::new(alloc);
     let mut line = Vec::new(alloc);
     let mut count = 0u64;
+    let mut has_more = false;
     'lines: loop {
-        outbox.hand_over(writer, lines.has_line())?;
+        outbox.hand_over(writer, has_more)?;
         if !lines.next_line(reader, &mut line)? {
             return Ok(count);
         }
         count += 1;
-        let text = server.answer(alloc, lent, count, &line)?;
+        has_more = lines.has_line();
+        let text = server.answer(alloc, lent, count, &line, has_more)?;
         outbox.gather(&text)?;
     }
 }

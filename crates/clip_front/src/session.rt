@@ -1,16 +1,23 @@
 //! The run: lines in, replies out.
 ghost use Rattle.std.specs.Prelude.{◌≡◌, ◌≤◌, ◌⊎◌, List, ℕ, length, true, false, IfOk, OnOk, OnErr, IfSome, Err};
-ghost use Rattle.clip_listen.specs.Heard.{Hearer};
+ghost use Rattle.clip_listen.specs.Heard.{Hearer, HearsFront};
 ghost use Rattle.clip_stream.specs.Lines.{lines_of};
+ghost use Rattle.clip_front.specs.LineMeaning.{matching};
 ghost use Rattle.clip_front.specs.Outcome.{Outcome, IsOutcome, GivesAll, GivesFront};
+ghost use Rattle.clip_front.specs.Reply.{alerts_of_all};
+ghost use Rattle.clip_front.specs.Steps.Answers.{GoesOn, held};
 
-use crate::answer::answer;
+use crate::answer::{Taken, take_line};
 use crate::books::Books;
+use crate::deliver::deliver_found;
+use crate::registry::Registry;
 use crate::server::{Server, serve};
 use crate::settings::Settings;
 use clip_ledger::Ledger;
 use clip_listen::Audience;
-use clip_registry::Registrar;
+use clip_match::match_batch;
+use clip_meaning::Article;
+use clip_registry::{Registrar, View};
 use clip_stream::{MOST_READS, RunFault, Sink, Source};
 use clip_words::NoMemory;
 use std::alloc::Global;
@@ -31,12 +38,33 @@ struct RunServer {
     books: Books,
 }
 
+/// Matches articles at a view, and delivers their alerts: the text of the reply to the line of this number.
+fn answer_match<A: Audience>(
+    alloc: Global,
+    view: &View,
+    audience: &mut A,
+    books: &mut Books,
+    number: u64,
+    articles: &[Article],
+) -> Result<Vec<u8>, NoMemory>
+    ensures ok { IfOk result (λ text. GoesOn (held view.now.history (A.hearers audience.old) books.old)
+        (held view.now.history (A.hearers audience.new) books.new) number (matching articles.now) text.items) }
+    ensures err { OnErr result (HearsFront (alerts_of_all view.now.history articles.now)
+        (A.hearers audience.old) (A.hearers audience.new)) }
+{
+    let found = match_batch(alloc, view, articles)?;
+    deliver_found(alloc, audience, books, number, found)
+}
+
 impl<A: Audience> Server<A> for RunServer {
+    ghost use Rattle.std.specs.Prelude.{⊤};
     ghost use Rattle.clip_front.specs.Steps.RunServer.{held_at, AnswersIn, BreaksIn};
 
     ghost answers = { AnswersIn (held_at A.hearers) };
 
     ghost breaks_off = { BreaksIn (held_at A.hearers) };
+
+    ghost is_settled = { λ s. ⊤ };
 
     fn answer(
         &mut self,
@@ -44,20 +72,21 @@ impl<A: Audience> Server<A> for RunServer {
         audience: &mut A,
         number: u64,
         bytes: &[u8],
+        _has_more: bool,
     ) -> Result<Vec<u8>, NoMemory> {
-        answer(
-            alloc,
-            &mut self.registrar,
-            audience,
-            &mut self.books,
-            number,
-            bytes,
-        )
+        match take_line(alloc, &mut self.registrar, audience, number, bytes)? {
+            Taken::Text(text) => Ok(text),
+            Taken::Articles(articles) => {
+                let view = self.registrar.look()?;
+                answer_match(alloc, &view, audience, &mut self.books, number, &articles)
+            }
+        }
     }
 }
 
-/// Reads requests, a JSON object a line, and writes the replies in the order of the lines. Each alert of a match is told
-/// to the listener of its query, whose note stands in the reply. `Listeners` are an audience.
+/// Reads requests, a JSON object a line, and writes the replies in the order of the lines, all on the thread that calls
+/// it. Each alert of a match is told to the listener of its query, whose note stands in the reply. `Listeners` are an
+/// audience.
 ///
 /// Before it asks the reader for more bytes, each reply to a line that was read whole is written and flushed; between
 /// two reads the replies are gathered, so that the writer gets few writes. Each line is answered by the registry that
@@ -80,7 +109,7 @@ impl<A: Audience> Server<A> for RunServer {
 /// takes. Memory: one line and what it asks for, up to 64 KiB of gathered replies and one reply more, the registered
 /// queries, and those that no merge or purge has left out yet, with their index, the history of the accepted changes, and
 /// a row for each alert where rows are kept.
-pub fn run<R: Source, W: Sink, A: Audience>(
+pub fn run_alone<R: Source, W: Sink, A: Audience>(
     alloc: Global,
     reader: &mut R,
     writer: &mut W,
@@ -122,7 +151,7 @@ pub fn run<R: Source, W: Sink, A: Audience>(
     })
 }
 
-/// Each input has exactly one outcome, so there is one for `run` to give, and it gives no other.
+/// Each input has exactly one outcome, so there is one for `run_alone` to give, and it gives no other.
 pub fn one_outcome()
     ensures some { (hearers : List Hearer) (input : List ℕ) → (outcome : Outcome) × IsOutcome hearers input outcome }
     ensures one { (hearers : List Hearer) (input : List ℕ) (outcome other : Outcome)

@@ -19,6 +19,7 @@ struct TraceServer {
 }
 
 impl Server<()> for TraceServer {
+    ghost use Rattle.std.specs.Prelude.{⊤};
     ghost use Rattle.clip_front.specs.Steps.TraceServer.{stand_at};
     ghost use Rattle.clip_front.specs.Steps.TraceOutline.{AnswersIn, BreaksIn};
 
@@ -26,12 +27,15 @@ impl Server<()> for TraceServer {
 
     ghost breaks_off = { BreaksIn };
 
+    ghost is_settled = { λ s. ⊤ };
+
     fn answer(
         &mut self,
         alloc: Global,
         _lent: &mut (),
         number: u64,
         bytes: &[u8],
+        _has_more: bool,
     ) -> Result<Vec<u8>, NoMemory> {
         answer_traced(alloc, &mut self.tracer, number, bytes)
     }

@@ -2,7 +2,7 @@ use Rattle.std.proofs.Common.{◌≡◌, ◌++◌, map, take}
 use Rattle.clip_match.specs.Alerts.{alerts_value}
 use Rattle.clip_listen.specs.Heard.{told_all, notes_of, note_value}
 use Rattle.clip_front.specs.Outcome.{kept_rows}
-use Rattle.clip_front.specs.Steps.Answers.{told_in, rows_in}
+use Rattle.clip_front.specs.Steps.Found.{told_in, rows_in}
 use Rattle.clip_front.proofs.deliver.deliver_all.Given as goal
 
 -- the alerts of the first articles were delivered and posted

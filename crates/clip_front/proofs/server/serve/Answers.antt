@@ -1,6 +1,7 @@
-use Rattle.std.proofs.Common.{◌+◌, ◌++◌, refl, sym, ◌∙◌, arith, true≢false}
+use Rattle.std.proofs.Common.{◌+◌, ◌++◌, refl, sym, ap, ◌∙◌, arith, true≢false}
 use Rattle.std.specs.Io.KnownBytes.{prepend_known}
 use Rattle.clip_stream.proofs.Fuel.{fuel_new}
+use Rattle.clip_stream.specs.Steps.Reading.{has_feed}
 use Rattle.clip_front.proofs.Progress.{progress_first, progress_handed, progress_line, progress_end, progress_count, prepend_nothing, fault_first, fault_handing, fault_held, fault_broken, on_err}
 use Rattle.clip_front.proofs.server.serve.Goals as goal
 
@@ -14,6 +15,8 @@ lines-init g c =
       same_end = λ _. refl;
       reader_well = c.requires.reader_well;
       writer_well = c.requires.writer_well;
+      pending = sym (ap has_feed new.0);
+      settled = λ _. c.requires.settled;
       fuel_left = omega (arith, fuel_new c.in_ok-lines.lines new.0 new.1 new.2);
       progress = progress_first g.S.Server.answers (c.args.server.now, c.args.lent.now) (g.R.Source.left c.args.reader.now) _ (g.W.Sink.taken c.args.writer.now) c.new-outbox.result (prepend_nothing c.in_ok-lines.lines.pending _ new.0) c.new-outbox.ensures;
     }
@@ -33,6 +36,8 @@ lines-preserved g c =
       same_end = λ e. let ends = c.in_ok-next_line.ensures.same_end e in ends.1 ∙ c.lines.invariant.same_end ends.0;
       reader_well = c.in_ok-next_line.ensures.failed ∙ c.lines.invariant.reader_well;
       writer_well = c.in_ok-hand_over.ensures.well ∙ c.lines.invariant.writer_well;
+      pending = c.has_line-has_more.ensures;
+      settled = c.in_ok-text.ensures.settled;
       fuel_left = omega (arith, less, c.lines.invariant.fuel_left);
       progress = progress_line g.S.Server.answers (c.args.server.now, c.args.lent.now) (c.lines.server, c.lines.lent) (c.answer.new.self, c.answer.new.lent) input (prepend_known c.lines.lines.pending (g.R.Source.left c.lines.reader)) (prepend_known c.next_line.new.self.pending (g.R.Source.left c.next_line.new.reader)) c.next_line.new.line.items c.in_ok-text.text.items (taken c.args.writer.now) (taken c.hand_over.new.writer) c.hand_over.new.self c.gather.new.self c.lines.count (c.lines.count + 1) handed found refl answered gathered;
     }
@@ -83,7 +88,7 @@ returns-then-not-branch-clause-served g c =
     let input = g.R.Source.left c.args.reader.now in
     let taken = g.W.Sink.taken in
     let handed = progress_handed g.S.Server.answers (c.args.server.now, c.args.lent.now) (c.lines.server, c.lines.lent) input (prepend_known c.lines.lines.pending (g.R.Source.left c.lines.reader)) (taken c.args.writer.now) (taken c.lines.writer) (taken c.hand_over.new.writer) c.lines.outbox c.hand_over.new.self c.lines.count c.lines.invariant.progress c.in_ok-hand_over.ensures.moved in
-    progress_end g.S.Server.answers (c.args.server.now, c.args.lent.now) (c.lines.server, c.lines.lent) input (g.R.Source.left c.lines.reader) (prepend_known c.next_line.new.self.pending (g.R.Source.left c.next_line.new.reader)) c.lines.lines.pending c.next_line.new.line.items (taken c.args.writer.now) (taken c.hand_over.new.writer) c.hand_over.new.self c.lines.count handed found (λ none. c.in_ok-hand_over.ensures.none_held (c.has_line.ensures ∙ none))
+    progress_end g.S.Server.answers (c.args.server.now, c.args.lent.now) (c.lines.server, c.lines.lent) input (g.R.Source.left c.lines.reader) (prepend_known c.next_line.new.self.pending (g.R.Source.left c.next_line.new.reader)) c.lines.lines.pending c.next_line.new.line.items (taken c.args.writer.now) (taken c.hand_over.new.writer) c.hand_over.new.self c.lines.count handed found (λ none. c.in_ok-hand_over.ensures.none_held (c.lines.invariant.pending ∙ none))
 
 pub returns-then-not-branch-clause-lines : goal.returns-then-not-branch-clause-lines
 returns-then-not-branch-clause-lines g c =
@@ -91,3 +96,6 @@ returns-then-not-branch-clause-lines g c =
     let taken = g.W.Sink.taken in
     progress_count g.S.Server.answers (c.args.server.now, c.args.lent.now) (c.lines.server, c.lines.lent) (g.R.Source.left c.args.reader.now) (prepend_known c.lines.lines.pending (g.R.Source.left c.lines.reader)) (prepend_known c.next_line.new.self.pending (g.R.Source.left c.next_line.new.reader)) c.next_line.new.line.items (taken c.args.writer.now) (taken c.lines.writer) c.lines.outbox c.lines.count
     c.lines.invariant.progress found
+
+pub returns-then-not-branch-clause-settled : goal.returns-then-not-branch-clause-settled
+returns-then-not-branch-clause-settled g c = c.lines.invariant.settled (c.lines.invariant.pending ∙ c.in_ok-next_line.ensures.none c.if-not-branch.true)

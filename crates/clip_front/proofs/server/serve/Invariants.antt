@@ -1,6 +1,6 @@
 use Rattle.std.proofs.Common.{◌≡◌, ◌+◌, ◌≤◌, true, false}
 use Rattle.std.specs.Io.KnownBytes.{prepend_known, IsAtEnd}
-use Rattle.clip_stream.specs.Steps.Reading.{fuel}
+use Rattle.clip_stream.specs.Steps.Reading.{fuel, has_feed}
 use Rattle.clip_stream.specs.declared.limits.TheConstants.{MOST_READS}
 use Rattle.clip_front.proofs.Progress.{Progress}
 use Rattle.clip_front.proofs.server.serve.Given as goal
@@ -12,6 +12,8 @@ invariant-lines g l = record {
   same_end : l.lines.is_at_end ≡ false → g.R.Source.met_end l.reader ≡ g.R.Source.met_end l.fn.reader;
   reader_well : g.R.Source.has_failed l.reader ≡ false;
   writer_well : g.W.Sink.has_failed l.writer ≡ false;
+  pending : l.has_more ≡ has_feed l.lines.pending;
+  settled : l.has_more ≡ false → g.S.Server.is_settled (l.server, l.lent);
   fuel_left : l.count + fuel l.lines ≤ 72057594037927937;
   progress : Progress g.S.Server.answers (l.fn.server, l.fn.lent) (l.server, l.lent) (g.R.Source.left l.fn.reader) (prepend_known l.lines.pending (g.R.Source.left l.reader)) (g.W.Sink.taken l.fn.writer) (g.W.Sink.taken l.writer) l.outbox l.count;
 }

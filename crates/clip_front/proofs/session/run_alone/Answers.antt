@@ -2,7 +2,7 @@ use Rattle.std.proofs.Common.{ap}
 use Rattle.clip_front.specs.Steps.RunServer.{held_at}
 use Rattle.clip_front.proofs.Progress.{on_err}
 use Rattle.clip_front.proofs.Served.{run_gives, run_gives_front}
-use Rattle.clip_front.proofs.session.run.Goals as goal
+use Rattle.clip_front.proofs.session.run_alone.Goals as goal
 
 pub returns-in_err-lines-clause-front : goal.returns-in_err-lines-clause-front
 returns-in_err-lines-clause-front g c =

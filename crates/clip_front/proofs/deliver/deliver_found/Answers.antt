@@ -1,0 +1,13 @@
+use Rattle.std.proofs.Common.{map, ap, ◌∙◌}
+use Rattle.std.proofs.lemmas.Result.{IfOk-weaker}
+use Rattle.clip_match.specs.Alerts.{alerts_value}
+use Rattle.clip_front.specs.Reply.{matched, reply_text}
+use Rattle.clip_front.specs.Steps.Views.{alerts_ids}
+use Rattle.clip_front.proofs.Found.{texts_of_notes}
+use Rattle.clip_front.proofs.deliver.deliver_found.Goals as goal
+
+pub returns-clause-text : goal.returns-clause-text
+returns-clause-text g c =
+    let notes = rw c.deref.ensures.value at c.in_ok-notes.ensures.notes in
+    let said = texts_of_notes c.in_ok-notes.notes.items ∙ ap (map (λ n. n.text)) notes in
+    IfOk-weaker c.text.result _ _ (λ text printed. printed ∙ ap (λ texts. reply_text c.args.number (matched (map alerts_ids (map alerts_value c.args.found.items)) texts)) said) c.text.ensures

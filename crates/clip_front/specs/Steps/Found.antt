@@ -1,0 +1,25 @@
+-- What is given for the alerts that were found for a line.
+use Rattle.std.specs.Prelude.{ℕ, List, map, flat_map}
+use Rattle.clip_model.specs.Alerts.{Alert}
+use Rattle.clip_match.specs.Alerts.{AlertsValue}
+use Rattle.clip_listen.specs.Heard.{Hearer}
+use Rattle.clip_ledger.specs.Rows.{RowValue}
+use Rattle.clip_front.specs.Outcome.{Outcome, rows_of_article}
+use Rattle.clip_front.specs.Reply.{matched, reply_text, texts_said}
+use Rattle.clip_front.specs.Steps.Views.{alerts_ids}
+
+-- the alerts that are found of articles, in order
+abbrev pub told_in : List AlertsValue → List Alert
+told_in found = flat_map (λ v. v.alerts) found
+
+-- the rows of them on line n
+abbrev pub rows_in : List Hearer → ℕ → List AlertsValue → List RowValue
+rows_in hearers n found = flat_map (λ v. rows_of_article hearers n v.alerts) found
+
+-- the text of the reply to line n
+abbrev pub found_text : List Hearer → ℕ → List AlertsValue → List ℕ
+found_text hearers n found = reply_text n (matched (map alerts_ids found) (texts_said hearers (told_in found)))
+
+-- all that line n gives
+abbrev pub found_outcome : List Hearer → ℕ → List AlertsValue → Outcome
+found_outcome hearers n found = record { text = found_text hearers n found; alerts = told_in found; rows = rows_in hearers n found }

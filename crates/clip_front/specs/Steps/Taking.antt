@@ -1,0 +1,32 @@
+-- What a line comes to, before any alert is told.
+use Rattle.std.specs.Prelude.{◌≡◌, ℕ, List, ⊤}
+use Rattle.clip_model.specs.History.{History}
+use Rattle.clip_listen.specs.Heard.{Hearer}
+use Rattle.clip_front.specs.LineMeaning.{Meaning, Means, after, nothing, refusal, refusal_at, command, purging, counting, showing, matching}
+use Rattle.clip_front.specs.Reply.{reply}
+use Rattle.clip_front.specs.declared.answer.Taken.{Taken}
+use Rattle.clip_front.specs.declared.answer.Taken.TheVariants as taken
+
+-- A line that tells no alert means this.
+abbrev pub IsQuiet : Meaning → Type 0
+IsQuiet nothing = ⊤
+IsQuiet (refusal r) = ⊤
+IsQuiet (refusal_at r k) = ⊤
+IsQuiet (command c) = ⊤
+IsQuiet purging = ⊤
+IsQuiet counting = ⊤
+IsQuiet (showing id) = ⊤
+IsQuiet (matching articles) = ⊥
+
+-- From the first history to the second by line n, which tells no alert, and whoever listens, this is the text of its reply.
+pub record TakesQuietly (names : List (List ℕ)) (old new : History) (n : ℕ) (line text : List ℕ) : Type 0 where
+  pub meaning : Meaning
+  pub means : Means names old line meaning
+  pub quiet : IsQuiet meaning
+  pub history : new ≡ after old meaning
+  pub replies : (hearers : List Hearer) → text ≡ reply hearers n old meaning
+
+-- From the first history to the second by line n, where the listeners of these names are here, and this is what it comes to.
+abbrev pub Takes : List (List ℕ) → History → History → ℕ → List ℕ → Taken → Type 0
+Takes names old new n line (taken.Text text) = TakesQuietly names old new n line text.items
+Takes names old new n line (taken.Articles articles) = Means names old line (matching articles.items) × (new ≡ old)
