@@ -9,7 +9,7 @@ use Rattle.clip_model.proofs.Replay.{replays_on}
 use Rattle.clip_registry.specs.Command.{answer_of}
 use Rattle.clip_registry.specs.declared.command.Applied.{Applied}
 use Rattle.clip_chronicle.specs.Callers.{IsBy}
-use Rattle.clip_workers.specs.Registry.{IsJudged}
+use Rattle.clip_front.specs.Steps.Registry.{IsJudged}
 use Rattle.clip_workers.specs.Alone.{then_alone, history_alone}
 
 -- an entry that caller 1 gives next

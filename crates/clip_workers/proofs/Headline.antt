@@ -1,5 +1,5 @@
 -- What a run gives that may owe answers meanwhile: just what its lines give.
-use Rattle.std.proofs.Common.{◌≡◌, ℕ, suc, List, [], ◌∷◌, ◌++◌, length, take, drop, Bool, false, Option, Some, None, refl, sym, ap, ap₂, ◌∙◌, subst, append_assoc, append-nil, inl, inr}
+use Rattle.std.proofs.Common.{◌≡◌, ℕ, suc, List, [], ◌∷◌, ◌++◌, length, take, drop, Bool, false, Option, Some, None, refl, sym, ap, ap₂, ◌∙◌, subst, append_assoc, append-nil, inl, inr, if◌then◌else◌}
 use Rattle.std.specs.Prelude.{IfSome}
 use Rattle.std.specs.Io.KnownBytes.{Appends}
 use Rattle.std.proofs.Math.Seq.{take-append_seam}
@@ -7,6 +7,7 @@ use Rattle.std.proofs.lemmas.List.{take-append-drop}
 use Rattle.clip_stream.specs.Device.{AppendsFront}
 use Rattle.clip_stream.specs.Lines.{lines_of}
 use Rattle.clip_stream.specs.Steps.Reading.{cut}
+use Rattle.clip_model.specs.Alerts.{Alert}
 use Rattle.clip_model.specs.History.{History}
 use Rattle.clip_listen.specs.Heard.{Hearer, told_all, HearsFront}
 use Rattle.clip_listen.proofs.Hearing.{no_front, front_after, names_told}
@@ -15,8 +16,8 @@ use Rattle.clip_front.specs.Outcome.{Outcome, nothing_given, followed_by, given,
 use Rattle.clip_front.specs.Steps.Outline.{outline, blank, outline_of_value, MeansOutline}
 use Rattle.clip_front.specs.Steps.Serving.{Serves, StopsAt, ServesAll, ServesFront}
 use Rattle.clip_front.proofs.Meanings.{means_from, means_to}
-use Rattle.clip_front.proofs.Outcomes.{followed_assoc, followed_nothing}
-use Rattle.clip_front.proofs.Served.{choose, cut_is_long, cut_is_whole, gives_kept}
+use Rattle.clip_front.proofs.Outcomes.{followed_assoc, followed_nothing, given_kept}
+use Rattle.clip_front.proofs.Served.{choose, cut_is_long, cut_is_whole}
 use Rattle.clip_workers.specs.Owed.{Owed, owes, Course, Gave, Turns, BreaksOff, TurnsIn, BreaksIn}
 use Rattle.clip_workers.proofs.Owing.{owes_told, gave_nothing, gave_more}
 
@@ -28,6 +29,12 @@ outline_cut line = choose _ _ _ _ _ (cut_is_long line) (λ e. ap (λ l. if is_bl
 
 means_whole : (names : List (List ℕ)) (h : History) (line : List ℕ) (m : Meaning) → Means names h (cut line) m → Means names h line m
 means_whole names h line m means = means_from names h line m (subst (λ o. MeansOutline names h o m) (outline_cut line) (means_to names h (cut line) m means))
+
+-- what was heard before changes nothing that is given
+gives_kept : (front : List Alert) (hearers : List Hearer) (n : ℕ) (h : History) (lines : List (List ℕ)) (o : Outcome) → Gives (told_all front hearers) n h lines o → Gives hearers n h lines o
+gives_kept front hearers n h [] o g = g
+gives_kept front hearers n h (line ∷ lines) o g =
+    (g.0, g.1, subst (λ ns. Means ns h line g.0) (names_told front hearers) g.2, g.3 ∙ ap (λ x. followed_by x g.1) (given_kept front hearers n h g.0), gives_kept front hearers (suc n) (after h g.0) lines g.1 g.4)
 
 -- ---- one line and those after it
 

@@ -1,8 +1,5 @@
 pub mod Alone
 pub mod Crews
-pub mod Found
 pub mod Owed
 pub mod Pending
-pub mod Registry
 pub mod Seated
-pub mod Taking

@@ -4,46 +4,18 @@ ghost use Rattle.clip_match.specs.Alerts.{alerts_value, alerts_due};
 ghost use Rattle.clip_workers.specs.Owed.{matched};
 ghost use Rattle.clip_workers.specs.Pending.{owed_by};
 
+use crate::found::{Due, Found};
 use crate::stand_in::{Gate, match_piece, match_pieces};
 use clip_match::Alerts;
 use clip_meaning::Article;
 use clip_registry::View;
 use clip_words::NoMemory;
 use std::alloc::Global;
-use std::snapshot::Snapshot;
 use std::thread;
-use std::thread::{Promise, PromisedHandle, Threads};
+use std::thread::{PromisedHandle, Threads};
 
 /// How many articles a piece has at least, where a batch is cut.
 const LEAST_PIECE: usize = 2;
-
-/// What is due to a batch: the alerts of these articles at this view. It takes no bytes.
-#[derive(Drop)]
-pub struct Due {
-    /// The view.
-    pub view: Snapshot<View>,
-    /// The articles.
-    pub articles: Snapshot<Vec<Article>>,
-}
-
-impl Promise<Result<Vec<Alerts>, NoMemory>> for Due {
-    ghost use Rattle.std.specs.Prelude.{◌≡◌, map, IfOk};
-    ghost use Rattle.clip_match.specs.Alerts.{alerts_value, alerts_due};
-
-    ghost kept_by = { λ due result. IfOk result (λ found. map alerts_value found.items ≡ map (alerts_due due.view.value) due.articles.value.items) };
-}
-
-/// The alerts that were found of a batch.
-#[derive(Drop)]
-pub struct Found {
-    /// The number of its line.
-    pub number: u64,
-    /// What was due to it.
-    pub due: Due,
-    /// The alerts of each article.
-    pub alerts: Vec<Alerts>,
-    pub ghost right: { map alerts_value alerts.items ≡ map (alerts_due due.view.value) due.articles.value.items },
-}
 
 /// A batch that a thread matches.
 #[derive(Drop)]
@@ -65,16 +37,6 @@ pub enum Pending {
     InFlight(Flight),
 }
 
-/// What is due to the articles at the view.
-fn due_of(view: &View, articles: &Vec<Article>) -> Due
-    ensures { (result.view.value ≡ view.now) × (result.articles.value ≡ articles.now) }
-{
-    Due {
-        view: Snapshot::of(view),
-        articles: Snapshot::of(articles),
-    }
-}
-
 /// Starts the matching of a batch in a thread, or matches it here where none can be made.
 pub fn start_batch<R: Threads, G: Gate + Clone + Send + 'static>(
     rt: &R,
@@ -88,8 +50,8 @@ pub fn start_batch<R: Threads, G: Gate + Clone + Send + 'static>(
     ensures { IfOk result (λ p. owed_by p ≡ matched number view.history articles.items) }
 {
     let gate = gate.clone()?;
-    let due = due_of(&view, &articles);
-    let promise = due_of(&view, &articles);
+    let due = Due::to(&view, &articles);
+    let promise = Due::to(&view, &articles);
     let work = move || match_piece(alloc, &view, &articles, batch, 0, &gate);
     match thread::spawn_with(rt, promise, work) {
         Ok(thread) => Ok(Pending::InFlight(Flight { number, thread })),
@@ -117,7 +79,7 @@ pub fn match_here<R: Threads + Sync, G: Gate>(
 ) -> Result<Pending, NoMemory>
     ensures { IfOk result (λ p. owed_by p ≡ matched number view.history articles.items) }
 {
-    let due = due_of(&view, &articles);
+    let due = Due::to(&view, &articles);
     let pieces = pieces_that_pay(articles.len(), workers);
     let alerts = match_pieces(rt, alloc, &view, &articles, batch, pieces, gate)?;
     Ok(Pending::Found(Found {

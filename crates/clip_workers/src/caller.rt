@@ -3,8 +3,8 @@ ghost use Rattle.std.specs.Prelude.{◌≡◌};
 ghost use Rattle.clip_workers.specs.Alone.{history_alone};
 ghost use Rattle.clip_workers.specs.Seated.{IsOnly};
 
-use crate::stand_in::Registry;
 use clip_desk::{Desk, DeskName, Nudge, Refused, Seat};
+use clip_front::Registry;
 use clip_listen::UpdateLog;
 use clip_registry::{Applied, Command, View};
 use clip_words::NoMemory;
@@ -13,11 +13,12 @@ use std::marker::Model;
 use std::sync::Wait;
 
 /// The only caller at a desk, who tells the merging thread of each accepted command.
+#[derive(Drop)]
 pub struct Caller<'a, R, N: DeskName> {
     rt: &'a R,
     desk: &'a Desk<N, UpdateLog>,
     seat: Seat,
-    nudges: &'a Sender<Nudge>,
+    nudges: Option<Sender<Nudge>>,
 }
 
 impl<'a, R, N: DeskName> Model for Caller<'a, R, N> {
@@ -40,7 +41,7 @@ impl<'a, R: Wait, N: DeskName> Caller<'a, R, N> {
         rt: &'a R,
         desk: &'a Desk<N, UpdateLog>,
         seat: Seat,
-        nudges: &'a Sender<Nudge>,
+        nudges: Sender<Nudge>,
     ) -> Caller<'a, R, N>
         requires { IsOnly N.book N.callers desk.now seat }
         ensures { result ≡ history_alone seat.mine }
@@ -49,7 +50,23 @@ impl<'a, R: Wait, N: DeskName> Caller<'a, R, N> {
             rt,
             desk,
             seat,
-            nudges,
+            nudges: Some(nudges),
+        }
+    }
+
+    /// Tells the merging thread that there may be segments to merge. A nudge that is refused memory is dropped.
+    fn nudge(&self) {
+        if let Some(nudges) = &self.nudges {
+            let _ = nudges.send(self.rt, Nudge::Merge);
+        }
+    }
+
+    /// Tells the merging thread to stop, and closes the channel to it.
+    pub fn dismiss(&mut self)
+        ensures { self.new ≡ self.old }
+    {
+        if let Some(nudges) = self.nudges.take() {
+            let _ = nudges.send(self.rt, Nudge::Stop);
         }
     }
 }
@@ -60,8 +77,7 @@ impl<'a, R: Wait, N: DeskName> Registry for Caller<'a, R, N> {
     fn accept(&mut self, command: Command) -> Result<Option<Applied>, NoMemory> {
         match self.desk.commit(self.rt, &mut self.seat, command) {
             Ok(receipt) => {
-                // A nudge that is refused memory is dropped.
-                let _ = self.nudges.send(self.rt, Nudge::Merge);
+                self.nudge();
                 Ok(Some(receipt.applied()))
             }
             Err((_, Refused::Full)) => Ok(None),

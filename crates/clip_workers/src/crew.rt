@@ -6,10 +6,12 @@ ghost use Rattle.clip_workers.specs.Crews.{CrewIs, course, OwesNothing};
 ghost use Rattle.clip_workers.specs.Owed.{owed_of, matched, HearsOwed, PaysInto, TakesBatch};
 ghost use Rattle.clip_workers.specs.Pending.{owed_by};
 
-use crate::batch::{Found, Pending, match_here, start_batch};
+use crate::batch::{Pending, match_here, start_batch};
 use crate::caller::Caller;
-use crate::stand_in::{Books, Gate, Registry, Server, Settings, Taken, deliver_found, take_line};
+use crate::found::Found;
+use crate::stand_in::Gate;
 use clip_desk::DeskName;
+use clip_front::{Books, Registry, Server, Settings, Taken, deliver_found, take_line};
 use clip_ledger::Ledger;
 use clip_listen::Audience;
 use clip_meaning::Article;
@@ -24,6 +26,7 @@ use std::thread::Threads;
 const MOST_IN_FLIGHT: u32 = 32;
 
 /// What answers the lines of a run: the only caller at a desk, its books, and what it owes.
+#[derive(Drop)]
 pub struct Crew<'a, R, N: DeskName, G> {
     rt: &'a R,
     gate: &'a G,
@@ -192,10 +195,12 @@ impl<'a, R: Threads + Wait + Sync, N: DeskName, G: Gate + Clone + Send + 'static
         self.begin(alloc, number, articles, has_more)
     }
 
-    /// Joins each thread that matches a batch, and lets go what is owed. It waits for these threads.
+    /// Joins each thread that matches a batch, lets go what is owed, and tells the merging thread to stop. It waits for
+    /// the threads that match.
     pub fn stop(&mut self)
-        ensures { (self.new.rows ≡ self.old.rows) × (self.new.history ≡ self.old.history) }
+        ensures { self.new.rows ≡ self.old.rows }
     {
+        self.caller.dismiss();
         for _ in 0..self.pending.len() {
             if let Some(Pending::InFlight(flight)) = self.pending.pop_front() {
                 let _ = flight.join(self.rt);

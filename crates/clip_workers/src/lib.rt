@@ -5,9 +5,13 @@
 mod batch;
 mod caller;
 mod crew;
+mod found;
+mod session;
 mod stand_in;
 
-pub use batch::{Due, Flight, Found, Pending, match_here, start_batch};
+pub use batch::{Flight, Pending, match_here, start_batch};
 pub use caller::Caller;
 pub use crew::Crew;
-pub use stand_in::{Books, Gate, Registry, Server, Settings, Taken, deliver_found, match_piece, match_pieces, take_line};
+pub use found::{Due, Found};
+pub use session::run;
+pub use stand_in::{Gate, match_piece, match_pieces};
