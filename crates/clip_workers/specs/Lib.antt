@@ -2,4 +2,5 @@ pub mod Alone
 pub mod Crews
 pub mod Owed
 pub mod Pending
+pub mod Ran
 pub mod Seated

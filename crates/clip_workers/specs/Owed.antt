@@ -84,3 +84,7 @@ pub record TakesBatch (old new : Course) (n : ℕ) (articles : List ArticleValue
   pub between : Course
   pub pays : PaysInto old between before now
   pub takes : new ≡ owing between (matched n between.history articles)
+
+-- line n was taken, and the text of what was given stands at the end
+abbrev pub TurnsInto : Course → Course → ℕ → List ℕ → List ℕ → List ℕ → Type 0
+TurnsInto old new n line before now = (text : List ℕ) × Turns old new n line text × (now ≡ before ++ text)

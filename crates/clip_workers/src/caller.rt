@@ -14,14 +14,14 @@ use std::sync::Wait;
 
 /// The only caller at a desk, who tells the merging thread of each accepted command.
 #[derive(Drop)]
-pub struct Caller<'a, R, N: DeskName> {
-    rt: &'a R,
-    desk: &'a Desk<N, UpdateLog>,
+pub struct Caller<'r, 'd, R, N: DeskName> {
+    rt: &'r R,
+    desk: &'d Desk<N, UpdateLog>,
     seat: Seat,
     nudges: Option<Sender<Nudge>>,
 }
 
-impl<'a, R, N: DeskName> Model for Caller<'a, R, N> {
+impl<'r, 'd, R, N: DeskName> Model for Caller<'r, 'd, R, N> {
     ghost use Rattle.clip_model.specs.History.{History, history_code};
     ghost use Rattle.clip_workers.specs.Alone.{history_alone};
     ghost use Rattle.clip_workers.specs.Seated.{IsOnly};
@@ -35,14 +35,14 @@ impl<'a, R, N: DeskName> Model for Caller<'a, R, N> {
     ghost invariant = { λ c. IsOnly N.book N.callers c.desk.now c.seat };
 }
 
-impl<'a, R: Wait, N: DeskName> Caller<'a, R, N> {
+impl<'r, 'd, R: Wait, N: DeskName> Caller<'r, 'd, R, N> {
     /// The caller of a seat. Constant time.
     pub fn new(
-        rt: &'a R,
-        desk: &'a Desk<N, UpdateLog>,
+        rt: &'r R,
+        desk: &'d Desk<N, UpdateLog>,
         seat: Seat,
         nudges: Sender<Nudge>,
-    ) -> Caller<'a, R, N>
+    ) -> Caller<'r, 'd, R, N>
         requires { IsOnly N.book N.callers desk.now seat }
         ensures { result ≡ history_alone seat.mine }
     {
@@ -52,6 +52,11 @@ impl<'a, R: Wait, N: DeskName> Caller<'a, R, N> {
             seat,
             nudges: Some(nudges),
         }
+    }
+
+    /// What the caller starts threads by. Constant time.
+    pub fn runtime(&self) -> &'r R {
+        self.rt
     }
 
     /// Tells the merging thread that there may be segments to merge. A nudge that is refused memory is dropped.
@@ -71,7 +76,7 @@ impl<'a, R: Wait, N: DeskName> Caller<'a, R, N> {
     }
 }
 
-impl<'a, R: Wait, N: DeskName> Registry for Caller<'a, R, N> {
+impl<'r, 'd, R: Wait, N: DeskName> Registry for Caller<'r, 'd, R, N> {
     ghost history_in = { λ h. h };
 
     fn accept(&mut self, command: Command) -> Result<Option<Applied>, NoMemory> {

@@ -2,8 +2,8 @@
 ghost use Rattle.std.specs.Prelude.{◌≡◌, ◌+◌, ◌<◌, [], ◌∷◌, ◌++◌, length, map, false, IfOk, OnOk, OnErr};
 ghost use Rattle.clip_front.specs.Outcome.{kept_rows};
 ghost use Rattle.clip_listen.specs.Heard.{told_all, HearsFront};
-ghost use Rattle.clip_workers.specs.Crews.{CrewIs, course, OwesNothing};
-ghost use Rattle.clip_workers.specs.Owed.{owed_of, matched, HearsOwed, PaysInto, TakesBatch};
+ghost use Rattle.clip_workers.specs.Crews.{CrewIs, course};
+ghost use Rattle.clip_workers.specs.Owed.{owed_of, matched, Turns, BreaksOff, HearsOwed, PaysInto, TakesBatch, TurnsInto};
 ghost use Rattle.clip_workers.specs.Pending.{owed_by};
 
 use crate::batch::{Pending, match_here, start_batch};
@@ -11,7 +11,7 @@ use crate::caller::Caller;
 use crate::found::Found;
 use crate::stand_in::Gate;
 use clip_desk::DeskName;
-use clip_front::{Books, Registry, Server, Settings, Taken, deliver_found, take_line};
+use clip_front::{Books, Registry, Settings, Taken, deliver_found, take_line};
 use clip_ledger::Ledger;
 use clip_listen::Audience;
 use clip_meaning::Article;
@@ -27,10 +27,10 @@ const MOST_IN_FLIGHT: u32 = 32;
 
 /// What answers the lines of a run: the only caller at a desk, its books, and what it owes.
 #[derive(Drop)]
-pub struct Crew<'a, R, N: DeskName, G> {
-    rt: &'a R,
-    gate: &'a G,
-    caller: Caller<'a, R, N>,
+pub struct Crew<'r, 'd, 'g, R, N: DeskName, G> {
+    rt: &'r R,
+    gate: &'g G,
+    caller: Caller<'r, 'd, R, N>,
     books: Books,
     pending: VecDeque<Pending>,
     in_flight: u32,
@@ -39,12 +39,14 @@ pub struct Crew<'a, R, N: DeskName, G> {
     batches: u64,
 }
 
-impl<'a, R, N: DeskName, G> Model for Crew<'a, R, N, G> {
+impl<'r, 'd, 'g, R, N: DeskName, G> Model for Crew<'r, 'd, 'g, R, N, G> {
     ghost use Rattle.std.specs.Prelude.{map};
-    ghost use Rattle.clip_workers.specs.Crews.{CrewIs};
+    ghost use Rattle.clip_workers.specs.Crews.{CrewIs, crew_code};
     ghost use Rattle.clip_workers.specs.Pending.{owed_by};
 
     ghost Value = { CrewIs };
+
+    ghost coded = { crew_code };
 
     ghost view = { λ c. record { history = c.caller; rows = c.books.ledger; keeps = c.books.keeps_rows; owed = map owed_by c.pending.items } };
 }
@@ -93,19 +95,18 @@ fn add_text(out: &mut Vec<u8>, text: Vec<u8>) -> Result<(), NoMemory>
     Ok(())
 }
 
-impl<'a, R: Threads + Wait + Sync, N: DeskName, G: Gate + Clone + Send + 'static> Crew<'a, R, N, G> {
+impl<'r, 'd, 'g, R: Threads + Wait + Sync, N: DeskName, G: Gate + Clone + Send + 'static> Crew<'r, 'd, 'g, R, N, G> {
     /// The crew of a run that begins, of at least one worker. Constant time.
     pub fn new(
-        rt: &'a R,
         alloc: Global,
-        gate: &'a G,
-        caller: Caller<'a, R, N>,
+        gate: &'g G,
+        caller: Caller<'r, 'd, R, N>,
         settings: Settings,
-    ) -> Crew<'a, R, N, G>
-        ensures { result ≡ record { history = caller; rows = []; keeps = settings.keeps_rows; owed = [] } }
+    ) -> Crew<'r, 'd, 'g, R, N, G>
+        ensures { result ≡ record { history = caller.entry; rows = []; keeps = settings.keeps_rows; owed = [] } }
     {
         Crew {
-            rt,
+            rt: caller.runtime(),
             gate,
             caller,
             books: Books::new(alloc, settings),
@@ -191,8 +192,58 @@ impl<'a, R: Threads + Wait + Sync, N: DeskName, G: Gate + Clone + Send + 'static
         ensures ok { OnOk result (TakesBatch (course self.old (A.hearers audience.old)) (course self.new (A.hearers audience.new)) number articles.items out.old.items out.new.items) }
         ensures err { OnErr result (HearsOwed (course self.old (A.hearers audience.old)) (course self.new (A.hearers audience.new))) }
     {
-        self.pay(alloc, audience, out, self.most.saturating_sub(1))?;
+        let most = self.most.saturating_sub(1);
+        self.pay(alloc, audience, out, most)?;
         self.begin(alloc, number, articles, has_more)
+    }
+
+    /// Takes a line, and owes what it gives.
+    fn take<A: Audience>(
+        &mut self,
+        alloc: Global,
+        audience: &mut A,
+        number: u64,
+        bytes: &[u8],
+        has_more: bool,
+        out: &mut Vec<u8>,
+    ) -> Result<(), NoMemory>
+        ensures ok { OnOk result (TurnsInto (course self.old (A.hearers audience.old)) (course self.new (A.hearers audience.new)) number bytes.now out.old.items out.new.items) }
+        ensures err { OnErr result (BreaksOff (course self.old (A.hearers audience.old)) (course self.new (A.hearers audience.new)) number bytes.now) }
+    {
+        match take_line(alloc, &mut self.caller, audience, number, bytes)? {
+            Taken::Text(text) => {
+                self.pending.push_back(Pending::Ready(text))?;
+                Ok(())
+            }
+            Taken::Articles(articles) => {
+                self.take_batch(alloc, audience, number, articles, has_more, out)
+            }
+        }
+    }
+
+    /// The text of what is given now that the line of this number is taken: a front of what is owed. Where no other line
+    /// stands read already, nothing is owed after it.
+    ///
+    /// `NoMemory` where an allocation failed or a listener answers it; the listeners have heard a front of the alerts of
+    /// what was owed and of the line then. Cost: that of `take_line`; for a batch that of a thread's start, or of
+    /// `match_pieces`; and that of `deliver_found` for what is given. It waits for threads whose batch is given.
+    pub fn answer<A: Audience>(
+        &mut self,
+        alloc: Global,
+        audience: &mut A,
+        number: u64,
+        bytes: &[u8],
+        has_more: bool,
+    ) -> Result<Vec<u8>, NoMemory>
+        ensures ok { IfOk result (λ text. Turns (course self.old (A.hearers audience.old)) (course self.new (A.hearers audience.new)) number bytes.now text.items) }
+        ensures settled { OnOk result (has_more ≡ false → self.new.owed ≡ []) }
+        ensures err { OnErr result (BreaksOff (course self.old (A.hearers audience.old)) (course self.new (A.hearers audience.new)) number bytes.now) }
+    {
+        let mut out = Vec::new(alloc);
+        self.take(alloc, audience, number, bytes, has_more, &mut out)?;
+        let most = if has_more { self.most } else { 0 };
+        self.pay(alloc, audience, &mut out, most)?;
+        Ok(out)
     }
 
     /// Joins each thread that matches a batch, lets go what is owed, and tells the merging thread to stop. It waits for
@@ -210,39 +261,8 @@ impl<'a, R: Threads + Wait + Sync, N: DeskName, G: Gate + Clone + Send + 'static
 
     /// The ledger of the run.
     pub fn into_ledger(self) -> Ledger
-        ensures { result ≡ self.rows }
+        ensures { result ≡ self.entry.rows }
     {
         self.books.ledger
-    }
-}
-
-impl<'a, R: Threads + Wait + Sync, N: DeskName, G: Gate + Clone + Send + 'static, A: Audience> Server<A> for Crew<'a, R, N, G> {
-    ghost use Rattle.clip_workers.specs.Crews.{course_at, OwesNothing};
-    ghost use Rattle.clip_workers.specs.Owed.{TurnsIn, BreaksIn};
-
-    ghost answers = { TurnsIn (course_at A.hearers) };
-
-    ghost breaks_off = { BreaksIn (course_at A.hearers) };
-
-    ghost is_settled = { OwesNothing };
-
-    fn answer(
-        &mut self,
-        alloc: Global,
-        audience: &mut A,
-        number: u64,
-        bytes: &[u8],
-        has_more: bool,
-    ) -> Result<Vec<u8>, NoMemory> {
-        let mut out = Vec::new(alloc);
-        match take_line(alloc, &mut self.caller, audience, number, bytes)? {
-            Taken::Text(text) => self.pending.push_back(Pending::Ready(text))?,
-            Taken::Articles(articles) => {
-                self.take_batch(alloc, audience, number, articles, has_more, &mut out)?
-            }
-        }
-        let most = if has_more { self.most } else { 0 };
-        self.pay(alloc, audience, &mut out, most)?;
-        Ok(out)
     }
 }

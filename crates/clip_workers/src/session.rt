@@ -1,15 +1,18 @@
 //! The run with workers.
 ghost use Rattle.std.specs.Prelude.{◌≡◌, ◌≤◌, ◌⊎◌, [], length, true, false, IfOk, OnOk, OnErr, IfSome, Err};
+ghost use Rattle.std.specs.Thread.{IsSync, IsSend};
 ghost use Rattle.clip_stream.specs.Lines.{lines_of};
 ghost use Rattle.clip_listen.specs.Updates.{heard_at};
 ghost use Rattle.clip_front.specs.Outcome.{GivesAll, GivesFront};
+ghost use Rattle.clip_workers.specs.Ran.{Told, Ran};
 ghost use Rattle.clip_workers.specs.Seated.{IsOnly};
 
 use crate::caller::Caller;
 use crate::crew::Crew;
+use crate::serving::serve_crew;
 use crate::stand_in::Gate;
 use clip_desk::{Desk, DeskName, DeskParts, Seat};
-use clip_front::{Ended, Settings, run_alone, serve};
+use clip_front::{Ended, Settings, run_alone};
 use clip_listen::{Audience, UpdateListeners, UpdateLog};
 use clip_stream::{MOST_READS, RunFault, Sink, Source};
 use clip_words::NoMemory;
@@ -23,7 +26,7 @@ use std::thread::{Threads, join_mut};
 const TAG: u64 = 1;
 
 /// Answers the lines, joins the threads that match, and tells the merging thread to stop.
-fn serve_crew<
+fn serve_and_stop<
     R: Threads + Wait + Sync,
     N: DeskName,
     S: Source,
@@ -35,29 +38,18 @@ fn serve_crew<
     reader: &mut S,
     writer: &mut W,
     audience: &mut A,
-    crew: &mut Crew<'_, R, N, G>,
+    crew: &mut Crew<'_, '_, '_, R, N, G>,
 ) -> Result<u64, RunFault>
     requires unread { S.reads reader.old ≡ 0 }
     requires reader_well { S.has_failed reader.old ≡ false }
     requires writer_well { W.has_failed writer.old ≡ false }
-    requires new { (crew.old.history ≡ []) × (crew.old.rows ≡ []) × (crew.old.owed ≡ []) }
-
-    ensures outcome { OnOk result (IfSome (S.left reader.old)
-        (GivesAll (A.hearers audience.old) (A.hearers audience.new) crew.old.keeps
-        (W.taken writer.old) (W.taken writer.new) crew.new.rows)) }
-    ensures flushed { OnOk result (W.is_flushed writer.new ≡ true) }
-    ensures lines { IfOk result (λ lines. IfSome (S.left reader.old) (λ input. lines ≡ length (lines_of input))) }
-
-    ensures ok { OnOk result ((S.has_failed reader.new ≡ false) × (W.has_failed writer.new ≡ false)) }
-    ensures read { result ≡ Err RunFault.Read → (S.has_failed reader.new ≡ true)
-        ⊎ ((S.reads reader.new ≡ MOST_READS) × (S.met_end reader.new ≡ S.met_end reader.old)) }
-    ensures write { result ≡ Err RunFault.Write → W.has_failed writer.new ≡ true }
-    ensures reads { S.reads reader.new ≤ MOST_READS }
-
-    ensures front { OnErr result (IfSome (S.left reader.old)
-        (GivesFront (A.hearers audience.old) (A.hearers audience.new) (W.taken writer.old) (W.taken writer.new))) }
+    requires begins { (crew.old.history ≡ []) × (crew.old.rows ≡ []) × (crew.old.owed ≡ []) }
+    ensures { Ran (λ lines. lines) (λ lines. crew.new.rows) crew.old.keeps
+        (record { left = S.left reader.old; read_failed = S.has_failed reader.old; reads = S.reads reader.old; met_end = S.met_end reader.old; taken = W.taken writer.old; is_flushed = W.is_flushed writer.old; write_failed = W.has_failed writer.old; hearers = A.hearers audience.old })
+        (record { left = S.left reader.new; read_failed = S.has_failed reader.new; reads = S.reads reader.new; met_end = S.met_end reader.new; taken = W.taken writer.new; is_flushed = W.is_flushed writer.new; write_failed = W.has_failed writer.new; hearers = A.hearers audience.new })
+        result }
 {
-    let answer = serve(alloc, reader, writer, audience, crew);
+    let answer = serve_crew(alloc, reader, writer, audience, crew);
     crew.stop();
     answer
 }
@@ -85,30 +77,28 @@ fn run_seated<
     requires reader_well { S.has_failed reader.old ≡ false }
     requires writer_well { W.has_failed writer.old ≡ false }
     requires only { IsOnly N.book N.callers desk.now seat × (seat.mine ≡ []) }
-
-    ensures outcome { IfOk result (λ ended. IfSome (S.left reader.old)
-        (GivesAll (A.hearers audience.old) (A.hearers audience.new) settings.keeps_rows
-        (W.taken writer.old) (W.taken writer.new) ended.ledger)) }
-    ensures flushed { OnOk result (W.is_flushed writer.new ≡ true) }
-    ensures lines { IfOk result (λ ended. IfSome (S.left reader.old) (λ input.
-        ended.lines ≡ length (lines_of input))) }
-
-    ensures ok { OnOk result ((S.has_failed reader.new ≡ false) × (W.has_failed writer.new ≡ false)) }
-    ensures read { result ≡ Err RunFault.Read → (S.has_failed reader.new ≡ true)
-        ⊎ ((S.reads reader.new ≡ MOST_READS) × (S.met_end reader.new ≡ S.met_end reader.old)) }
-    ensures write { result ≡ Err RunFault.Write → W.has_failed writer.new ≡ true }
-    ensures reads { S.reads reader.new ≤ MOST_READS }
-
-    ensures front { OnErr result (IfSome (S.left reader.old)
-        (GivesFront (A.hearers audience.old) (A.hearers audience.new) (W.taken writer.old) (W.taken writer.new))) }
+    ensures { Ran (λ ended. ended.lines) (λ ended. ended.ledger) settings.keeps_rows
+        (record { left = S.left reader.old; read_failed = S.has_failed reader.old; reads = S.reads reader.old; met_end = S.met_end reader.old; taken = W.taken writer.old; is_flushed = W.is_flushed writer.old; write_failed = W.has_failed writer.old; hearers = A.hearers audience.old })
+        (record { left = S.left reader.new; read_failed = S.has_failed reader.new; reads = S.reads reader.new; met_end = S.met_end reader.new; taken = W.taken writer.new; is_flushed = W.is_flushed writer.new; write_failed = W.has_failed writer.new; hearers = A.hearers audience.new })
+        result }
 {
     let (nudges, nudged) = unbounded(alloc)?;
     let caller = Caller::new(rt, desk, seat, nudges);
-    let mut crew = Crew::new(rt, alloc, gate, caller, settings);
+    let mut crew = Crew::new(alloc, gate, caller, settings);
     let (_, lines) = join_mut(
         rt,
         &mut || desk.serve_merges(rt, &nudged),
-        &mut || serve_crew(alloc, reader, writer, audience, &mut crew),
+        &mut || -> Result<u64, RunFault>
+            requires sent { IsSync R.row × IsSync G.row × IsSend G.row }
+            requires unread { S.reads reader.now ≡ 0 }
+            requires reader_well { S.has_failed reader.now ≡ false }
+            requires writer_well { W.has_failed writer.now ≡ false }
+            requires begins { (crew.history ≡ []) × (crew.rows ≡ []) × (crew.owed ≡ []) }
+            ensures { Ran (λ lines. lines) (λ lines. crew.exit.rows) crew.entry.keeps
+                (record { left = S.left reader.entry.now; read_failed = S.has_failed reader.entry.now; reads = S.reads reader.entry.now; met_end = S.met_end reader.entry.now; taken = W.taken writer.entry.now; is_flushed = W.is_flushed writer.entry.now; write_failed = W.has_failed writer.entry.now; hearers = A.hearers audience.entry.now })
+                (record { left = S.left reader.exit.now; read_failed = S.has_failed reader.exit.now; reads = S.reads reader.exit.now; met_end = S.met_end reader.exit.now; taken = W.taken writer.exit.now; is_flushed = W.is_flushed writer.exit.now; write_failed = W.has_failed writer.exit.now; hearers = A.hearers audience.exit.now })
+                result }
+        { serve_and_stop(alloc, reader, writer, audience, &mut crew) },
     );
     Ok(Ended {
         lines: lines?,
@@ -152,22 +142,10 @@ fn run_desk<
     requires writer_well { W.has_failed writer.old ≡ false }
     requires named { (parts.book ≡ N.book) × (parts.callers ≡ N.callers) × (N.heard_before ≡ heard_at parts.updates) }
     requires one { parts.callers ≡ 1 }
-
-    ensures outcome { IfOk result (λ ended. IfSome (S.left reader.old)
-        (GivesAll (A.hearers audience.old) (A.hearers audience.new) settings.keeps_rows
-        (W.taken writer.old) (W.taken writer.new) ended.ledger)) }
-    ensures flushed { OnOk result (W.is_flushed writer.new ≡ true) }
-    ensures lines { IfOk result (λ ended. IfSome (S.left reader.old) (λ input.
-        ended.lines ≡ length (lines_of input))) }
-
-    ensures ok { OnOk result ((S.has_failed reader.new ≡ false) × (W.has_failed writer.new ≡ false)) }
-    ensures read { result ≡ Err RunFault.Read → (S.has_failed reader.new ≡ true)
-        ⊎ ((S.reads reader.new ≡ MOST_READS) × (S.met_end reader.new ≡ S.met_end reader.old)) }
-    ensures write { result ≡ Err RunFault.Write → W.has_failed writer.new ≡ true }
-    ensures reads { S.reads reader.new ≤ MOST_READS }
-
-    ensures front { OnErr result (IfSome (S.left reader.old)
-        (GivesFront (A.hearers audience.old) (A.hearers audience.new) (W.taken writer.old) (W.taken writer.new))) }
+    ensures { Ran (λ ended. ended.lines) (λ ended. ended.ledger) settings.keeps_rows
+        (record { left = S.left reader.old; read_failed = S.has_failed reader.old; reads = S.reads reader.old; met_end = S.met_end reader.old; taken = W.taken writer.old; is_flushed = W.is_flushed writer.old; write_failed = W.has_failed writer.old; hearers = A.hearers audience.old })
+        (record { left = S.left reader.new; read_failed = S.has_failed reader.new; reads = S.reads reader.new; met_end = S.met_end reader.new; taken = W.taken writer.new; is_flushed = W.is_flushed writer.new; write_failed = W.has_failed writer.new; hearers = A.hearers audience.new })
+        result }
 {
     let (desk, mut seats) = Desk::<N, UpdateLog>::open(parts);
     let Some(seat) = seats.pop() else {
