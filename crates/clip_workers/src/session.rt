@@ -11,12 +11,12 @@ use crate::caller::Caller;
 use crate::crew::Crew;
 use crate::serving::serve_crew;
 use crate::stand_in::Gate;
-use clip_desk::{Desk, DeskName, DeskParts, Seat};
+use clip_desk::{Desk, DeskName, DeskParts, Nudge, Seat};
 use clip_front::{Ended, Settings, run_alone};
 use clip_listen::{Audience, UpdateListeners, UpdateLog};
 use clip_stream::{MOST_READS, RunFault, Sink, Source};
 use clip_words::NoMemory;
-use crossbeam_channel::unbounded;
+use crossbeam_channel::{Sender, unbounded};
 use std::alloc::Global;
 use std::marker::Brand;
 use std::sync::Wait;
@@ -54,6 +54,28 @@ fn serve_and_stop<
     answer
 }
 
+/// The crew of the only caller at a desk.
+fn crew_at<
+    'a,
+    R: Threads + Wait + Sync,
+    N: DeskName,
+    G: Gate + Clone + Send + 'static,
+>(
+    rt: &'a R,
+    alloc: Global,
+    gate: &'a G,
+    desk: &'a Desk<N, UpdateLog>,
+    seat: Seat,
+    nudges: Sender<Nudge>,
+    settings: Settings,
+) -> Crew<'a, 'a, 'a, R, N, G>
+    requires { IsOnly N.book N.callers desk.now seat × (seat.mine ≡ []) }
+    ensures { result ≡ record { history = []; rows = []; keeps = settings.keeps_rows; owed = [] } }
+{
+    let caller = Caller::new(rt, desk, seat, nudges);
+    Crew::new(alloc, gate, caller, settings)
+}
+
 /// Answers the lines as the only caller at a desk, while another thread merges.
 fn run_seated<
     R: Threads + Wait + Sync,
@@ -83,8 +105,7 @@ fn run_seated<
         result }
 {
     let (nudges, nudged) = unbounded(alloc)?;
-    let caller = Caller::new(rt, desk, seat, nudges);
-    let mut crew = Crew::new(alloc, gate, caller, settings);
+    let mut crew = crew_at(rt, alloc, gate, desk, seat, nudges, settings);
     let (_, lines) = join_mut(
         rt,
         &mut || desk.serve_merges(rt, &nudged),
