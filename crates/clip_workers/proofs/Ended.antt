@@ -1,6 +1,7 @@
 -- What a run leaves at its end, and after a fault.
-use Rattle.std.proofs.Common.{◌≡◌, ℕ, List, [], ◌++◌, length, Bool, Option, Some, None, refl, sym, subst, ◌∙◌, arith, append-nil}
+use Rattle.std.proofs.Common.{◌≡◌, ℕ, List, [], ◌++◌, length, Bool, Option, Some, None, refl, sym, ap, subst, ◌∙◌, arith, append-nil}
 use Rattle.std.specs.Prelude.{IfSome, Result, Ok, Err, IfOk, OnOk, OnErr}
+use Rattle.core.specs.Result.{IsErrAnd}
 use Rattle.std.specs.Io.KnownBytes.{Appends}
 use Rattle.clip_stream.specs.Lines.{lines_of}
 use Rattle.clip_stream.specs.declared.fault.RunFault.{RunFault}
@@ -80,3 +81,8 @@ failed_as lines rows given keeps old new e ran = record {
 
 pub ran_failed : {T : Type 0} (lines : T → ℕ) (rows : T → List RowValue) (given : List RowValue) (keeps : Bool) (old new : Told) (e : RunFault) (result : Result T RunFault) → result ≡ Err e → Ran (λ n. n) (λ n. given) keeps old new (Err e) → Ran lines rows keeps old new result
 ran_failed lines rows given keeps old new e result is ran = subst (Ran lines rows keeps old new) (sym is) (failed_as lines rows given keeps old new e ran)
+
+-- the fault of a conversion that gives just this one
+pub refused_is : {T : Type 0} (result : Result T RunFault) → IsErrAnd result (λ e. e ≡ fault.NoMemory) → result ≡ Err fault.NoMemory
+refused_is (Ok t) e = absurd e
+refused_is (Err f) e = ap Err e

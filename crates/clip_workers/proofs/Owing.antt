@@ -217,7 +217,7 @@ pub turns_quiet : (s t : Course) (n : ℕ) (line text a : List ℕ) → TakesQui
 turns_quiet s t n line text a takes is = (
   [],
   turns_taken s t n line takes.meaning (ready text) takes.means (quiet_told text s.hearers n s.history takes.meaning takes.quiet (takes.replies s.hearers))
-  (is ∙ ap (λ h. record { history = h; hearers = s.hearers; rows = s.rows; keeps = s.keeps; owed = s.owed ++ ready text ∷ [] }) takes.history),
+      (is ∙ ap (λ h. record { history = h; hearers = s.hearers; rows = s.rows; keeps = s.keeps; owed = s.owed ++ ready text ∷ [] }) takes.history),
   sym (append-nil a),
 )
 

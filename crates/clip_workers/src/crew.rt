@@ -95,7 +95,14 @@ fn add_text(out: &mut Vec<u8>, text: Vec<u8>) -> Result<(), NoMemory>
     Ok(())
 }
 
-impl<'r, 'd, 'g, R: Threads + Wait + Sync, N: DeskName, G: Gate + Clone + Send + 'static> Crew<'r, 'd, 'g, R, N, G> {
+impl<'r, 'd, 'g, R: Threads + Wait + Sync, N: DeskName, G: Gate + Clone + Send + 'static> Crew<
+    'r,
+    'd,
+    'g,
+    R,
+    N,
+    G,
+> {
     /// The crew of a run that begins, of at least one worker. Constant time.
     pub fn new(
         alloc: Global,
@@ -161,16 +168,39 @@ impl<'r, 'd, 'g, R: Threads + Wait + Sync, N: DeskName, G: Gate + Clone + Send +
     }
 
     /// Begins the matching of a batch, on this thread where nothing else is in flight and no other line waits.
-    fn begin(&mut self, alloc: Global, number: u64, articles: Vec<Article>, has_more: bool) -> Result<(), NoMemory>
+    fn begin(
+        &mut self,
+        alloc: Global,
+        number: u64,
+        articles: Vec<Article>,
+        has_more: bool,
+    ) -> Result<(), NoMemory>
         ensures { OnOk result (self.new ≡ record self.old { owed = self.old.owed ++ matched number self.old.history articles.items ∷ [] }) }
     {
         self.pending.reserve(1)?;
         let view = self.caller.look()?;
         self.batches = self.batches.wrapping_add(1);
         let item = if has_more || 0 < self.in_flight {
-            start_batch(self.rt, alloc, number, view, articles, self.batches, self.gate)?
+            start_batch(
+                self.rt,
+                alloc,
+                number,
+                view,
+                articles,
+                self.batches,
+                self.gate,
+            )?
         } else {
-            match_here(self.rt, alloc, number, view, articles, self.batches, self.workers, self.gate)?
+            match_here(
+                self.rt,
+                alloc,
+                number,
+                view,
+                articles,
+                self.batches,
+                self.workers,
+                self.gate,
+            )?
         };
         if item.is_in_flight() {
             self.in_flight = self.in_flight.saturating_add(1);

@@ -55,12 +55,7 @@ fn serve_and_stop<
 }
 
 /// The crew of the only caller at a desk.
-fn crew_at<
-    'a,
-    R: Threads + Wait + Sync,
-    N: DeskName,
-    G: Gate + Clone + Send + 'static,
->(
+fn crew_at<'a, R: Threads + Wait + Sync, N: DeskName, G: Gate + Clone + Send + 'static>(
     rt: &'a R,
     alloc: Global,
     gate: &'a G,
@@ -242,7 +237,5 @@ pub fn run<
         return run_alone(alloc, reader, writer, audience, settings);
     }
     let parts = parts_of_one(rt, alloc)?;
-    run_desk::<Brand, _, _, _, _, _>(
-        rt, alloc, reader, writer, audience, settings, gate, parts,
-    )
+    run_desk::<Brand, _, _, _, _, _>(rt, alloc, reader, writer, audience, settings, gate, parts)
 }

@@ -3,7 +3,7 @@ use Rattle.clip_workers.proofs.Seats.{only_seat}
 use Rattle.clip_workers.proofs.session.run_desk.Goals as goal
 
 pub run_seated-answer-requires-clause-only : goal.run_seated-answer-requires-clause-only
-run_seated-answer-requires-clause-only g c =
+run_seated-answer-requires-clause-only g c κs within =
     let e = c.open-desk.ensures in
     let seats = c.open-desk.result.1 in
     let held = seats.ok.0 in
