@@ -1,0 +1,5 @@
+pub mod Alone
+pub mod Ended
+pub mod Headline
+pub mod Owing
+pub mod Seats
