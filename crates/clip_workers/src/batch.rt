@@ -5,8 +5,7 @@ ghost use Rattle.clip_workers.specs.Owed.{matched};
 ghost use Rattle.clip_workers.specs.Pending.{owed_by};
 
 use crate::found::{Due, Found};
-use clip_match::{Gate, match_piece, match_pieces};
-use clip_match::Alerts;
+use clip_match::{Alerts, Gate, match_piece, match_pieces};
 use clip_meaning::Article;
 use clip_registry::View;
 use clip_words::NoMemory;
@@ -66,7 +65,7 @@ pub fn start_batch<R: Threads, G: Gate + Clone + Send + 'static>(
     }
 }
 
-/// Cuts a batch into no more pieces than pay, and matches it while the caller waits.
+/// Matches a batch in so many pieces, while the caller waits.
 pub fn match_here<R: Threads + Sync, G: Gate>(
     rt: &R,
     alloc: Global,
@@ -74,13 +73,12 @@ pub fn match_here<R: Threads + Sync, G: Gate>(
     view: View,
     articles: Vec<Article>,
     batch: u64,
-    workers: u32,
+    pieces: u32,
     gate: &G,
 ) -> Result<Pending, NoMemory>
     ensures { IfOk result (λ p. owed_by p ≡ matched number view.history articles.items) }
 {
     let due = Due::to(&view, &articles);
-    let pieces = pieces_that_pay(articles.len(), workers);
     let alerts = match_pieces(rt, alloc, &view, &articles, batch, pieces, gate)?;
     Ok(Pending::Found(Found {
         number,
@@ -89,8 +87,8 @@ pub fn match_here<R: Threads + Sync, G: Gate>(
     }))
 }
 
-/// As many pieces as there are workers, but so few that each has `LEAST_PIECE` articles.
-fn pieces_that_pay(articles: usize, workers: u32) -> u32 {
+/// Into how many pieces a batch is cut: as many as there are workers, but so few that each has `LEAST_PIECE` articles.
+pub fn pieces_that_pay(articles: usize, workers: u32) -> u32 {
     match u32::try_from(articles / LEAST_PIECE) {
         Ok(most) => most.min(workers),
         Err(_) => workers,

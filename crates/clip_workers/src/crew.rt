@@ -6,14 +6,14 @@ ghost use Rattle.clip_workers.specs.Crews.{CrewIs, course};
 ghost use Rattle.clip_workers.specs.Owed.{owed_of, matched, Turns, BreaksOff, HearsOwed, PaysInto, TakesBatch, TurnsInto};
 ghost use Rattle.clip_workers.specs.Pending.{owed_by};
 
-use crate::batch::{Pending, match_here, start_batch};
+use crate::batch::{Pending, match_here, pieces_that_pay, start_batch};
 use crate::caller::Caller;
 use crate::found::Found;
-use clip_match::Gate;
 use clip_desk::DeskName;
 use clip_front::{Books, Registry, Settings, Taken, deliver_found, take_line};
 use clip_ledger::Ledger;
 use clip_listen::Audience;
+use clip_match::Gate;
 use clip_meaning::Article;
 use clip_words::NoMemory;
 use std::alloc::Global;
@@ -167,7 +167,8 @@ impl<'r, 'd, 'g, R: Threads + Wait + Sync, N: DeskName, G: Gate + Clone + Send +
         Ok(())
     }
 
-    /// Begins the matching of a batch, on this thread where nothing else is in flight and no other line waits.
+    /// Begins the matching of a batch. One that has articles enough for all workers is matched here in pieces, and so is one
+    /// behind which no other line stands read; any other in a thread of its own.
     fn begin(
         &mut self,
         alloc: Global,
@@ -180,7 +181,8 @@ impl<'r, 'd, 'g, R: Threads + Wait + Sync, N: DeskName, G: Gate + Clone + Send +
         self.pending.reserve(1)?;
         let view = self.caller.look()?;
         self.batches = self.batches.wrapping_add(1);
-        let item = if has_more || 0 < self.in_flight {
+        let pieces = pieces_that_pay(articles.len(), self.workers);
+        let item = if has_more && pieces < self.workers {
             start_batch(
                 self.rt,
                 alloc,
@@ -198,7 +200,7 @@ impl<'r, 'd, 'g, R: Threads + Wait + Sync, N: DeskName, G: Gate + Clone + Send +
                 view,
                 articles,
                 self.batches,
-                self.workers,
+                pieces,
                 self.gate,
             )?
         };

@@ -9,9 +9,4 @@ mod found;
 mod serving;
 mod session;
 
-pub use batch::{Flight, Pending, match_here, start_batch};
-pub use caller::Caller;
-pub use crew::Crew;
-pub use found::{Due, Found};
-pub use serving::serve_crew;
 pub use session::run;

@@ -6,9 +6,9 @@ ghost use Rattle.clip_workers.specs.Crews.{course_at};
 ghost use Rattle.clip_workers.specs.Owed.{TurnsIn, BreaksIn};
 
 use crate::crew::Crew;
-use clip_match::Gate;
 use clip_desk::DeskName;
 use clip_listen::Audience;
+use clip_match::Gate;
 use clip_stream::{LineReader, MOST_READS, Outbox, RunFault, Sink, Source};
 use std::alloc::Global;
 use std::sync::Wait;

@@ -10,11 +10,11 @@ ghost use Rattle.clip_workers.specs.Seated.{IsOnly};
 use crate::caller::Caller;
 use crate::crew::Crew;
 use crate::serving::serve_crew;
-use clip_match::Gate;
 use clip_desk::{Desk, DeskName, DeskParts, Nudge, Seat};
 use clip_front::{Ended, Settings, run_alone};
 use clip_listen::{Audience, UpdateListeners, UpdateLog};
-use clip_stream::{MOST_READS, RunFault, Sink, Source};
+use clip_match::Gate;
+use clip_stream::{MOST_READS, MOST_WORKERS, RunFault, Sink, Source};
 use clip_words::NoMemory;
 use crossbeam_channel::{Sender, unbounded};
 use std::alloc::Global;
@@ -211,7 +211,7 @@ pub fn run<
     requires unread { S.reads reader.old ≡ 0 }
     requires reader_well { S.has_failed reader.old ≡ false }
     requires writer_well { W.has_failed writer.old ≡ false }
-    requires workers { settings.workers ≤ 64 }
+    requires workers { settings.workers ≤ MOST_WORKERS }
 
     // Where the bytes are known, what was written and flushed is their reply text, each listener has heard just its own
     // alerts, in order, and the ledger has a row for each alert, or none where none are kept.
