@@ -10,10 +10,4 @@ mod serving;
 mod session;
 mod stand_in;
 
-pub use batch::{Flight, Pending, match_here, start_batch};
-pub use caller::Caller;
-pub use crew::Crew;
-pub use found::{Due, Found};
-pub use serving::serve_crew;
 pub use session::run;
-pub use stand_in::{Gate, match_piece, match_pieces};
