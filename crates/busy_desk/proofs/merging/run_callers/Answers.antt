@@ -16,4 +16,3 @@ join-requires-send-F g c κs within =
     let synced : IsSync (room.the_row N g.N.DeskName) = room_sync N g.N.DeskName in
     let shared = (shr_ref_field (record { mir = named 7; lft = κs.1.1.1.1.1.1.1.0 }) (room.the_row N g.N.DeskName) tt).row in
     param_send 1 _ (arg_send _ no _ (three_send _ rt shared seat.the_row (search (sendable, c.type_bounds.sync-R)) (search (sendable, synced)) seat_send))
-
