@@ -1,9 +1,9 @@
 use mathlib.Core.List.{[], ◌∷◌}
-use mir.Syntax.{Sym, Lifetime, named}
+use mir.Syntax.{Sym, named}
 use denote.RattleType.{RattleType}
 use denote.Exit.{no}
 use denote.Param.{param}
-use denote.Param.Send.{IsSend, IsSync, param_send, param_sync, arg_send, shr_send, sendable}
+use denote.Param.Send.{IsSend, IsSync, param_send, arg_send, sendable}
 use denote.Param.SendFields.{declared_send, as_row_send}
 use denote.Struct.Field.{row_field, shr_ref_field}
 use denote.Struct.Tuple.{TupleAt, type_at}

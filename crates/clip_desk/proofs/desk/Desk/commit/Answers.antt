@@ -1,4 +1,4 @@
-use Rattle.std.proofs.Common.{◌≡◌}
+use Rattle.std.proofs.Common.{rules, ◌≡◌}
 use Rattle.clip_model.specs.History.{applied, with_command}
 use Rattle.clip_model.specs.History as model
 use Rattle.clip_registry.specs.Command.{command_of, answer_of}
@@ -16,3 +16,7 @@ returns-clause-last g c =
     (λ (r : ReceiptIs). r.applied ≡ answer_of command (applied before command))
     (λ (r : ReceiptIs). (x : model.History) × (r.history ≡ with_command x caller command) × (r.applied ≡ answer_of command (applied x command)))
     c.commit-answer.result c.commit-answer.ensures.entry c.commit-answer.ensures.applied (λ r p q. (before, p, q))
+
+-- proved by search alone: it stands here so that a wrong body is refused at once
+pub commit-answer-requires-clause-desk : goal.commit-answer-requires-clause-desk
+commit-answer-requires-clause-desk g c = search rules
