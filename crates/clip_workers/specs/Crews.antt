@@ -24,10 +24,6 @@ course crew hearers = record { history = crew.history; hearers = hearers; rows =
 abbrev pub course_at : {A : Type 0} → (A → List Hearer) → CrewIs × A → Course
 course_at hearers s = course s.0 (hearers s.1)
 
--- nothing is owed
-abbrev pub OwesNothing : {A : Type 0} → CrewIs × A → Type 0
-OwesNothing s = s.0.owed ≡ []
-
 -- ---- codes
 
 abbrev owed_parts : Owed → List ℕ ⊎ (ℕ × (History × List ArticleValue))
