@@ -1,6 +1,7 @@
-use Rattle.std.proofs.Common.{drop, subst, take}
+use Rattle.std.proofs.Common.{drop, subst, take, arith}
 use mathlib.Core.List.{IsPrefix}
 use Rattle.std.proofs.lemmas.List.{take-append-drop}
+use Rattle.std.proofs.lemmas.Grind.{common_steps}
 use Rattle.clip_desk.specs.Seats.{SeatIs}
 use Rattle.clip_model.specs.History.{own}
 use Rattle.clip_desk.proofs.seat.Seat.learn.Goals as goal
@@ -15,3 +16,10 @@ returns-else-self-receipt-clause-mine c =
     let all = own s.front.seen.log s.caller in
     let begins : IsPrefix (take s.made all) all = (drop s.made all, take-append-drop s.made all) in
     subst (λ (v : SeatIs). IsPrefix v.mine (own v.seen v.caller)) c.self.view_is begins
+
+-- proved by search alone: they stand here so that a wrong body is refused at once
+pub invariant_of-self : goal.invariant_of-self
+invariant_of-self c = grind (arith, common_steps)
+
+pub returns-then-self-receipt-clause-seen : goal.returns-then-self-receipt-clause-seen
+returns-then-self-receipt-clause-seen c = grind (arith, common_steps)
