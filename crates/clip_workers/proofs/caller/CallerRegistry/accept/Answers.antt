@@ -1,4 +1,4 @@
-use Rattle.std.proofs.Common.{◌∙◌}
+use Rattle.std.proofs.Common.{◌∙◌, rules}
 use Rattle.clip_registry.specs.Command.{command_of}
 use Rattle.clip_workers.proofs.Alone.{accepted, refused}
 use Rattle.clip_workers.proofs.caller.CallerRegistry.accept.Goals as goal
@@ -21,3 +21,7 @@ returns-in-Err-default-Full g c =
       judged = rw (← c.self.view_is)
           (refused c.commit.new.seat.seen c.self.inside.desk.now.callers c.self.inside.seat.caller c.self.inside.seat.mine c.commit.new.seat.mine (command_of c.args.command) full.0 full.1 full.2 i.desk_alone i.first full.3 e.stays);
     }
+
+-- proved by search alone: it stands here so that a wrong body is refused at once
+pub returns-in-Err-default-NoMemory : goal.returns-in-Err-default-NoMemory
+returns-in-Err-default-NoMemory g c = search rules
