@@ -1,7 +1,7 @@
 //! Items over the borders of pieces and blocks, and copies that later writes leave as they were.
 ghost use Rattle.std.specs.Prelude.{◌≤◌};
 
-use crate::{Shared, SharedList};
+use crate::{PackedLists, Shared, SharedList};
 use std::alloc::Global;
 use std::test::Fail;
 
@@ -9,6 +9,14 @@ use std::test::Fail;
 #[derive(Drop)]
 struct Note {
     text: String,
+}
+
+/// An item that is copied.
+#[derive(Clone, Copy, Debug, PartialEq, Eq)]
+enum Mark {
+    Open,
+    Leaf(u32),
+    Close,
 }
 
 /// The squares of the numbers below a count.
@@ -72,5 +80,33 @@ fn items_that_own_memory_are_shared(rt: HostRuntime) -> Result<(), Fail> {
     notes.set(0, Shared::new(alloc, Note { text })?)?;
     assert!(rt; notes.get(0).map(|note| note.value().text.len()) == Some(6));
     assert!(rt; copy.get(0).map(|note| note.arc().text.len()) == Some(3));
+    Ok(())
+}
+
+#[test]
+fn each_packed_list_stands_at_its_place(rt: HostRuntime) -> Result<(), Fail> {
+    let mut lists: PackedLists<u32> = PackedLists::new(rt.alloc());
+    assert!(rt; lists.len() == 0);
+    assert!(rt; lists.get(0).is_empty());
+    lists.push(&[7, 8])?;
+    lists.push(&[])?;
+    lists.push(&[9])?;
+    lists.push(&[])?;
+    assert!(rt; lists.len() == 4);
+    assert!(rt; lists.get(0) == [7, 8].as_slice());
+    assert!(rt; lists.get(1).is_empty());
+    assert!(rt; lists.get(2) == [9].as_slice());
+    assert!(rt; lists.get(3).is_empty());
+    assert!(rt; lists.get(4).is_empty());
+    Ok(())
+}
+
+#[test]
+fn packed_lists_hold_what_is_copied(rt: HostRuntime) -> Result<(), Fail> {
+    let mut lists = PackedLists::new(rt.alloc());
+    lists.push(&[Mark::Open, Mark::Leaf(3), Mark::Close])?;
+    lists.push(&[Mark::Leaf(5)])?;
+    assert!(rt; lists.get(0) == [Mark::Open, Mark::Leaf(3), Mark::Close].as_slice());
+    assert!(rt; lists.get(1) == [Mark::Leaf(5)].as_slice());
     Ok(())
 }

@@ -1,5 +1,3 @@
-pub mod KeysByField
 pub mod Numbers
 pub mod Places
-pub mod Strict
 pub mod Whole

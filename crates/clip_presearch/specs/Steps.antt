@@ -1,3 +1,2 @@
 -- Stepping stones of the proofs.
-pub mod KeysByField
 pub mod Places

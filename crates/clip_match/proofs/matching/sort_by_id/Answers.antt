@@ -3,7 +3,7 @@ use Rattle.std.specs.Cmp.Lexicographic.{nat_list_cmp_total}
 use Rattle.std.proofs.lemmas.List.Sorted.{answers_always, ranks_by, IsPermutation-map}
 use Rattle.clip_words.specs.Order.{bytes_cmp}
 use Rattle.clip_model.specs.History.{Registered}
-use Rattle.clip_presearch.proofs.Strict.{sorted_mapped}
+use Rattle.clip_terms.proofs.Strict.{sorted_mapped}
 use Rattle.clip_match.proofs.matching.sort_by_id.Goals as goal
 
 pub returns-clause-moved : goal.returns-clause-moved

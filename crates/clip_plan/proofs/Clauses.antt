@@ -1,0 +1,92 @@
+-- The marks and the words of a group, clause by clause.
+use Rattle.std.proofs.Common.{◌≡◌, ℕ, zero, suc, ◌+◌, ◌<◌, ◌≤◌, List, [], ◌∷◌, ◌++◌, map, length, take, get_or, Vec, Global, refl, sym, ap, ◌∙◌, subst, arith, append_assoc, IsTrue}
+use Rattle.std.proofs.lemmas.List.{append-nil, take_all, take_more}
+use Rattle.clip_grammar.specs.Tree.{Tree, Clauses, clauses_of, tree_of, nodes, clause_nodes}
+use Rattle.clip_grammar.specs.declared.query.Occur.{Occur}
+use Rattle.clip_grammar.specs.declared.query.Query.{Query}
+use Rattle.clip_grammar.specs.declared.query.Query.TheViews.{Group}
+use Rattle.clip_grammar.proofs.Trees.{tree_of_group}
+use Rattle.clip_extract.specs.Keys.{KeyValue}
+use Rattle.clip_plan.specs.Plan.{Mark, Open, Close, clause_marks, group_marks, plan_of, word_keys, clause_word_keys, are_terms}
+use Rattle.clip_plan.specs.declared.step.Step.{Step}
+use Rattle.clip_plan.specs.declared.step.Step.TheVariants as step
+use Rattle.clip_plan.specs.Steps.Plans.{Adds}
+use Rattle.clip_plan.proofs.Numbering.{are_parts}
+use Rattle.clip_plan.proofs.Standing.{adds_then, adds_step}
+
+abbrev pub trees : List (Occur × Query) → Clauses
+trees cs = clauses_of (map (λ c. (c.0, tree_of c.1)) cs)
+
+-- ---- marks
+
+last_marks : (cs : List (Occur × Query)) (c : Occur × Query) → group_marks (trees (cs ++ c ∷ [])) ≡ group_marks (trees cs) ++ clause_marks c.0 (tree_of c.1)
+last_marks [] c = append-nil (clause_marks c.0 (tree_of c.1))
+last_marks (x ∷ xs) c =
+    ap (λ ms. clause_marks x.0 (tree_of x.1) ++ ms) (last_marks xs c)
+    ∙ sym (append_assoc (clause_marks x.0 (tree_of x.1)) (group_marks (trees xs)) (clause_marks c.0 (tree_of c.1)))
+
+-- the marks of one clause more
+pub next_marks : (cs : List (Occur × Query)) (i : ℕ) (c : Occur × Query) → i < length cs → c ≡ get_or cs i c → group_marks (trees (take (i + 1) cs)) ≡ group_marks (trees (take i cs)) ++ clause_marks c.0 (tree_of c.1)
+next_marks cs i c lt is =
+    ap (λ xs. group_marks (trees xs)) (take_more cs i c lt) ∙ last_marks (take i cs) (get_or cs i c)
+    ∙ ap (λ x. group_marks (trees (take i cs)) ++ clause_marks x.0 (tree_of x.1)) (sym is)
+
+pub all_marks : (cs : List (Occur × Query)) (i : ℕ) → length cs ≤ i → group_marks (trees (take i cs)) ≡ group_marks (trees cs)
+all_marks cs i le = ap (λ xs. group_marks (trees xs)) (take_all i cs le)
+
+-- ---- words
+
+words_of : (terms : List KeyValue) (cs : List (Occur × Query)) (i : ℕ) (c : Occur × Query) → IsTrue (are_terms terms (clause_word_keys (trees cs))) → i < length cs → c ≡ get_or cs i c
+    → IsTrue (are_terms terms (word_keys (tree_of c.1)))
+words_of terms [] i c h lt is = absurd (omega arith)
+words_of terms (x ∷ xs) zero c h lt is = subst (λ (y : Occur × Query). IsTrue (are_terms terms (word_keys (tree_of y.1)))) (sym is) (are_parts terms (word_keys (tree_of x.1)) (clause_word_keys (trees xs)) h).0
+words_of terms (x ∷ xs) (suc i) c h lt is = words_of terms xs i c (are_parts terms (word_keys (tree_of x.1)) (clause_word_keys (trees xs)) h).1 (omega arith) is
+
+-- the words of a group's clause are terms, as those of the group
+pub child_words : (terms : List KeyValue) (query : Query) (v : Vec (Occur × Query) Global) (cs : List (Occur × Query)) (i : ℕ) (c : Occur × Query) → query ≡ Group v → cs ≡ v.items → IsTrue (are_terms terms (word_keys (tree_of query))) → i < length cs → c ≡ get_or cs i c
+    → IsTrue (are_terms terms (word_keys (tree_of c.1)))
+child_words terms query v cs i c group items h lt is =
+    words_of terms cs i c
+    (subst (λ (l : List (Occur × Query)). IsTrue (are_terms terms (clause_word_keys (trees l)))) (sym items)
+    (subst (λ (t : Tree). IsTrue (are_terms terms (word_keys t))) (ap tree_of group ∙ tree_of_group v) h))
+    lt is
+
+-- ---- size
+
+smaller : (cs : List (Occur × Query)) (i : ℕ) (c : Occur × Query) → i < length cs → c ≡ get_or cs i c → nodes (tree_of c.1) ≤ clause_nodes (trees cs)
+smaller [] i c lt is = absurd (omega arith)
+smaller (x ∷ xs) zero c lt is = omega (arith, ap (λ (y : Occur × Query). nodes (tree_of y.1)) is)
+smaller (x ∷ xs) (suc i) c lt is = omega (arith, smaller xs i c (omega arith) is)
+
+-- a clause's child has fewer nodes than the group
+pub child_nodes : (query : Query) (v : Vec (Occur × Query) Global) (cs : List (Occur × Query)) (i : ℕ) (c : Occur × Query) → query ≡ Group v → cs ≡ v.items → i < length cs → c ≡ get_or cs i c → nodes (tree_of c.1) < nodes (tree_of query)
+child_nodes query v cs i c group items lt is =
+    let whole : nodes (tree_of query) ≡ clause_nodes (trees cs) + 1 = ap nodes (ap tree_of group ∙ tree_of_group v) ∙ ap (λ l. clause_nodes (trees l) + 1) (sym items) in
+    omega (arith, whole, smaller cs i c lt is)
+
+-- ---- what is added
+
+-- one clause more
+pub clause_added : {terms : List KeyValue} {runs₀ runs₁ runs₂ : List (List ℕ)} {asked₀ asked₁ asked₂ : List Query} {steps₀ steps₁ steps₂ : List Step} (front : List (Mark KeyValue)) (cs : List (Occur × Query)) (i : ℕ) (c : Occur × Query) → i < length cs → c ≡ get_or cs i c
+    → Adds terms runs₀ asked₀ steps₀ runs₁ asked₁ steps₁ (front ++ group_marks (trees (take i cs))) → Adds terms runs₁ asked₁ steps₁ runs₂ asked₂ steps₂ (clause_marks c.0 (tree_of c.1))
+    → Adds terms runs₀ asked₀ steps₀ runs₂ asked₂ steps₂ (front ++ group_marks (trees (take (i + 1) cs)))
+clause_added {terms} {runs₀} {runs₁} {runs₂} {asked₀} {asked₁} {asked₂} {steps₀} {steps₁} {steps₂} front cs i c lt is f g =
+    subst (Adds terms runs₀ asked₀ steps₀ runs₂ asked₂ steps₂)
+    (append_assoc front (group_marks (trees (take i cs))) (clause_marks c.0 (tree_of c.1)) ∙ ap (λ ms. front ++ ms) (sym (next_marks cs i c lt is)))
+    (adds_then terms runs₀ runs₁ runs₂ asked₀ asked₁ asked₂ steps₀ steps₁ steps₂ (front ++ group_marks (trees (take i cs))) (clause_marks c.0 (tree_of c.1)) f g)
+
+-- all clauses of a plan
+pub plan_added : {terms : List KeyValue} {runs new_runs : List (List ℕ)} {asked new_asked : List Query} {steps new : List Step} (query : Query) (v : Vec (Occur × Query) Global) (cs : List (Occur × Query)) (i : ℕ) → query ≡ Group v → cs ≡ v.items → length cs ≤ i
+    → Adds terms runs asked steps new_runs new_asked new (group_marks (trees (take i cs))) → Adds terms runs asked steps new_runs new_asked new (plan_of (tree_of query))
+plan_added {terms} {runs} {new_runs} {asked} {new_asked} {steps} {new} query v cs i group items le f =
+    subst (Adds terms runs asked steps new_runs new_asked new)
+    (all_marks cs i le ∙ ap (λ l. group_marks (trees l)) items ∙ sym (ap plan_of (ap tree_of group ∙ tree_of_group v))) f
+
+-- a group as a clause, where the last step is its end
+pub group_added : {terms : List KeyValue} {runs new_runs : List (List ℕ)} {asked new_asked : List Query} {steps most : List Step} (query : Query) (v : Vec (Occur × Query) Global) (cs : List (Occur × Query)) (i : ℕ) (occur : Occur) (new : List Step) → query ≡ Group v → cs ≡ v.items → length cs ≤ i
+    → Adds terms runs asked steps new_runs new_asked most (Open ∷ group_marks (trees (take i cs))) → new ≡ most ++ step.Close occur ∷ [] → Adds terms runs asked steps new_runs new_asked new (clause_marks occur (tree_of query))
+group_added {terms} {runs} {new_runs} {asked} {new_asked} {steps} {most} query v cs i occur new group items le f e =
+    subst (Adds terms runs asked steps new_runs new_asked new)
+    (ap (λ ms. Open ∷ ms ++ Close occur ∷ []) (all_marks cs i le ∙ ap (λ l. group_marks (trees l)) items) ∙ sym (ap (clause_marks occur) (ap tree_of group ∙ tree_of_group v)))
+    (adds_then terms runs new_runs new_runs asked new_asked new_asked steps most new (Open ∷ group_marks (trees (take i cs))) (Close occur ∷ []) f
+    (adds_step terms new_runs new_asked most new (step.Close occur) (Close occur) e tt refl))

@@ -1,0 +1,7 @@
+pub mod AskedKeys
+pub mod Clauses
+pub mod Judging
+pub mod Leaves
+pub mod Numbering
+pub mod Standing
+pub mod Words

@@ -1,0 +1,21 @@
+use Rattle.std.proofs.Common.{◌<◌, [], ◌∷◌, arith}
+use Rattle.clip_grammar.specs.Tree.{tree_of, nodes}
+use Rattle.clip_plan.specs.Plan.{Open}
+use Rattle.clip_plan.proofs.Clauses.{child_words, child_nodes, clause_added, group_added}
+use Rattle.clip_plan.proofs.plans.+add_clause.Goals as goal
+
+pub add_clause-requires : goal.add_clause-requires
+add_clause-requires t c =
+    let cs = c.deref-occur-items.result.now in
+    let i = c.loop-occur.occur-index in
+    let child = c.loop-occur-item.result in
+    let fewer : nodes (tree_of child.1) < nodes (tree_of c.args.query.now) = child_nodes c.args.query.now c.in-Group.clauses cs i child c.in-Group.is c.deref-occur-items.ensures.value c.loop-occur-test.true c.loop-occur-item.is in
+    (omega (arith, fewer, c.decreases), child_words c.args.terms.now c.args.query.now c.in-Group.clauses cs i child c.in-Group.is c.deref-occur-items.ensures.value c.requires c.loop-occur-test.true c.loop-occur-item.is)
+
+pub loop-occur-preserved : goal.loop-occur-preserved
+loop-occur-preserved t c =
+    clause_added (Open ∷ []) c.deref-occur-items.result.now c.loop-occur.occur-index c.loop-occur-item.result c.loop-occur-test.true c.loop-occur-item.is c.loop-occur.invariant c.in_ok-add_clause-in-Group.ensures.added
+
+pub returns-in_ok-push-in-Group-2-clause-added : goal.returns-in_ok-push-in-Group-2-clause-added
+returns-in_ok-push-in-Group-2-clause-added t c = let h = c.in_ok-push-in-Group-2 in
+    group_added c.args.query.now c.in-Group.clauses c.deref-occur-items.result.now c.loop-occur.occur-index c.args.occur _ c.in-Group.is c.deref-occur-items.ensures.value c.loop-occur-test.false c.loop-occur.invariant h.ensures.items

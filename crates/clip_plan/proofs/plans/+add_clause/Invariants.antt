@@ -1,0 +1,12 @@
+use Rattle.std.proofs.Common.{◌∷◌, take}
+use Rattle.clip_grammar.specs.Tree.{tree_of, nodes}
+use Rattle.clip_plan.specs.Plan.{Open, group_marks}
+use Rattle.clip_plan.specs.Steps.Plans.{Adds}
+use Rattle.clip_plan.proofs.Clauses.{trees}
+use Rattle.clip_plan.proofs.plans.+add_clause.Given as goal
+
+abbrev pub decreases-add_clause : goal.decreases-add_clause
+decreases-add_clause l = nodes (tree_of l.query.now)
+
+abbrev pub invariant-loop-occur : goal.invariant-loop-occur
+invariant-loop-occur l = Adds l.terms l.fn.runs l.fn.asked.items l.fn.steps.items l.runs l.asked.items l.steps.items (Open ∷ group_marks (trees (take l.occur-index l.occur-items)))

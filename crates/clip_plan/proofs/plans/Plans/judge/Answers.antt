@@ -1,0 +1,15 @@
+use Rattle.std.proofs.Common.{◌≡◌, List, map, subst}
+use Rattle.std.specs.Prelude.{IfOk}
+use Rattle.clip_grammar.specs.Tree.{Tree, tree_of}
+use Rattle.clip_grammar.specs.declared.query.Query.{Query}
+use Rattle.clip_meaning.specs.Meaning.{holds}
+use Rattle.clip_plan.specs.Plan.{plan_of}
+use Rattle.clip_plan.specs.Steps.Judging.{meant}
+use Rattle.clip_plan.proofs.Judging.{judged_at}
+use Rattle.clip_plan.proofs.plans.Plans.judge.Goals as goal
+
+pub returns : goal.returns
+returns c =
+    let reading = c.args.reading.now in
+    judged_at c.self.inside.runs (map tree_of c.self.inside.asked.items) reading.terms reading.article.fields c.args.self.now c.self.inside.steps c.args.place c.get.result.now c.holds_by.result c.self.view_is c.get.ensures
+    (subst (λ (asked : List Query). IfOk c.holds_by.result (λ held. (tree : Tree) → map (meant c.self.inside.runs (map tree_of asked) reading.terms) c.get.result.now ≡ plan_of tree → held ≡ holds tree reading.article.fields)) c.deref.ensures.value c.holds_by.ensures)

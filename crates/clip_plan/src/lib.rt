@@ -1,0 +1,13 @@
+//! Plans of queries: what they ask, over the numbers of terms, in lists that are judged from front to back.
+#![tactic(auto)]
+
+ghost use Rattle.std.specs.Prelude.{◌≡◌};
+
+mod judge;
+mod plans;
+mod step;
+mod word_keys;
+
+pub use judge::Tally;
+pub use plans::Plans;
+pub use word_keys::add_word_keys;

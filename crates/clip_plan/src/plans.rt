@@ -1,0 +1,253 @@
+//! Plans, and how a query becomes one.
+ghost use Rattle.std.specs.Prelude.{◌≡◌, ℕ, ◌<◌, ◌≤◌, ◌++◌, ◌∷◌, [], List, OnOk, IfOk, length, map, unwrap_or, slice_get, IsTrue};
+ghost use Rattle.std.specs.Arc.{arc_str_bytes};
+ghost use Rattle.clip_grammar.specs.Tree.{Tree, tree_of};
+ghost use Rattle.clip_extract.specs.Keys.{KeyValue, Word};
+ghost use Rattle.clip_terms.specs.Terms.{term_at};
+ghost use Rattle.clip_plan.specs.Plan.{Mark, Leaf, Is, decoded, plan_of, clause_marks, are_terms, word_keys};
+ghost use Rattle.clip_plan.specs.Steps.Plans.{Grows, Adds, IsNoGroup};
+
+use crate::step::Step;
+use clip_extract::Key;
+use clip_grammar::query::{Occur, Query};
+use clip_pieces::PackedLists;
+use clip_terms::Terms;
+use clip_words::NoMemory;
+use std::alloc::Global;
+use std::marker::Model;
+use std::sync::ArcStr;
+
+/// Plans of queries in one buffer, in the order in which they were added. Contracts see each as its marks over the
+/// numbers of terms.
+#[derive(Debug, Drop)]
+pub struct Plans {
+    pub(crate) steps: PackedLists<Step>,
+    pub(crate) runs: PackedLists<u32>,
+    pub(crate) asked: Vec<Query>,
+}
+
+impl Model for Plans {
+    ghost use Rattle.std.specs.Prelude.{ℕ, List};
+    ghost use Rattle.std.specs.Coded.{codes};
+    ghost use Rattle.clip_grammar.specs.TreeCode.{tree_code};
+    ghost use Rattle.clip_plan.specs.Plan.{Mark};
+
+    ghost Value = { List (List (Mark ℕ)) };
+
+    ghost coded = { Prim.hlevel (codes, tree_code) };
+
+    ghost use Rattle.clip_plan.specs.Steps.Plans.{marks_of, HavePlaces};
+
+    ghost view = { marks_of };
+
+    ghost invariant = { HavePlaces };
+}
+
+/// The number of a word, which is a term.
+fn number_of(terms: &Terms, field: &ArcStr, word: &ArcStr) -> Result<u32, NoMemory>
+    requires { IsTrue (are_terms terms.now (Word (arc_str_bytes field.now) (arc_str_bytes word.now) ∷ [])) }
+    ensures { IfOk result (λ number. term_at terms.now number ≡ Word (arc_str_bytes field.now) (arc_str_bytes word.now)) }
+{
+    match terms.number(&Key::Word(field.clone()?, word.clone()?)) {
+        Some(number) => Ok(number),
+        None => unreachable!(),
+    }
+}
+
+/// The numbers of words, which are terms.
+fn numbers_of(
+    alloc: Global,
+    terms: &Terms,
+    field: &ArcStr,
+    words: &[ArcStr],
+) -> Result<Vec<u32>, NoMemory>
+    requires { IsTrue (are_terms terms.now (map (Word (arc_str_bytes field.now)) (map arc_str_bytes words.now))) }
+    ensures { IfOk result (λ run. map (term_at terms.now) run.items ≡ map (Word (arc_str_bytes field.now)) (map arc_str_bytes words.now)) }
+{
+    let mut run = Vec::new(alloc);
+    for word in words {
+        run.push(number_of(terms, field, word)?)?;
+    }
+    Ok(run)
+}
+
+/// Adds the numbers of a phrase's words as a run, and gives its place.
+fn add_run(
+    alloc: Global,
+    terms: &Terms,
+    field: &ArcStr,
+    words: &[ArcStr],
+    runs: &mut PackedLists<u32>,
+) -> Result<usize, NoMemory>
+    requires { IsTrue (are_terms terms.now (map (Word (arc_str_bytes field.now)) (map arc_str_bytes words.now))) }
+    ensures grows { IfOk result (λ _. Grows runs.old runs.new) }
+    ensures long { length runs.old ≤ length runs.new }
+    ensures inside { IfOk result (λ place. place < length runs.new) }
+    ensures run { IfOk result (λ place. map (term_at terms.now) (unwrap_or (slice_get runs.new place) [])
+        ≡ map (Word (arc_str_bytes field.now)) (map arc_str_bytes words.now)) }
+{
+    let run = numbers_of(alloc, terms, field, words)?;
+    let place = runs.len();
+    runs.push(&run)?;
+    Ok(place)
+}
+
+/// Adds a query that is asked as it is, as a clause.
+fn add_asked(
+    occur: Occur,
+    query: Query,
+    asked: &mut Vec<Query>,
+    steps: &mut Vec<Step>,
+) -> Result<(), NoMemory>
+    ensures long { length asked.old.items ≤ length asked.new.items }
+    ensures added { OnOk result ((terms : List KeyValue) (runs : List (List ℕ))
+        → Adds terms runs asked.old.items steps.old.items runs asked.new.items steps.new.items (Leaf occur (Is (tree_of query)) ∷ [])) }
+{
+    let place = asked.len();
+    asked.push(query)?;
+    steps.push(Step::Asked(occur, place))?;
+    Ok(())
+}
+
+/// Adds the step of a query that is no group, as a clause.
+fn add_leaf(
+    alloc: Global,
+    terms: &Terms,
+    occur: Occur,
+    query: &Query,
+    runs: &mut PackedLists<u32>,
+    asked: &mut Vec<Query>,
+    steps: &mut Vec<Step>,
+) -> Result<(), NoMemory>
+    requires leaf { IsNoGroup query.now }
+    requires words { IsTrue (are_terms terms.now (word_keys (tree_of query.now))) }
+    ensures runs { length runs.old ≤ length runs.new }
+    ensures asked { length asked.old.items ≤ length asked.new.items }
+    ensures added { OnOk result (Adds terms.now runs.old asked.old.items steps.old.items
+        runs.new asked.new.items steps.new.items (clause_marks occur (tree_of query.now))) }
+{
+    match query {
+        Query::Term { field, word } => {
+            steps.push(Step::Term(occur, number_of(terms, field, word)?))?;
+            Ok(())
+        }
+        Query::Phrase { field, words } => {
+            steps.push(Step::Phrase(occur, add_run(alloc, terms, field, words, runs)?))?;
+            Ok(())
+        }
+        Query::Prefix { field, front } => {
+            let copy = Query::Prefix {
+                field: field.clone()?,
+                front: front.clone()?,
+            };
+            add_asked(occur, copy, asked, steps)
+        }
+        Query::Span { field, low, high } => {
+            let copy = Query::Span {
+                field: field.clone()?,
+                low: low.clone()?,
+                high: high.clone()?,
+            };
+            add_asked(occur, copy, asked, steps)
+        }
+        Query::All => add_asked(occur, Query::All, asked, steps),
+        Query::Group(_) => Ok(()),
+    }
+}
+
+/// Adds the steps of a query as a clause.
+fn add_clause(
+    alloc: Global,
+    terms: &Terms,
+    occur: Occur,
+    query: &Query,
+    runs: &mut PackedLists<u32>,
+    asked: &mut Vec<Query>,
+    steps: &mut Vec<Step>,
+) -> Result<(), NoMemory>
+    requires { IsTrue (are_terms terms.now (word_keys (tree_of query.now))) }
+    ensures runs { length runs.old ≤ length runs.new }
+    ensures asked { length asked.old.items ≤ length asked.new.items }
+    ensures added { OnOk result (Adds terms.now runs.old asked.old.items steps.old.items
+        runs.new asked.new.items steps.new.items (clause_marks occur (tree_of query.now))) }
+{
+    match query {
+        Query::Group(clauses) => {
+            steps.push(Step::Open)?;
+            for (occur, child) in clauses {
+                add_clause(alloc, terms, *occur, child, runs, asked, steps)?;
+            }
+            steps.push(Step::Close(occur))?;
+            Ok(())
+        }
+        _ => add_leaf(alloc, terms, occur, query, runs, asked, steps),
+    }
+}
+
+/// Adds the steps of a query's plan.
+fn add_plan(
+    alloc: Global,
+    terms: &Terms,
+    query: &Query,
+    runs: &mut PackedLists<u32>,
+    asked: &mut Vec<Query>,
+    steps: &mut Vec<Step>,
+) -> Result<(), NoMemory>
+    requires { IsTrue (are_terms terms.now (word_keys (tree_of query.now))) }
+    ensures runs { length runs.old ≤ length runs.new }
+    ensures asked { length asked.old.items ≤ length asked.new.items }
+    ensures added { OnOk result (Adds terms.now runs.old asked.old.items steps.old.items
+        runs.new asked.new.items steps.new.items (plan_of (tree_of query.now))) }
+{
+    match query {
+        Query::Group(clauses) => {
+            for (occur, child) in clauses {
+                add_clause(alloc, terms, *occur, child, runs, asked, steps)?;
+            }
+            Ok(())
+        }
+        _ => add_leaf(alloc, terms, Occur::Must, query, runs, asked, steps),
+    }
+}
+
+impl Plans {
+    /// No plans. Takes no memory.
+    pub fn new(alloc: Global) -> Plans
+        ensures { result ≡ [] }
+    {
+        Plans {
+            steps: PackedLists::new(alloc),
+            runs: PackedLists::new(alloc),
+            asked: Vec::new(alloc),
+        }
+    }
+
+    /// How many plans there are. Takes no memory. Constant time.
+    pub fn len(&self) -> usize
+        ensures { result ≡ length self.now }
+    {
+        self.steps.len()
+    }
+
+    /// Adds the plan of a query whose words are terms. `NoMemory` where an allocation failed; the plans are then of no
+    /// use.
+    ///
+    /// Cost: one search among the terms for each word of the query. Texts of prefixes are shared, and those of ranges
+    /// are copied.
+    pub fn push(&mut self, alloc: Global, terms: &Terms, query: &Query) -> Result<(), NoMemory>
+        requires { IsTrue (are_terms terms.now (word_keys (tree_of query.now))) }
+        ensures { OnOk result (map (decoded terms.now) self.new ≡ map (decoded terms.now) self.old ++ plan_of (tree_of query.now) ∷ []) }
+    {
+        let mut steps = Vec::new(alloc);
+        add_plan(
+            alloc,
+            terms,
+            query,
+            &mut self.runs,
+            &mut self.asked,
+            &mut steps,
+        )?;
+        self.steps.push(&steps)?;
+        Ok(())
+    }
+}

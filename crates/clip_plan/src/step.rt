@@ -1,0 +1,17 @@
+//! The steps of a plan.
+use clip_grammar::query::Occur;
+
+/// A step of a plan: a leaf as a clause of the group that is open, or the beginning or the end of a group.
+#[derive(Clone, Copy, Debug, PartialEq, Eq)]
+pub(crate) enum Step {
+    /// The article has the term of this number.
+    Term(Occur, u32),
+    /// The words of the run of this place stand next to each other in a field, in order.
+    Phrase(Occur, usize),
+    /// The query of this place holds.
+    Asked(Occur, usize),
+    /// A group begins.
+    Open,
+    /// The group that was begun last ends, and is a clause of the one around it.
+    Close(Occur),
+}

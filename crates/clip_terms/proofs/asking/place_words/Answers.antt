@@ -1,0 +1,38 @@
+use Rattle.std.proofs.Common.{◌≡◌, ℕ, ◌-◌, ◌+◌, List, ◌++◌, All, Some, option_map, map, length, take, drop, set, length-set, ap, sym, ◌∙◌, subst, arith}
+use Rattle.std.specs.Arc.{arc_str_bytes}
+use Rattle.std.proofs.lemmas.List.{take_all, length-map}
+use Rattle.clip_extract.specs.Keys.{Word, key_of}
+use Rattle.clip_terms.specs.Steps.KeysByField.{differing, key_added}
+use Rattle.clip_terms.specs.Steps.Places.{IsPlaced, EndsWith}
+use Rattle.clip_terms.proofs.PlacedWords.{Place, words_at, keys_more, ends_more, placed_more}
+use Rattle.clip_terms.proofs.asking.place_words.Goals as goal
+
+pub loop-posting-preserved : goal.loop-posting-preserved
+loop-posting-preserved c =
+    let name = arc_str_bytes c.args.name.now in
+    let last = option_map (λ w. w.now) c.loop-posting.last in
+    let old = map key_of c.loop-posting.keys.items in
+    let new = map key_of c.add_differing.new.keys.items in
+    let places = c.loop-posting.places.items in
+    let ps = c.args.postings.now in
+    let i = c.loop-posting.posting-index in
+    let x = c.posting-item.result in
+    let lt = c.loop-posting-test.true in
+    let is = c.posting-item.is in
+    let before = c.loop-posting.invariant in
+    let word : c.as_str.result.now ≡ x.0 = c.as_str.ensures.value ∙ c.word-word.ensures in
+    let grown : new ≡ old ++ key_added name last x.0 = c.in_ok-add_differing.ensures ∙ ap (λ (v : List ℕ). old ++ key_added name last v) c.word-word.ensures in
+    let place : c.len.result - 1 ≡ length new - 1 = omega (arith, length-map c.add_differing.new.keys.items key_of) in
+    record {
+      keys = ap (λ (v : List ℕ). new ++ map (Word name) (differing (Some v) (words_at (drop (i + 1) ps)))) word ∙ keys_more name last old new _ ps i x lt is grown before.keys;
+      last = subst (λ (v : List ℕ). EndsWith name (Some v) new) (sym word) (ends_more name x.0 last old new before.last grown);
+      long = length-set places _ _ ∙ before.long;
+      placed =
+          subst (λ (n : ℕ). All (IsPlaced name new (set places n (c.len.result - 1))) (take (i + 1) ps)) (sym c.position.ensures)
+          (placed_more name last old new places (c.len.result - 1) (length c.args.places.now.items) ps i x c.requires before.long lt is grown place before.last before.placed);
+    }
+
+pub returns-clause-placed : goal.returns-clause-placed
+returns-clause-placed c =
+    subst (λ (ps : List Place). All (IsPlaced (arc_str_bytes c.args.name.now) (map key_of c.loop-posting.keys.items) c.loop-posting.places.items) ps)
+    (take_all c.loop-posting.posting-index c.args.postings.now c.loop-posting-test.false) c.loop-posting.invariant.placed

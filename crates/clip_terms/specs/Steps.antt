@@ -1,0 +1,7 @@
+-- What the proofs of this crate go through, and private fields as contracts see them; no public clause cites it.
+pub mod Asking
+pub mod KeysByField
+pub mod Numbers
+pub mod Places
+pub mod Reading
+pub mod Runs

@@ -1,0 +1,12 @@
+//! Terms: the keys that some queries ask for, by their numbers; and articles as they are asked by numbers.
+#![tactic(auto)]
+
+ghost use Rattle.std.specs.Prelude.{◌≡◌};
+
+mod asking;
+mod reading;
+mod terms;
+
+pub use asking::Asking;
+pub use reading::Reading;
+pub use terms::Terms;

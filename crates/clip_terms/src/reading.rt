@@ -1,0 +1,257 @@
+//! Articles as they are asked by the numbers of terms.
+ghost use Rattle.std.specs.Prelude.{◌≡◌, ◌<◌, ◌++◌, IfOk, OnOk, length, map, filter, option_to_list};
+ghost use Rattle.std.specs.List.{All, list_any, list_all};
+ghost use Rattle.clip_extract.specs.Keys.{key_of, is_same};
+ghost use Rattle.clip_extract.specs.Covering.{article_keys};
+ghost use Rattle.clip_terms.specs.Terms.{term_at, number_of};
+ghost use Rattle.clip_terms.specs.Reading.{has_key, has_run};
+ghost use Rattle.clip_terms.specs.Steps.Numbers.{known, number_at, AreFlags};
+ghost use Rattle.clip_terms.specs.Steps.Runs.{is_number, begins_with, stands_among};
+
+use crate::asking::Asking;
+use crate::terms::Terms;
+use clip_extract::Key;
+use clip_meaning::Article;
+use clip_words::NoMemory;
+use std::alloc::Global;
+use std::marker::Model;
+
+/// An article as it is asked by the numbers of terms: which terms are keys of it, and which term stands at each place.
+/// Contracts see the terms and the article.
+#[derive(Drop)]
+pub struct Reading<'a> {
+    terms: &'a Terms,
+    article: &'a Article,
+    numbers: Vec<u32>,
+    flags: Vec<bool>,
+    fields: Vec<Vec<Option<u32>>>,
+}
+
+impl<'a> Model for Reading<'a> {
+    ghost use Rattle.clip_terms.specs.Reading.{ReadingValue, reading_code};
+    ghost use Rattle.clip_terms.specs.Steps.Reading.{reading_of, IsReading};
+
+    ghost Value = { ReadingValue };
+
+    ghost coded = { reading_code };
+
+    ghost view = { reading_of };
+
+    ghost invariant = { IsReading };
+}
+
+/// The numbers of keys, in order; none of a key that is no term.
+fn key_numbers(alloc: Global, terms: &Terms, keys: &[Key]) -> Result<Vec<Option<u32>>, NoMemory>
+    ensures { IfOk result (λ numbers. numbers.items ≡ map (number_of terms.now) (map key_of keys.now)) }
+{
+    let mut numbers = Vec::with_capacity(alloc, keys.len())?;
+    for key in keys {
+        numbers.push(terms.number(key))?;
+    }
+    Ok(numbers)
+}
+
+/// Adds a number, if it is one.
+fn add_known(number: Option<u32>, numbers: &mut Vec<u32>) -> Result<(), NoMemory>
+    ensures { OnOk result (numbers.new.items ≡ numbers.old.items ++ option_to_list number) }
+{
+    if let Some(number) = number {
+        numbers.push(number)?;
+    }
+    Ok(())
+}
+
+/// Those that are numbers, in order.
+fn known_numbers(alloc: Global, by_key: &[Option<u32>]) -> Result<Vec<u32>, NoMemory>
+    ensures { IfOk result (λ numbers. numbers.items ≡ known by_key.now) }
+{
+    let mut numbers = Vec::new(alloc);
+    for number in by_key {
+        add_known(*number, &mut numbers)?;
+    }
+    Ok(numbers)
+}
+
+/// For each number below a bound, whether it is among these.
+fn flags_of(alloc: Global, numbers: &[u32], bound: usize) -> Result<Vec<bool>, NoMemory>
+    requires { All (λ n. n < bound) numbers.now }
+    ensures long { IfOk result (λ flags. length flags.items ≡ bound) }
+    ensures flags { IfOk result (λ flags. AreFlags flags.items bound numbers.now) }
+{
+    let mut flags = vec![in alloc; false; bound]?;
+    for number in numbers {
+        flags[*number as usize] = true;
+    }
+    Ok(flags)
+}
+
+/// The number of the key at a place, if there is one.
+fn number_at(by_key: &[Option<u32>], place: usize) -> Option<u32>
+    ensures { result ≡ number_at by_key.now place }
+{
+    match by_key.get(place) {
+        Some(number) => *number,
+        None => None,
+    }
+}
+
+/// The numbers of the keys at these places.
+fn numbers_at(
+    alloc: Global,
+    places: &[usize],
+    by_key: &[Option<u32>],
+) -> Result<Vec<Option<u32>>, NoMemory>
+    ensures { IfOk result (λ numbers. numbers.items ≡ map (number_at by_key.now) places.now) }
+{
+    let mut numbers = Vec::with_capacity(alloc, places.len())?;
+    for place in places {
+        numbers.push(number_at(by_key, *place))?;
+    }
+    Ok(numbers)
+}
+
+/// For each field the numbers of the keys at its places.
+fn field_numbers(
+    alloc: Global,
+    fields: &[Vec<usize>],
+    by_key: &[Option<u32>],
+) -> Result<Vec<Vec<Option<u32>>>, NoMemory>
+    ensures { IfOk result (λ numbers. map (λ n. n.items) numbers.items
+        ≡ map (λ places. map (number_at by_key.now) places.items) fields.now) }
+{
+    let mut numbers = Vec::with_capacity(alloc, fields.len())?;
+    for places in fields {
+        numbers.push(numbers_at(alloc, places, by_key)?)?;
+    }
+    Ok(numbers)
+}
+
+impl<'a> Reading<'a> {
+    /// Reads an article by these terms.
+    ///
+    /// `NoMemory` where an allocation failed. Cost: one search among the terms for each key of the article, a step for
+    /// each of its words, and a byte for each term.
+    pub fn of(alloc: Global, terms: &'a Terms, asking: &Asking<'a>) -> Result<Reading<'a>, NoMemory>
+        ensures { IfOk result (λ reading. reading ≡ record { terms = terms.now; article = asking.now }) }
+    {
+        terms.order_law();
+        let by_key = key_numbers(alloc, terms, asking.keys())?;
+        let numbers = known_numbers(alloc, &by_key)?;
+        let flags = flags_of(alloc, &numbers, terms.len())?;
+        let fields = field_numbers(alloc, asking.places(), &by_key)?;
+        Ok(Reading {
+            terms,
+            article: asking.article(),
+            numbers,
+            flags,
+            fields,
+        })
+    }
+
+    /// The article. Constant time.
+    pub fn article(&self) -> &'a Article
+        ensures { result.now ≡ self.now.article }
+    {
+        self.article
+    }
+
+    /// The numbers of the article's keys that are terms, in order, each once. Constant time.
+    pub fn numbers(&self) -> &[u32]
+        ensures within { All (λ n. n < length self.now.terms) result.now }
+        ensures keys { map (term_at self.now.terms) result.now
+            ≡ filter (λ k. list_any (is_same k) self.now.terms) (article_keys self.now.article.fields) }
+    {
+        &self.numbers
+    }
+
+    /// Whether the article has the term of a number; past the last term it has. Takes no memory. Constant time.
+    pub fn has(&self, number: u32) -> bool
+        ensures { result ≡ has_key self.now.article.fields (term_at self.now.terms number) }
+    {
+        match self.flags.get(number as usize) {
+            Some(flag) => *flag,
+            None => true,
+        }
+    }
+
+    /// Whether the words of these numbers stand in some field next to each other, in order; no numbers never do. Takes
+    /// no memory. Cost: a step for each word of the article, and for each place of the first of them one for each number.
+    pub fn has_run(&self, run: &[u32]) -> bool
+        ensures { result ≡ has_run self.now.article.fields (map (term_at self.now.terms) run.now) }
+    {
+        if run.is_empty() {
+            return false;
+        }
+        if !self.has_all(run) {
+            return false;
+        }
+        stands_in_any(&self.fields, run)
+    }
+
+    /// Whether the article has each of the terms of these numbers.
+    fn has_all(&self, run: &[u32]) -> bool
+        ensures { result ≡ list_all (λ n. has_key self.now.article.fields (term_at self.now.terms n)) run.now }
+    {
+        for number in run {
+            if !self.has(*number) {
+                return false;
+            }
+        }
+        true
+    }
+}
+
+/// Whether a place has this number.
+fn is_number(found: Option<u32>, number: u32) -> bool
+    ensures { result ≡ is_number found number }
+{
+    match found {
+        Some(found) => found == number,
+        None => false,
+    }
+}
+
+/// Whether the numbers begin with those of a run.
+fn starts_with(numbers: &[Option<u32>], run: &[u32]) -> bool
+    ensures { result ≡ begins_with run.now numbers.now }
+{
+    let mut numbers = numbers;
+    let mut run = run;
+    while let Some((next, others)) = run.split_first() {
+        let Some((number, after)) = numbers.split_first() else {
+            return false;
+        };
+        if !is_number(*number, *next) {
+            return false;
+        }
+        numbers = after;
+        run = others;
+    }
+    true
+}
+
+/// Whether the numbers of a run stand somewhere next to each other, in order.
+fn stands_in(numbers: &[Option<u32>], run: &[u32]) -> bool
+    ensures { result ≡ stands_among run.now numbers.now }
+{
+    let mut rest = numbers;
+    while let Some((_, after)) = rest.split_first() {
+        if starts_with(rest, run) {
+            return true;
+        }
+        rest = after;
+    }
+    false
+}
+
+/// Whether the numbers of a run stand next to each other, in order, in one of the fields.
+fn stands_in_any(fields: &[Vec<Option<u32>>], run: &[u32]) -> bool
+    ensures { result ≡ list_any (stands_among run.now) (map (λ numbers. numbers.items) fields.now) }
+{
+    for numbers in fields {
+        if stands_in(numbers, run) {
+            return true;
+        }
+    }
+    false
+}

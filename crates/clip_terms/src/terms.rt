@@ -1,0 +1,78 @@
+//! Keys in order, by their numbers.
+ghost use Rattle.std.specs.Prelude.{◌≡◌, ◌==◌, IfOk, length, map};
+ghost use Rattle.std.specs.List.Sorted.{IsStrictlySortedBy};
+ghost use Rattle.clip_extract.specs.Keys.{key_of, key_cmp, in_order};
+ghost use Rattle.clip_terms.specs.Terms.{number_of};
+
+use clip_extract::{Key, sorted};
+use clip_words::NoMemory;
+use std::marker::Model;
+
+/// The most terms of a table, so that each number fits in 32 bits.
+pub const MOST_TERMS: usize = 4_294_967_295;
+
+/// Keys in order, each once and numbered from 0. Contracts see the list of the keys.
+#[derive(Debug, Drop)]
+pub struct Terms {
+    keys: Vec<Key>,
+}
+
+impl Model for Terms {
+    ghost use Rattle.std.specs.Prelude.{List, map, length, ◌≤◌};
+    ghost use Rattle.std.specs.List.Sorted.{IsStrictlySortedBy};
+    ghost use Rattle.clip_extract.specs.Keys.{KeyValue, key_of, key_cmp};
+    ghost use Rattle.clip_terms.specs.declared.terms.TheConstants.{MOST_TERMS};
+
+    ghost Value = { List KeyValue };
+
+    ghost view = { λ t. map key_of t.keys.items };
+
+    ghost invariant = { λ t. IsStrictlySortedBy key_cmp (map key_of t.keys.items) × (length t.keys.items ≤ MOST_TERMS) };
+}
+
+impl Terms {
+    /// These keys in order, each once.
+    ///
+    /// `NoMemory` where an allocation failed, and where there are more than `MOST_TERMS`. Cost: n log n comparisons of n
+    /// keys. Texts are shared.
+    pub fn of(keys: Vec<Key>) -> Result<Terms, NoMemory>
+        ensures { IfOk result (λ terms. terms ≡ in_order (map key_of keys.items)) }
+    {
+        let keys = sorted(keys)?;
+        if keys.len() > MOST_TERMS {
+            return Err(NoMemory);
+        }
+        Ok(Terms { keys })
+    }
+
+    /// How many terms there are. Takes no memory. Constant time.
+    pub fn len(&self) -> usize
+        ensures { result ≡ length self.now }
+    {
+        self.keys.len()
+    }
+
+    /// Whether there are no terms. Takes no memory. Constant time.
+    pub fn is_empty(&self) -> bool
+        ensures { result ≡ (length self.now == 0) }
+    {
+        self.keys.is_empty()
+    }
+
+    /// The number of a key, `None` where it is no term. Takes no memory. Cost: a search by halves.
+    pub fn number(&self, key: &Key) -> Option<u32>
+        ensures { result ≡ number_of self.now (key_of key.now) }
+    {
+        match self.keys.binary_search(key) {
+            Ok(number) => Some(number as u32),
+            Err(_) => None,
+        }
+    }
+
+    /// That the terms are in order, each once, for proofs. Takes no memory. Constant time.
+    pub(crate) fn order_law(&self)
+        ensures { IsStrictlySortedBy key_cmp self.now }
+    {
+        let _keys = &self.keys;
+    }
+}
