@@ -17,5 +17,5 @@ loop-occur-preserved t c =
     clause_added (Open ∷ []) c.deref-occur-items.result.now c.loop-occur.occur-index c.loop-occur-item.result c.loop-occur-test.true c.loop-occur-item.is c.loop-occur.invariant c.in_ok-add_clause-in-Group.ensures.added
 
 pub returns-in_ok-push-in-Group-2-clause-added : goal.returns-in_ok-push-in-Group-2-clause-added
-returns-in_ok-push-in-Group-2-clause-added t c = let h = c.in_ok-push-in-Group-2 in
-    group_added c.args.query.now c.in-Group.clauses c.deref-occur-items.result.now c.loop-occur.occur-index c.args.occur _ c.in-Group.is c.deref-occur-items.ensures.value c.loop-occur-test.false c.loop-occur.invariant h.ensures.items
+returns-in_ok-push-in-Group-2-clause-added t c =
+    group_added c.args.query.now c.in-Group.clauses c.deref-occur-items.result.now c.loop-occur.occur-index c.args.occur _ c.in-Group.is c.deref-occur-items.ensures.value c.loop-occur-test.false c.loop-occur.invariant c.in_ok-push-in-Group-2.ensures.items
