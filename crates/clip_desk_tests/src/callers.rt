@@ -3,7 +3,7 @@ ghost use Rattle.std.specs.Prelude.{◌≡◌};
 ghost use Rattle.clip_listen.specs.Updates.{heard_at};
 ghost use Rattle.clip_desk.specs.Locked.{IsSeatOf};
 
-use crate::making::{commit, look, parts_of, pop_seat, register};
+use crate::making::{commit, parts_of, pop_seat, register, sees};
 use clip_desk::{Desk, DeskName, DeskParts, Seat};
 use clip_listen::UpdateLog;
 use clip_registry::Applied;
@@ -45,8 +45,8 @@ fn take_turns<N: DeskName, R: Wait + Abort>(
     assert_eq!(rt; receipt.applied(), Applied::Registered(1));
     second.learn(&receipt);
     second.learn(&receipt);
-    assert_eq!(rt; look(rt, &mut second), (1, 1));
+    sees(rt, &mut second, (1, 1));
     commit(rt, desk, &mut first, register(rt, alloc, "q2", "coffee"));
-    assert_eq!(rt; look(rt, &mut second), (2, 2));
-    assert_eq!(rt; look(rt, &mut first), (2, 2));
+    sees(rt, &mut second, (2, 2));
+    sees(rt, &mut first, (2, 2));
 }

@@ -5,7 +5,7 @@ ghost use Rattle.clip_model.specs.History.{fits};
 ghost use Rattle.clip_registry.specs.Command.{command_of};
 ghost use Rattle.clip_desk.specs.Locked.{IsSeatOf};
 
-use crate::making::{commit, parts_of, pop_seat, register};
+use crate::making::{commit, parts_of, pop_seat, purge, register};
 use crate::plain::{Plain, STEPS, Step, steps_of};
 use clip_desk::{Desk, DeskName, DeskParts, Nudge, Seat};
 use clip_listen::UpdateLog;
@@ -146,7 +146,7 @@ fn purge_often<N: DeskName, R: Wait + Abort>(rt: &R, room: &Room<N>, mut seat: S
     ensures { IsSeatOf N.book N.callers result }
 {
     for number in 0..PURGES {
-        assert_eq!(rt; room.desk.purge(rt, &mut seat), Ok(()));
+        purge(rt, &room.desk, &mut seat);
         if number % 15 == 14 {
             check_look(rt, room.alloc, &mut seat);
         }

@@ -3,7 +3,7 @@ ghost use Rattle.std.specs.Prelude.{◌≡◌};
 ghost use Rattle.clip_listen.specs.Updates.{heard_at};
 ghost use Rattle.clip_desk.specs.Locked.{IsSeatOf};
 
-use crate::making::{commit_four, parts_with, pop_seat};
+use crate::making::{commit_four, parts_with, pop_seat, purge};
 use clip_desk::{Closed, Desk, DeskName, DeskParts, Seat};
 use clip_listen::{UpdateEvent, UpdateLog};
 use std::alloc::Global;
@@ -28,7 +28,7 @@ fn run_purge<N: DeskName, R: Wait + Abort>(rt: &R, alloc: Global, parts: DeskPar
         panic!(rt; "one seat")
     };
     commit_four(rt, alloc, &desk, &mut seat);
-    assert_eq!(rt; desk.purge(rt, &mut seat), Ok(()));
+    purge(rt, &desk, &mut seat);
     close_one(rt, alloc, desk, seat);
 }
 

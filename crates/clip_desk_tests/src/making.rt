@@ -104,6 +104,21 @@ pub fn commit_four<N: DeskName, R: Wait + Abort>(
     commit(rt, desk, seat, register(rt, alloc, "q4", "water"));
 }
 
+/// Purges, which is not refused.
+pub fn purge<N: DeskName, R: Wait + Abort>(rt: &R, desk: &Desk<N, UpdateLog>, seat: &mut Seat)
+    requires { IsSeatOf N.book N.callers seat.old }
+    ensures { IsSeatOf N.book N.callers seat.new }
+{
+    assert_eq!(rt; desk.purge(rt, seat), Ok(()));
+}
+
+/// A look shows so many queries and so many commands.
+pub fn sees<R: Abort>(rt: &R, seat: &mut Seat, wanted: (u64, u64))
+    ensures { (seat.new.book ≡ seat.old.book) × (seat.new.callers ≡ seat.old.callers) }
+{
+    assert_eq!(rt; look(rt, seat), wanted);
+}
+
 /// How many queries a look shows, and how many commands.
 pub fn look<R: Abort>(rt: &R, seat: &mut Seat) -> (u64, u64)
     ensures { (seat.new.book ≡ seat.old.book) × (seat.new.callers ≡ seat.old.callers) }

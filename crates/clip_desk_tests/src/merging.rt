@@ -3,7 +3,7 @@ ghost use Rattle.std.specs.Prelude.{◌≡◌};
 ghost use Rattle.clip_listen.specs.Updates.{heard_at};
 ghost use Rattle.clip_desk.specs.Locked.{IsSeatOf};
 
-use crate::making::{commit, commit_four, parts_of, pop_seat, register};
+use crate::making::{commit, commit_four, parts_of, pop_seat, purge, register};
 use clip_desk::{Desk, DeskName, DeskParts, Nudge, Seat};
 use clip_listen::UpdateLog;
 use clip_registry::MergeTurn;
@@ -30,6 +30,13 @@ fn look_inside<R: Abort>(rt: &R, seat: &mut Seat) -> (usize, usize)
     (segments.len(), entries)
 }
 
+/// A look shows so many segments, which have so many entries.
+fn sees_inside<R: Abort>(rt: &R, seat: &mut Seat, wanted: (usize, usize))
+    ensures { (seat.new.book ≡ seat.old.book) × (seat.new.callers ≡ seat.old.callers) }
+{
+    assert_eq!(rt; look_inside(rt, seat), wanted);
+}
+
 #[test]
 fn four_segments_become_one(rt: HostRuntime) -> Result<(), Fail> {
     let parts = parts_of(&rt, rt.alloc(), 1, 1)?;
@@ -44,12 +51,12 @@ fn run_merge<N: DeskName, R: Wait + Abort>(rt: &R, alloc: Global, parts: DeskPar
     match pop_seat::<N>(&mut seats) {
         Some(mut seat) => {
             commit_four(rt, alloc, &desk, &mut seat);
-            assert_eq!(rt; look_inside(rt, &mut seat), (4, 4));
+            sees_inside(rt, &mut seat, (4, 4));
             assert_eq!(rt; desk.merge_once(rt), Ok(MergeTurn::Installed));
-            assert_eq!(rt; look_inside(rt, &mut seat), (1, 4));
+            sees_inside(rt, &mut seat, (1, 4));
             assert_eq!(rt; desk.merge_once(rt), Ok(MergeTurn::Nothing));
-            assert_eq!(rt; desk.purge(rt, &mut seat), Ok(()));
-            assert_eq!(rt; look_inside(rt, &mut seat), (1, 4));
+            purge(rt, &desk, &mut seat);
+            sees_inside(rt, &mut seat, (1, 4));
         }
         None => panic!(rt; "one seat"),
     }
@@ -71,9 +78,9 @@ fn run_purge<N: DeskName, R: Wait + Abort>(rt: &R, alloc: Global, parts: DeskPar
         Some(mut seat) => {
             commit(rt, &desk, &mut seat, register(rt, alloc, "q1", "tea"));
             commit(rt, &desk, &mut seat, register(rt, alloc, "q1", "coffee"));
-            assert_eq!(rt; look_inside(rt, &mut seat), (2, 2));
-            assert_eq!(rt; desk.purge(rt, &mut seat), Ok(()));
-            assert_eq!(rt; look_inside(rt, &mut seat), (1, 1));
+            sees_inside(rt, &mut seat, (2, 2));
+            purge(rt, &desk, &mut seat);
+            sees_inside(rt, &mut seat, (1, 1));
         }
         None => panic!(rt; "one seat"),
     }
@@ -95,7 +102,7 @@ fn run_nudges<N: DeskName, R: Wait + Abort>(rt: &R, alloc: Global, parts: DeskPa
         Some(mut seat) => {
             commit_four(rt, alloc, &desk, &mut seat);
             serve_two(rt, alloc, &desk);
-            assert_eq!(rt; look_inside(rt, &mut seat), (1, 4));
+            sees_inside(rt, &mut seat, (1, 4));
         }
         None => panic!(rt; "one seat"),
     }

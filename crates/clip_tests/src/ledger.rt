@@ -7,15 +7,23 @@ use std::alloc::{AllocError, Global};
 use std::sync::ArcStr;
 use std::test::Fail;
 
+/// A note of a listener, a query and a text.
+fn note(alloc: Global, listener: &str, query: &str, text: &str) -> Result<Note, AllocError> {
+    let listener = ArcStr::from_str(alloc, listener)?;
+    let query = ArcStr::from_str(alloc, query)?;
+    let text = ArcStr::from_str(alloc, text)?;
+    Ok(Note {
+        listener,
+        query,
+        text,
+    })
+}
+
 /// Notes, each of a listener, a query and a text.
 fn notes(alloc: Global, notes: &[(&str, &str, &str)]) -> Result<Vec<Note>, AllocError> {
     let mut made = Vec::new(alloc);
     for (listener, query, text) in notes {
-        made.push(Note {
-            listener: ArcStr::from_str(alloc, listener)?,
-            query: ArcStr::from_str(alloc, query)?,
-            text: ArcStr::from_str(alloc, text)?,
-        })?;
+        made.push(note(alloc, listener, query, text)?)?;
     }
     Ok(made)
 }

@@ -110,26 +110,22 @@ fn add_all_heard(text: &mut String, parts: &[Named]) -> Result<(), AllocError> {
     Ok(())
 }
 
-/// The listeners under their names.
-fn named(
+/// Adds a listener under a name.
+fn add(
     alloc: Global,
-    mail: Box<dyn Listener + Send>,
-    feed: Box<dyn Listener + Send>,
-    card: Box<dyn Listener + Send>,
-) -> Result<Vec<Named>, AllocError> {
-    let mut parts: Vec<Named> = Vec::new(alloc);
-    parts.push((String::from_str(alloc, "mail")?, mail))?;
-    parts.push((String::from_str(alloc, "feed")?, feed))?;
-    parts.push((String::from_str(alloc, "card")?, card))?;
-    Ok(parts)
+    parts: &mut Vec<Named>,
+    name: &str,
+    listener: Box<dyn Listener + Send>,
+) -> Result<(), NoMemory> {
+    let name = String::from_str(alloc, name)?;
+    Ok(parts.push((name, listener))?)
 }
 
 /// The name of a desk, and a teller with it.
 fn desk(alloc: Global, number: u32) -> Result<(String, Box<Teller<Style>>), NoMemory> {
-    let name = format!(in alloc; "desk{number}")?;
-    let head = format!(in alloc; "{name}: ")?;
+    let head = format!(in alloc; "desk{number}: ")?;
     let teller = teller(alloc, &head, " in ")?;
-    Ok((name, teller))
+    Ok((format!(in alloc; "desk{number}")?, teller))
 }
 
 /// What is said of the alerts on queries, and what each listener heard that tells it, as lines.
@@ -171,29 +167,19 @@ mail q4
 fn among_listeners_of_each_kind_each_alert_is_heard_by_its_own(
     rt: HostRuntime,
 ) -> Result<(), Fail> {
-    let mail = folder(rt.alloc(), "mail: ", " in ")?;
-    let feed = teller(rt.alloc(), "feed ", "/")?;
-    let card = Box::new(rt.alloc(), Postcard { sent: false })?;
-    let mut parts = named(rt.alloc(), mail, feed, card)?;
+    let alloc = rt.alloc();
+    let mut parts: Vec<Named> = Vec::new(alloc);
+    add(alloc, &mut parts, "mail", folder(alloc, "mail: ", " in ")?)?;
+    add(alloc, &mut parts, "feed", teller(alloc, "feed ", "/")?)?;
+    let card = Box::new(alloc, Postcard { sent: false })?;
+    add(alloc, &mut parts, "card", card)?;
     for number in 0..300u32 {
-        let (name, teller) = desk(rt.alloc(), number)?;
+        let (name, teller) = desk(alloc, number)?;
         parts.push((name, teller))?;
     }
-    let told = told(rt.alloc(), parts, &QUERIES)?;
+    let told = told(alloc, parts, &QUERIES)?;
     assert!(rt; told.as_str() == TOLD, "{told}");
     Ok(())
-}
-
-/// Two listeners under one name, the first of which tells what it heard.
-fn named_alike(
-    alloc: Global,
-    first: Box<dyn Listener + Send>,
-    second: Box<dyn Listener + Send>,
-) -> Result<Vec<Named>, AllocError> {
-    let mut parts: Vec<Named> = Vec::new(alloc);
-    parts.push((String::from_str(alloc, "mail")?, first))?;
-    parts.push((String::from_str(alloc, "mail")?, second))?;
-    Ok(parts)
 }
 
 /// Which of the listeners that were handed back tell what they heard, a letter for each; `taken` where none were.
@@ -210,9 +196,11 @@ fn handed_back(alloc: Global, parts: Vec<Named>) -> Result<String, AllocError> {
 
 #[test]
 fn a_name_that_repeats_hands_the_listeners_back(rt: HostRuntime) -> Result<(), Fail> {
-    let first = folder(rt.alloc(), "mail: ", " in ")?;
-    let second = teller(rt.alloc(), "feed ", "/")?;
-    let back = handed_back(rt.alloc(), named_alike(rt.alloc(), first, second)?)?;
+    let alloc = rt.alloc();
+    let mut parts: Vec<Named> = Vec::new(alloc);
+    add(alloc, &mut parts, "mail", folder(alloc, "mail: ", " in ")?)?;
+    add(alloc, &mut parts, "mail", teller(alloc, "feed ", "/")?)?;
+    let back = handed_back(alloc, parts)?;
     assert!(rt; back.as_str() == "tn", "{back}");
     Ok(())
 }

@@ -39,6 +39,12 @@ pub fn standing(alloc: Global, id: &str, text: &str) -> Result<Arc<Standing>, Fa
     Ok(Arc::new(alloc, Standing::read(alloc, id, text, None)?)?)
 }
 
+/// A shared standing query with the id `q` and a number.
+pub fn query_of(alloc: Global, number: u64, text: &str) -> Result<Arc<Standing>, Fail> {
+    let id = format!(in alloc; "q{number}")?;
+    standing(alloc, &id, text)
+}
+
 /// The entry of a query's text under a number.
 pub fn entry(alloc: Global, seq: u64, text: &str) -> Result<Arc<Entry>, Fail>
     ensures { IfOk result (λ entry. entry.value.seq ≡ seq) }
@@ -73,13 +79,15 @@ pub fn article(alloc: Global, id: &str, fields: &[(&str, &str)]) -> Result<Artic
 
 /// The alert of article a1 on a query, with the name of its listener or none.
 pub fn alert(alloc: Global, query: &str, listener: Option<&str>) -> Result<Alert, AllocError> {
+    let query = ArcStr::from_str(alloc, query)?;
+    let article = ArcStr::from_str(alloc, "a1")?;
     let listener = match listener {
         Some(name) => Some(ArcStr::from_str(alloc, name)?),
         None => None,
     };
     Ok(Alert {
-        query: ArcStr::from_str(alloc, query)?,
-        article: ArcStr::from_str(alloc, "a1")?,
+        query,
+        article,
         listener,
     })
 }

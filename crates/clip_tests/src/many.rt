@@ -1,5 +1,5 @@
 //! The candidates of articles among ten thousand queries.
-use crate::making::standing;
+use crate::making::query_of;
 use crate::script::{answer, candidates_of};
 use clip_registry::{Command, Registrar, View};
 use std::alloc::{AllocError, Global};
@@ -56,9 +56,8 @@ const REPLACED: u64 = 1000;
 fn numbered(alloc: Global, from: u64, to: u64) -> Result<Command, Fail> {
     let mut list = Vec::new(alloc);
     for i in from..to {
-        let number = i % (MANY - REPLACED);
-        let id = format!(in alloc; "q{number}")?;
-        list.push(standing(alloc, &id, &generated(alloc, i)?)?)?;
+        let text = generated(alloc, i)?;
+        list.push(query_of(alloc, i % (MANY - REPLACED), &text)?)?;
     }
     Ok(Command::Register(list))
 }
@@ -85,8 +84,9 @@ fn wanted_numbers(alloc: Global, short: &[u64], long: &[u64]) -> Result<Vec<u64>
 
 /// The numbers of the queries that are candidates of the article of a text.
 fn found_numbers(alloc: Global, view: &View, text: &str) -> Result<Vec<u64>, Fail> {
+    let entries = candidates_of(alloc, view, text)?;
     let mut found = Vec::new(alloc);
-    for entry in candidates_of(alloc, view, text)?.iter() {
+    for entry in &entries {
         found.push(entry.seq().wrapping_sub(1))?;
     }
     Ok(found)

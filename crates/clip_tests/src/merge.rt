@@ -66,12 +66,11 @@ fn singles(alloc: Global) -> Result<Vec<Arc<Segment>>, Fail>
     ensures { IfOk result (λ singles.
         map (λ entry. entry.seq) (all_entries (map arc_value singles.items)) ≡ 1 ∷ 2 ∷ 3 ∷ 4 ∷ []) }
 {
-    Ok(vec![in alloc;
-        single(alloc, 1)?,
-        single(alloc, 2)?,
-        single(alloc, 3)?,
-        single(alloc, 4)?,
-    ]?)
+    let one = single(alloc, 1)?;
+    let two = single(alloc, 2)?;
+    let three = single(alloc, 3)?;
+    let four = single(alloc, 4)?;
+    Ok(vec![in alloc; one, two, three, four]?)
 }
 
 /// Those segments merged, where all but the second entry are live.

@@ -1,6 +1,6 @@
 //! Random traces, with many merges open: each batch is finished with what a plain filter over the plain list of the
 //! commands before its look gives.
-use crate::making::{article, standing};
+use crate::making::{article, query_of};
 use clip_match::Alerts;
 use clip_registry::Command;
 use clip_trace::{Event, TraceAnswer, trace};
@@ -80,8 +80,7 @@ fn word(number: u64) -> &'static str {
 
 /// A register of one query that is a word.
 fn register(alloc: Global, id: u64, number: u64) -> Result<Command, Fail> {
-    let id = format!(in alloc; "q{id}")?;
-    let standing = standing(alloc, &id, word(number))?;
+    let standing = query_of(alloc, id, word(number))?;
     Ok(Command::Register(vec![in alloc; standing]?))
 }
 
@@ -167,10 +166,13 @@ fn look_of(
     batch: u64,
 ) -> Option<(usize, u64)> {
     let mut last = None;
-    for (place, (turn, answer)) in turns.iter().zip(answers).take(count).enumerate() {
-        if let (Turn::Look(other, number), TraceAnswer::Looked) = (*turn, answer) {
-            if other == batch {
-                last = Some((place, number));
+    for place in 0..count {
+        if let (Some(Turn::Look(other, number)), Some(TraceAnswer::Looked)) = (
+            turns.get(place),
+            answers.get(place),
+        ) {
+            if *other == batch {
+                last = Some((place, *number));
             }
         }
     }
@@ -191,13 +193,28 @@ fn due(
     }
 }
 
+/// Whether the event at a place, if it finished a batch, gave what the batch was to give.
+fn is_well(
+    alloc: Global,
+    turns: &[Turn],
+    answers: &[TraceAnswer],
+    place: usize,
+) -> Result<bool, Fail> {
+    let (Some(Turn::Finish(batch)), Some(TraceAnswer::Finished(all))) = (
+        turns.get(place),
+        answers.get(place),
+    ) else {
+        return Ok(true);
+    };
+    let due = due(alloc, turns, answers, place, *batch)?;
+    Ok(found(alloc, all)? == due)
+}
+
 /// Whether each batch that was finished gave what it was to give.
 fn is_finished_well(alloc: Global, turns: &[Turn], answers: &[TraceAnswer]) -> Result<bool, Fail> {
-    for (place, (turn, answer)) in turns.iter().zip(answers).enumerate() {
-        if let (Turn::Finish(batch), TraceAnswer::Finished(all)) = (*turn, answer) {
-            if found(alloc, all)? != due(alloc, turns, answers, place, batch)? {
-                return Ok(false);
-            }
+    for place in 0..turns.len() {
+        if !is_well(alloc, turns, answers, place)? {
+            return Ok(false);
         }
     }
     Ok(true)

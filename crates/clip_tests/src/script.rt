@@ -76,8 +76,8 @@ fn count(alloc: Global, view: &View) -> Result<String, AllocError> {
 }
 
 /// How many entries of a segment are live.
-fn live(view: &View, segment: &Segment) -> usize {
-    let mut live = 0usize;
+fn live(view: &View, segment: &Segment) -> u64 {
+    let mut live = 0u64;
     for entry in segment.entries() {
         if view.is_live(entry) {
             live = live.saturating_add(1);
@@ -86,12 +86,16 @@ fn live(view: &View, segment: &Segment) -> usize {
     live
 }
 
+/// Adds two numbers with a stroke between them and a space after them.
+fn add_two(text: &mut String, first: u64, second: u64) -> Result<(), AllocError> {
+    write!(text, "{first}/{second} ")
+}
+
 /// Of each segment how many entries it has and how many of them are live.
 fn segments(alloc: Global, view: &View) -> Result<String, AllocError> {
     let mut text = String::new(alloc);
     for segment in view.segments() {
-        let (entries, live) = (segment.len(), live(view, segment));
-        write!(text, "{entries}/{live} ")?;
+        add_two(&mut text, segment.len() as u64, live(view, segment))?;
     }
     Ok(text)
 }
@@ -102,8 +106,7 @@ fn history(alloc: Global, registrar: &Registrar) -> Result<String, AllocError> {
     let history = registrar.history();
     for place in 0..history.len() {
         if let Some(entry) = history.get(place) {
-            let (caller, number) = (entry.caller, entry.number);
-            write!(text, "{caller}/{number} ")?;
+            add_two(&mut text, u64::from(entry.caller), entry.number)?;
         }
     }
     Ok(text)
@@ -124,12 +127,18 @@ pub fn candidates_of<'a>(
     Ok(candidates(alloc, view, &article)?)
 }
 
+/// Adds an id with a space after it.
+fn add_id(ids: &mut String, id: &str) -> Result<(), AllocError> {
+    ids.push_str(id)?;
+    ids.push_str(" ")
+}
+
 /// The ids of the candidates of the article of a text, each with a space after it.
 fn candidate_ids(alloc: Global, view: &View, text: &str) -> Result<String, Fail> {
+    let found = candidates_of(alloc, view, text)?;
     let mut ids = String::new(alloc);
-    for entry in candidates_of(alloc, view, text)?.iter() {
-        ids.push_str(entry.standing().id())?;
-        ids.push_str(" ")?;
+    for entry in &found {
+        add_id(&mut ids, entry.standing().id())?;
     }
     Ok(ids)
 }
@@ -158,17 +167,19 @@ fn add_alerts(text: &mut String, found: &Alerts) -> Result<(), AllocError> {
 
 /// The alerts of one article.
 fn matched(alloc: Global, view: &View, id: &str, text: &str) -> Result<String, Fail> {
-    let mut told = String::new(alloc);
     let article = article_of(alloc, id, text)?;
-    add_alerts(&mut told, &match_article(alloc, view, &article)?)?;
+    let found = match_article(alloc, view, &article)?;
+    let mut told = String::new(alloc);
+    add_alerts(&mut told, &found)?;
     Ok(told)
 }
 
 /// The alerts of articles.
 fn batch_matched(alloc: Global, view: &View, texts: &[(&str, &str)]) -> Result<String, Fail> {
-    let mut told = String::new(alloc);
     let articles = articles(alloc, texts)?;
-    for found in match_batch(alloc, view, &articles)?.iter() {
+    let all = match_batch(alloc, view, &articles)?;
+    let mut told = String::new(alloc);
+    for found in &all {
         add_alerts(&mut told, found)?;
     }
     Ok(told)

@@ -48,10 +48,15 @@ fn a_standing_query_is_read_or_its_first_refusal_is_answered(rt: HostRuntime) ->
     Ok(())
 }
 
+/// The key of a word of the field `text`.
+fn key_of(alloc: Global, word: &str) -> Result<Key, AllocError> {
+    let word = ArcStr::from_str(alloc, word)?;
+    Ok(Key::Word(ArcStr::from_str(alloc, "text")?, word))
+}
+
 /// The positions of the entries that hold a word of the field `text`, each with a space after it.
 fn positions(alloc: Global, segment: &Segment, word: &str) -> Result<String, AllocError> {
-    let field = ArcStr::from_str(alloc, "text")?;
-    let key = Key::Word(field, ArcStr::from_str(alloc, word)?);
+    let key = key_of(alloc, word)?;
     let mut text = String::new(alloc);
     for position in segment.with_key(&key) {
         write!(text, "{position} ")?;
@@ -59,12 +64,15 @@ fn positions(alloc: Global, segment: &Segment, word: &str) -> Result<String, All
     Ok(text)
 }
 
+/// Each a word, and the positions of the entries that hold it.
+static HOLDERS: [(&str, &str); 3] = [("coffee", "0 1 "), ("tea", "0 "), ("milk", "")];
+
 #[test]
 fn a_segment_finds_the_holders_of_a_key(rt: HostRuntime) -> Result<(), Fail> {
     let segment = segment(rt.alloc())?;
-    for (word, wanted) in [("coffee", "0 1 "), ("tea", "0 "), ("milk", "")] {
+    for (word, wanted) in &HOLDERS {
         let told = positions(rt.alloc(), &segment, word)?;
-        assert!(rt; told.as_str() == wanted, "{word}: {told}");
+        assert!(rt; told.as_str() == *wanted, "{word}: {told}");
     }
     Ok(())
 }

@@ -4,14 +4,19 @@ use clip_grammar::query::{Bound, Occur, Query};
 use std::alloc::{AllocError, Global};
 use std::sync::ArcStr;
 
-/// Keys: `*` for Any and `field:word` for a word, each with a space after it.
+/// A key: `*` for Any and `field:word` for a word, with a space after it.
+fn show_key(key: &Key, text: &mut String) -> Result<(), AllocError> {
+    match key {
+        Key::Any => text.push_str("* "),
+        Key::Word(field, word) => write!(text, "{field}:{word} "),
+    }
+}
+
+/// Keys, each with a space after it.
 pub fn show_keys(alloc: Global, keys: &[Key]) -> Result<String, AllocError> {
     let mut text = String::new(alloc);
     for key in keys {
-        match key {
-            Key::Any => text.push_str("* ")?,
-            Key::Word(field, word) => write!(text, "{field}:{word} ")?,
-        }
+        show_key(key, &mut text)?;
     }
     Ok(text)
 }

@@ -7,6 +7,7 @@ use clip_registry::Command;
 use clip_segment::Standing;
 use clip_words::NoMemory;
 use std::alloc::{AllocError, Global};
+use std::process::Abort;
 use std::sync::{Arc, ArcStr};
 use std::test::Fail;
 
@@ -65,18 +66,22 @@ impl UpdateListener for Moody {
     }
 }
 
+/// Two queries.
+fn two(alloc: Global) -> Result<Vec<Arc<Standing>>, Fail> {
+    let second = standing(alloc, "q2", "tea")?;
+    let first = standing(alloc, "q1", "milk")?;
+    Ok(vec![in alloc; second, first]?)
+}
+
 /// Tells what a register, a delete and a clear do, and a purge.
 fn tell_four<L: UpdateListener>(
     alloc: Global,
     listeners: &mut UpdateListeners<L>,
 ) -> Result<(), Fail> {
-    let queries = vec![in alloc;
-        standing(alloc, "q2", "tea")?,
-        standing(alloc, "q1", "milk")?,
-    ]?;
-    listeners.tell(alloc, Update::of(&Command::Register(queries)));
-    let ids = owned(alloc, &["q1", "q9"])?;
-    listeners.tell(alloc, Update::of(&Command::Delete(ids)));
+    let register = Command::Register(two(alloc)?);
+    listeners.tell(alloc, Update::of(&register));
+    let delete = Command::Delete(owned(alloc, &["q1", "q9"])?);
+    listeners.tell(alloc, Update::of(&delete));
     listeners.tell(alloc, Update::of(&Command::Clear));
     listeners.tell(alloc, Update::Purged);
     Ok(())
@@ -96,14 +101,39 @@ fn add_line(text: &mut String, word: &str, ids: &[ArcStr]) -> Result<(), AllocEr
 fn lines(alloc: Global, log: &UpdateLog) -> Result<String, AllocError> {
     let mut text = String::new(alloc);
     for event in log.events() {
-        match event {
-            UpdateEvent::Updated(ids) => add_line(&mut text, "updated", ids)?,
-            UpdateEvent::Deleted(ids) => add_line(&mut text, "deleted", ids)?,
-            UpdateEvent::Cleared => add_line(&mut text, "cleared", &[])?,
-            UpdateEvent::Purged => add_line(&mut text, "purged", &[])?,
-        }
+        let (word, ids): (&str, &[ArcStr]) = match event {
+            UpdateEvent::Updated(ids) => ("updated", ids.as_slice()),
+            UpdateEvent::Deleted(ids) => ("deleted", ids.as_slice()),
+            UpdateEvent::Cleared => ("cleared", &[]),
+            UpdateEvent::Purged => ("purged", &[]),
+        };
+        add_line(&mut text, word, ids)?;
     }
     Ok(text)
+}
+
+/// What is left of listeners that are told the four, each with whether it is marked.
+fn after_four<L: UpdateListener>(alloc: Global, listeners: Vec<L>) -> Result<Vec<(L, bool)>, Fail> {
+    let mut listeners = UpdateListeners::new(alloc, listeners)
+        .ok()
+        .ok_or("no memory")?;
+    tell_four(alloc, &mut listeners)?;
+    Ok(listeners.into_parts())
+}
+
+/// A log has these lines, and its listener is marked as one that refused or not.
+fn expect(
+    rt: &impl Abort,
+    alloc: Global,
+    log: &UpdateLog,
+    is_marked: bool,
+    wanted: &str,
+    is_wanted: bool,
+) -> Result<(), Fail> {
+    let told = lines(alloc, log)?;
+    assert!(rt; told.as_str() == wanted, "{told}");
+    assert!(rt; is_marked == is_wanted);
+    Ok(())
 }
 
 /// The lines of the four events.
@@ -112,27 +142,28 @@ const ALL_FOUR: &str = "updated q2 q1\ndeleted q1 q9\ncleared\npurged\n";
 #[test]
 fn a_log_keeps_what_it_is_told_in_order(rt: HostRuntime) -> Result<(), Fail> {
     let alloc = rt.alloc();
-    let logs = vec![in alloc; UpdateLog::new(alloc)]?;
-    let mut listeners = UpdateListeners::new(alloc, logs).ok().ok_or("no memory")?;
-    tell_four(alloc, &mut listeners)?;
-    let parts = listeners.into_parts();
-    assert_eq!(rt; parts.len(), 1);
-    assert_eq!(rt; lines(alloc, &parts[0].0)?.as_str(), ALL_FOUR);
-    assert!(rt; !parts[0].1);
-    Ok(())
+    let parts = after_four(alloc, vec![in alloc; UpdateLog::new(alloc)]?)?;
+    let [(log, is_marked)] = parts.as_slice() else {
+        panic!(rt; "one listener")
+    };
+    expect(&rt, alloc, log, *is_marked, ALL_FOUR, false)
 }
 
 #[test]
 fn one_that_refuses_is_marked_and_told_nothing_more(rt: HostRuntime) -> Result<(), Fail> {
     let alloc = rt.alloc();
     let logs = vec![in alloc; Moody::new(alloc, 2), Moody::new(alloc, 0)]?;
-    let mut listeners = UpdateListeners::new(alloc, logs).ok().ok_or("no memory")?;
-    tell_four(alloc, &mut listeners)?;
-    let parts = listeners.into_parts();
-    assert_eq!(rt; parts.len(), 2);
-    assert_eq!(rt; lines(alloc, &parts[0].0.log)?.as_str(), "updated q2 q1\n");
-    assert!(rt; parts[0].1);
-    assert_eq!(rt; lines(alloc, &parts[1].0.log)?.as_str(), ALL_FOUR);
-    assert!(rt; !parts[1].1);
-    Ok(())
+    let parts = after_four(alloc, logs)?;
+    let [(one, is_one_marked), (other, is_other_marked)] = parts.as_slice() else {
+        panic!(rt; "two listeners")
+    };
+    expect(
+        &rt,
+        alloc,
+        &one.log,
+        *is_one_marked,
+        "updated q2 q1\n",
+        true,
+    )?;
+    expect(&rt, alloc, &other.log, *is_other_marked, ALL_FOUR, false)
 }

@@ -1,6 +1,6 @@
 //! Folding and the words of texts.
 use clip_words::{NoMemory, fold, shared_words, words};
-use std::alloc::Global;
+use std::alloc::{AllocError, Global};
 use std::test::Fail;
 
 /// Each a text, its words with a bar after each, and its folding.
@@ -16,22 +16,28 @@ static ROWS: [(&str, &str, &str); 5] = [
     ("", "", ""),
 ];
 
+/// Adds a word with a bar after it.
+fn add_word(told: &mut String, word: &str) -> Result<(), AllocError> {
+    told.push_str(word)?;
+    told.push('|')
+}
+
 /// The words of a text, with a bar after each.
 fn cut(alloc: Global, text: &str) -> Result<String, NoMemory> {
+    let words = words(alloc, text)?;
     let mut told = String::new(alloc);
-    for word in words(alloc, text)?.iter() {
-        told.push_str(word)?;
-        told.push('|')?;
+    for word in &words {
+        add_word(&mut told, word)?;
     }
     Ok(told)
 }
 
 /// The shared words of a text, with a bar after each.
 fn cut_shared(alloc: Global, text: &str) -> Result<String, NoMemory> {
+    let words = shared_words(alloc, text)?;
     let mut told = String::new(alloc);
-    for word in shared_words(alloc, text)?.iter() {
-        told.push_str(word)?;
-        told.push('|')?;
+    for word in &words {
+        add_word(&mut told, word)?;
     }
     Ok(told)
 }
