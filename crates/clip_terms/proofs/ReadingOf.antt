@@ -60,7 +60,7 @@ same_some : (o : Option ℕ) → is_some (option_map suc o) ≡ is_some o
 same_some None = refl
 same_some (Some n) = refl
 
-has_number : (terms : List KeyValue) (k : KeyValue) → is_some (number_of terms k) ≡ list_any (is_same k) terms
+pub has_number : (terms : List KeyValue) (k : KeyValue) → is_some (number_of terms k) ≡ list_any (is_same k) terms
 has_number [] k = refl
 has_number (t ∷ terms) k =
     elim (is_same k t) as (λ b. is_some (cond b (Some 0) (option_map suc (number_of terms k))) ≡ (b || list_any (is_same k) terms)) [

@@ -1,0 +1,40 @@
+use Rattle.std.proofs.Common.{◌+◌, ◌∙◌, [], replicate, length, ap, sym, subst, vec_items, refl}
+use Rattle.std.proofs.lemmas.List.{length-map}
+use Rattle.std.specs.List.Sorted.{IsStrictlySortedBy}
+use Rattle.clip_grammar.specs.Tree.{tree_of}
+use Rattle.clip_extract.specs.Keys.{key_cmp}
+use Rattle.clip_extract.specs.Extraction.{query_keys}
+use Rattle.clip_terms.proofs.Numbers.{in_order_rises}
+use Rattle.clip_plan.specs.Plan.{word_keys}
+use Rattle.clip_plan.proofs.Numbering.{are_parts}
+use Rattle.clip_index.proofs.TermsOf.{asked_terms}
+use Rattle.clip_index.proofs.Lists.{none_yet}
+use Rattle.clip_index.proofs.OneMore.{next_query}
+use Rattle.clip_index.proofs.building.lists_of.Goals as goal
+
+pub loop-query-init : goal.loop-query-init
+loop-query-init c = record {
+  place = refl;
+  lists = c.in_ok-lists.ensures ∙ ap (λ n. replicate n []) c.len.ensures ∙ none_yet c.args.terms.now;
+}
+
+pub add_place-requires-clause-rising : goal.add_place-requires-clause-rising
+add_place-requires-clause-rising c = subst (IsStrictlySortedBy key_cmp) (sym c.requires.terms) (in_order_rises _)
+
+pub add_place-requires-clause-terms : goal.add_place-requires-clause-terms
+add_place-requires-clause-terms c =
+    let tree = tree_of c.query-item.result.now in
+    (are_parts c.args.terms.now (query_keys tree) (word_keys tree)
+    (asked_terms (λ q. tree_of q.now) c.args.queries.now c.loop-query.query-index c.query-item.result c.args.terms.now c.loop-query-test.true c.query-item.is c.requires.terms)).0
+
+pub add_place-requires-clause-long : goal.add_place-requires-clause-long
+add_place-requires-clause-long c =
+    sym (length-map c.loop-query.lists.items vec_items) ∙ ap length c.loop-query.invariant.lists ∙ length-map c.args.terms.now _
+
+pub loop-query-preserved : goal.loop-query-preserved
+loop-query-preserved c = record {
+  place = ap (λ n. n + 1) c.loop-query.invariant.place;
+  lists =
+      next_query (λ q. tree_of q.now) c.args.terms.now c.args.queries.now c.loop-query.query-index c.query-item.result c.loop-query.place _ _
+      c.loop-query-test.true c.query-item.is c.loop-query.invariant.place c.loop-query.invariant.lists c.in_ok-add_place.ensures;
+}

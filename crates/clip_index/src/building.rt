@@ -1,0 +1,160 @@
+//! How an index is built: the terms of queries, the places under each, and the plans.
+ghost use Rattle.std.specs.Prelude.{◌≡◌, ◌<◌, ◌≤◌, ◌++◌, ◌∷◌, [], ℕ, List, if◌then◌else◌, IfOk, OnOk, IsTrue, Some, length, map, get_or, set, replicate, vec_items};
+ghost use Rattle.std.specs.List.Sorted.{IsStrictlySortedBy};
+ghost use Rattle.clip_grammar.specs.Tree.{tree_of};
+ghost use Rattle.clip_extract.specs.Keys.{KeyValue, key_of, key_cmp, is_same};
+ghost use Rattle.clip_extract.specs.Extraction.{query_keys};
+ghost use Rattle.clip_terms.specs.Terms.{number_of};
+ghost use Rattle.clip_plan.specs.Plan.{are_terms, decoded, plan_of};
+ghost use Rattle.clip_index.specs.Index.{asked_of, has_key, places_with, terms_of};
+ghost use Rattle.clip_index.specs.declared.index.TheConstants.{MOST_QUERIES};
+
+use clip_extract::{Key, keys};
+use clip_grammar::query::Query;
+use clip_pieces::PackedLists;
+use clip_plan::{Plans, add_word_keys};
+use clip_terms::Terms;
+use clip_words::NoMemory;
+use std::alloc::Global;
+
+/// Adds the keys of a query, and the words that it asks for. Texts are shared.
+fn add_asked(alloc: Global, query: &Query, all: &mut Vec<Key>) -> Result<(), NoMemory>
+    ensures { OnOk result (map key_of all.new.items ≡ map key_of all.old.items ++ asked_of (tree_of query.now)) }
+{
+    let mut own = keys(alloc, query)?;
+    all.append(&mut own)?;
+    add_word_keys(query, all)
+}
+
+/// The keys of queries and the words that they ask for, in order, each once.
+pub(crate) fn terms_of(alloc: Global, queries: &[&Query]) -> Result<Terms, NoMemory>
+    ensures { IfOk result (λ terms. terms ≡ terms_of (map (λ q. tree_of q.now) queries.now)) }
+{
+    let mut all = Vec::new(alloc);
+    for query in queries {
+        add_asked(alloc, query, &mut all)?;
+    }
+    Terms::of(all)
+}
+
+/// So many empty lists.
+fn empty_lists(alloc: Global, count: usize) -> Result<Vec<Vec<u32>>, NoMemory>
+    ensures { IfOk result (λ lists. map vec_items lists.items ≡ replicate count []) }
+{
+    let mut lists = Vec::with_capacity(alloc, count)?;
+    for _ in 0..count {
+        lists.push(Vec::new(alloc))?;
+    }
+    Ok(lists)
+}
+
+/// The number of a key that is a term.
+fn number_of(terms: &Terms, key: &Key) -> u32
+    requires { IsTrue (are_terms terms.now (key_of key.now ∷ [])) }
+    ensures { number_of terms.now (key_of key.now) ≡ Some result }
+{
+    let Some(number) = terms.number(key) else {
+        unreachable!();
+    };
+    number
+}
+
+/// Adds a place at the end of the list of a number.
+fn add_to_list(lists: &mut Vec<Vec<u32>>, number: usize, place: u32) -> Result<(), NoMemory>
+    requires { number < length lists.old.items }
+    ensures { OnOk result (map vec_items lists.new.items
+        ≡ set (map vec_items lists.old.items) number (get_or (map vec_items lists.old.items) number [] ++ place ∷ [])) }
+{
+    lists[number].push(place)?;
+    Ok(())
+}
+
+/// Adds a place to the list of a key that is a term, where each term has its list.
+fn add_to_key(
+    terms: &Terms,
+    key: &Key,
+    place: u32,
+    lists: &mut Vec<Vec<u32>>,
+) -> Result<(), NoMemory>
+    requires rising { IsStrictlySortedBy key_cmp terms.now }
+    requires term { IsTrue (are_terms terms.now (key_of key.now ∷ [])) }
+    requires long { length lists.old.items ≡ length terms.now }
+    ensures long { OnOk result (length lists.new.items ≡ length terms.now) }
+    ensures added { OnOk result ((under : KeyValue → List ℕ) → map vec_items lists.old.items ≡ map under terms.now
+        → map vec_items lists.new.items ≡ map (λ term. under term ++ (if is_same (key_of key.now) term then place ∷ [] else [])) terms.now) }
+{
+    add_to_list(lists, number_of(terms, key) as usize, place)?;
+    Ok(())
+}
+
+/// Adds a query's place to the list of each of its keys, which are terms, where each term has its list.
+fn add_place(
+    alloc: Global,
+    terms: &Terms,
+    query: &Query,
+    place: u32,
+    lists: &mut Vec<Vec<u32>>,
+) -> Result<(), NoMemory>
+    requires rising { IsStrictlySortedBy key_cmp terms.now }
+    requires terms { IsTrue (are_terms terms.now (query_keys (tree_of query.now))) }
+    requires long { length lists.old.items ≡ length terms.now }
+    ensures { OnOk result ((under : KeyValue → List ℕ) → map vec_items lists.old.items ≡ map under terms.now
+        → map vec_items lists.new.items ≡ map (λ term. under term ++ (if has_key term (tree_of query.now) then place ∷ [] else [])) terms.now) }
+{
+    for key in &keys(alloc, query)? {
+        add_to_key(terms, key, place, lists)?;
+    }
+    Ok(())
+}
+
+/// For each term the places of the queries that have it, rising.
+fn lists_of(alloc: Global, terms: &Terms, queries: &[&Query]) -> Result<Vec<Vec<u32>>, NoMemory>
+    requires short { length queries.now ≤ MOST_QUERIES }
+    requires terms { terms.now ≡ terms_of (map (λ q. tree_of q.now) queries.now) }
+    ensures { IfOk result (λ lists. map vec_items lists.items ≡ map (λ term. places_with term (map (λ q. tree_of q.now) queries.now)) terms.now) }
+{
+    let mut lists = empty_lists(alloc, terms.len())?;
+    let mut place = 0;
+    for query in queries {
+        add_place(alloc, terms, query, place, &mut lists)?;
+        place += 1;
+    }
+    Ok(lists)
+}
+
+/// These lists in one buffer.
+fn packed(alloc: Global, lists: &[Vec<u32>]) -> Result<PackedLists<u32>, NoMemory>
+    ensures { IfOk result (λ packed. packed ≡ map vec_items lists.now) }
+{
+    let mut packed = PackedLists::new(alloc);
+    for list in lists {
+        packed.push(list)?;
+    }
+    Ok(packed)
+}
+
+/// For each term the places of the queries that have it, rising, in one buffer.
+pub(crate) fn positions_of(
+    alloc: Global,
+    terms: &Terms,
+    queries: &[&Query],
+) -> Result<PackedLists<u32>, NoMemory>
+    requires short { length queries.now ≤ MOST_QUERIES }
+    requires terms { terms.now ≡ terms_of (map (λ q. tree_of q.now) queries.now) }
+    ensures { IfOk result (λ positions. positions ≡ map (λ term. places_with term (map (λ q. tree_of q.now) queries.now)) terms.now) }
+{
+    let lists = lists_of(alloc, terms, queries)?;
+    packed(alloc, &lists)
+}
+
+/// The plans of queries, in order.
+pub(crate) fn plans_of(alloc: Global, terms: &Terms, queries: &[&Query]) -> Result<Plans, NoMemory>
+    requires { terms.now ≡ terms_of (map (λ q. tree_of q.now) queries.now) }
+    ensures { IfOk result (λ plans. map (decoded terms.now) plans ≡ map plan_of (map (λ q. tree_of q.now) queries.now)) }
+{
+    let mut plans = Plans::new(alloc);
+    for query in queries {
+        plans.push(alloc, terms, query)?;
+    }
+    Ok(plans)
+}

@@ -1,0 +1,11 @@
+//! Indexes over queries: which of them share a key with an article, and which of them hold of it.
+#![tactic(auto)]
+
+ghost use Rattle.std.specs.Prelude.{◌≡◌};
+
+mod building;
+mod index;
+mod reading;
+
+pub use index::{Index, MOST_QUERIES};
+pub use reading::IndexReading;

@@ -1,0 +1,65 @@
+//! Articles as an index asks them.
+ghost use Rattle.std.specs.Prelude.{◌≡◌, IfOk, OnOk, List, Some};
+ghost use Rattle.std.specs.List.{slice_get};
+ghost use Rattle.clip_grammar.specs.Tree.{Tree};
+ghost use Rattle.clip_extract.specs.Covering.{article_keys};
+ghost use Rattle.clip_meaning.specs.Meaning.{holds};
+ghost use Rattle.clip_index.specs.Index.{IsIndexOf, places_sharing};
+
+use clip_pieces::PackedLists;
+use clip_plan::{Plans, Tally};
+use clip_terms::Reading;
+use clip_words::NoMemory;
+use std::marker::Model;
+
+/// An article as an index asks it: by the numbers of the index's terms. Contracts see the index and the article.
+#[derive(Drop)]
+pub struct IndexReading<'a> {
+    pub(crate) positions: &'a PackedLists<u32>,
+    pub(crate) plans: &'a Plans,
+    pub(crate) reading: Reading<'a>,
+}
+
+impl<'a> Model for IndexReading<'a> {
+    ghost use Rattle.std.specs.Coded.{codes};
+    ghost use Rattle.clip_grammar.specs.TreeCode.{tree_code};
+    ghost use Rattle.clip_meaning.specs.Article.{article_code};
+    ghost use Rattle.clip_index.specs.Index.{AskedValue};
+    ghost use Rattle.clip_index.specs.Steps.Views.{asked_of};
+
+    ghost Value = { AskedValue };
+
+    ghost coded = { Prim.hlevel (codes, tree_code, article_code) };
+
+    ghost view = { asked_of };
+}
+
+impl<'a> IndexReading<'a> {
+    /// The places, from 0 and rising, of just the queries that share a key with the article, in place of those that were
+    /// in the list.
+    ///
+    /// `NoMemory` where an allocation failed. Cost: a step and a sort's share for each place under a key of the article;
+    /// no query is looked at.
+    pub fn sharers(&self, places: &mut Vec<u32>) -> Result<(), NoMemory>
+        ensures { OnOk result ((trees : List Tree) → IsIndexOf trees self.now.index
+            → places.new.items ≡ places_sharing (article_keys self.now.article.fields) trees) }
+    {
+        places.clear();
+        for number in self.reading.numbers() {
+            places.extend_from_slice(self.positions.get(*number as usize))?;
+        }
+        places.sort_unstable();
+        places.dedup();
+        Ok(())
+    }
+
+    /// Whether the query of a place holds of the article. `stack` is room for the groups that are open.
+    ///
+    /// `NoMemory` where the room had to grow and an allocation failed. Cost: that of `Plans::judge`.
+    pub fn holds(&self, place: u32, stack: &mut Vec<Tally>) -> Result<bool, NoMemory>
+        ensures { IfOk result (λ held. (trees : List Tree) (tree : Tree) → IsIndexOf trees self.now.index
+            → slice_get trees place ≡ Some tree → held ≡ holds tree self.now.article.fields) }
+    {
+        self.plans.judge(place as usize, &self.reading, stack)
+    }
+}
