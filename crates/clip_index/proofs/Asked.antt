@@ -1,97 +1,49 @@
--- What an index answers of the queries that it is of.
-use Rattle.std.proofs.Common.{◌≡◌, ℕ, zero, suc, ◌<◌, Bool, true, false, cond, ◌||◌, List, [], ◌∷◌, ◌++◌, All, map, filter, flat_map, length, Some, None, is_some, unwrap_or, option_map, slice_get, refl, sym, ap, ◌∙◌, arith}
+-- The keys and words of queries are among their terms.
+use Rattle.std.proofs.Common.{◌≡◌, ℕ, zero, suc, ◌<◌, Bool, true, ◌||◌, List, [], ◌∷◌, ◌++◌, length, map, get_or, flat_map, refl, sym, ◌∙◌, ap, arith, subst, IsTrue}
+use Rattle.std.proofs.Math.Bool.{or-true}
+use Rattle.std.proofs.lemmas.Bool.{and_from}
+use Rattle.std.proofs.lemmas.List.Folds.{list_any-append}
 use Rattle.std.specs.List.{list_any}
-use Rattle.std.proofs.lemmas.List.Folds.{list_any-append, flat_map-map}
-use Rattle.std.proofs.lemmas.Option.{slice_get-map}
 use Rattle.clip_grammar.specs.Tree.{Tree}
-use Rattle.clip_extract.specs.Keys.{KeyValue, is_same}
-use Rattle.clip_extract.specs.Extraction.{query_keys}
-use Rattle.clip_extract.proofs.Order.{among_in_order}
-use Rattle.clip_terms.specs.Terms.{term_at, number_of}
-use Rattle.clip_terms.proofs.NumberedKeys.{term_of_number}
-use Rattle.clip_terms.proofs.ReadingOf.{has_number}
-use Rattle.clip_plan.specs.Plan.{decoded, plan_of, word_keys}
-use Rattle.clip_index.specs.Index.{IndexValue, IsIndexOf, asked_of, has_key, places_with}
-use Rattle.clip_index.proofs.AnyOf.{any_or, any_flat_map}
-use Rattle.clip_index.proofs.Places.{no_places}
+use Rattle.clip_extract.specs.Keys.{KeyValue, key_of, is_same}
+use Rattle.clip_extract.specs.declared.key.Key.{Key}
+use Rattle.clip_extract.proofs.Order.{same_itself, among_in_order}
+use Rattle.clip_plan.specs.Plan.{are_terms}
+use Rattle.clip_plan.proofs.Numbering.{are_parts}
+use Rattle.clip_index.specs.Index.{asked_of, terms_of}
 
--- the list at a place, an empty one past the last
-abbrev pub list_at : List (List ℕ) → ℕ → List ℕ
-list_at lists n = unwrap_or (slice_get lists n) []
+-- what passes in one of two lists passes in both together
+in_first : (p : KeyValue → Bool) (xs ys : List KeyValue) → list_any p xs ≡ true → list_any p (xs ++ ys) ≡ true
+in_first p xs ys h = list_any-append p xs ys ∙ ap (λ b. b || list_any p ys) h
 
--- ---- keys that are terms, and those that are not
+in_second : (p : KeyValue → Bool) (xs ys : List KeyValue) → list_any p ys ≡ true → list_any p (xs ++ ys) ≡ true
+in_second p xs ys h = list_any-append p xs ys ∙ ap (λ b. list_any p xs || b) h ∙ or-true (list_any p xs)
 
-listed_at : (f : KeyValue → List ℕ) (terms : List KeyValue) (n : ℕ) → n < length terms → list_at (map f terms) n ≡ f (term_at terms n)
-listed_at f [] n lt = absurd (omega arith)
-listed_at f (t ∷ ts) zero lt = refl
-listed_at f (t ∷ ts) (suc n) lt = listed_at f ts n (omega arith)
+-- what an item asks is among what all ask
+asked_among : {A : Type 0} (seen : A → Tree) (items : List A) (i : ℕ) (x : A) (key : KeyValue) → i < length items → x ≡ get_or items i x
+    → list_any (is_same key) (asked_of (seen x)) ≡ true → list_any (is_same key) (flat_map asked_of (map seen items)) ≡ true
+asked_among seen [] i x key inside is h = absurd (omega arith)
+asked_among seen (y ∷ ys) zero x key inside is h = in_first (is_same key) (asked_of (seen y)) (flat_map asked_of (map seen ys)) (ap (λ z. list_any (is_same key) (asked_of (seen z))) (sym is) ∙ h)
+asked_among seen (y ∷ ys) (suc i) x key inside is h = in_second (is_same key) (asked_of (seen y)) (flat_map asked_of (map seen ys)) (asked_among seen ys i x key (omega arith) is h)
 
-or_first : (a b : Bool) → (a || b) ≡ false → a ≡ false
-or_first true b none = none
-or_first false b none = refl
+-- keys all of which stand in a list are terms of it
+terms_from : (terms keys : List KeyValue) → ((key : KeyValue) → list_any (is_same key) keys ≡ true → list_any (is_same key) terms ≡ true) → are_terms terms keys ≡ true
+terms_from terms [] among = refl
+terms_from terms (k ∷ ks) among =
+    and_from (list_any (is_same k) terms) (are_terms terms ks)
+    (among k (ap (λ b. b || list_any (is_same k) ks) (same_itself k)))
+    (terms_from terms ks (λ key h. among key (ap (λ b. is_same key k || b) h ∙ or-true (is_same key k))))
 
-module _ (trees : List Tree) (index : IndexValue) (is : IsIndexOf trees index) where
-  -- the list of a number has the places of its term
-  pub list_of_number : (n : ℕ) → n < length index.terms → list_at index.positions n ≡ places_with (term_at index.terms n) trees
-  list_of_number n lt = ap (λ lists. list_at lists n) is.positions ∙ listed_at (λ term. places_with term trees) index.terms n lt
+-- what one of the queries asks are terms
+pub asked_terms : {A : Type 0} (seen : A → Tree) (items : List A) (i : ℕ) (x : A) (terms : List KeyValue) → i < length items → x ≡ get_or items i x
+    → terms ≡ terms_of (map seen items) → IsTrue (are_terms terms (asked_of (seen x)))
+asked_terms seen items i x terms inside is are =
+    terms_from terms (asked_of (seen x)) (λ key h.
+    ap (list_any (is_same key)) are ∙ among_in_order (flat_map asked_of (map seen items)) key ∙ asked_among seen items i x key inside is h)
 
-  pub list_of_key : (key : KeyValue) (n : ℕ) → Some n ≡ number_of index.terms key → list_at index.positions n ≡ places_with key trees
-  list_of_key key n there =
-      let term = term_of_number index.terms key n (sym there) in
-      list_of_number n term.1 ∙ ap (λ k. places_with k trees) term.0
-
-  -- no query has a key that is no term
-  pub no_term : (key : KeyValue) → list_any (is_same key) index.terms ≡ false → places_with key trees ≡ []
-  no_term key none =
-      let among : list_any (is_same key) index.terms ≡ (list_any (has_key key) trees || list_any (λ tree. list_any (is_same key) (word_keys tree)) trees) =
-      ap (list_any (is_same key)) is.terms
-      ∙ among_in_order (flat_map asked_of trees) key
-      ∙ any_flat_map (is_same key) asked_of trees
-      ∙ ap (λ f. list_any f trees) (λ i tree. list_any-append (is_same key) (query_keys tree) (word_keys tree) i)
-      ∙ any_or (has_key key) (λ tree. list_any (is_same key) (word_keys tree)) trees in
-      no_places (has_key key) 0 trees (or_first _ _ (sym among ∙ none))
-
-  pub no_number : (key : KeyValue) → None ≡ number_of index.terms key → places_with key trees ≡ []
-  no_number key missing = no_term key (sym (has_number index.terms key) ∙ ap is_some (sym missing))
-
--- ---- the lists of an article's numbers
-
-flat_map_within : (f g : ℕ → List ℕ) (bound : ℕ) (ns : List ℕ) → All (λ n. n < bound) ns → ((n : ℕ) → n < bound → f n ≡ g n) → flat_map f ns ≡ flat_map g ns
-flat_map_within f g bound [] within same = refl
-flat_map_within f g bound (n ∷ ns) within same =
-    let here : n < bound = within 0 n (omega arith) in
-    let later : All (λ n. n < bound) ns = λ k d lt. within (suc k) d (omega arith) in
-    λ i. same n here i ++ flat_map_within f g bound ns later same i
-
-flat_map_filter : (f : KeyValue → List ℕ) (t : KeyValue → Bool) → ((k : KeyValue) → t k ≡ false → f k ≡ []) → (ks : List KeyValue) → flat_map f (filter t ks) ≡ flat_map f ks
-flat_map_filter f t empty [] = refl
-flat_map_filter f t empty (k ∷ ks) = by_test (t k) refl (flat_map_filter f t empty ks)
-  where
-    by_test : (b : Bool) → t k ≡ b → flat_map f (filter t ks) ≡ flat_map f ks → flat_map f (cond b (k ∷ filter t ks) (filter t ks)) ≡ f k ++ flat_map f ks
-    by_test true is later = ap (λ xs. f k ++ xs) later
-    by_test false is later = later ∙ sym (ap (λ xs. xs ++ flat_map f ks) (empty k is))
-
--- the lists of the numbers of those keys that are terms are the places of all the keys
-pub lists_of_keys : (trees : List Tree) (index : IndexValue) → IsIndexOf trees index → (keys : List KeyValue) (ns : List ℕ) → All (λ n. n < length index.terms) ns
-    → map (term_at index.terms) ns ≡ filter (λ k. list_any (is_same k) index.terms) keys
-    → flat_map (list_at index.positions) ns ≡ flat_map (λ k. places_with k trees) keys
-lists_of_keys trees index is keys ns within named =
-    let with_places : KeyValue → List ℕ = λ k. places_with k trees in
-    flat_map_within (list_at index.positions) (λ n. with_places (term_at index.terms n)) (length index.terms) ns within (list_of_number trees index is)
-    ∙ sym (flat_map-map with_places (term_at index.terms) ns)
-    ∙ ap (flat_map with_places) named
-    ∙ flat_map_filter with_places (λ k. list_any (is_same k) index.terms) (no_term trees index is) keys
-
--- ---- plans
-
-mapped_at : {A B : Type 0} (f : A → B) (xs : List A) (n : ℕ) (d : A) → unwrap_or (slice_get (map f xs) n) (f d) ≡ f (unwrap_or (slice_get xs n) d)
-mapped_at f [] n d = refl
-mapped_at f (x ∷ xs) zero d = refl
-mapped_at f (x ∷ xs) (suc n) d = mapped_at f xs n d
-
--- the plan at a place is that of the query there
-pub plan_at : (trees : List Tree) (index : IndexValue) → IsIndexOf trees index → (place : ℕ) (tree : Tree) → slice_get trees place ≡ Some tree → decoded index.terms (unwrap_or (slice_get index.plans place) []) ≡ plan_of tree
-plan_at trees index is place tree there =
-    sym (mapped_at (decoded index.terms) index.plans place [])
-    ∙ ap (λ plans. unwrap_or (slice_get plans place) []) is.plans
-    ∙ ap (λ o. unwrap_or o []) (slice_get-map plan_of trees place ∙ ap (option_map plan_of) there)
+-- one of the keys that are terms is a term
+pub key_term : (terms : List KeyValue) (ks : List Key) (i : ℕ) (key : Key) → IsTrue (are_terms terms (map key_of ks)) → i < length ks → key ≡ get_or ks i key
+    → IsTrue (are_terms terms (key_of key ∷ []))
+key_term terms [] i key h inside is = absurd (omega arith)
+key_term terms (k ∷ ks) zero key h inside is = subst (λ (x : Key). IsTrue (are_terms terms (key_of x ∷ []))) (sym is) (are_parts terms (key_of k ∷ []) (map key_of ks) h).0
+key_term terms (k ∷ ks) (suc i) key h inside is = key_term terms ks i key (are_parts terms (key_of k ∷ []) (map key_of ks) h).1 (omega arith) is

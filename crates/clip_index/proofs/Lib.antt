@@ -1,8 +1,9 @@
+pub mod Answering
 pub mod AnyOf
 pub mod Asked
 pub mod Keys
 pub mod Lists
 pub mod Numbers
-pub mod OneMore
 pub mod Places
-pub mod TermsOf
+pub mod Sent
+pub mod Sharing

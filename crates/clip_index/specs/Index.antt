@@ -1,5 +1,5 @@
 -- An index over queries: what it keeps of them, and what it is asked.
-use Rattle.std.specs.Prelude.{◌≡◌, ◌≤◌, ℕ, Bool, List, [], ◌++◌, map, flat_map, filter, length}
+use Rattle.std.specs.Prelude.{◌≡◌, ◌≤◌, ℕ, Bool, List, ◌++◌, map, flat_map, filter, length}
 use Rattle.std.specs.List.{list_any, enumerate_from}
 use Rattle.clip_grammar.specs.Tree.{Tree}
 use Rattle.clip_meaning.specs.Article.{ArticleValue}

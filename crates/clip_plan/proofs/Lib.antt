@@ -1,7 +1,8 @@
-pub mod Numbering
-pub mod Standing
-pub mod Leaves
-pub mod Clauses
-pub mod Words
 pub mod AskedKeys
+pub mod Clauses
 pub mod Judging
+pub mod Leaves
+pub mod Numbering
+pub mod Sent
+pub mod Standing
+pub mod Words

@@ -1,7 +1,7 @@
 use Rattle.std.proofs.Common.{◌∙◌, map, ap, sym, subst, IsTrue}
 use Rattle.clip_extract.specs.Keys.{key_of}
 use Rattle.clip_plan.specs.Plan.{are_terms}
-use Rattle.clip_index.proofs.TermsOf.{key_term}
+use Rattle.clip_index.proofs.Asked.{key_term}
 use Rattle.clip_index.proofs.Lists.{next_key}
 use Rattle.clip_index.proofs.building.add_place.Goals as goal
 

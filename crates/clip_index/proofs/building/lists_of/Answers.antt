@@ -7,9 +7,9 @@ use Rattle.clip_extract.specs.Extraction.{query_keys}
 use Rattle.clip_terms.proofs.Numbers.{in_order_rises}
 use Rattle.clip_plan.specs.Plan.{word_keys}
 use Rattle.clip_plan.proofs.Numbering.{are_parts}
-use Rattle.clip_index.proofs.TermsOf.{asked_terms}
+use Rattle.clip_index.proofs.Asked.{asked_terms}
 use Rattle.clip_index.proofs.Lists.{none_yet}
-use Rattle.clip_index.proofs.OneMore.{next_query}
+use Rattle.clip_index.proofs.Places.{next_query}
 use Rattle.clip_index.proofs.building.lists_of.Goals as goal
 
 pub loop-query-init : goal.loop-query-init

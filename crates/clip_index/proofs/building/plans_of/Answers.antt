@@ -2,7 +2,7 @@ use Rattle.clip_grammar.specs.Tree.{tree_of}
 use Rattle.clip_extract.specs.Extraction.{query_keys}
 use Rattle.clip_plan.specs.Plan.{word_keys}
 use Rattle.clip_plan.proofs.Numbering.{are_parts}
-use Rattle.clip_index.proofs.TermsOf.{asked_terms}
+use Rattle.clip_index.proofs.Asked.{asked_terms}
 use Rattle.clip_index.proofs.building.plans_of.Goals as goal
 
 pub push-requires : goal.push-requires

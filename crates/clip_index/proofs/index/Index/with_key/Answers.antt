@@ -2,7 +2,7 @@ use Rattle.std.proofs.Common.{sym, ◌∙◌, subst}
 use Rattle.clip_extract.specs.Keys.{key_of}
 use Rattle.clip_index.specs.Index.{IsIndexOf}
 use Rattle.clip_index.specs.Steps.Views.{index_of}
-use Rattle.clip_index.proofs.Asked.{list_of_key, no_number}
+use Rattle.clip_index.proofs.Answering.{list_of_key, no_number}
 use Rattle.clip_index.proofs.index.Index.with_key.Goals as goal
 
 pub returns-in-Some : goal.returns-in-Some

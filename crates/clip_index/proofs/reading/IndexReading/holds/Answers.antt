@@ -4,7 +4,7 @@ use Rattle.clip_grammar.specs.Tree.{Tree}
 use Rattle.clip_meaning.specs.Meaning.{holds}
 use Rattle.clip_index.specs.Index.{AskedValue, IsIndexOf}
 use Rattle.clip_index.specs.Steps.Views.{asked_of}
-use Rattle.clip_index.proofs.Asked.{plan_at}
+use Rattle.clip_index.proofs.Answering.{plan_at}
 use Rattle.clip_index.proofs.reading.IndexReading.holds.Goals as goal
 
 pub returns : goal.returns

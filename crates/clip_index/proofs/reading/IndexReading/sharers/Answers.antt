@@ -7,9 +7,9 @@ use Rattle.clip_extract.specs.Extraction.{query_keys}
 use Rattle.clip_extract.specs.Covering.{article_keys}
 use Rattle.clip_index.specs.Index.{AskedValue, IsIndexOf, places_with, places_sharing}
 use Rattle.clip_index.specs.Steps.Views.{asked_of}
-use Rattle.clip_index.proofs.Asked.{list_at, lists_of_keys}
+use Rattle.clip_index.proofs.Answering.{list_at, lists_of_keys}
 use Rattle.clip_index.proofs.Numbers.{sorted_numbers}
-use Rattle.clip_index.proofs.Places.{any_place, places_rise}
+use Rattle.clip_index.proofs.Sharing.{any_place, places_rise}
 use Rattle.clip_index.proofs.reading.IndexReading.sharers.Goals as goal
 
 pub returns : goal.returns

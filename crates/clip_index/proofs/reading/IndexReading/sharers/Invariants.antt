@@ -1,5 +1,5 @@
 use Rattle.std.proofs.Common.{◌≡◌, flat_map, take}
-use Rattle.clip_index.proofs.Asked.{list_at}
+use Rattle.clip_index.proofs.Answering.{list_at}
 use Rattle.clip_index.proofs.reading.IndexReading.sharers.Given as goal
 
 abbrev pub invariant-loop-number : goal.invariant-loop-number
