@@ -1,4 +1,3 @@
 pub mod Holding
-pub mod Keys
-pub mod Positions
+pub mod Places
 pub mod Sent

@@ -7,11 +7,9 @@ use Rattle.std.proofs.sync.ArcStr.TheSendSync as arc_str_sent
 use Rattle.std.proofs.option.Option.TheSendSync as option_sent
 use Rattle.std.proofs.sync.Arc.TheSendSync as arc_sent
 use Rattle.std.proofs.vec.Vec.TheSendSync as vec_sent
-use Rattle.std.proofs.collections.HashMap.TheSendSync as hash_map_sent
-use Rattle.std.proofs.hash.BuildHasherDefault.TheSendSync as hasher_sent
-use Rattle.std.proofs.hash.FoldHasher.TheSendSync as fold_sent
 use Rattle.clip_extract.proofs.key.Key.TheSendSync as key_sent
 use Rattle.clip_grammar.proofs.Sent.{query_send, query_sync}
+use Rattle.clip_index.proofs.Sent.{index_send, index_sync}
 use Rattle.clip_segment.specs.contracts.standing.Standing as standing
 use Rattle.clip_segment.specs.contracts.standing.Standing.TheInside as standing_inside
 use Rattle.clip_segment.specs.contracts.entry.Entry as entry
@@ -34,7 +32,7 @@ pub entry_sync : IsSync entry.the_row
 entry_sync = view_sync entry_inside.the_row _ _ _ _ (declared_sync entry_inside.the_type (search global, (search (global, arc_sent.the_sync, standing_send, standing_sync), (search (global, vec_sent.the_sync, key_sent.the_sync), tt))))
 
 pub segment_send : IsSend segment.the_row
-segment_send = view_send segment_inside.the_row _ _ _ _ (declared_send segment_inside.the_type (search (global, vec_sent.the_send, arc_sent.the_send, entry_send, entry_sync), (search (global, hash_map_sent.the_send, vec_sent.the_send, key_sent.the_send, hasher_sent.the_send, fold_sent.the_send) depth 20, tt)))
+segment_send = view_send segment_inside.the_row _ _ _ _ (declared_send segment_inside.the_type (search (global, vec_sent.the_send, arc_sent.the_send, entry_send, entry_sync), (search (global, vec_sent.the_send), (index_send, tt))))
 
 pub segment_sync : IsSync segment.the_row
-segment_sync = view_sync segment_inside.the_row _ _ _ _ (declared_sync segment_inside.the_type (search (global, vec_sent.the_sync, arc_sent.the_sync, entry_send, entry_sync), (search (global, hash_map_sent.the_sync, vec_sent.the_sync, key_sent.the_sync, hasher_sent.the_sync, fold_sent.the_sync) depth 20, tt)))
+segment_sync = view_sync segment_inside.the_row _ _ _ _ (declared_sync segment_inside.the_type (search (global, vec_sent.the_sync, arc_sent.the_sync, entry_send, entry_sync), (search (global, vec_sent.the_sync), (index_sync, tt))))

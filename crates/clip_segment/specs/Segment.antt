@@ -1,8 +1,10 @@
--- The positions at which the entries of a segment hold a key.
+-- The entries of segments, and the positions at which they hold keys.
 use Rattle.std.specs.Prelude.{ℕ, ◌<◌, Bool, List, [], ◌∷◌, ◌++◌, map, filter}
 use Rattle.std.specs.List.{enumerate_from, list_any, AllPairs}
 use Rattle.clip_extract.specs.Extraction.{query_keys}
-use Rattle.clip_extract.specs.Keys.{KeyValue, is_same}
+use Rattle.clip_extract.specs.Keys.{KeyValue, is_same, share}
+use Rattle.clip_grammar.specs.Tree.{Tree}
+use Rattle.clip_meaning.specs.Article.{ArticleValue}
 use Rattle.clip_model.specs.History.{Registered}
 
 -- the entry's query has the key
@@ -12,6 +14,22 @@ holds_key key entry = list_any (is_same key) (query_keys entry.standing.tree)
 -- the positions, from 0, of the entries that hold the key
 abbrev pub positions_with : KeyValue → List Registered → List ℕ
 positions_with key entries = map (λ e. e.0) (filter (λ e. holds_key key e.1) (enumerate_from 0 entries))
+
+-- the positions, from 0, of the entries whose queries have one of the keys
+abbrev pub positions_sharing : List KeyValue → List Registered → List ℕ
+positions_sharing keys entries = map (λ e. e.0) (filter (λ e. share (query_keys e.1.standing.tree) keys) (enumerate_from 0 entries))
+
+-- the queries of entries
+abbrev pub trees_of : List Registered → List Tree
+trees_of entries = map (λ e. e.standing.tree) entries
+
+abbrev pub seqs_of : List Registered → List ℕ
+seqs_of entries = map (λ e. e.seq) entries
+
+-- entries, and an article that they are asked of
+pub record AskedValue : Type 0 where
+  pub entries : List Registered
+  pub article : ArticleValue
 
 -- each seq is above those before it
 pub record IsRising (entries : List Registered) : Type 0 where

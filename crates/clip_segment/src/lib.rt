@@ -4,9 +4,11 @@
 ghost use Rattle.std.specs.Prelude.{◌≡◌};
 
 mod entry;
+mod reading;
 mod segment;
 mod standing;
 
 pub use entry::Entry;
+pub use reading::SegmentReading;
 pub use segment::{MOST_POSITIONS, Segment};
 pub use standing::{Standing, StandingFault};

@@ -1,30 +1,33 @@
-//! Segments: entries in the order of their seqs, with an index from keys to positions.
-ghost use Rattle.std.specs.Prelude.{◌≡◌, ◌==◌, ◌<◌, ◌≤◌, ◌++◌, ◌∷◌, [], if◌then◌else◌, IfOk, OnOk, length, map, option_map};
+//! Segments: entries in the order of their seqs, with an index over their queries.
+ghost use Rattle.std.specs.Prelude.{◌≡◌, ◌==◌, ◌<◌, ◌≤◌, IfOk, length, map, option_map};
 ghost use Rattle.std.specs.Arc.{arc_value};
 ghost use Rattle.std.specs.List.{All, AllPairs, slice_get};
 ghost use Rattle.std.specs.Option.{option_copied};
-ghost use Rattle.clip_extract.specs.declared.key.Key.{Key};
-ghost use Rattle.clip_extract.specs.Keys.{is_same, key_of};
-ghost use Rattle.clip_segment.specs.Steps.Positions.{positions_under};
-ghost use Rattle.clip_segment.specs.Segment.{IsRising, holds_key, positions_with};
+ghost use Rattle.clip_extract.specs.Keys.{key_of};
+ghost use Rattle.clip_index.specs.Index.{IsIndexOf};
+ghost use Rattle.clip_segment.specs.Segment.{IsRising, positions_with, trees_of, seqs_of};
 ghost use Rattle.clip_segment.specs.declared.segment.TheConstants.{MOST_POSITIONS};
 
 use crate::entry::Entry;
+use crate::reading::SegmentReading;
 use clip_extract::Key;
+use clip_grammar::query::Query;
+use clip_index::{Index, MOST_QUERIES};
+use clip_terms::Asking;
 use clip_words::NoMemory;
 use std::alloc::Global;
-use std::collections::HashMap;
 use std::marker::Model;
 use std::sync::Arc;
 
 /// The most entries of a segment, so that each position fits in 32 bits.
-pub const MOST_POSITIONS: usize = 4_294_967_295;
+pub const MOST_POSITIONS: usize = MOST_QUERIES;
 
-/// Entries in the order of their seqs, with an index from each key to the positions of those that hold it.
+/// Entries in the order of their seqs, with an index over their queries.
 #[derive(Debug, Drop)]
 pub struct Segment {
     entries: Vec<Arc<Entry>>,
-    positions: HashMap<Key, Vec<u32>>,
+    seqs: Vec<u64>,
+    index: Index,
 }
 
 impl Model for Segment {
@@ -43,70 +46,71 @@ impl Model for Segment {
     ghost invariant = { IsSegment };
 }
 
-/// A copy of a key, which shares its texts.
-fn shared(key: &Key) -> Result<Key, NoMemory>
-    ensures { IfOk result (λ copy. key_of copy ≡ key_of key.now) }
+/// The index over the queries of these entries.
+fn index_of(alloc: Global, entries: &[Arc<Entry>]) -> Result<Index, NoMemory>
+    requires { length entries.now ≤ MOST_POSITIONS }
+    ensures { IfOk result (λ index. IsIndexOf (trees_of (map arc_value entries.now)) index) }
 {
-    Ok(key.clone()?)
-}
-
-/// Adds a position at the end of those under a key.
-fn add_position(
-    positions: &mut HashMap<Key, Vec<u32>>,
-    key: Key,
-    position: u32,
-) -> Result<(), NoMemory>
-    ensures { OnOk result ((other : Key) → positions_under positions.new other
-        ≡ positions_under positions.old other ++ (if is_same (key_of key) (key_of other) then position ∷ [] else [])) }
-{
-    positions.entry(key)?.or_default().push(position)?;
-    Ok(())
-}
-
-/// Adds a position at the end of those under each key of an entry.
-fn add_entry(
-    positions: &mut HashMap<Key, Vec<u32>>,
-    entry: &Entry,
-    position: u32,
-) -> Result<(), NoMemory>
-    ensures { OnOk result ((other : Key) → positions_under positions.new other
-        ≡ positions_under positions.old other ++ (if holds_key (key_of other) entry.now then position ∷ [] else [])) }
-{
-    for key in entry.keys() {
-        add_position(positions, shared(key)?, position)?;
+    let mut queries: Vec<&Query> = Vec::with_capacity(alloc, entries.len())?;
+    for entry in entries {
+        queries.push(entry.standing().query())?;
     }
-    Ok(())
+    Index::of(alloc, &queries)
+}
+
+/// The seqs of these entries.
+fn seqs_of(alloc: Global, entries: &[Arc<Entry>]) -> Result<Vec<u64>, NoMemory>
+    ensures { IfOk result (λ seqs. seqs.items ≡ seqs_of (map arc_value entries.now)) }
+{
+    let mut seqs = Vec::with_capacity(alloc, entries.len())?;
+    for entry in entries {
+        seqs.push(entry.seq())?;
+    }
+    Ok(seqs)
 }
 
 impl Segment {
     /// The segment of these entries, which it shares. Their seqs rise, and there are at most `MOST_POSITIONS`.
     ///
-    /// `NoMemory` where an allocation failed. Cost: one look-up for each key of each entry; no text is copied.
+    /// `NoMemory` where an allocation failed. Cost: that of `Index::of` over their queries.
     pub fn build(alloc: Global, entries: Vec<Arc<Entry>>) -> Result<Segment, NoMemory>
         requires short { length entries.items ≤ MOST_POSITIONS }
         requires rising { IsRising (map arc_value entries.items) }
         ensures { IfOk result (λ segment. segment ≡ map arc_value entries.items) }
     {
-        let mut positions = HashMap::new(alloc);
-        let mut position = 0;
-        for entry in &entries {
-            add_entry(&mut positions, entry, position)?;
-            position += 1;
-        }
-        Ok(Segment { entries, positions })
+        let index = index_of(alloc, &entries)?;
+        let seqs = seqs_of(alloc, &entries)?;
+        Ok(Segment {
+            entries,
+            seqs,
+            index,
+        })
     }
 
-    /// The positions, from 0 and rising, of just the entries that hold the key. Takes no memory. Cost: one look-up.
-    #[tactic(auto, using(crate::proofs::Holding::positions_within, crate::proofs::Holding::positions_rise))]
+    /// The positions, from 0 and rising, of just the entries that hold the key. Takes no memory. Cost: a search by halves
+    /// among the index's terms.
     pub fn with_key(&self, key: &Key) -> &[u32]
         ensures holders { result.now ≡ positions_with (key_of key.now) self.now }
         ensures within { All (λ position. position < length self.now) result.now }
         ensures rising { AllPairs ◌<◌ result.now }
     {
-        match self.positions.get(key) {
-            Some(positions) => positions,
-            None => &[],
-        }
+        self.index.with_key(key)
+    }
+
+    /// An article as this segment asks it.
+    ///
+    /// `NoMemory` where an allocation failed. Cost: that of `Index::read`.
+    pub fn read<'a>(
+        &'a self,
+        alloc: Global,
+        asking: &Asking<'a>,
+    ) -> Result<SegmentReading<'a>, NoMemory>
+        ensures { IfOk result (λ reading. reading ≡ record { entries = self.now; article = asking.now }) }
+    {
+        Ok(SegmentReading {
+            segment: self,
+            reading: self.index.read(alloc, asking)?,
+        })
     }
 
     /// The entry at a position from 0, or `None` past the end. Takes no memory. Constant time.
@@ -114,6 +118,14 @@ impl Segment {
         ensures { option_map arc_value (option_copied result) ≡ slice_get self.now position }
     {
         self.entries.get(position as usize)
+    }
+
+    /// The seq of the entry at a position from 0, or `None` past the end; the entry is not looked at. Takes no memory.
+    /// Constant time.
+    pub fn seq(&self, position: u32) -> Option<u64>
+        ensures { result ≡ option_map (λ e. e.seq) (slice_get self.now position) }
+    {
+        self.seqs.get(position as usize).copied()
     }
 
     /// The entries, in the order of their seqs. Constant time.

@@ -1,9 +1,22 @@
--- Answered here, so that a wrong body is refused at once.
-use Rattle.std.proofs.Common.{rules}
+use Rattle.std.proofs.Common.{◌≡◌, ℕ, ◌<◌, map, length, sym, ap, ◌∙◌, subst}
+use Rattle.std.specs.List.{All, AllPairs}
+use Rattle.clip_extract.specs.Keys.{key_of}
+use Rattle.clip_segment.specs.Segment.{positions_with}
+use Rattle.clip_segment.specs.Steps.SegmentView.{entries_of}
+use Rattle.clip_segment.proofs.Holding.{positions_within, positions_rise}
+use Rattle.clip_segment.proofs.Places.{places_are_positions}
 use Rattle.clip_segment.proofs.segment.Segment.with_key.Goals as goal
 
-pub returns-in-Some-clause-holders : goal.returns-in-Some-clause-holders
-returns-in-Some-clause-holders c = search rules
+pub returns-clause-holders : goal.returns-clause-holders
+returns-clause-holders c =
+    c.with_key.ensures _ c.self.invariant.index
+    ∙ places_are_positions (key_of c.args.key.now) (entries_of c.self.inside)
+    ∙ ap (positions_with (key_of c.args.key.now)) c.self.view_is
 
-pub returns-in-None-clause-holders : goal.returns-in-None-clause-holders
-returns-in-None-clause-holders c = search rules
+pub returns-clause-within : goal.returns-clause-within
+returns-clause-within c =
+    subst (λ ns. All (λ position. position < length c.args.self.now) ns) (sym (returns-clause-holders c)) (positions_within (key_of c.args.key.now) c.args.self.now)
+
+pub returns-clause-rising : goal.returns-clause-rising
+returns-clause-rising c =
+    subst (λ ns. AllPairs (λ p q. p < q) ns) (sym (returns-clause-holders c)) (positions_rise (key_of c.args.key.now) c.args.self.now)
