@@ -1,26 +1,17 @@
 //! The alerts of an article, and of a batch of articles.
-ghost use Rattle.std.specs.Prelude.{◌≡◌, map, filter, IfOk, IsPermutation};
+ghost use Rattle.std.specs.Prelude.{◌≡◌, map, IfOk, IsPermutation};
 ghost use Rattle.std.specs.List.Sorted.{IsSortedByKey};
 ghost use Rattle.clip_words.specs.Order.{bytes_cmp};
-ghost use Rattle.clip_meaning.specs.Meaning.{holds};
 ghost use Rattle.clip_match.specs.Alerts.{alert_value, alerts_value, alert_due, alerts_due};
 
 use crate::alert::{Alert, Alerts};
-use clip_meaning::{Article, holds};
-use clip_presearch::candidates;
+use clip_meaning::Article;
+use clip_presearch::holding;
 use clip_registry::View;
 use clip_segment::Entry;
 use clip_words::NoMemory;
 use std::alloc::Global;
 use std::cmp::Ordering;
-
-/// Leaves the entries whose query holds of the article.
-fn keep_holding(entries: &mut Vec<&Entry>, article: &Article)
-    ensures { map (λ e. e.now) entries.new.items
-        ≡ filter (λ r. holds r.standing.tree article.now.fields) (map (λ e. e.now) entries.old.items) }
-{
-    entries.retain(|entry| holds(entry.standing().query(), article));
-}
 
 /// Sorts entries by the ids of their queries.
 fn sort_by_id(entries: &mut Vec<&Entry>)
@@ -67,21 +58,19 @@ fn alerts(alloc: Global, entries: &[&Entry], article: &Article) -> Result<Vec<Al
 ///
 /// Just the article's candidates are tried.
 ///
-/// `NoMemory` where an allocation failed. Cost: that of `candidates`, so a step for each word of the article and a
-/// look-up in each segment for each of its keys; one `holds` for each candidate; and a sort of those that hold. No text
-/// is copied, and a query without a key of the article costs nothing.
+/// `NoMemory` where an allocation failed. Cost: that of `holding`, so a step for each word of the article, a look-up in
+/// each segment for each of its keys and the judging of each candidate's plan; and a sort of those that hold. No text is
+/// copied, and a query without a key of the article costs nothing.
 pub fn match_article(alloc: Global, view: &View, article: &Article) -> Result<Alerts, NoMemory>
     ensures { IfOk result (λ found. alerts_value found ≡ alerts_due view.now article.now) }
 {
-    let mut entries = candidates(alloc, view, article)?;
-    let asked = entries.len() as u64;
-    keep_holding(&mut entries, article);
-    sort_by_id(&mut entries);
+    let mut found = holding(alloc, view, article)?;
+    sort_by_id(&mut found.entries);
     Ok(Alerts {
         article: article.shared_id().clone()?,
         place: view.place(),
-        asked,
-        alerts: alerts(alloc, &entries, article)?,
+        asked: found.asked,
+        alerts: alerts(alloc, &found.entries, article)?,
     })
 }
 

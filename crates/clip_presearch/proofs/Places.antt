@@ -15,81 +15,8 @@ use Rattle.clip_model.specs.History.{Registered, History, is_live}
 use Rattle.clip_extract.specs.Keys.{KeyValue, is_same}
 use Rattle.clip_extract.specs.Extraction.{query_keys}
 use Rattle.clip_extract.proofs.Members.{any_map}
-use Rattle.clip_segment.specs.Segment.{holds_key, positions_with}
-use Rattle.clip_segment.proofs.Keys.{flipped}
-use Rattle.clip_presearch.specs.Steps.Places.{has_one, placed_with, places_with, live_with}
-
--- ---- tests of lists
-
-or_swap : (a b c d : Bool) → ((a || b) || (c || d)) ≡ ((a || c) || (b || d))
-or_swap true b c d = refl
-or_swap false true true d = refl
-or_swap false true false d = refl
-or_swap false false c d = refl
-
-any_false : {B : Type 0} (bs : List B) → list_any (λ b. false) bs ≡ false
-any_false [] = refl
-any_false (b ∷ bs) = any_false bs
-
-any_or : {B : Type 0} (p q : B → Bool) (bs : List B) → list_any (λ b. p b || q b) bs ≡ (list_any p bs || list_any q bs)
-any_or p q [] = refl
-any_or p q (b ∷ bs) = ap (λ x. (p b || q b) || x) (any_or p q bs) ∙ or_swap (p b) (q b) (list_any p bs) (list_any q bs)
-
-any_swap : {A B : Type 0} (r : A → B → Bool) (xs : List A) (bs : List B) → list_any (λ a. list_any (r a) bs) xs ≡ list_any (λ b. list_any (λ a. r a b) xs) bs
-any_swap r [] bs = sym (any_false bs)
-any_swap r (a ∷ xs) bs = ap (λ x. list_any (r a) bs || x) (any_swap r xs bs) ∙ sym (any_or (r a) (λ b. list_any (λ a. r a b) xs) bs)
-
-any_and : {A : Type 0} (p : A → Bool) (c : Bool) (xs : List A) → list_any (λ a. p a && c) xs ≡ (list_any p xs && c)
-any_and p c [] = refl
-any_and p c (a ∷ xs) = ap (λ x. (p a && c) || x) (any_and p c xs) ∙ sym (and-or_distrib_right (p a) (list_any p xs) c)
-
-any_flat_map : {A B : Type 0} (p : B → Bool) (f : A → List B) (xs : List A) → list_any p (flat_map f xs) ≡ list_any (λ a. list_any p (f a)) xs
-any_flat_map p f [] = refl
-any_flat_map p f (a ∷ xs) = list_any-append p (f a) (flat_map f xs) ∙ ap (λ x. list_any p (f a) || x) (any_flat_map p f xs)
-
-any_map_filter : {A B : Type 0} (p : B → Bool) (f : A → B) (t : A → Bool) (xs : List A) → list_any p (map f (filter t xs)) ≡ list_any (λ a. t a && p (f a)) xs
-any_map_filter p f t xs = any_map p f (filter t xs) ∙ any_filter t (λ a. p (f a)) xs
-
--- ---- the positions of the keys are the places
-
-share_swap : (ks : List KeyValue) (r : Registered) → list_any (λ k. holds_key k r) ks ≡ has_one ks r
-share_swap ks r =
-    any_swap is_same ks (query_keys r.standing.tree)
-    ∙ ap (λ f. list_any f (query_keys r.standing.tree)) (λ i l. list_any (λ k. flipped k l i) ks)
-
-pub any_position : (ks : List KeyValue) (es : List Registered) (q : ℕ) → list_any (nat_eq q) (flat_map (λ k. positions_with k es) ks) ≡ list_any (nat_eq q) (places_with ks es)
-any_position ks es q =
-    let all = enumerate_from 0 es in
-    any_flat_map (nat_eq q) (λ k. positions_with k es) ks
-    ∙ ap (λ f. list_any f ks) (λ i k. any_map_filter (nat_eq q) (λ (e : ℕ × Registered). e.0) (λ (e : ℕ × Registered). holds_key k e.1) all i)
-    ∙ any_swap (λ k (e : ℕ × Registered). holds_key k e.1 && nat_eq q e.0) ks all
-    ∙ ap (λ f. list_any f all) (λ i (e : ℕ × Registered). any_and (λ k. holds_key k e.1) (nat_eq q e.0) ks i)
-    ∙ ap (λ f. list_any f all) (λ i (e : ℕ × Registered). share_swap ks e.1 i && nat_eq q e.0)
-    ∙ sym (any_map_filter (nat_eq q) (λ (e : ℕ × Registered). e.0) (λ (e : ℕ × Registered). has_one ks e.1) all)
-
--- ---- places rise
-
-abbrev fronts : List (ℕ × Registered) → List ℕ
-fronts = map (λ (e : ℕ × Registered). e.0)
-
-above_places : (t : ℕ × Registered → Bool) (m n : ℕ) (es : List Registered) → m < n → AllByRecursion (λ k. nat_cmp m k ≡ Less) (fronts (filter t (enumerate_from n es)))
-above_places t m n [] lt = tt
-above_places t m n (e ∷ es) lt =
-    let later = above_places t m (n + 1) es (omega arith) in
-    elim (t (n, e)) as (λ b. AllByRecursion (λ k. nat_cmp m k ≡ Less) (fronts (cond b ((n, e) ∷ filter t (enumerate_from (n + 1) es)) (filter t (enumerate_from (n + 1) es))))) [
-      | true ↦ (sym (nat_cmp_is m n Less lt), later)
-      | false ↦ later
-    ]
-
-pub places_rise : (t : ℕ × Registered → Bool) (n : ℕ) (es : List Registered) → IsStrictlySortedBy nat_cmp (fronts (filter t (enumerate_from n es)))
-unfolding IsStrictlySortedBy
-places_rise t n [] = tt
-places_rise t n (e ∷ es) =
-    let later = places_rise t (n + 1) es in
-    elim (t (n, e)) as (λ b. IsStrictlySortedBy nat_cmp (fronts (cond b ((n, e) ∷ filter t (enumerate_from (n + 1) es)) (filter t (enumerate_from (n + 1) es))))) [
-      | true ↦ (above_places t n (n + 1) es (omega arith), later)
-      | false ↦ later
-    ]
+use Rattle.clip_segment.specs.Segment.{positions_sharing, seqs_of}
+use Rattle.clip_presearch.specs.Steps.Places.{has_one, placed_with, live_with}
 
 -- ---- the entry at a place
 
@@ -136,13 +63,13 @@ live_places h ks es = ap (filter (λ r. is_live h r.seq)) (snd_filtered (has_one
 abbrev snd : ℕ × Registered → Registered
 snd e = e.1
 
-here : (ks : List KeyValue) (es : List Registered) (i : ℕ) (d : ℕ × Registered) → i < length (places_with ks es) → slice_get es (get_or (places_with ks es) i 0) ≡ Some (get_or (placed_with ks es) i d).1
+here : (ks : List KeyValue) (es : List Registered) (i : ℕ) (d : ℕ × Registered) → i < length (positions_sharing ks es) → slice_get es (get_or (positions_sharing ks es) i 0) ≡ Some (get_or (placed_with ks es) i d).1
 here ks es i d lt =
     let inside : i < length (placed_with ks es) = omega (arith, length-map (placed_with ks es) (λ (e : ℕ × Registered). e.0)) in
     ap (slice_get es) (get_or-map (λ (e : ℕ × Registered). e.0) (placed_with ks es) i d 0 inside) ∙ entry_at_place ks es i d inside
 
 -- an entry stands at each place
-pub entry_there : (ks : List KeyValue) (es : List Registered) (i : ℕ) → i < length (places_with ks es) → slice_get es (get_or (places_with ks es) i 0) ≡ None → ⊥
+pub entry_there : (ks : List KeyValue) (es : List Registered) (i : ℕ) → i < length (positions_sharing ks es) → slice_get es (get_or (positions_sharing ks es) i 0) ≡ None → ⊥
 entry_there ks es i lt none = pick (placed_with ks es) refl
   where
     pick : (qs : List (ℕ × Registered)) → placed_with ks es ≡ qs → ⊥
@@ -150,7 +77,7 @@ entry_there ks es i lt none = pick (placed_with ks es) refl
     pick (q ∷ qs) e = none-some _ (sym none ∙ here ks es i q lt)
 
 -- one place more, at which x stands
-live_more : (p : Registered → Bool) (ks : List KeyValue) (es : List Registered) (i : ℕ) (x : Registered) → i < length (places_with ks es) → Some x ≡ slice_get es (get_or (places_with ks es) i 0)
+live_more : (p : Registered → Bool) (ks : List KeyValue) (es : List Registered) (i : ℕ) (x : Registered) → i < length (positions_sharing ks es) → Some x ≡ slice_get es (get_or (positions_sharing ks es) i 0)
     → filter p (map snd (take (i + 1) (placed_with ks es))) ≡ filter p (map snd (take i (placed_with ks es))) ++ cond (p x) (x ∷ []) []
 live_more p ks es i x lt is =
     let qs = placed_with ks es in
@@ -167,13 +94,23 @@ abbrev pub live_front : History → List KeyValue → List Registered → ℕ �
 live_front h ks es i = filter (λ r. is_live h r.seq) (map snd (take i (placed_with ks es)))
 
 module _ (h : History) (ks : List KeyValue) (es : List Registered) (ps : List ℕ) (i : ℕ) (x : Registered) where
-  one_more : ps ≡ places_with ks es → i < length ps → Some x ≡ slice_get es (get_or ps i 0) → live_front h ks es (i + 1) ≡ live_front h ks es i ++ cond (is_live h x.seq) (x ∷ []) []
+  one_more : ps ≡ positions_sharing ks es → i < length ps → Some x ≡ slice_get es (get_or ps i 0) → live_front h ks es (i + 1) ≡ live_front h ks es i ++ cond (is_live h x.seq) (x ∷ []) []
   one_more same lt there = live_more (λ r. is_live h r.seq) ks es i x (omega (arith, ap length same)) (there ∙ ap (λ qs. slice_get es (get_or qs i 0)) same)
 
   -- one place more, at which a query stands that is no longer live
-  pub dead_next : ps ≡ places_with ks es → i < length ps → Some x ≡ slice_get es (get_or ps i 0) → is_live h x.seq ≡ false → live_front h ks es i ≡ live_front h ks es (i + 1)
+  pub dead_next : ps ≡ positions_sharing ks es → i < length ps → Some x ≡ slice_get es (get_or ps i 0) → is_live h x.seq ≡ false → live_front h ks es i ≡ live_front h ks es (i + 1)
   dead_next same lt there dead = sym (one_more same lt there ∙ ap (λ b. live_front h ks es i ++ cond b (x ∷ []) []) dead ∙ append-nil (live_front h ks es i))
 
   -- one place more, at which a live query stands
-  pub live_next : ps ≡ places_with ks es → i < length ps → Some x ≡ slice_get es (get_or ps i 0) → is_live h x.seq ≡ true → live_front h ks es i ++ x ∷ [] ≡ live_front h ks es (i + 1)
+  pub live_next : ps ≡ positions_sharing ks es → i < length ps → Some x ≡ slice_get es (get_or ps i 0) → is_live h x.seq ≡ true → live_front h ks es i ++ x ∷ [] ≡ live_front h ks es (i + 1)
   live_next same lt there alive = sym (one_more same lt there ∙ ap (λ b. live_front h ks es i ++ cond b (x ∷ []) []) alive)
+
+-- ---- the entry of a seq that was found
+
+pub entry_of_seq : (o : Option Registered) (seq : ℕ) → Some seq ≡ option_map (λ (e : Registered). e.seq) o → Σ Registered (λ x. (Some x ≡ o) × (x.seq ≡ seq))
+entry_of_seq None seq there = absurd (none-some _ (sym there))
+entry_of_seq (Some x) seq there = (x, (refl, ap (λ o. unwrap_or o seq) (sym there)))
+
+pub no_entry : (o : Option Registered) → None ≡ option_map (λ (e : Registered). e.seq) o → o ≡ None
+no_entry None none = refl
+no_entry (Some x) none = absurd (none-some _ none)

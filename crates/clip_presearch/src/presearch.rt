@@ -1,44 +1,44 @@
 //! Candidates: the entries that are tried on an article.
 ghost use Rattle.std.specs.Prelude.{◌≡◌, ◌++◌, map, IfOk, OnOk};
-ghost use Rattle.clip_extract.specs.Keys.{key_of};
-ghost use Rattle.clip_segment.specs.Segment.{IsRising};
+ghost use Rattle.clip_extract.specs.Covering.{article_keys};
+ghost use Rattle.clip_segment.specs.Segment.{IsRising, positions_sharing};
 ghost use Rattle.clip_presearch.specs.Candidates.{candidates_of, MissesNone, AreRegistered};
-ghost use Rattle.clip_presearch.specs.Steps.Places.{places_with, live_with};
+ghost use Rattle.clip_presearch.specs.Steps.Places.{live_with};
 
-use crate::keys::article_keys;
-use clip_extract::{Key, covering_law};
+use clip_extract::covering_law;
 use clip_meaning::Article;
 use clip_registry::View;
 use clip_segment::{Entry, Segment};
+use clip_terms::Asking;
 use clip_words::NoMemory;
 use std::alloc::Global;
 
-/// The positions of a segment's entries that have one of the keys, rising, in place of those that were there.
-fn find_positions(segment: &Segment, keys: &[Key], positions: &mut Vec<u32>) -> Result<(), NoMemory>
-    ensures { OnOk result (positions.new.items ≡ places_with (map key_of keys.now) segment.now) }
+/// The positions of a segment's entries that share a key with an article, rising, in place of those that were there.
+fn find_positions<'a>(
+    alloc: Global,
+    segment: &'a Segment,
+    asking: &Asking<'a>,
+    positions: &mut Vec<u32>,
+) -> Result<(), NoMemory>
+    ensures { OnOk result (positions.new.items ≡ positions_sharing (article_keys asking.now.fields) segment.now) }
 {
-    positions.clear();
-    for key in keys {
-        positions.extend_from_slice(segment.with_key(key))?;
-    }
-    positions.sort_unstable();
-    positions.dedup();
-    Ok(())
+    let reading = segment.read(alloc, asking)?;
+    reading.sharers(positions)
 }
 
-/// Adds a segment's live entries that have one of the keys, in order. `positions` is a buffer.
+/// Adds the live ones of a segment's entries that share a key with an article, in order, which stand at these positions.
 fn add_candidates<'a>(
     view: &View,
     segment: &'a Segment,
-    keys: &[Key],
-    positions: &mut Vec<u32>,
+    article: &Article,
+    positions: &[u32],
     found: &mut Vec<&'a Entry>,
 ) -> Result<(), NoMemory>
+    requires { positions.now ≡ positions_sharing (article_keys article.now.fields) segment.now }
     ensures { OnOk result (map (λ e. e.now) found.new.items
-        ≡ map (λ e. e.now) found.old.items ++ live_with view.now.history (map key_of keys.now) segment.now) }
+        ≡ map (λ e. e.now) found.old.items ++ live_with view.now.history (article_keys article.now.fields) segment.now) }
 {
-    find_positions(segment, keys, positions)?;
-    for position in positions.iter() {
+    for position in positions {
         let Some(entry) = segment.entry(*position) else {
             unreachable!();
         };
@@ -54,8 +54,8 @@ fn add_candidates<'a>(
 /// in rising seq. Entries that were replaced or deleted are left out. Each registered query that holds of the article is
 /// among them, by the covering law.
 ///
-/// `NoMemory` where an allocation failed. Cost: the keys of the article, one look-up in each segment for each of them,
-/// and a step and a sort's share for each position found; an entry without such a key is not looked at.
+/// `NoMemory` where an allocation failed. Cost: a step for each word of the article; in each segment that of
+/// `SegmentReading::sharers` and a step for each position found; an entry without such a key is not looked at.
 pub fn candidates<'a>(
     alloc: Global,
     view: &'a View,
@@ -67,11 +67,12 @@ pub fn candidates<'a>(
     ensures rising { IfOk result (λ found. IsRising (map (λ e. e.now) found.items)) }
 {
     covering_law();
-    let keys = article_keys(alloc, article)?;
+    let asking = Asking::of(alloc, article)?;
     let mut positions = Vec::new(alloc);
     let mut found = Vec::new(alloc);
     for segment in view.segments() {
-        add_candidates(view, segment, &keys, &mut positions, &mut found)?;
+        find_positions(alloc, segment, &asking, &mut positions)?;
+        add_candidates(view, segment, article, &positions, &mut found)?;
     }
     Ok(found)
 }

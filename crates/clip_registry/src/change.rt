@@ -32,7 +32,7 @@ fn numbered_entries(
     let mut seq = listed;
     for standing in standings {
         seq += 1;
-        let entry = Entry::new(alloc, seq, standing.clone()?)?;
+        let entry = Entry::new(seq, standing.clone()?);
         entries.push(Arc::new(alloc, entry)?)?;
     }
     Ok(entries)

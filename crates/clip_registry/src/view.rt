@@ -108,8 +108,15 @@ impl View {
     pub fn is_live(&self, entry: &Entry) -> bool
         ensures { result ≡ is_live self.now.history entry.now.seq }
     {
+        self.is_live_seq(entry.seq())
+    }
+
+    /// Whether a registered query has the seq. Constant time.
+    pub fn is_live_seq(&self, seq: u64) -> bool
+        ensures { result ≡ is_live self.now.history seq }
+    {
         match &self.state {
-            Some(state) => state.roster.is_live(entry.seq()),
+            Some(state) => state.roster.is_live(seq),
             None => false,
         }
     }

@@ -7,7 +7,6 @@ use Rattle.std.proofs.sync.ArcStr.TheSendSync as arc_str_sent
 use Rattle.std.proofs.option.Option.TheSendSync as option_sent
 use Rattle.std.proofs.sync.Arc.TheSendSync as arc_sent
 use Rattle.std.proofs.vec.Vec.TheSendSync as vec_sent
-use Rattle.clip_extract.proofs.key.Key.TheSendSync as key_sent
 use Rattle.clip_grammar.proofs.Sent.{query_send, query_sync}
 use Rattle.clip_index.proofs.Sent.{index_send, index_sync}
 use Rattle.clip_segment.specs.contracts.standing.Standing as standing
@@ -26,10 +25,10 @@ pub standing_sync : IsSync standing.the_row
 standing_sync = view_sync standing_inside.the_row _ _ _ _ (declared_sync standing_inside.the_type (search (global, arc_str_sent.the_sync), (search (global, arc_str_sent.the_sync), (query_sync, (search (global, arc_str_sent.the_sync, option_sent.the_sync), tt)))))
 
 pub entry_send : IsSend entry.the_row
-entry_send = view_send entry_inside.the_row _ _ _ _ (declared_send entry_inside.the_type (search global, (search (global, arc_sent.the_send, standing_send, standing_sync), (search (global, vec_sent.the_send, key_sent.the_send), tt))))
+entry_send = view_send entry_inside.the_row _ _ _ _ (declared_send entry_inside.the_type (search global, (search (global, arc_sent.the_send, standing_send, standing_sync), tt)))
 
 pub entry_sync : IsSync entry.the_row
-entry_sync = view_sync entry_inside.the_row _ _ _ _ (declared_sync entry_inside.the_type (search global, (search (global, arc_sent.the_sync, standing_send, standing_sync), (search (global, vec_sent.the_sync, key_sent.the_sync), tt))))
+entry_sync = view_sync entry_inside.the_row _ _ _ _ (declared_sync entry_inside.the_type (search global, (search (global, arc_sent.the_sync, standing_send, standing_sync), tt)))
 
 pub segment_send : IsSend segment.the_row
 segment_send = view_send segment_inside.the_row _ _ _ _ (declared_send segment_inside.the_type (search (global, vec_sent.the_send, arc_sent.the_send, entry_send, entry_sync), (search (global, vec_sent.the_send), (index_send, tt))))

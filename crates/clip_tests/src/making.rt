@@ -50,7 +50,7 @@ pub fn entry(alloc: Global, seq: u64, text: &str) -> Result<Arc<Entry>, Fail>
     ensures { IfOk result (λ entry. entry.value.seq ≡ seq) }
 {
     let standing = standing(alloc, "q1", text)?;
-    Ok(Arc::new(alloc, Entry::new(alloc, seq, standing)?)?)
+    Ok(Arc::new(alloc, Entry::new(seq, standing))?)
 }
 
 /// The segment of two entries, with the seqs 1 and 2.

@@ -1,5 +1,5 @@
--- The places of a segment's entries that share a key.
-use Rattle.std.specs.Prelude.{ℕ, Bool, ◌&&◌, List, map, filter}
+-- The entries of a segment that share a key.
+use Rattle.std.specs.Prelude.{ℕ, Bool, ◌&&◌, List, filter}
 use Rattle.std.specs.List.{enumerate_from}
 use Rattle.clip_model.specs.History.{History, Registered, is_live}
 use Rattle.clip_extract.specs.Keys.{KeyValue, share}
@@ -12,9 +12,6 @@ has_one keys r = share (query_keys r.standing.tree) keys
 -- the entries that have one of the keys, each with its place
 abbrev pub placed_with : List KeyValue → List Registered → List (ℕ × Registered)
 placed_with keys entries = filter (λ e. has_one keys e.1) (enumerate_from 0 entries)
-
-abbrev pub places_with : List KeyValue → List Registered → List ℕ
-places_with keys entries = map (λ e. e.0) (placed_with keys entries)
 
 -- of a segment's entries, those that are live and have one of the keys
 abbrev pub live_with : History → List KeyValue → List Registered → List Registered

@@ -1,7 +1,7 @@
 use Rattle.std.proofs.Common.{◌≡◌, ◌++◌, map, sym, ap, subst, ◌∙◌, Bor}
 use Rattle.std.specs.Arc.{arc_value}
 use Rattle.std.proofs.lemmas.List.{append-nil, drop_all}
-use Rattle.clip_extract.specs.Keys.{key_of}
+use Rattle.clip_extract.specs.Covering.{article_keys}
 use Rattle.clip_model.specs.History.{Registered}
 use Rattle.clip_segment.specs.Segment.{IsRising}
 use Rattle.clip_segment.specs.Segment.{all_entries}
@@ -15,15 +15,14 @@ returns c =
     let found = map (λ (e : Bor Registered). e.now) c.loop-segment.found.items in
     let state = c.args.view.now in
     let article = c.args.article.now in
-    let keys = map key_of c.in_ok-keys.keys.items in
+    let keys = article_keys article.fields in
     let segments = c.segments-segment-items.result.now in
     let whole = c.segments-segment-items.ensures.whole in
     let all : found ≡ candidates_of state article =
     sym (append-nil found)
     ∙ ap (λ xs. found ++ live_with state.history keys (all_entries (map arc_value xs))) (sym (drop_all c.loop-segment.segment-index segments c.loop-segment-test.false))
     ∙ c.loop-segment.invariant
-    ∙ ap (λ xs. live_with state.history keys (all_entries xs)) c.segments-segment-items.ensures.segments
-    ∙ ap (λ keys. live_with state.history keys (all_entries state.segments)) c.in_ok-keys.ensures in
+    ∙ ap (λ xs. live_with state.history keys (all_entries xs)) c.segments-segment-items.ensures.segments in
     record {
       sharers = all;
       misses_none = subst (MissesNone state article) (sym all) (misses_none c.covering_law.ensures state article whole);

@@ -1,6 +1,0 @@
--- Answered here, so that a wrong body is refused at once.
-use Rattle.std.proofs.Common.{rules}
-use Rattle.clip_segment.proofs.entry.Entry.new.Goals as goal
-
-pub invariant_of-result : goal.invariant_of-result
-invariant_of-result c = search rules
