@@ -1,20 +1,11 @@
 -- The places of entries that share a key.
-use Rattle.std.proofs.Common.{◌≡◌, ℕ, ◌+◌, ◌<◌, Bool, true, false, cond, ◌&&◌, ◌||◌, nat_eq, List, [], ◌∷◌, ◌++◌, map, length, get_or, filter, flat_map, take, Some, None, unwrap_or, refl, sym, ap, ◌∙◌, subst, arith}
-use Rattle.std.specs.List.{list_any, enumerate_from, slice_get, All, AllByRecursion}
-use Rattle.std.specs.List.Sorted.{IsStrictlySortedBy}
-use Rattle.std.specs.Cmp.{nat_cmp_is}
-use Rattle.std.specs.Ordering.{nat_cmp}
-use Rattle.std.specs.declared.cmp.Ordering.TheVariants.{Less}
-use Rattle.std.proofs.Math.Bool.{and-or_distrib_right}
+use Rattle.std.proofs.Common.{◌≡◌, ℕ, ◌+◌, ◌<◌, Bool, true, false, cond, ◌&&◌, List, [], ◌∷◌, ◌++◌, map, length, get_or, filter, take, Option, Some, None, unwrap_or, option_map, refl, sym, ap, ◌∙◌, subst, arith}
+use Rattle.std.specs.List.{enumerate_from, slice_get, All}
 use Rattle.std.proofs.lemmas.Option.{none-some}
 use Rattle.std.proofs.lemmas.List.{length-append, append_assoc, append-nil, length-map, get_or-map, take_more, map-append}
-use Rattle.std.proofs.lemmas.List.Folds.{list_any-append}
 use Rattle.std.proofs.lemmas.List.Elements.{All-filter, All-cons, All-nil, filter-append}
-use Rattle.clip_meaning.proofs.Numbered.{any_filter}
 use Rattle.clip_model.specs.History.{Registered, History, is_live}
-use Rattle.clip_extract.specs.Keys.{KeyValue, is_same}
-use Rattle.clip_extract.specs.Extraction.{query_keys}
-use Rattle.clip_extract.proofs.Members.{any_map}
+use Rattle.clip_extract.specs.Keys.{KeyValue}
 use Rattle.clip_segment.specs.Segment.{positions_sharing, seqs_of}
 use Rattle.clip_presearch.specs.Steps.Places.{has_one, placed_with, live_with}
 
@@ -105,12 +96,31 @@ module _ (h : History) (ks : List KeyValue) (es : List Registered) (ps : List �
   pub live_next : ps ≡ positions_sharing ks es → i < length ps → Some x ≡ slice_get es (get_or ps i 0) → is_live h x.seq ≡ true → live_front h ks es i ++ x ∷ [] ≡ live_front h ks es (i + 1)
   live_next same lt there alive = sym (one_more same lt there ∙ ap (λ b. live_front h ks es i ++ cond b (x ∷ []) []) alive)
 
+  -- one place more, at which a live query stands: the seqs of those that are tried
+  pub tried_next : ps ≡ positions_sharing ks es → i < length ps → Some x ≡ slice_get es (get_or ps i 0) → is_live h x.seq ≡ true → seqs_of (live_front h ks es i) ++ x.seq ∷ [] ≡ seqs_of (live_front h ks es (i + 1))
+  tried_next same lt there alive = sym (map-append (λ (e : Registered). e.seq) (live_front h ks es i) (x ∷ [])) ∙ ap seqs_of (live_next same lt there alive)
+
+  -- and those of them that pass a test
+  pub held_next : (p : Registered → Bool) → ps ≡ positions_sharing ks es → i < length ps → Some x ≡ slice_get es (get_or ps i 0) → is_live h x.seq ≡ true → filter p (live_front h ks es i) ++ cond (p x) (x ∷ []) [] ≡ filter p (live_front h ks es (i + 1))
+  held_next p same lt there alive = sym (filter-append p (live_front h ks es i) (x ∷ [])) ∙ ap (filter p) (live_next same lt there alive)
+
 -- ---- the entry of a seq that was found
 
-pub entry_of_seq : (o : Option Registered) (seq : ℕ) → Some seq ≡ option_map (λ (e : Registered). e.seq) o → Σ Registered (λ x. (Some x ≡ o) × (x.seq ≡ seq))
+pub entry_of_seq : (o : Option Registered) (seq : ℕ) → Some seq ≡ option_map (λ (e : Registered). e.seq) o → (x : Registered) × ((Some x ≡ o) × (x.seq ≡ seq))
 entry_of_seq None seq there = absurd (none-some _ (sym there))
 entry_of_seq (Some x) seq there = (x, (refl, ap (λ o. unwrap_or o seq) (sym there)))
 
 pub no_entry : (o : Option Registered) → None ≡ option_map (λ (e : Registered). e.seq) o → o ≡ None
 no_entry None none = refl
 no_entry (Some x) none = absurd (none-some _ none)
+
+-- ---- one segment after another
+
+pub live_split : (h : History) (ks : List KeyValue) (segment others : List Registered) → live_with h ks segment ++ live_with h ks others ≡ live_with h ks (segment ++ others)
+live_split h ks segment others = sym (filter-append (λ r. is_live h r.seq && has_one ks r) segment others)
+
+pub seqs_split : (h : History) (ks : List KeyValue) (segment others : List Registered) → seqs_of (live_with h ks segment) ++ seqs_of (live_with h ks others) ≡ seqs_of (live_with h ks (segment ++ others))
+seqs_split h ks segment others = sym (map-append (λ (e : Registered). e.seq) (live_with h ks segment) (live_with h ks others)) ∙ ap seqs_of (live_split h ks segment others)
+
+pub held_split : (p : Registered → Bool) (h : History) (ks : List KeyValue) (segment others : List Registered) → filter p (live_with h ks segment) ++ filter p (live_with h ks others) ≡ filter p (live_with h ks (segment ++ others))
+held_split p h ks segment others = sym (filter-append p (live_with h ks segment) (live_with h ks others)) ∙ ap (filter p) (live_split h ks segment others)

@@ -3,10 +3,10 @@
 
 ghost use Rattle.std.specs.Prelude.{◌≡◌};
 
-mod holding;
 mod keys;
 mod presearch;
+mod trying;
 
-pub use holding::{Holding, holding};
 pub use keys::article_keys;
 pub use presearch::candidates;
+pub use trying::{Tried, holding};

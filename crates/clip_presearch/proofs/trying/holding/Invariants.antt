@@ -4,13 +4,13 @@ use Rattle.clip_extract.specs.Covering.{article_keys}
 use Rattle.clip_meaning.specs.Meaning.{holds}
 use Rattle.clip_segment.specs.Segment.{all_entries, seqs_of}
 use Rattle.clip_presearch.specs.Steps.Places.{live_with}
-use Rattle.clip_presearch.proofs.holding.holding.Given as goal
+use Rattle.clip_presearch.proofs.trying.holding.Given as goal
 
 abbrev pub invariant-loop-segment : goal.invariant-loop-segment
 invariant-loop-segment l = record {
   asked : l.found.asked.items ++ seqs_of (live_with l.view.history (article_keys l.article.fields) (all_entries (map arc_value (drop l.segment-index l.segment-items))))
-    ≡ seqs_of (live_with l.view.history (article_keys l.article.fields) (all_entries (map arc_value l.segment-items)));
+      ≡ seqs_of (live_with l.view.history (article_keys l.article.fields) (all_entries (map arc_value l.segment-items)));
   entries : map (λ e. e.now) l.found.entries.items
-    ++ filter (λ r. holds r.standing.tree l.article.fields) (live_with l.view.history (article_keys l.article.fields) (all_entries (map arc_value (drop l.segment-index l.segment-items))))
-    ≡ filter (λ r. holds r.standing.tree l.article.fields) (live_with l.view.history (article_keys l.article.fields) (all_entries (map arc_value l.segment-items)));
+      ++ filter (λ r. holds r.standing.tree l.article.fields) (live_with l.view.history (article_keys l.article.fields) (all_entries (map arc_value (drop l.segment-index l.segment-items))))
+      ≡ filter (λ r. holds r.standing.tree l.article.fields) (live_with l.view.history (article_keys l.article.fields) (all_entries (map arc_value l.segment-items)));
 }

@@ -15,12 +15,12 @@ use clip_terms::Asking;
 use clip_words::NoMemory;
 use std::alloc::Global;
 
-/// The entries whose queries hold of an article, and how many were tried.
+/// What came of trying the candidates of an article.
 #[derive(Drop)]
-pub struct Holding<'a> {
+pub struct Tried<'a> {
     /// How many entries were tried.
     pub asked: u64,
-    /// Those whose queries hold, in rising seq.
+    /// Those whose queries hold of the article, in rising seq.
     pub entries: Vec<&'a Entry>,
 }
 
@@ -46,7 +46,7 @@ fn try_live<'a>(
     ensures entries { OnOk result (map (λ e. e.now) found.new.entries.items
         ≡ map (λ e. e.now) found.old.entries.items
         ++ filter (λ r. holds r.standing.tree reading.now.article.fields)
-            (live_with view.now.history (article_keys reading.now.article.fields) reading.now.entries)) }
+        (live_with view.now.history (article_keys reading.now.article.fields) reading.now.entries)) }
 {
     for position in positions {
         let Some(seq) = reading.seq(*position) else {
@@ -77,13 +77,13 @@ pub fn holding<'a>(
     alloc: Global,
     view: &'a View,
     article: &'a Article,
-) -> Result<Holding<'a>, NoMemory>
+) -> Result<Tried<'a>, NoMemory>
     ensures asked { IfOk result (λ found. found.asked ≡ length (candidates_of view.now article.now)) }
     ensures held { IfOk result (λ found. map (λ e. e.now) found.entries.items
         ≡ filter (λ r. holds r.standing.tree article.now.fields) (candidates_of view.now article.now)) }
-    ensures misses_none { MissesNone view.now article.now (candidates_of view.now article.now) }
-    ensures registered { AreRegistered view.now (candidates_of view.now article.now) }
-    ensures rising { IsRising (candidates_of view.now article.now) }
+    ensures misses_none { IfOk result (λ _. MissesNone view.now article.now (candidates_of view.now article.now)) }
+    ensures registered { IfOk result (λ _. AreRegistered view.now (candidates_of view.now article.now)) }
+    ensures rising { IfOk result (λ _. IsRising (candidates_of view.now article.now)) }
 {
     covering_law();
     let asking = Asking::of(alloc, article)?;
@@ -98,7 +98,7 @@ pub fn holding<'a>(
         reading.sharers(&mut positions)?;
         try_live(view, &reading, &positions, &mut stack, &mut found)?;
     }
-    Ok(Holding {
+    Ok(Tried {
         asked: found.asked.len() as u64,
         entries: found.entries,
     })

@@ -1,0 +1,73 @@
+use Rattle.std.proofs.Common.{◌≡◌, ℕ, ◌+◌, ◌<◌, Bool, List, [], ◌∷◌, ◌++◌, map, filter, length, drop, sym, ap, subst, ◌∙◌, arith, Bor}
+use Rattle.std.specs.Arc.{arc_value}
+use Rattle.std.proofs.lemmas.List.{append_assoc, append-nil, drop_all, drop_more, length-map}
+use Rattle.clip_extract.specs.Covering.{article_keys}
+use Rattle.clip_meaning.specs.Article.{ArticleValue}
+use Rattle.clip_meaning.specs.Meaning.{holds}
+use Rattle.clip_model.specs.History.{Registered}
+use Rattle.clip_segment.specs.Segment.{AskedValue, all_entries, seqs_of}
+use Rattle.clip_presearch.specs.Candidates.{candidates_of}
+use Rattle.clip_presearch.specs.Steps.Places.{live_with}
+use Rattle.clip_presearch.proofs.Places.{seqs_split, held_split}
+use Rattle.clip_presearch.proofs.Whole.{misses_none, candidates_registered, candidates_rise}
+use Rattle.clip_presearch.proofs.trying.holding.Goals as goal
+
+pub loop-segment-preserved : goal.loop-segment-preserved
+loop-segment-preserved c =
+    let fields = c.args.article.now.fields in
+    let ks = article_keys fields in
+    let h = c.args.view.now.history in
+    let held : Registered → Bool = λ r. holds r.standing.tree fields in
+    let segments = c.segments-segment-items.result.now in
+    let i = c.loop-segment.segment-index in
+    let segment : List Registered = arc_value c.segment-item.result in
+    let others : List Registered = all_entries (map arc_value (drop (i + 1) segments)) in
+    let within : i < length segments = let l = c.loop-segment-test.true in omega arith in
+    let parts : segment ++ others ≡ all_entries (map arc_value (drop i segments)) =
+    ap (λ ss. all_entries (map arc_value ss)) (sym (drop_more segments i c.segment-item.result within ∙ ap (λ x. x ∷ drop (i + 1) segments) (sym c.segment-item.is))) in
+    let value : c.in_ok-reading.reading ≡ record { entries = segment; article = c.args.article.now } =
+    c.in_ok-reading.ensures
+    ∙ ap (λ (es : List Registered). record { entries = es; article = c.in_ok-asking.asking }) c.deref.ensures
+    ∙ ap (λ (article : ArticleValue). record { entries = segment; article = article }) c.in_ok-asking.ensures in
+    let seqs = c.loop-segment.found.asked.items in
+    let found = map (λ (e : Bor Registered). e.now) c.loop-segment.found.entries.items in
+    record {
+      asked =
+          ap (λ xs. xs ++ seqs_of (live_with h ks others)) (c.in_ok-try_live.ensures.asked ∙ ap (λ (r : AskedValue). seqs ++ seqs_of (live_with h (article_keys r.article.fields) r.entries)) value)
+          ∙ append_assoc seqs (seqs_of (live_with h ks segment)) (seqs_of (live_with h ks others))
+          ∙ ap (λ xs. seqs ++ xs) (seqs_split h ks segment others)
+          ∙ ap (λ es. seqs ++ seqs_of (live_with h ks es)) parts
+          ∙ c.loop-segment.invariant.asked;
+      entries =
+          ap (λ xs. xs ++ filter held (live_with h ks others)) (c.in_ok-try_live.ensures.entries ∙ ap (λ (r : AskedValue). found ++ filter (λ x. holds x.standing.tree r.article.fields) (live_with h (article_keys r.article.fields) r.entries)) value)
+          ∙ append_assoc found (filter held (live_with h ks segment)) (filter held (live_with h ks others))
+          ∙ ap (λ xs. found ++ xs) (held_split held h ks segment others)
+          ∙ ap (λ es. found ++ filter held (live_with h ks es)) parts
+          ∙ c.loop-segment.invariant.entries;
+    }
+
+pub returns : goal.returns
+returns c =
+    let fields = c.args.article.now.fields in
+    let ks = article_keys fields in
+    let state = c.args.view.now in
+    let held : Registered → Bool = λ r. holds r.standing.tree fields in
+    let segments = c.segments-segment-items.result.now in
+    let whole = c.segments-segment-items.ensures.whole in
+    let i = c.loop-segment.segment-index in
+    let none : all_entries (map arc_value (drop i segments)) ≡ [] = ap (λ ss. all_entries (map arc_value ss)) (drop_all i segments c.loop-segment-test.false) in
+    let all : live_with state.history ks (all_entries (map arc_value segments)) ≡ candidates_of state c.args.article.now =
+    ap (λ ss. live_with state.history ks (all_entries ss)) c.segments-segment-items.ensures.segments in
+    let tried : c.loop-segment.found.asked.items ≡ seqs_of (candidates_of state c.args.article.now) =
+    sym (append-nil _)
+    ∙ ap (λ es. c.loop-segment.found.asked.items ++ seqs_of (live_with state.history ks es)) (sym none)
+    ∙ c.loop-segment.invariant.asked
+    ∙ ap seqs_of all in
+    let found = map (λ (e : Bor Registered). e.now) c.loop-segment.found.entries.items in
+    record {
+      asked = omega (arith, c.len.ensures, ap length tried, length-map (candidates_of state c.args.article.now) (λ (e : Registered). e.seq));
+      held = sym (append-nil found) ∙ ap (λ es. found ++ filter held (live_with state.history ks es)) (sym none) ∙ c.loop-segment.invariant.entries ∙ ap (filter held) all;
+      misses_none = misses_none c.covering_law.ensures state c.args.article.now whole;
+      registered = candidates_registered state c.args.article.now whole;
+      rising = candidates_rise state c.args.article.now whole;
+    }
