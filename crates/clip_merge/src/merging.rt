@@ -1,44 +1,45 @@
 //! Segments with just the live entries of others.
-ghost use Rattle.std.specs.Prelude.{◌≡◌, ◌≤◌, ◌++◌, IfOk, OnOk, length, map};
+ghost use Rattle.std.specs.Prelude.{◌≡◌, ◌≤◌, IfOk, length, map};
 ghost use Rattle.std.specs.Arc.{arc_value};
-ghost use Rattle.clip_merge.specs.Live.{named};
-ghost use Rattle.clip_segment.specs.Segment.{IsRising, all_entries};
+ghost use Rattle.clip_merge.specs.Live.{named, names};
+ghost use Rattle.clip_segment.specs.Segment.{IsRising, all_entries, seqs_of};
 ghost use Rattle.clip_segment.specs.declared.segment.TheConstants.{MOST_POSITIONS};
 
 use crate::live::Live;
-use clip_segment::{Entry, Segment};
+use clip_segment::Segment;
 use clip_words::NoMemory;
 use std::alloc::Global;
 use std::sync::Arc;
 
-/// Adds the live ones of these entries, which it shares, at the end, in order.
-fn add_live(kept: &mut Vec<Arc<Entry>>, entries: &[Arc<Entry>], live: &Live) -> Result<(), NoMemory>
-    ensures { OnOk result (map arc_value kept.new.items
-        ≡ map arc_value kept.old.items ++ named live.now (map arc_value entries.now)) }
+/// For each of a segment's entries, whether it is live.
+fn live_flags(alloc: Global, segment: &Segment, live: &Live) -> Result<Vec<bool>, NoMemory>
+    ensures flags { IfOk result (λ flags. flags.items ≡ map (names live.now) (seqs_of segment.now)) }
+    ensures short { IfOk result (λ _. length segment.now ≤ MOST_POSITIONS) }
+    ensures rising { IfOk result (λ _. IsRising segment.now) }
 {
-    for entry in entries {
-        if live.names(entry.seq()) {
-            kept.push(entry.clone()?)?;
-        }
+    let seqs = segment.seqs();
+    let mut flags = Vec::with_capacity(alloc, seqs.len())?;
+    for seq in seqs {
+        flags.push(live.names(*seq))?;
     }
-    Ok(())
+    Ok(flags)
 }
 
 /// A segment of just the live entries of these segments, in order, which it shares. Their seqs rise through all
 /// segments, and at most `MOST_POSITIONS` of them are live.
 ///
-/// `NoMemory` where an allocation failed. Cost: a search by halves among the live seqs for each entry, and one look-up
-/// for each key of each live entry; no key is extracted and no text is copied.
+/// `NoMemory` where an allocation failed. Cost: a search by halves among the live seqs for each entry, and that of
+/// `Segment::select`; no key is extracted and no text is copied.
 pub fn merge(alloc: Global, segments: &[Arc<Segment>], live: &Live) -> Result<Segment, NoMemory>
     requires rising { IsRising (all_entries (map arc_value segments.now)) }
     requires short { length (named live.now (all_entries (map arc_value segments.now))) ≤ MOST_POSITIONS }
     ensures { IfOk result (λ segment. segment ≡ named live.now (all_entries (map arc_value segments.now))) }
 {
-    let mut merged = Vec::new(alloc);
+    let mut kept = Vec::with_capacity(alloc, segments.len())?;
     for segment in segments {
-        add_live(&mut merged, segment.entries(), live)?;
+        kept.push(live_flags(alloc, segment, live)?)?;
     }
-    Segment::build(alloc, merged)
+    Segment::select(alloc, segments, &kept)
 }
 
 /// A segment of just the live entries of this one, in order, which it shares.
@@ -47,7 +48,8 @@ pub fn merge(alloc: Global, segments: &[Arc<Segment>], live: &Live) -> Result<Se
 pub fn purge(alloc: Global, segment: &Arc<Segment>, live: &Live) -> Result<Segment, NoMemory>
     ensures { IfOk result (λ kept. kept ≡ named live.now segment.now.value) }
 {
-    let mut kept = Vec::new(alloc);
-    add_live(&mut kept, segment.entries(), live)?;
-    Segment::build(alloc, kept)
+    let flags = live_flags(alloc, segment, live)?;
+    let segments = vec![in alloc; segment.clone()?]?;
+    let kept = vec![in alloc; flags]?;
+    Segment::select(alloc, &segments, &kept)
 }

@@ -1,3 +1,4 @@
 pub mod Holding
 pub mod Places
+pub mod Selected
 pub mod Sent

@@ -6,6 +6,7 @@ ghost use Rattle.std.specs.Prelude.{◌≡◌};
 mod entry;
 mod reading;
 mod segment;
+mod selecting;
 mod standing;
 
 pub use entry::Entry;

@@ -1,15 +1,17 @@
 //! Segments: entries in the order of their seqs, with an index over their queries.
-ghost use Rattle.std.specs.Prelude.{◌≡◌, ◌==◌, ◌<◌, ◌≤◌, IfOk, length, map, option_map};
+ghost use Rattle.std.specs.Prelude.{◌≡◌, ◌==◌, ◌<◌, ◌≤◌, IfOk, length, map, option_map, vec_items};
 ghost use Rattle.std.specs.Arc.{arc_value};
 ghost use Rattle.std.specs.List.{All, AllPairs, slice_get};
 ghost use Rattle.std.specs.Option.{option_copied};
 ghost use Rattle.clip_extract.specs.Keys.{key_of};
 ghost use Rattle.clip_index.specs.Index.{IsIndexOf};
+ghost use Rattle.clip_index.specs.Selecting.{AreFlagsOf, count_set, kept_of};
 ghost use Rattle.clip_segment.specs.Segment.{IsRising, positions_with, trees_of, seqs_of};
 ghost use Rattle.clip_segment.specs.declared.segment.TheConstants.{MOST_POSITIONS};
 
 use crate::entry::Entry;
 use crate::reading::SegmentReading;
+use crate::selecting::{kept_entries, kept_index};
 use clip_extract::Key;
 use clip_grammar::query::Query;
 use clip_index::{Index, MOST_QUERIES};
@@ -87,6 +89,38 @@ impl Segment {
         })
     }
 
+    /// The segment of the kept entries of these segments, in order, which it shares: `kept` has a list for each segment,
+    /// with a flag for each of its entries. The seqs of the kept entries rise, and there are at most `MOST_POSITIONS`.
+    ///
+    /// `NoMemory` where an allocation failed. Cost: that of `Index::select`, and a step for each flag; no query is looked
+    /// at and no text is copied.
+    pub fn select(
+        alloc: Global,
+        segments: &[Arc<Segment>],
+        kept: &[Vec<bool>],
+    ) -> Result<Segment, NoMemory>
+        requires flags { AreFlagsOf (map arc_value segments.now) (map vec_items kept.now) }
+        requires short { count_set (map vec_items kept.now) ≤ MOST_POSITIONS }
+        requires rising { IsRising (kept_of (map arc_value segments.now) (map vec_items kept.now)) }
+        ensures { IfOk result (λ segment. segment ≡ kept_of (map arc_value segments.now) (map vec_items kept.now)) }
+    {
+        let entries = kept_entries(alloc, segments, kept)?;
+        let seqs = seqs_of(alloc, &entries)?;
+        let index = kept_index(alloc, segments, kept)?;
+        Ok(Segment {
+            entries,
+            seqs,
+            index,
+        })
+    }
+
+    /// The index over the queries of its entries.
+    pub(crate) fn index(&self) -> &Index
+        ensures { IsIndexOf (trees_of self.now) result.now }
+    {
+        &self.index
+    }
+
     /// The positions, from 0 and rising, of just the entries that hold the key. Takes no memory. Cost: a search by halves
     /// among the index's terms.
     pub fn with_key(&self, key: &Key) -> &[u32]
@@ -126,6 +160,15 @@ impl Segment {
         ensures { result ≡ option_map (λ e. e.seq) (slice_get self.now position) }
     {
         self.seqs.get(position as usize).copied()
+    }
+
+    /// The seqs of the entries, which rise; no entry is looked at. Constant time.
+    pub fn seqs(&self) -> &[u64]
+        ensures value { result.now ≡ seqs_of self.now }
+        ensures short { length self.now ≤ MOST_POSITIONS }
+        ensures rising { IsRising self.now }
+    {
+        &self.seqs
     }
 
     /// The entries, in the order of their seqs. Constant time.

@@ -1,23 +1,42 @@
-use Rattle.std.proofs.Common.{◌∙◌, ◌++◌, ap, sym, subst, map, get_or}
+use Rattle.std.proofs.Common.{◌≡◌, ◌≤◌, map, length, vec_items, sym, ap, subst, ◌∙◌}
 use Rattle.std.proofs.lemmas.List.{take_all}
+use Rattle.std.proofs.lemmas.Result.{IfOk-weaker}
 use Rattle.std.specs.Arc.{arc_value}
+use Rattle.clip_index.specs.Selecting.{AreFlagsOf, count_set, kept_of}
 use Rattle.clip_segment.specs.Segment.{IsRising, all_entries}
+use Rattle.clip_segment.specs.declared.segment.TheConstants.{MOST_POSITIONS}
 use Rattle.clip_merge.specs.Live.{named}
-use Rattle.clip_merge.proofs.Named.{named_more, named_rising}
+use Rattle.clip_merge.proofs.Named.{flags_of, flags_each, count_named, kept_named, named_rising}
 use Rattle.clip_merge.proofs.merging.merge.Goals as goal
 
-pub loop-segment-preserved : goal.loop-segment-preserved
-loop-segment-preserved c =
-    let segments = c.args.segments.now in
-    let live = c.args.live.now in
-    c.in_ok-add_live.ensures
-    ∙ ap (λ es. map arc_value c.loop-segment.merged.items ++ named live es) (c.entries.ensures.value ∙ c.deref.ensures ∙ ap arc_value c.segment-item.is)
-    ∙ ap (λ es. es ++ named live (arc_value (get_or segments c.loop-segment.segment-index c.segment-item.result))) c.loop-segment.invariant
-    ∙ sym (named_more arc_value live segments c.loop-segment.segment-index c.segment-item.result c.loop-segment-test.true)
+pub select-requires-clause-flags : goal.select-requires-clause-flags
+select-requires-clause-flags c =
+    let segments = map arc_value c.args.segments.now in
+    let flags : map vec_items c.deref-2.result.now ≡ flags_of c.args.live.now segments =
+    ap (map vec_items) c.deref-2.ensures.value ∙ c.loop-segment.invariant
+    ∙ ap (λ ss. flags_of c.args.live.now (map arc_value ss)) (take_all c.loop-segment.segment-index c.args.segments.now c.loop-segment-test.false) in
+    subst (AreFlagsOf segments) (sym flags) (flags_each c.args.live.now segments)
 
-pub build-requires-clause-rising : goal.build-requires-clause-rising
-build-requires-clause-rising c =
-    let segments = c.args.segments.now in
-    let live = c.args.live.now in
-    subst IsRising (sym (c.loop-segment.invariant ∙ ap (λ ss. named live (all_entries (map arc_value ss))) (take_all c.loop-segment.segment-index segments c.loop-segment-test.false)))
-    (named_rising live (all_entries (map arc_value segments)) c.requires.rising)
+pub select-requires-clause-short : goal.select-requires-clause-short
+select-requires-clause-short c =
+    let segments = map arc_value c.args.segments.now in
+    let flags : map vec_items c.deref-2.result.now ≡ flags_of c.args.live.now segments =
+    ap (map vec_items) c.deref-2.ensures.value ∙ c.loop-segment.invariant
+    ∙ ap (λ ss. flags_of c.args.live.now (map arc_value ss)) (take_all c.loop-segment.segment-index c.args.segments.now c.loop-segment-test.false) in
+    subst (λ n. n ≤ MOST_POSITIONS) (sym (ap count_set flags ∙ count_named c.args.live.now segments)) c.requires.short
+
+pub select-requires-clause-rising : goal.select-requires-clause-rising
+select-requires-clause-rising c =
+    let segments = map arc_value c.args.segments.now in
+    let flags : map vec_items c.deref-2.result.now ≡ flags_of c.args.live.now segments =
+    ap (map vec_items) c.deref-2.ensures.value ∙ c.loop-segment.invariant
+    ∙ ap (λ ss. flags_of c.args.live.now (map arc_value ss)) (take_all c.loop-segment.segment-index c.args.segments.now c.loop-segment-test.false) in
+    subst IsRising (sym (ap (kept_of segments) flags ∙ kept_named c.args.live.now segments)) (named_rising c.args.live.now (all_entries segments) c.requires.rising)
+
+pub returns : goal.returns
+returns c =
+    let segments = map arc_value c.args.segments.now in
+    let flags : map vec_items c.deref-2.result.now ≡ flags_of c.args.live.now segments =
+    ap (map vec_items) c.deref-2.ensures.value ∙ c.loop-segment.invariant
+    ∙ ap (λ ss. flags_of c.args.live.now (map arc_value ss)) (take_all c.loop-segment.segment-index c.args.segments.now c.loop-segment-test.false) in
+    IfOk-weaker c.select.result _ (λ segment. segment ≡ named c.args.live.now (all_entries segments)) (λ segment is. is ∙ ap (kept_of segments) flags ∙ kept_named c.args.live.now segments) c.select.ensures
