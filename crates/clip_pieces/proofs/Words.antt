@@ -124,9 +124,6 @@ module _ (bound : ℕ) (words : List ℕ) (hold : HoldMarks bound words) where
   inside : (number : ℕ) → number < bound → number < length (flags_of words)
   inside number low = omega (arith, hold.0, length-flags_of words)
 
-  pub word_inside : (number : ℕ) → number < bound → number / 64 < length words
-  word_inside number low = omega (arith, hold.0)
-
   -- one number more is marked
   pub mark_bit : (number v w : ℕ) → number < bound → w ≡ get_or words (number / 64) w → bits_of 64 v ≡ set (bits_of 64 w) (number % 64) true
       → HoldMarks bound (set words (number / 64) v) × (take bound (flags_of (set words (number / 64) v)) ≡ set (take bound (flags_of words)) number true)

@@ -1,4 +1,4 @@
-use Rattle.std.proofs.Common.{◌%◌, ◌*◌, ◌^◌, ◌<◌, true, w64, arith}
+use Rattle.std.proofs.Common.{◌%◌, ◌*◌, ◌^◌, ◌<◌, w64, arith}
 use Rattle.std.specs.Int.RustNames.{bit_or}
 use Rattle.std.proofs.lemmas.Nat.Bits.{bit_at_set_same, bit_at_set_other}
 use Rattle.clip_pieces.proofs.Words.{set_bit, mark_bit}
