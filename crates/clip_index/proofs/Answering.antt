@@ -1,6 +1,7 @@
 -- What an index answers of the queries that it is of.
 use Rattle.std.proofs.Common.{◌≡◌, ℕ, zero, suc, ◌<◌, Bool, true, false, cond, ◌||◌, List, [], ◌∷◌, ◌++◌, All, map, filter, flat_map, length, Some, None, is_some, unwrap_or, option_map, slice_get, refl, sym, ap, ◌∙◌, arith}
 use Rattle.std.specs.List.{list_any}
+use Rattle.std.proofs.lemmas.List.{length-map}
 use Rattle.std.proofs.lemmas.List.Folds.{list_any-append, flat_map-map}
 use Rattle.std.proofs.lemmas.Option.{slice_get-map}
 use Rattle.clip_grammar.specs.Tree.{Tree}
@@ -88,6 +89,9 @@ mapped_at : {A B : Type 0} (f : A → B) (xs : List A) (n : ℕ) (d : A) → unw
 mapped_at f [] n d = refl
 mapped_at f (x ∷ xs) zero d = refl
 mapped_at f (x ∷ xs) (suc n) d = mapped_at f xs n d
+
+pub plan_each : (trees : List Tree) (index : IndexValue) → IsIndexOf trees index → length index.plans ≡ length trees
+plan_each trees index is = sym (length-map index.plans (decoded index.terms)) ∙ ap length is.plans ∙ length-map trees plan_of
 
 -- the plan at a place is that of the query there
 pub plan_at : (trees : List Tree) (index : IndexValue) → IsIndexOf trees index → (place : ℕ) (tree : Tree) → slice_get trees place ≡ Some tree → decoded index.terms (unwrap_or (slice_get index.plans place) []) ≡ plan_of tree

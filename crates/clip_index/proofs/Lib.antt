@@ -3,7 +3,6 @@ pub mod AnyOf
 pub mod Asked
 pub mod Keys
 pub mod Lists
-pub mod Numbers
 pub mod Places
 pub mod Sent
 pub mod Sharing

@@ -1,16 +1,16 @@
--- The places of queries that pass a test.
-use Rattle.std.proofs.Common.{◌≡◌, ℕ, ◌+◌, ◌<◌, Bool, true, false, cond, ◌&&◌, ◌||◌, nat_eq, List, [], ◌∷◌, map, filter, flat_map, refl, sym, ap, ◌∙◌, arith}
-use Rattle.std.specs.Cmp.{nat_cmp_is, eq_by_cmp_equiv}
-use Rattle.std.specs.List.{list_any, enumerate_from, AllByRecursion}
-use Rattle.std.specs.List.Sorted.{IsStrictlySortedBy}
-use Rattle.std.specs.Ordering.{nat_cmp}
-use Rattle.std.specs.declared.cmp.Ordering.TheVariants.{Less}
+-- The places of queries that pass a test, and flags of them.
+use Rattle.std.proofs.Common.{◌≡◌, ℕ, zero, suc, ◌+◌, ◌<◌, Bool, true, false, cond, ◌&&◌, ◌||◌, nat_eq, List, [], ◌∷◌, length, map, filter, flat_map, get_or, refl, sym, ap, ap₂, ◌∙◌, arith, eq-eqb, ne_eqb}
+use Rattle.std.specs.Cmp.{eq_by_cmp_equiv}
+use Rattle.std.specs.List.{list_any, enumerate_from}
+use Rattle.std.proofs.Math.Bool.{and-false, and-true, or-false}
 use Rattle.std.proofs.lemmas.Bool.{false≢true}
+use Rattle.std.proofs.lemmas.List.{ext_get_or, length-map}
+use Rattle.clip_pieces.specs.Marked.{marked, marked_from}
 use Rattle.clip_grammar.specs.Tree.{Tree}
 use Rattle.clip_extract.specs.Keys.{KeyValue, is_same, share}
 use Rattle.clip_extract.specs.Extraction.{query_keys}
 use Rattle.clip_extract.proofs.Order.{key_cmp_total}
-use Rattle.clip_index.specs.Index.{has_key, places_with, places_sharing}
+use Rattle.clip_index.specs.Index.{has_key, places, places_with, places_sharing}
 use Rattle.clip_index.proofs.AnyOf.{any_swap, any_and, any_flat_map, any_map_filter}
 
 abbrev fronts : List (ℕ × Tree) → List ℕ
@@ -33,26 +33,53 @@ any_place ks trees q =
     ∙ ap (λ f. list_any f all) (λ i (e : ℕ × Tree). share_swap ks e.1 i && nat_eq q e.0)
     ∙ sym (any_map_filter (nat_eq q) (λ (e : ℕ × Tree). e.0) (λ (e : ℕ × Tree). share (query_keys e.1) ks) all)
 
--- ---- places rise
+-- ---- a flag for each query
 
-above_places : (t : ℕ × Tree → Bool) (m n : ℕ) (trees : List Tree) → m < n → AllByRecursion (λ k. nat_cmp m k ≡ Less) (fronts (filter t (enumerate_from n trees)))
-above_places t m n [] lt = tt
-above_places t m n (e ∷ es) lt =
-    let later = above_places t m (n + 1) es (omega arith) in
-    elim (t (n, e)) as (λ b. AllByRecursion (λ k. nat_cmp m k ≡ Less) (fronts (cond b ((n, e) ∷ filter t (enumerate_from (n + 1) es)) (filter t (enumerate_from (n + 1) es))))) [
-      | true ↦ (sym (nat_cmp_is m n Less lt), later)
-      | false ↦ later
-    ]
+not_both : (b : Bool) → ((b && false) || false) ≡ false
+not_both true = refl
+not_both false = refl
 
-pub places_rise : (t : ℕ × Tree → Bool) (n : ℕ) (trees : List Tree) → IsStrictlySortedBy nat_cmp (fronts (filter t (enumerate_from n trees)))
-unfolding IsStrictlySortedBy
-places_rise t n [] = tt
-places_rise t n (e ∷ es) =
-    let later = places_rise t (n + 1) es in
-    elim (t (n, e)) as (λ b. IsStrictlySortedBy nat_cmp (fronts (cond b ((n, e) ∷ filter t (enumerate_from (n + 1) es)) (filter t (enumerate_from (n + 1) es))))) [
-      | true ↦ (above_places t n (n + 1) es (omega arith), later)
-      | false ↦ later
-    ]
+none_before : (test : Tree → Bool) (m n : ℕ) (trees : List Tree) → m < n → list_any (λ (e : ℕ × Tree). test e.1 && nat_eq m e.0) (enumerate_from n trees) ≡ false
+none_before test m n [] lt = refl
+none_before test m n (t ∷ ts) lt =
+    ap₂ (λ a b. (test t && a) || b) (ne_eqb m n (λ e. omega arith)) (none_before test m (n + 1) ts (omega arith)) ∙ not_both (test t)
+
+flag_at : (test : Tree → Bool) (n place : ℕ) (trees : List Tree) → list_any (λ (e : ℕ × Tree). test e.1 && nat_eq (n + place) e.0) (enumerate_from n trees) ≡ get_or (map test trees) place false
+flag_at test n place [] = refl
+flag_at test n zero (t ∷ ts) =
+    ap₂ (λ a b. (test t && a) || b) (eq-eqb (n + 0) n (omega arith)) (none_before test (n + 0) (n + 1) ts (omega arith)) ∙ or-false (test t && true) ∙ and-true (test t)
+flag_at test n (suc place) (t ∷ ts) =
+    let far : n + suc place ≡ n + 1 + place = omega arith in
+    ap₂ (λ a m. (test t && a) || list_any (λ (e : ℕ × Tree). test e.1 && nat_eq m e.0) (enumerate_from (n + 1) ts)) (ne_eqb (n + suc place) n (λ e. omega arith)) far
+    ∙ ap (λ b. b || list_any (λ (e : ℕ × Tree). test e.1 && nat_eq (n + 1 + place) e.0) (enumerate_from (n + 1) ts)) (and-false (test t))
+    ∙ flag_at test (n + 1) place ts
+
+-- a place is among those that pass where its query does
+pub place_passes : (test : Tree → Bool) (trees : List Tree) (place : ℕ) → list_any (nat_eq place) (places test trees) ≡ get_or (map test trees) place false
+place_passes test trees place =
+    let all = enumerate_from 0 trees in
+    let from_none : place ≡ 0 + place = omega arith in
+    any_map_filter (nat_eq place) (λ (e : ℕ × Tree). e.0) (λ (e : ℕ × Tree). test e.1) all
+    ∙ ap (λ n. list_any (λ (e : ℕ × Tree). test e.1 && nat_eq n e.0) all) from_none
+    ∙ flag_at test 0 place trees
+
+marked_passing : (test : Tree → Bool) (n : ℕ) (trees : List Tree) → marked_from n (map test trees) ≡ fronts (filter (λ (e : ℕ × Tree). test e.1) (enumerate_from n trees))
+marked_passing test n [] = refl
+marked_passing test n (t ∷ ts) = by_test (test t) (marked_passing test (n + 1) ts)
+  where
+    rest : List (ℕ × Tree)
+    rest = filter (λ (e : ℕ × Tree). test e.1) (enumerate_from (n + 1) ts)
+
+    by_test : (b : Bool) → marked_from (n + 1) (map test ts) ≡ fronts rest → marked_from n (b ∷ map test ts) ≡ fronts (cond b ((n, t) ∷ rest) rest)
+    by_test true same = ap (λ ns. n ∷ ns) same
+    by_test false same = same
+
+-- flags of just the places that pass are read off as these places
+pub passing_marked : (test : Tree → Bool) (trees : List Tree) (flags : List Bool) → length flags ≡ length trees
+    → ((place : ℕ) → place < length flags → get_or flags place false ≡ list_any (nat_eq place) (places test trees)) → marked flags ≡ places test trees
+passing_marked test trees flags long so =
+    let all : flags ≡ map test trees = ext_get_or false flags (map test trees) (long ∙ sym (length-map trees test)) (λ place lt. so place lt ∙ place_passes test trees place) in
+    ap marked all ∙ marked_passing test 0 trees
 
 -- ---- no places where no query passes
 

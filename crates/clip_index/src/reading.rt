@@ -1,12 +1,12 @@
 //! Articles as an index asks them.
-ghost use Rattle.std.specs.Prelude.{◌≡◌, IfOk, OnOk, List, Some};
-ghost use Rattle.std.specs.List.{slice_get};
+ghost use Rattle.std.specs.Prelude.{◌≡◌, ◌<◌, ◌||◌, ◌==◌, ℕ, IfOk, OnOk, List, Some, false, length, slice_index_or};
+ghost use Rattle.std.specs.List.{list_any, slice_get};
 ghost use Rattle.clip_grammar.specs.Tree.{Tree};
 ghost use Rattle.clip_extract.specs.Covering.{article_keys};
 ghost use Rattle.clip_meaning.specs.Meaning.{holds};
 ghost use Rattle.clip_index.specs.Index.{IsIndexOf, places_sharing};
 
-use clip_pieces::PackedLists;
+use clip_pieces::{Marks, PackedLists};
 use clip_plan::{Plans, Tally};
 use clip_terms::Reading;
 use clip_words::NoMemory;
@@ -34,23 +34,32 @@ impl<'a> Model for IndexReading<'a> {
     ghost view = { asked_of };
 }
 
+/// Marks these places, of which those from the bound of the marks on mark nothing.
+fn mark_places(places: &[u32], marks: &mut Marks)
+    ensures long { length marks.new ≡ length marks.old }
+    ensures marked { (place : ℕ) → place < length marks.old → slice_index_or marks.new place false
+        ≡ (slice_index_or marks.old place false || list_any (λ marked. place == marked) places.now) }
+{
+    for place in places {
+        marks.mark(*place as usize);
+    }
+}
+
 impl<'a> IndexReading<'a> {
     /// The places, from 0 and rising, of just the queries that share a key with the article, in place of those that were
     /// in the list.
     ///
-    /// `NoMemory` where an allocation failed. Cost: a step and a sort's share for each place under a key of the article;
-    /// no query is looked at.
+    /// `NoMemory` where an allocation failed. Cost: a step for each place under a key of the article, and one for each 64
+    /// queries of the index; no query is looked at.
     pub fn sharers(&self, places: &mut Vec<u32>) -> Result<(), NoMemory>
         ensures { OnOk result ((trees : List Tree) → IsIndexOf trees self.now.index
             → places.new.items ≡ places_sharing (article_keys self.now.article.fields) trees) }
     {
-        places.clear();
+        let mut marks = Marks::new(*places.allocator(), self.plans.len())?;
         for number in self.reading.numbers() {
-            places.extend_from_slice(self.positions.get(*number as usize))?;
+            mark_places(self.positions.get(*number as usize), &mut marks);
         }
-        places.sort_unstable();
-        places.dedup();
-        Ok(())
+        marks.numbers_into(places)
     }
 
     /// Whether the query of a place holds of the article. `stack` is room for the groups that are open.

@@ -1,2 +1,4 @@
 pub mod Filled
 pub mod Cuts
+pub mod Flags
+pub mod Words

@@ -1,7 +1,8 @@
-//! Items over the borders of pieces and blocks, and copies that later writes leave as they were.
+//! Items over the borders of pieces and blocks, copies that later writes leave as they were, and marks over the borders
+//! of words.
 ghost use Rattle.std.specs.Prelude.{◌≤◌};
 
-use crate::{PackedLists, Shared, SharedList};
+use crate::{Marks, PackedLists, Shared, SharedList};
 use std::alloc::Global;
 use std::test::Fail;
 
@@ -108,5 +109,64 @@ fn packed_lists_hold_what_is_copied(rt: HostRuntime) -> Result<(), Fail> {
     lists.push(&[Mark::Leaf(5)])?;
     assert!(rt; lists.get(0) == [Mark::Open, Mark::Leaf(3), Mark::Close].as_slice());
     assert!(rt; lists.get(1) == [Mark::Leaf(5)].as_slice());
+    Ok(())
+}
+
+/// Numbers below a bound, with these marked.
+fn marked(alloc: Global, bound: usize, numbers: &[usize]) -> Result<Marks, Fail> {
+    let mut marks = Marks::new(alloc, bound)?;
+    for number in numbers {
+        marks.mark(*number);
+    }
+    Ok(marks)
+}
+
+#[test]
+fn marks_are_read_off_over_the_borders_of_words(rt: HostRuntime) -> Result<(), Fail> {
+    let alloc = rt.alloc();
+    let given = [4095, 64, 0, 4096, 127, 62, 63, 65, 0, 1, 128, 64];
+    let cases: [(usize, &[u32]); 8] = [
+        (0, &[]),
+        (1, &[0]),
+        (63, &[0, 1, 62]),
+        (64, &[0, 1, 62, 63]),
+        (65, &[0, 1, 62, 63, 64]),
+        (128, &[0, 1, 62, 63, 64, 65, 127]),
+        (4096, &[0, 1, 62, 63, 64, 65, 127, 128, 4095]),
+        (4097, &[0, 1, 62, 63, 64, 65, 127, 128, 4095, 4096]),
+    ];
+    let mut numbers = Vec::new(alloc);
+    for (bound, wanted) in cases {
+        marked(alloc, bound, &given)?.numbers_into(&mut numbers)?;
+        assert!(rt; numbers.as_slice() == wanted, "below {bound}");
+    }
+    Ok(())
+}
+
+#[test]
+fn all_marks_and_no_marks_are_read_off(rt: HostRuntime) -> Result<(), Fail> {
+    let alloc = rt.alloc();
+    let mut marks = Marks::new(alloc, 130)?;
+    let mut numbers = Vec::new(alloc);
+    numbers.push(7)?;
+    marks.numbers_into(&mut numbers)?;
+    assert!(rt; numbers.is_empty());
+    for number in 0..200 {
+        assert!(rt; !marks.is_marked(number));
+        marks.mark(number);
+    }
+    marks.numbers_into(&mut numbers)?;
+    assert!(rt; numbers.len() == 130);
+    for (place, number) in numbers.iter().enumerate() {
+        assert!(rt; *number as usize == place, "at {place}");
+    }
+    assert!(rt; marks.is_marked(129));
+    assert!(rt; !marks.is_marked(130));
+    Ok(())
+}
+
+#[test]
+fn more_numbers_than_32_bits_have_no_room(rt: HostRuntime) -> Result<(), Fail> {
+    assert!(rt; Marks::new(rt.alloc(), 4_294_967_297).is_err());
     Ok(())
 }

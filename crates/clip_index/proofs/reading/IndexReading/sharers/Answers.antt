@@ -1,28 +1,27 @@
-use Rattle.std.proofs.Common.{◌≡◌, ℕ, nat_eq, List, flat_map, subst, ap, ◌∙◌}
+use Rattle.std.proofs.Common.{◌≡◌, OnOk, nat_eq, List, flat_map, take, subst, ap, ◌∙◌, arith}
 use Rattle.std.specs.List.{list_any}
 use Rattle.std.proofs.lemmas.List.{take_all}
+use Rattle.std.proofs.lemmas.Result.{on_ok_weaker}
 use Rattle.clip_grammar.specs.Tree.{Tree}
 use Rattle.clip_extract.specs.Keys.{share}
 use Rattle.clip_extract.specs.Extraction.{query_keys}
 use Rattle.clip_extract.specs.Covering.{article_keys}
 use Rattle.clip_index.specs.Index.{AskedValue, IsIndexOf, places_with, places_sharing}
 use Rattle.clip_index.specs.Steps.Views.{asked_of}
-use Rattle.clip_index.proofs.Answering.{list_at, lists_of_keys}
-use Rattle.clip_index.proofs.Numbers.{sorted_numbers}
-use Rattle.clip_index.proofs.Sharing.{any_place, places_rise}
+use Rattle.clip_index.proofs.Answering.{list_at, lists_of_keys, plan_each}
+use Rattle.clip_index.proofs.Sharing.{any_place, passing_marked}
 use Rattle.clip_index.proofs.reading.IndexReading.sharers.Goals as goal
 
 pub returns : goal.returns
 returns c =
     let asked = asked_of c.self.inside in
     let keys = article_keys asked.article.fields in
-    subst (λ (a : AskedValue). (trees : List Tree) → IsIndexOf trees a.index → c.dedup.new.self.items ≡ places_sharing (article_keys a.article.fields) trees) c.self.view_is
-    (λ trees is.
-    let all : c.loop-number.places.items ≡ flat_map (λ k. places_with k trees) keys =
-    c.loop-number.invariant
-    ∙ ap (flat_map (list_at asked.index.positions)) (take_all c.loop-number.number-index c.numbers-number-items.result.now c.loop-number-test.false)
-    ∙ lists_of_keys trees asked.index is keys c.numbers-number-items.result.now c.numbers-number-items.ensures.within c.numbers-number-items.ensures.keys in
-    sorted_numbers c.loop-number.places.items c.sort_unstable.new.self.items c.dedup.new.self.items (places_sharing keys trees)
-    c.sort_unstable.ensures.permutation c.sort_unstable.ensures.sorted c.dedup.ensures.filtered
-    (places_rise (λ (e : ℕ × Tree). share (query_keys e.1) keys) 0 trees)
-    (λ q. ap (list_any (nat_eq q)) all ∙ any_place keys trees q))
+    let numbers = c.numbers-number-items in
+    subst (λ (a : AskedValue). OnOk c.numbers_into.result ((trees : List Tree) → IsIndexOf trees a.index → c.numbers_into.new.numbers.items ≡ places_sharing (article_keys a.article.fields) trees)) c.self.view_is
+    (on_ok_weaker c.numbers_into.result (λ read trees is.
+    let lists : flat_map (list_at asked.index.positions) (take c.loop-number.number-index numbers.result.now) ≡ flat_map (λ k. places_with k trees) keys =
+    ap (flat_map (list_at asked.index.positions)) (take_all c.loop-number.number-index numbers.result.now c.loop-number-test.false)
+    ∙ lists_of_keys trees asked.index is keys numbers.result.now numbers.ensures.within numbers.ensures.keys in
+    read
+    ∙ passing_marked (λ tree. share (query_keys tree) keys) trees c.loop-number.marks (c.loop-number.invariant.long ∙ plan_each trees asked.index is)
+    (λ place lt. c.loop-number.invariant.marked place (omega arith) ∙ ap (list_any (nat_eq place)) lists ∙ any_place keys trees place)) c.numbers_into.ensures)

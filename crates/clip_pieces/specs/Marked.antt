@@ -1,0 +1,11 @@
+-- A set of numbers, as a flag for each of them.
+use Rattle.std.specs.Prelude.{ℕ, Bool, List, map, filter}
+use Rattle.std.specs.List.{enumerate_from}
+
+-- the numbers of the flags that are set, of which the first has the number `first`
+abbrev pub marked_from : ℕ → List Bool → List ℕ
+marked_from first flags = map (λ e. e.0) (filter (λ e. e.1) (enumerate_from first flags))
+
+-- the numbers, from 0, of the flags that are set
+abbrev pub marked : List Bool → List ℕ
+marked flags = marked_from 0 flags

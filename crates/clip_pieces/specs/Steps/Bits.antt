@@ -1,0 +1,17 @@
+-- Flags that lie in words of 64 bits.
+use Rattle.std.specs.Prelude.{◌≡◌, ℕ, zero, suc, ◌-◌, ◌*◌, ◌/◌, ◌%◌, ◌≤◌, ◌==◌, Bool, false, List, [], ◌∷◌, map, length, drop, replicate}
+use Rattle.clip_pieces.specs.Pieces.{joined}
+use Rattle.clip_pieces.specs.declared.marks.TheConstants.{MOST_NUMBERS}
+
+-- so many bits of a word, from the lowest
+unfoldable pub bits_of : ℕ → ℕ → List Bool
+bits_of zero word = []
+bits_of (suc count) word = (word % 2 == 1) ∷ bits_of count (word / 2)
+
+-- the bits of all words
+abbrev pub flags_of : List ℕ → List Bool
+flags_of words = joined (map (bits_of 64) words)
+
+-- the words have a bit for each number below the bound, no more than 32 bits can number, and none is set from the bound on
+abbrev pub HoldMarks : ℕ → List ℕ → Type 0
+HoldMarks bound words = (bound ≤ 64 * length words) × (64 * length words ≤ MOST_NUMBERS) × (drop bound (flags_of words) ≡ replicate (64 * length words - bound) false)
