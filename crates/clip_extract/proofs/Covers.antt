@@ -202,7 +202,8 @@ module _ (key : List ℕ → List ℕ → KeyValue) (texts : List (List ℕ) →
   field_among : (fields : Fields) → is_word_of (texts (words_in fields field)) text ≡ true → list_any (is_same (key field text)) (flat_map (keys_of key texts) (finite.entries fields)) ≡ true
   field_among fields h = key_among (finite.entries fields) (ap (λ o. is_word_of (texts (unwrap_or o [])) text) (sym (finite.get-entries fields field)) ∙ h)
 
-abbrev all_keys : Fields → List KeyValue
+-- an article's keys before they are put in order
+abbrev pub all_keys : Fields → List KeyValue
 all_keys fields = Any ∷ flat_map field_keys (finite.entries fields) ++ flat_map front_keys (finite.entries fields)
 
 has_among : (fields : Fields) (k : KeyValue) → has_key fields k ≡ true → list_any (is_same k) (all_keys fields) ≡ true

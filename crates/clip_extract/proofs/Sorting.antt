@@ -29,7 +29,8 @@ then_equal Less = refl
 then_equal Equal = refl
 then_equal Greater = refl
 
-two_texts : (f w g v : List ℕ) → ordering_then (bytes_cmp f g) (bytes_cmp w v) ≡ slice_cmp bytes_cmp (f ∷ w ∷ []) (g ∷ v ∷ [])
+-- two texts each, first by first
+pub two_texts : (f w g v : List ℕ) → ordering_then (bytes_cmp f g) (bytes_cmp w v) ≡ slice_cmp bytes_cmp (f ∷ w ∷ []) (g ∷ v ∷ [])
 two_texts f w g v = ap (ordering_then (bytes_cmp f g)) (then_equal (bytes_cmp w v))
 
 pub key_order : (x y : Key) → key_ord.ghosts.cmp x y ≡ key_cmp (key_of x) (key_of y)

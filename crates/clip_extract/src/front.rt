@@ -40,7 +40,7 @@ impl<'a> Fronts<'a> {
 
     /// The next front, `None` where there is none left. Takes no memory. Constant time.
     pub fn next(&mut self) -> Option<&'a str>
-        ensures { MatchOption result (self.old ≡ []) (λ front. self.old ≡ front.now ∷ self.new) }
+        ensures { MatchOption result ((self.old ≡ []) × (self.new ≡ [])) (λ front. self.old ≡ front.now ∷ self.new) }
     {
         if self.left == 0 {
             return None;
