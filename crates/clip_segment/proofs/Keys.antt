@@ -1,34 +1,24 @@
 -- Keys as code compares them and as contracts do.
-use Rattle.std.proofs.Common.{◌≡◌, ℕ, zero, suc, ◌<◌, true, false, ◌&&◌, ◌||◌, List, [], ◌∷◌, length, map, take, get_or, refl, sym, ◌∙◌, ap, arith}
+use Rattle.std.proofs.Common.{◌≡◌, ℕ, zero, suc, ◌<◌, true, false, ◌||◌, List, [], ◌∷◌, length, map, take, get_or, refl, sym, ◌∙◌, ap, arith}
 use Rattle.std.proofs.lemmas.List.{length-map}
-use Rattle.std.proofs.Math.Bool.{and-true}
 use Rattle.std.proofs.Math.Dec.{T}
 use Rattle.std.proofs.lemmas.Bool.{false≢true}
 use Rattle.std.specs.Ordering.{is_eq, is_lt, ordering_reverse}
 use Rattle.std.specs.declared.cmp.Ordering.{Ordering}
 use Rattle.std.specs.declared.cmp.Ordering.TheVariants.{Less, Equal, Greater}
 use Rattle.std.specs.FinMap.Entries.{below_all}
-use Rattle.std.specs.Prelude.{nat_eq}
-use Rattle.std.specs.Arc.{arc_str_bytes}
-use Rattle.std.specs.Cmp.Lexicographic.{pointwise, lists_ties, texts_ties}
 use Rattle.std.specs.List.{list_any}
 use Rattle.std.specs.FinMap as finite
-use Rattle.clip_words.specs.Order.{bytes_cmp}
 use Rattle.clip_grammar.proofs.Booleans.{truth, first, second}
 use Rattle.clip_extract.proofs.Members.{marked}
 use Rattle.clip_extract.proofs.Order.{key_cmp_total, same_key}
+use Rattle.clip_extract.proofs.Sorting.{key_equality}
 use Rattle.clip_extract.specs.Keys.{KeyValue, key_of, key_cmp, is_same, in_order}
 use Rattle.clip_extract.specs.declared.key.Key.{Key}
-use Rattle.clip_extract.specs.declared.key.Key.TheVariants as variant
 use Rattle.clip_segment.specs.Steps.Positions.{same_keys}
 
 pub same_keys_is : (k q : Key) → same_keys k q ≡ is_same (key_of k) (key_of q)
-same_keys_is variant.Any variant.Any = refl
-same_keys_is variant.Any (variant.Word field word) = refl
-same_keys_is (variant.Word field word) variant.Any = refl
-same_keys_is (variant.Word field word) (variant.Word other_field other_word) =
-    ap (λ b. pointwise nat_eq (arc_str_bytes field) (arc_str_bytes other_field) && b) (sym (and-true _))
-    ∙ lists_ties bytes_cmp texts_ties (arc_str_bytes field ∷ arc_str_bytes word ∷ []) (arc_str_bytes other_field ∷ arc_str_bytes other_word ∷ [])
+same_keys_is = key_equality
 
 -- two keys that are the same compare alike
 pub same_keys_alike : (k q : Key) → is_same (key_of k) (key_of q) ≡ true → (x : Key) → same_keys k x ≡ same_keys q x
