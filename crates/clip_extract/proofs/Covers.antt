@@ -8,16 +8,19 @@ use Rattle.std.specs.Cmp.{Equal-is}
 use Rattle.std.proofs.lemmas.Bool.{or_left, or_right, and_parts, and_from, false≢true}
 use Rattle.std.proofs.lemmas.List.Folds.{list_any-append}
 use Rattle.std.proofs.lemmas.Slice.Eq.{bytes_eq-Decides, starts_is}
+use Rattle.std.proofs.lemmas.Bool.Decides.{Decides-eqb}
 use Rattle.clip_words.specs.Order.{bytes_cmp}
 use Rattle.clip_grammar.specs.Tree.{Tree, Clauses, none, clause}
 use Rattle.clip_grammar.specs.declared.query.Occur.TheVariants.{Must, Should, MustNot}
 use Rattle.clip_grammar.proofs.Booleans.{either}
 use Rattle.clip_meaning.specs.Article.{Fields, words_in}
 use Rattle.clip_meaning.proofs.Fields.{bytes_exact}
-use Rattle.clip_meaning.specs.Meaning.{holds, verdicts, group_holds, has_run, is_nonempty, meets_must, meets_must_not, meets_should, is_must}
-use Rattle.clip_extract.specs.Keys.{KeyValue, Any, Word, is_same, share}
-use Rattle.clip_extract.specs.Extraction.{Extracted, unnarrowed, word_extract, heavier, together, heaviest, union, musts, shoulds, group_extract, extract, extracts}
-use Rattle.clip_extract.specs.Covering.{field_keys, Covers}
+use Rattle.clip_meaning.specs.Meaning.{holds, begins_with, verdicts, group_holds, has_run, is_nonempty, meets_must, meets_must_not, meets_should, is_must}
+use Rattle.clip_extract.specs.Keys.{KeyValue, Any, Word, Front, is_same, share}
+use Rattle.clip_extract.specs.Fronts.{key_front, fronts}
+use Rattle.clip_extract.specs.Extraction.{Extracted, unnarrowed, word_extract, front_extract, heavier, together, heaviest, union, musts, shoulds, group_extract, extract, extracts}
+use Rattle.clip_extract.specs.Covering.{field_keys, front_keys, Covers}
+use Rattle.clip_extract.proofs.FrontsOfWords.{front_of_longer}
 use Rattle.clip_extract.proofs.Order.{same_itself, share_in_order}
 
 -- the word is one of these
@@ -28,6 +31,7 @@ is_word_of words word = list_any (λ w. bytes_eq w word) words
 abbrev has_key : Fields → KeyValue → Bool
 has_key fields Any = true
 has_key fields (Word field word) = is_word_of (words_in fields field) word
+has_key fields (Front field front) = is_word_of (flat_map fronts (words_in fields field)) front
 
 -- the article has one of the keys
 abbrev covers : Fields → Extracted → Bool
@@ -94,6 +98,24 @@ words_cover fields field (p ∷ ps) all =
     let parts = and_parts (is_word_of (words_in fields field) p) (list_all (is_word_of (words_in fields field)) ps) all in
     and_from (covers fields (word_extract field p)) _ (or_left (is_word_of (words_in fields field) p) false parts.0) (words_cover fields field ps parts.1)
 
+-- ---- prefixes
+
+front_among : (front : List ℕ) (b : ℕ) (bs : List ℕ) (ws : List (List ℕ)) → key_front front ≡ b ∷ bs → list_any (begins_with front) ws ≡ true → is_word_of (flat_map fronts ws) (key_front front) ≡ true
+front_among front b bs [] some h = absurd (false≢true h)
+front_among front b bs (w ∷ ws) some h =
+    list_any-append (λ p. bytes_eq p (key_front front)) (fronts w) (flat_map fronts ws)
+    ∙ either (begins_with front w) (list_any (begins_with front) ws) h
+    (λ e. let is = (starts_is Decides-eqb w front true (sym e)).0 refl in
+    or_left (is_word_of (fronts w) (key_front front)) _
+    (ap (λ word. is_word_of (fronts word) (key_front front)) is ∙ front_of_longer front (drop (length front) w) b bs some))
+    (λ e. or_right (is_word_of (fronts w) (key_front front)) _ (front_among front b bs ws some e))
+
+prefix_covers : (fields : Fields) (field front found : List ℕ) → key_front front ≡ found → list_any (begins_with front) (words_in fields field) ≡ true → covers fields (front_extract field found) ≡ true
+prefix_covers fields field front [] is h = refl
+prefix_covers fields field front (b ∷ bs) is h =
+    or_left (is_word_of (flat_map fronts (words_in fields field)) (b ∷ bs)) false
+    (ap (is_word_of (flat_map fronts (words_in fields field))) (sym is) ∙ front_among front b bs (words_in fields field) is h)
+
 -- ---- groups
 
 no_musts : (cs : Clauses) (fields : Fields) → musts (extracts cs) ≡ [] → list_any is_must (verdicts cs fields) ≡ false
@@ -132,7 +154,7 @@ mutual
   tree_covers (Tree.Phrase field words) fields h =
       let parts = and_parts (is_nonempty words) (has_run (words_in fields field) words) h in
       heaviest_covers fields (map (word_extract field) words) unnarrowed refl (words_cover fields field words (run_covers (words_in fields field) words parts.1))
-  tree_covers (Tree.Prefix field front) fields h = refl
+  tree_covers (Tree.Prefix field front) fields h = prefix_covers fields field front (key_front front) refl h
   tree_covers (Tree.Span field low high) fields h = refl
   tree_covers Tree.All fields h = refl
   tree_covers (Tree.Group clauses) fields h = group_covers clauses fields (musts_cover clauses fields) (shoulds_cover clauses fields) h
@@ -156,34 +178,51 @@ mutual
 
 -- ---- the article's keys
 
-word_among : (field word : List ℕ) (ws : List (List ℕ)) → is_word_of ws word ≡ true → list_any (is_same (Word field word)) (map (Word field) ws) ≡ true
-word_among field word [] h = absurd (false≢true h)
-word_among field word (w ∷ ws) h =
-    either (bytes_eq w word) (is_word_of ws word) h
-    (λ e. or_left (is_same (Word field word) (Word field w)) _ (ap (λ v. is_same (Word field word) (Word field v)) ((bytes_eq-Decides w word).0 e) ∙ same_itself (Word field word)))
-    (λ e. or_right (is_same (Word field word) (Word field w)) _ (word_among field word ws e))
+abbrev keys_of : (List ℕ → List ℕ → KeyValue) → (List (List ℕ) → List (List ℕ)) → List ℕ × List (List ℕ) → List KeyValue
+keys_of key texts field = map (key field.0) (texts field.1)
 
-key_among : (field word : List ℕ) (es : List (List ℕ × List (List ℕ))) → is_word_of (unwrap_or (finite.find bytes_cmp field es) []) word ≡ true → list_any (is_same (Word field word)) (flat_map field_keys es) ≡ true
-key_among field word [] h = absurd (false≢true h)
-key_among field word (e ∷ es) h =
-    list_any-append (is_same (Word field word)) (field_keys e) (flat_map field_keys es)
-    ∙ elim (eq_by_cmp bytes_cmp field e.0) as (λ b. eq_by_cmp bytes_cmp field e.0 ≡ b → is_word_of (unwrap_or (cond b (Some e.1) (finite.find bytes_cmp field es)) []) word ≡ true → (list_any (is_same (Word field word)) (field_keys e) || list_any (is_same (Word field word)) (flat_map field_keys es)) ≡ true) [
-      | true ↦ λ t h. or_left (list_any (is_same (Word field word)) (field_keys e)) _ (ap (λ f. list_any (is_same (Word field word)) (map (Word f) e.1)) (sym (bytes_exact field e.0 ((Equal-is (bytes_cmp field e.0)).0 t))) ∙ word_among field word e.1 h)
-      | false ↦ λ t h. or_right (list_any (is_same (Word field word)) (field_keys e)) _ (key_among field word es h)
-    ] refl h
+text_among : (key : List ℕ → KeyValue) (text : List ℕ) (ts : List (List ℕ)) → is_word_of ts text ≡ true → list_any (is_same (key text)) (map key ts) ≡ true
+text_among key text [] h = absurd (false≢true h)
+text_among key text (t ∷ ts) h =
+    either (bytes_eq t text) (is_word_of ts text) h
+    (λ e. or_left (is_same (key text) (key t)) _ (ap (λ v. is_same (key text) (key v)) ((bytes_eq-Decides t text).0 e) ∙ same_itself (key text)))
+    (λ e. or_right (is_same (key text) (key t)) _ (text_among key text ts e))
 
-has_among : (fields : Fields) (k : KeyValue) → has_key fields k ≡ true → list_any (is_same k) (Any ∷ flat_map field_keys (finite.entries fields)) ≡ true
-has_among fields Any h = refl
-has_among fields (Word field word) h = key_among field word (finite.entries fields) (ap (λ o. is_word_of (unwrap_or o []) word) (sym (finite.get-entries fields field)) ∙ h)
+-- a text that some words of a field give is among the keys of these texts in all fields
+module _ (key : List ℕ → List ℕ → KeyValue) (texts : List (List ℕ) → List (List ℕ)) (none : texts [] ≡ []) (field text : List ℕ) where
+  key_among : (es : List (List ℕ × List (List ℕ))) → is_word_of (texts (unwrap_or (finite.find bytes_cmp field es) [])) text ≡ true → list_any (is_same (key field text)) (flat_map (keys_of key texts) es) ≡ true
+  key_among [] h = absurd (false≢true (ap (λ ts. is_word_of ts text) (sym none) ∙ h))
+  key_among (e ∷ es) h =
+      list_any-append (is_same (key field text)) (keys_of key texts e) (flat_map (keys_of key texts) es)
+      ∙ elim (eq_by_cmp bytes_cmp field e.0) as (λ b. eq_by_cmp bytes_cmp field e.0 ≡ b → is_word_of (texts (unwrap_or (cond b (Some e.1) (finite.find bytes_cmp field es)) [])) text ≡ true → (list_any (is_same (key field text)) (keys_of key texts e) || list_any (is_same (key field text)) (flat_map (keys_of key texts) es)) ≡ true) [
+        | true ↦ λ t h. or_left (list_any (is_same (key field text)) (keys_of key texts e)) _ (ap (λ f. list_any (is_same (key field text)) (map (key f) (texts e.1))) (sym (bytes_exact field e.0 ((Equal-is (bytes_cmp field e.0)).0 t))) ∙ text_among (key field) text (texts e.1) h)
+        | false ↦ λ t h. or_right (list_any (is_same (key field text)) (keys_of key texts e)) _ (key_among es h)
+      ] refl h
 
-share_of_covers : (fields : Fields) (ks : List KeyValue) → list_any (has_key fields) ks ≡ true → share ks (Any ∷ flat_map field_keys (finite.entries fields)) ≡ true
+  field_among : (fields : Fields) → is_word_of (texts (words_in fields field)) text ≡ true → list_any (is_same (key field text)) (flat_map (keys_of key texts) (finite.entries fields)) ≡ true
+  field_among fields h = key_among (finite.entries fields) (ap (λ o. is_word_of (texts (unwrap_or o [])) text) (sym (finite.get-entries fields field)) ∙ h)
+
+-- an article's keys before they are put in order
+abbrev pub all_keys : Fields → List KeyValue
+all_keys fields = Any ∷ flat_map field_keys (finite.entries fields) ++ flat_map front_keys (finite.entries fields)
+
+has_among : (fields : Fields) (k : KeyValue) → has_key fields k ≡ true → list_any (is_same k) (all_keys fields) ≡ true
+has_among fields k h =
+    list_any-append (is_same k) (Any ∷ flat_map field_keys (finite.entries fields)) (flat_map front_keys (finite.entries fields)) ∙ at k h
+  where
+    at : (k : KeyValue) → has_key fields k ≡ true → (list_any (is_same k) (Any ∷ flat_map field_keys (finite.entries fields)) || list_any (is_same k) (flat_map front_keys (finite.entries fields))) ≡ true
+    at Any h = refl
+    at (Word field word) h = or_left (list_any (is_same (Word field word)) (flat_map field_keys (finite.entries fields))) _ (field_among Word (λ words. words) refl field word fields h)
+    at (Front field front) h = or_right (list_any (is_same (Front field front)) (flat_map field_keys (finite.entries fields))) _ (field_among Front (flat_map fronts) refl field front fields h)
+
+share_of_covers : (fields : Fields) (ks : List KeyValue) → list_any (has_key fields) ks ≡ true → share ks (all_keys fields) ≡ true
 share_of_covers fields [] h = absurd (false≢true h)
 share_of_covers fields (k ∷ ks) h =
     either (has_key fields k) (list_any (has_key fields) ks) h
-    (λ e. or_left (list_any (is_same k) (Any ∷ flat_map field_keys (finite.entries fields))) _ (has_among fields k e))
-    (λ e. or_right (list_any (is_same k) (Any ∷ flat_map field_keys (finite.entries fields))) _ (share_of_covers fields ks e))
+    (λ e. or_left (list_any (is_same k) (all_keys fields)) _ (has_among fields k e))
+    (λ e. or_right (list_any (is_same k) (all_keys fields)) _ (share_of_covers fields ks e))
 
 pub covering : Covers
 covering tree fields h =
-    share_in_order (extract tree).keys (Any ∷ flat_map field_keys (finite.entries fields))
+    share_in_order (extract tree).keys (all_keys fields)
     ∙ share_of_covers fields (extract tree).keys (tree_covers tree fields h)

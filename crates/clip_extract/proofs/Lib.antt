@@ -4,3 +4,4 @@ pub mod Covers
 pub mod Groups
 pub mod Cuts
 pub mod Sorting
+pub mod FrontsOfWords

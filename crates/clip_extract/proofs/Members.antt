@@ -1,5 +1,5 @@
 -- Lists that strictly rise, as the keys of finite maps: they are what their members are.
-use Rattle.std.proofs.Common.{◌≡◌, true, ◌||◌, List, [], ◌∷◌, map, Option, Some, None, Bool, is_some, refl, sym, ap, ◌∙◌, subst, is_lt}
+use Rattle.std.proofs.Common.{◌≡◌, true, ◌||◌, List, [], ◌∷◌, map, flat_map, Option, Some, None, Bool, is_some, refl, sym, ap, ◌∙◌, subst, is_lt}
 use Rattle.std.specs.Cmp.{IsEquivalence, IsTotalOrder, Equal-is, eq_by_cmp_equiv}
 use Rattle.std.specs.FinMap as finite
 use Rattle.std.specs.FinMap.{IsAntisymmetric}
@@ -12,7 +12,7 @@ use Rattle.std.specs.declared.cmp.Ordering.{Ordering}
 use Rattle.std.specs.declared.cmp.Ordering.TheVariants.{Less}
 use Rattle.std.proofs.lemmas.Bool.{and_from, and_parts, false≢true}
 use Rattle.std.proofs.lemmas.Float.{T_from_true}
-use Rattle.std.proofs.lemmas.List.Folds.{Any-from_list_any, list_any_at}
+use Rattle.std.proofs.lemmas.List.Folds.{Any-from_list_any, list_any_at, list_any-append}
 use Rattle.std.proofs.lemmas.List.Kept.{Any-dedup, Contains-from_dedup}
 use Rattle.std.proofs.lemmas.Map.Views.{Contains-from_any, list_any-from_Contains}
 use Rattle.clip_grammar.proofs.Booleans.{truth, same_answer}
@@ -28,6 +28,10 @@ any_kept p xs ys keeps h =
 pub any_map : {A B : Type 0} (p : B → Bool) (f : A → B) (xs : List A) → list_any p (map f xs) ≡ list_any (λ x. p (f x)) xs
 any_map p f [] = refl
 any_map p f (x ∷ xs) = ap (λ b. p (f x) || b) (any_map p f xs)
+
+pub any_flat_map : {A B : Type 0} (p : B → Bool) (f : A → List B) (xs : List A) → list_any p (flat_map f xs) ≡ list_any (λ a. list_any p (f a)) xs
+any_flat_map p f [] = refl
+any_flat_map p f (a ∷ xs) = list_any-append p (f a) (flat_map f xs) ∙ ap (λ x. list_any p (f a) || x) (any_flat_map p f xs)
 
 -- a `dedup` by an equality that f respects keeps what passes a test of f
 pub any_deduped : {A B : Type 0} {eq : A → A → Bool} (laws : IsEquivalence eq) (f : A → B) (same : (x y : A) → eq x y ≡ true → f x ≡ f y) (p : B → Bool) (xs : List A) → list_any (λ x. p (f x)) (dedup eq xs) ≡ list_any (λ x. p (f x)) xs

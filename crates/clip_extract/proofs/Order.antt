@@ -7,22 +7,31 @@ use Rattle.std.specs.FinMap.{IsAntisymmetric, slice_cmp-IsAntisymmetric}
 use Rattle.std.specs.List.{list_any}
 use Rattle.std.proofs.lemmas.Bool.{false≢true}
 use Rattle.clip_meaning.proofs.Fields.{bytes_exact}
-use Rattle.clip_extract.specs.Keys.{KeyValue, Any, Word, rank, texts, key_cmp, is_same, in_order, share}
+use Rattle.clip_extract.specs.Keys.{KeyValue, Any, Word, Front, rank, texts, key_cmp, is_same, in_order, share}
 use Rattle.clip_extract.proofs.Members.{same_members, keys_members}
 
 pub key_cmp_total : IsTotalOrder key_cmp
 key_cmp_total = then_total (on_total rank nat_cmp_total) (on_total texts (lists_total nat_list_cmp_total))
 
--- a word's key again from its texts
-abbrev with_texts : List (List ℕ) → KeyValue
-with_texts (field ∷ word ∷ []) = Word field word
-with_texts _ = Any
+-- a word's key again from its texts, and a front's
+abbrev word_again : List (List ℕ) → KeyValue
+word_again (field ∷ word ∷ []) = Word field word
+word_again _ = Any
+
+abbrev front_again : List (List ℕ) → KeyValue
+front_again (field ∷ front ∷ []) = Front field front
+front_again _ = Any
 
 pub key_cmp_same : IsAntisymmetric key_cmp
 key_cmp_same Any Any e = refl
 key_cmp_same Any (Word g v) e = absurd (false≢true (ap is_eq e))
+key_cmp_same Any (Front g v) e = absurd (false≢true (ap is_eq e))
 key_cmp_same (Word f w) Any e = absurd (false≢true (ap is_eq e))
-key_cmp_same (Word f w) (Word g v) e = ap with_texts (slice_cmp-IsAntisymmetric bytes_exact (f ∷ w ∷ []) (g ∷ v ∷ []) e)
+key_cmp_same (Word f w) (Word g v) e = ap word_again (slice_cmp-IsAntisymmetric bytes_exact (f ∷ w ∷ []) (g ∷ v ∷ []) e)
+key_cmp_same (Word f w) (Front g v) e = absurd (false≢true (ap is_eq e))
+key_cmp_same (Front f w) Any e = absurd (false≢true (ap is_eq e))
+key_cmp_same (Front f w) (Word g v) e = absurd (false≢true (ap is_eq e))
+key_cmp_same (Front f w) (Front g v) e = ap front_again (slice_cmp-IsAntisymmetric bytes_exact (f ∷ w ∷ []) (g ∷ v ∷ []) e)
 
 pub same_key : (k l : KeyValue) → is_same k l ≡ true → k ≡ l
 same_key k l e = key_cmp_same k l ((Equal-is (key_cmp k l)).0 e)

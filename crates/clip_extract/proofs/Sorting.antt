@@ -1,11 +1,12 @@
 -- A list of keys that is sorted and has none twice.
-use Rattle.std.proofs.Common.{◌≡◌, Bool, List, [], ◌∷◌, map, refl, sym, ap, ◌∙◌, subst, IsPermutation}
+use Rattle.std.proofs.Common.{◌≡◌, ℕ, Bool, ◌&&◌, List, [], ◌∷◌, map, refl, sym, ap, ◌∙◌, subst, IsPermutation}
 use Rattle.std.specs.Ordering.{is_eq, on, nat_cmp, ordering_then}
 use Rattle.std.specs.declared.cmp.Ordering.TheVariants.{Less, Equal, Greater}
 use Rattle.std.specs.declared.cmp.Ordering.{Ordering}
 use Rattle.std.specs.Cmp.{on_total, eq_by_cmp_equiv, both_tied}
 use Rattle.std.specs.Cmp.Lexicographic.{slice_cmp, texts_ties}
 use Rattle.std.specs.Arc.{arc_str_bytes}
+use Rattle.std.specs.Str.{bytes_eq}
 use Rattle.std.specs.List.{dedup, AllByRecursion}
 use Rattle.std.specs.List.Sorted.{IsSorted, IsStrictlySortedBy}
 use Rattle.std.specs.List.Retain.{IsFiltered, DiffersFromLast}
@@ -28,21 +29,36 @@ then_equal Less = refl
 then_equal Equal = refl
 then_equal Greater = refl
 
+-- two texts each, first by first
+pub two_texts : (f w g v : List ℕ) → ordering_then (bytes_cmp f g) (bytes_cmp w v) ≡ slice_cmp bytes_cmp (f ∷ w ∷ []) (g ∷ v ∷ [])
+two_texts f w g v = ap (ordering_then (bytes_cmp f g)) (then_equal (bytes_cmp w v))
+
 pub key_order : (x y : Key) → key_ord.ghosts.cmp x y ≡ key_cmp (key_of x) (key_of y)
 key_order variant.Any variant.Any = refl
 key_order variant.Any (variant.Word g v) = refl
+key_order variant.Any (variant.Front g v) = refl
 key_order (variant.Word f w) variant.Any = refl
-key_order (variant.Word f w) (variant.Word g v) = ap (ordering_then (bytes_cmp (arc_str_bytes f) (arc_str_bytes g))) (then_equal (bytes_cmp (arc_str_bytes w) (arc_str_bytes v)))
+key_order (variant.Word f w) (variant.Word g v) = two_texts (arc_str_bytes f) (arc_str_bytes w) (arc_str_bytes g) (arc_str_bytes v)
+key_order (variant.Word f w) (variant.Front g v) = refl
+key_order (variant.Front f w) variant.Any = refl
+key_order (variant.Front f w) (variant.Word g v) = refl
+key_order (variant.Front f w) (variant.Front g v) = two_texts (arc_str_bytes f) (arc_str_bytes w) (arc_str_bytes g) (arc_str_bytes v)
+
+two_same : (f w g v : List ℕ) → (bytes_eq f g && bytes_eq w v) ≡ is_eq (slice_cmp bytes_cmp (f ∷ w ∷ []) (g ∷ v ∷ []))
+two_same f w g v =
+    both_tied _ _ (slice_cmp nat_cmp f g) (slice_cmp nat_cmp w v) (texts_ties f g) (texts_ties w v)
+    ∙ ap (λ r. is_eq (ordering_then (slice_cmp nat_cmp f g) r)) (then_equal (slice_cmp nat_cmp w v))
 
 pub key_equality : (x y : Key) → key_eq.ghosts.eq x y ≡ is_same (key_of x) (key_of y)
 key_equality variant.Any variant.Any = refl
 key_equality variant.Any (variant.Word g v) = refl
+key_equality variant.Any (variant.Front g v) = refl
 key_equality (variant.Word f w) variant.Any = refl
-key_equality (variant.Word f w) (variant.Word g v) =
-    let a = slice_cmp nat_cmp (arc_str_bytes f) (arc_str_bytes g) in
-    let b = slice_cmp nat_cmp (arc_str_bytes w) (arc_str_bytes v) in
-    both_tied _ _ a b (texts_ties (arc_str_bytes f) (arc_str_bytes g)) (texts_ties (arc_str_bytes w) (arc_str_bytes v))
-    ∙ ap (λ r. is_eq (ordering_then a r)) (then_equal b)
+key_equality (variant.Word f w) (variant.Word g v) = two_same (arc_str_bytes f) (arc_str_bytes w) (arc_str_bytes g) (arc_str_bytes v)
+key_equality (variant.Word f w) (variant.Front g v) = refl
+key_equality (variant.Front f w) variant.Any = refl
+key_equality (variant.Front f w) (variant.Word g v) = refl
+key_equality (variant.Front f w) (variant.Front g v) = two_same (arc_str_bytes f) (arc_str_bytes w) (arc_str_bytes g) (arc_str_bytes v)
 
 -- ---- after a sort and a `dedup`
 

@@ -4,7 +4,8 @@ use Rattle.std.specs.Str.{chars}
 use Rattle.clip_grammar.specs.Tree.{Tree, Clauses, none, clause}
 use Rattle.clip_grammar.specs.declared.query.Occur.{Occur}
 use Rattle.clip_grammar.specs.declared.query.Occur.TheVariants.{Must, Should, MustNot}
-use Rattle.clip_extract.specs.Keys.{KeyValue, Any, Word, in_order}
+use Rattle.clip_extract.specs.Keys.{KeyValue, Any, Word, Front, in_order}
+use Rattle.clip_extract.specs.Fronts.{key_front}
 
 -- keys, and how heavy they are: the heavier, the fewer articles have them
 pub record Extracted : Type 0 where
@@ -18,6 +19,11 @@ unnarrowed = record { keys = Any ∷ []; weight = 0 }
 -- a word weighs as many as it has characters
 abbrev pub word_extract : List ℕ → List ℕ → Extracted
 word_extract field word = record { keys = Word field word ∷ []; weight = length (chars word) }
+
+-- so does a front; nothing is narrowed by an empty one
+abbrev pub front_extract : List ℕ → List ℕ → Extracted
+front_extract field [] = unnarrowed
+front_extract field (b ∷ bs) = record { keys = Front field (b ∷ bs) ∷ []; weight = length (chars (b ∷ bs)) }
 
 -- the heavier of two, the first on a tie
 abbrev pub heavier : Extracted → Extracted → Extracted
@@ -57,7 +63,7 @@ abbrev mutual
   pub extract : Tree → Extracted
   extract (Tree.Term field word) = word_extract field word
   extract (Tree.Phrase field words) = unwrap_or (heaviest (map (word_extract field) words)) unnarrowed
-  extract (Tree.Prefix field front) = unnarrowed
+  extract (Tree.Prefix field front) = front_extract field (key_front front)
   extract (Tree.Span field low high) = unnarrowed
   extract Tree.All = unnarrowed
   extract (Tree.Group clauses) = group_extract (extracts clauses)

@@ -10,26 +10,30 @@ use Rattle.clip_words.specs.Order.{bytes_cmp}
 use Rattle.clip_extract.specs.declared.key.Key.{Key}
 use Rattle.clip_extract.specs.declared.key.Key.TheVariants as variant
 
--- what every article has, and a word that a field has
+-- what every article has, a word that a field has, and what a word of a field begins with
 pub data KeyValue : Type 0 where
   Any : KeyValue
   Word : (field word : List ℕ) → KeyValue
+  Front : (field front : List ℕ) → KeyValue
 
 abbrev pub key_of : Key → KeyValue
 key_of variant.Any = Any
 key_of (variant.Word field word) = Word (arc_str_bytes field) (arc_str_bytes word)
+key_of (variant.Front field front) = Front (arc_str_bytes field) (arc_str_bytes front)
 
 -- ---- order
 
 abbrev pub rank : KeyValue → ℕ
 rank Any = 0
 rank (Word field word) = 1
+rank (Front field front) = 2
 
 abbrev pub texts : KeyValue → List (List ℕ)
 texts Any = []
 texts (Word field word) = field ∷ word ∷ []
+texts (Front field front) = field ∷ front ∷ []
 
--- Any first, then by field and by word, by their bytes
+-- Any first, then all words, then all fronts; of these by field, then by word or front, by their bytes
 abbrev pub key_cmp : KeyValue → KeyValue → Ordering
 key_cmp = then_cmp (on rank nat_cmp) (on texts (slice_cmp bytes_cmp))
 

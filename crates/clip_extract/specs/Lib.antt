@@ -1,4 +1,5 @@
 pub mod Keys
+pub mod Fronts
 pub mod Extraction
 pub mod Covering
 pub mod Steps

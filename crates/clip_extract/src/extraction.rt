@@ -5,10 +5,12 @@ ghost use Rattle.std.specs.Arc.{arc_str_bytes};
 ghost use Rattle.clip_grammar.specs.Tree.{tree_of};
 ghost use Rattle.clip_grammar.specs.declared.query.Occur.{Occur};
 ghost use Rattle.clip_extract.specs.Keys.{KeyValue, key_of};
-ghost use Rattle.clip_extract.specs.Extraction.{Extracted, heaviest, word_extract, unnarrowed, extract, query_keys, query_weight};
+ghost use Rattle.clip_extract.specs.Extraction.{Extracted, heaviest, word_extract, front_extract, unnarrowed, extract, query_keys, query_weight};
+ghost use Rattle.clip_extract.specs.Fronts.{key_front};
 ghost use Rattle.clip_extract.specs.Steps.Groups.{group_from, next_found, counts, outweighs, kept_from};
 ghost use Rattle.clip_extract.specs.Steps.Leaves.{Adds, IsNoGroup, word_found, leaf_found};
 
+use crate::front::key_front;
 use crate::key::{Key, sorted};
 use clip_grammar::query::{Occur, Query};
 use clip_words::NoMemory;
@@ -84,30 +86,49 @@ fn weight_found(found: Found) -> u64
     }
 }
 
-/// The word by which a query that is no group is found: its field, the word and its weight. `None` where nothing narrows
-/// the articles down.
-fn deciding_word(query: &Query) -> Option<(&ArcStr, &ArcStr, u64)>
-    ensures { IsNoGroup query.now → leaf_found (option_map (λ r. (r.0.now, (r.1.now, r.2))) result)
-        ≡ extract (tree_of query.now) }
+/// What a query that is no group is found by: nothing that narrows the articles down, a word of a field with its weight,
+/// or the front of a prefix in a field.
+#[derive(Clone, Copy)]
+enum Leaf<'a> {
+    Any,
+    Word(&'a ArcStr, &'a ArcStr, u64),
+    Front(&'a ArcStr, &'a ArcStr),
+}
+
+/// What a query that is no group is found by.
+fn leaf_of(query: &Query) -> Leaf<'_>
+    ensures { IsNoGroup query.now → leaf_found result ≡ extract (tree_of query.now) }
 {
     match query {
-        Query::Term { field, word } => Some((field, word, characters(word))),
+        Query::Term { field, word } => Leaf::Word(field, word, characters(word)),
         Query::Phrase { field, words } => match heaviest_word(words) {
-            Some((word, weight)) => Some((field, word, weight)),
-            None => None,
+            Some((word, weight)) => Leaf::Word(field, word, weight),
+            None => Leaf::Any,
         },
-        Query::Prefix { field: _, front: _ } => None,
+        Query::Prefix { field, front } => Leaf::Front(field, front),
         Query::Span {
             field: _,
             low: _,
             high: _,
-        } => None,
-        Query::All => None,
-        Query::Group(_) => None,
+        } => Leaf::Any,
+        Query::All => Leaf::Any,
+        Query::Group(_) => Leaf::Any,
     }
 }
 
-/// The weight of a query's keys: how many characters the word has that decides, by the rules of `keys`; 0 for Any.
+/// The weight of what a query that is no group is found by.
+fn leaf_weight(leaf: Leaf<'_>) -> u64
+    ensures { result ≡ (leaf_found leaf.entry).weight }
+{
+    match leaf {
+        Leaf::Any => 0,
+        Leaf::Word(_, _, weight) => weight,
+        Leaf::Front(_, front) => characters(key_front(front)),
+    }
+}
+
+/// The weight of a query's keys: how many characters the word or the front has that decides, by the rules of `keys`; 0
+/// for Any.
 ///
 /// Takes no memory. Cost: one walk over the query.
 pub fn weight(query: &Query) -> u64
@@ -124,10 +145,7 @@ pub fn weight(query: &Query) -> u64
             }
             weight_found(found)
         }
-        _ => match deciding_word(query) {
-            Some((_, _, weight)) => weight,
-            None => 0,
-        },
+        _ => leaf_weight(leaf_of(query)),
     }
 }
 
@@ -176,23 +194,56 @@ fn push_any(keys: &mut Vec<Key>) -> Result<u64, NoMemory>
     Ok(0)
 }
 
+/// The first characters of a text, at most `MOST_FRONT_CHARACTERS`: the text itself where it has no more.
+fn shared_front(alloc: Global, text: &ArcStr) -> Result<ArcStr, NoMemory>
+    ensures { IfOk result (λ front. arc_str_bytes front ≡ key_front (arc_str_bytes text.now)) }
+{
+    let front = key_front(text);
+    if front == text.as_str() {
+        return Ok(text.clone()?);
+    }
+    Ok(ArcStr::from_str(alloc, front)?)
+}
+
+/// Adds the key of a front of a field, or Any for an empty one, and gives its weight.
+fn push_front(
+    alloc: Global,
+    field: &ArcStr,
+    text: &ArcStr,
+    keys: &mut Vec<Key>,
+) -> Result<u64, NoMemory>
+    ensures added { IfOk result (λ _. Adds (front_extract (arc_str_bytes field.now) (key_front (arc_str_bytes text.now)))
+        keys.old.items keys.new.items) }
+    ensures weight { IfOk result (λ weight. weight
+        ≡ (front_extract (arc_str_bytes field.now) (key_front (arc_str_bytes text.now))).weight) }
+{
+    let front = shared_front(alloc, text)?;
+    if front.is_empty() {
+        return push_any(keys);
+    }
+    let weight = characters(&front);
+    keys.push(Key::Front(field.clone()?, front))?;
+    Ok(weight)
+}
+
 /// Adds the key of a query that is no group, and gives its weight.
-fn add_leaf_key(query: &Query, keys: &mut Vec<Key>) -> Result<u64, NoMemory>
+fn add_leaf_key(alloc: Global, query: &Query, keys: &mut Vec<Key>) -> Result<u64, NoMemory>
     requires { IsNoGroup query.now }
     ensures added { IfOk result (λ _. Adds (extract (tree_of query.now)) keys.old.items keys.new.items) }
     ensures weight { IfOk result (λ weight. weight ≡ query_weight (tree_of query.now)) }
 {
-    match deciding_word(query) {
-        Some((field, word, weight)) => {
+    match leaf_of(query) {
+        Leaf::Any => push_any(keys),
+        Leaf::Word(field, word, weight) => {
             keys.push(Key::Word(field.clone()?, word.clone()?))?;
             Ok(weight)
         }
-        None => push_any(keys),
+        Leaf::Front(field, text) => push_front(alloc, field, text, keys),
     }
 }
 
 /// Adds a query's keys, and gives its weight.
-fn add_keys(query: &Query, keys: &mut Vec<Key>) -> Result<u64, NoMemory>
+fn add_keys(alloc: Global, query: &Query, keys: &mut Vec<Key>) -> Result<u64, NoMemory>
     ensures added { IfOk result (λ _. Adds (extract (tree_of query.now)) keys.old.items keys.new.items) }
     ensures weight { IfOk result (λ weight. weight ≡ query_weight (tree_of query.now)) }
 {
@@ -205,7 +256,7 @@ fn add_keys(query: &Query, keys: &mut Vec<Key>) -> Result<u64, NoMemory>
                     continue;
                 }
                 let middle = keys.len();
-                let weight = add_keys(child, keys)?;
+                let weight = add_keys(alloc, child, keys)?;
                 keep(found, *occur, weight, keys, start, middle);
                 found = next_found(found, *occur, weight);
             }
@@ -214,15 +265,16 @@ fn add_keys(query: &Query, keys: &mut Vec<Key>) -> Result<u64, NoMemory>
                 _ => Ok(weight_found(found)),
             }
         }
-        _ => add_leaf_key(query, keys),
+        _ => add_leaf_key(alloc, query, keys),
     }
 }
 
 /// The keys of a query, in order, each once: an article of which it holds has one of them.
 ///
 /// As Lucene's term-filtered presearcher extracts terms: of a word its key, of a phrase that of its heaviest word, of a
-/// group those of its heaviest Must child or, without one, of all its Should children; Any for what nothing narrows. A
-/// word weighs as many as it has characters, and the first stands on a tie. Texts are shared with the query.
+/// prefix its first characters, at most `MOST_FRONT_CHARACTERS`, of a group those of its heaviest Must child or, without
+/// one, of all its Should children; Any for what nothing narrows. A word or a front weighs as many as it has characters,
+/// and the first stands on a tie. Texts are shared with the query, but for a front that has to be cut.
 ///
 /// `NoMemory` where an allocation failed. Cost: one walk over the query, which moves the keys that are kept at most once
 /// for each group around them, and a sort of the keys.
@@ -230,6 +282,6 @@ pub fn keys(alloc: Global, query: &Query) -> Result<Vec<Key>, NoMemory>
     ensures { IfOk result (λ found. map key_of found.items ≡ query_keys (tree_of query.now)) }
 {
     let mut found = Vec::new(alloc);
-    add_keys(query, &mut found)?;
+    add_keys(alloc, query, &mut found)?;
     sorted(found)
 }

@@ -4,9 +4,11 @@
 ghost use Rattle.std.specs.Prelude.{◌≡◌};
 
 mod extraction;
+mod front;
 mod key;
 mod laws;
 
 pub use extraction::{keys, weight};
-pub use key::{Key, sorted};
+pub use front::Fronts;
+pub use key::{Key, MOST_FRONT_CHARACTERS, sorted};
 pub use laws::covering_law;

@@ -1,20 +1,28 @@
 -- What an index answers of the queries that it is of.
-use Rattle.std.proofs.Common.{◌≡◌, ℕ, zero, suc, ◌<◌, Bool, true, false, cond, ◌||◌, List, [], ◌∷◌, ◌++◌, All, map, filter, flat_map, length, Some, None, is_some, unwrap_or, option_map, slice_get, refl, sym, ap, ◌∙◌, arith}
+use Rattle.std.proofs.Common.{◌≡◌, ℕ, zero, suc, ◌<◌, Bool, true, false, cond, ◌||◌, nat_eq, List, [], ◌∷◌, ◌++◌, All, map, filter, flat_map, length, Some, None, is_some, unwrap_or, option_map, slice_get, refl, sym, ap, ◌∙◌, subst, arith, inl, inr}
 use Rattle.std.specs.List.{list_any}
+use Rattle.std.specs.List.Sorted.{IsStrictlySortedBy}
+use Rattle.std.proofs.lemmas.Bool.{cases_lt}
 use Rattle.std.proofs.lemmas.List.{length-map}
 use Rattle.std.proofs.lemmas.List.Folds.{list_any-append, flat_map-map}
 use Rattle.std.proofs.lemmas.Option.{slice_get-map}
 use Rattle.clip_grammar.specs.Tree.{Tree}
-use Rattle.clip_extract.specs.Keys.{KeyValue, is_same}
+use Rattle.clip_meaning.specs.Article.{Fields}
+use Rattle.clip_extract.specs.Keys.{KeyValue, key_cmp, is_same}
+use Rattle.clip_extract.specs.Covering.{article_keys}
 use Rattle.clip_extract.specs.Extraction.{query_keys}
 use Rattle.clip_extract.proofs.Order.{among_in_order}
 use Rattle.clip_terms.specs.Terms.{term_at, number_of}
 use Rattle.clip_terms.proofs.NumberedKeys.{term_of_number}
-use Rattle.clip_terms.proofs.ReadingOf.{has_number}
+use Rattle.clip_terms.specs.Reading.{has_key as article_has}
+use Rattle.clip_terms.specs.Steps.Numbers.{known}
+use Rattle.clip_terms.proofs.Numbers.{in_order_rises}
+use Rattle.clip_terms.proofs.ReadingOf.{has_number, known_within, known_terms, known_is}
 use Rattle.clip_plan.specs.Plan.{decoded, plan_of, word_keys}
-use Rattle.clip_index.specs.Index.{IndexValue, IsIndexOf, asked_of, has_key, places_with}
+use Rattle.clip_index.specs.Index.{IndexValue, IsIndexOf, asked_of, has_key, places_with, places_sharing}
 use Rattle.clip_index.proofs.AnyOf.{any_or, any_flat_map}
-use Rattle.clip_index.proofs.Sharing.{no_places}
+use Rattle.clip_index.proofs.Numbers.{same_tests, none_below}
+use Rattle.clip_index.proofs.Sharing.{no_places, any_place}
 
 -- the list at a place, an empty one past the last
 abbrev pub list_at : List (List ℕ) → ℕ → List ℕ
@@ -73,7 +81,7 @@ flat_map_filter f t empty (k ∷ ks) = by_test (t k) refl (flat_map_filter f t e
     by_test false is later = later ∙ sym (ap (λ xs. xs ++ flat_map f ks) (empty k is))
 
 -- the lists of the numbers of those keys that are terms are the places of all the keys
-pub lists_of_keys : (trees : List Tree) (index : IndexValue) → IsIndexOf trees index → (keys : List KeyValue) (ns : List ℕ) → All (λ n. n < length index.terms) ns
+lists_of_keys : (trees : List Tree) (index : IndexValue) → IsIndexOf trees index → (keys : List KeyValue) (ns : List ℕ) → All (λ n. n < length index.terms) ns
     → map (term_at index.terms) ns ≡ filter (λ k. list_any (is_same k) index.terms) keys
     → flat_map (list_at index.positions) ns ≡ flat_map (λ k. places_with k trees) keys
 lists_of_keys trees index is keys ns within named =
@@ -82,6 +90,31 @@ lists_of_keys trees index is keys ns within named =
     ∙ sym (flat_map-map with_places (term_at index.terms) ns)
     ∙ ap (flat_map with_places) named
     ∙ flat_map_filter with_places (λ k. list_any (is_same k) index.terms) (no_term trees index is) keys
+
+-- the numbers of the terms that an article has are those of its keys
+had_known : (terms : List KeyValue) → IsStrictlySortedBy key_cmp terms → (fields : Fields) (ns : List ℕ) → All (λ n. n < length terms) ns
+    → ((n : ℕ) → n < length terms → list_any (nat_eq n) ns ≡ article_has fields (term_at terms n))
+    → (n : ℕ) → list_any (nat_eq n) ns ≡ list_any (nat_eq n) (known (map (number_of terms) (article_keys fields)))
+had_known terms strict fields ns within had n =
+    let keys = article_keys fields in
+    elim (cases_lt n (length terms)) [
+      | inl lt ↦ had n lt ∙ sym (known_is terms n strict lt keys)
+      | inr le ↦ none_below (length terms) n ns le within ∙ sym (none_below (length terms) n (known (map (number_of terms) keys)) le (known_within terms keys))
+    ]
+
+-- the places under those numbers are the places of the queries that share a key
+pub sharing : (trees : List Tree) (index : IndexValue) → IsIndexOf trees index → (fields : Fields) (ns : List ℕ) → All (λ n. n < length index.terms) ns
+    → ((n : ℕ) → n < length index.terms → list_any (nat_eq n) ns ≡ article_has fields (term_at index.terms n))
+    → (q : ℕ) → list_any (nat_eq q) (flat_map (list_at index.positions) ns) ≡ list_any (nat_eq q) (places_sharing (article_keys fields) trees)
+sharing trees index is fields ns within had q =
+    let keys = article_keys fields in
+    let all = known (map (number_of index.terms) keys) in
+    let strict = subst (IsStrictlySortedBy key_cmp) (sym is.terms) (in_order_rises (flat_map asked_of trees)) in
+    any_flat_map (nat_eq q) (list_at index.positions) ns
+    ∙ same_tests (λ n. list_any (nat_eq q) (list_at index.positions n)) ns all (had_known index.terms strict fields ns within had)
+    ∙ sym (any_flat_map (nat_eq q) (list_at index.positions) all)
+    ∙ ap (list_any (nat_eq q)) (lists_of_keys trees index is keys all (known_within index.terms keys) (known_terms index.terms keys))
+    ∙ any_place keys trees q
 
 -- ---- plans
 

@@ -1,10 +1,10 @@
 -- Whether some element of a list passes a test.
-use Rattle.std.proofs.Common.{◌≡◌, Bool, true, false, ◌&&◌, ◌||◌, List, [], ◌∷◌, map, filter, flat_map, refl, sym, ap, ◌∙◌}
+use Rattle.std.proofs.Common.{◌≡◌, Bool, true, false, ◌&&◌, ◌||◌, List, [], ◌∷◌, map, filter, refl, sym, ap, ◌∙◌}
 use Rattle.std.specs.List.{list_any}
 use Rattle.std.proofs.Math.Bool.{and-or_distrib_right}
-use Rattle.std.proofs.lemmas.List.Folds.{list_any-append}
 use Rattle.clip_meaning.proofs.Numbered.{any_filter}
 use Rattle.clip_extract.proofs.Members.{any_map}
+pub use Rattle.clip_extract.proofs.Members.{any_flat_map}
 
 or_swap : (a b c d : Bool) → ((a || b) || (c || d)) ≡ ((a || c) || (b || d))
 or_swap true b c d = refl
@@ -27,10 +27,6 @@ any_swap r (a ∷ xs) bs = ap (λ x. list_any (r a) bs || x) (any_swap r xs bs) 
 pub any_and : {A : Type 0} (p : A → Bool) (c : Bool) (xs : List A) → list_any (λ a. p a && c) xs ≡ (list_any p xs && c)
 any_and p c [] = refl
 any_and p c (a ∷ xs) = ap (λ x. (p a && c) || x) (any_and p c xs) ∙ sym (and-or_distrib_right (p a) (list_any p xs) c)
-
-pub any_flat_map : {A B : Type 0} (p : B → Bool) (f : A → List B) (xs : List A) → list_any p (flat_map f xs) ≡ list_any (λ a. list_any p (f a)) xs
-any_flat_map p f [] = refl
-any_flat_map p f (a ∷ xs) = list_any-append p (f a) (flat_map f xs) ∙ ap (λ x. list_any p (f a) || x) (any_flat_map p f xs)
 
 pub any_map_filter : {A B : Type 0} (p : B → Bool) (f : A → B) (t : A → Bool) (xs : List A) → list_any p (map f (filter t xs)) ≡ list_any (λ a. t a && p (f a)) xs
 any_map_filter p f t xs = any_map p f (filter t xs) ∙ any_filter t (λ a. p (f a)) xs

@@ -15,8 +15,10 @@ use Rattle.clip_grammar.proofs.Booleans.{same_answer}
 use Rattle.clip_meaning.specs.Article.{Fields, words_in}
 use Rattle.clip_meaning.proofs.Fields.{Entry, bytes_exact}
 use Rattle.clip_meaning.specs.Meaning as meaning
-use Rattle.clip_extract.specs.Keys.{KeyValue, Any, Word, is_same}
-use Rattle.clip_extract.specs.Covering.{field_keys}
+use Rattle.clip_extract.specs.Keys.{KeyValue, Any, Word, Front, is_same}
+use Rattle.clip_extract.specs.Fronts.{fronts}
+use Rattle.clip_extract.specs.Covering.{field_keys, front_keys}
+use Rattle.clip_extract.proofs.Covers.{all_keys}
 use Rattle.clip_extract.proofs.Members.{entries_in_order, less_from}
 use Rattle.clip_extract.proofs.Order.{same_itself, same_key, among_in_order}
 use Rattle.clip_terms.specs.Reading.{has_key, has_run, stands_in}
@@ -65,10 +67,12 @@ own_words p q f fields empty others own =
 field_in : List ℕ → KeyValue → List ℕ
 field_in other Any = other
 field_in other (Word field word) = field
+field_in other (Front field front) = field
 
 word_in : KeyValue → List ℕ
 word_in Any = []
 word_in (Word field word) = word
+word_in (Front field front) = front
 
 apart : (f g w v : List ℕ) → eq_by_cmp bytes_cmp f g ≡ false → is_same (Word f w) (Word g v) ≡ false
 unfolding field_in
@@ -107,10 +111,24 @@ some_word : (f w : List ℕ) (vs : List (List ℕ)) → list_any (is_same (Word 
 some_word f w [] = refl
 some_word f w (v ∷ vs) = ap (λ b. b || list_any (is_same (Word f w)) (map (Word f) vs)) (is_word_back f w v) ∙ ap (λ b. bytes_eq v w || b) (some_word f w vs)
 
+no_front : (f w g : List ℕ) (fs : List (List ℕ)) → list_any (is_same (Word f w)) (map (Front g) fs) ≡ false
+no_front f w g [] = refl
+no_front f w g (x ∷ fs) = no_front f w g fs
+
+-- a word is no front
+no_fronts : (f w : List ℕ) (es : List Entry) → list_any (is_same (Word f w)) (flat_map front_keys es) ≡ false
+no_fronts f w [] = refl
+no_fronts f w (e ∷ es) =
+    list_any-append (is_same (Word f w)) (front_keys e) (flat_map front_keys es)
+    ∙ (λ i. no_front f w e.0 (flat_map fronts e.1) i || no_fronts f w es i)
+
 -- an article has a word's key where the field has the word
 pub has_word_key : (fields : Fields) (f w : List ℕ) → has_key fields (Word f w) ≡ list_any (λ v. bytes_eq v w) (words_in fields f)
 has_word_key fields f w =
-    among_in_order (Any ∷ flat_map field_keys (finite.entries fields)) (Word f w)
+    among_in_order (all_keys fields) (Word f w)
+    ∙ list_any-append (is_same (Word f w)) (Any ∷ flat_map field_keys (finite.entries fields)) (flat_map front_keys (finite.entries fields))
+    ∙ ap (λ b. list_any (is_same (Word f w)) (flat_map field_keys (finite.entries fields)) || b) (no_fronts f w (finite.entries fields))
+    ∙ or_false (list_any (is_same (Word f w)) (flat_map field_keys (finite.entries fields)))
     ∙ among_fields (is_same (Word f w)) (finite.entries fields)
     ∙ own_words (λ e. list_any (is_same (Word f w)) (field_keys e)) (λ vs. list_any (λ v. bytes_eq v w) vs) f fields refl
     (λ e differ. no_word f e.0 w differ e.1)

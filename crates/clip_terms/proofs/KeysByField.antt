@@ -18,9 +18,10 @@ use Rattle.clip_meaning.specs.Index.{numbered}
 use Rattle.clip_meaning.proofs.Fields.{bytes_exact}
 use Rattle.clip_meaning.proofs.Numbered.{words_pass}
 use Rattle.clip_extract.specs.Keys.{KeyValue, Any, Word, key_cmp, is_same}
-use Rattle.clip_extract.specs.Covering.{field_keys, article_keys}
+use Rattle.clip_extract.specs.Covering.{field_keys}
 use Rattle.clip_extract.proofs.Members.{any_map, any_deduped, less_from, keys_in_order, entries_in_order, strict_keys, same_members, keys_members}
 use Rattle.clip_extract.proofs.Order.{key_cmp_total, key_cmp_same}
+use Rattle.clip_terms.specs.Reading.{word_part_keys}
 use Rattle.clip_terms.specs.Steps.KeysByField.{words_in_order, ordered_keys, differing}
 use Rattle.clip_terms.proofs.Strict.{sorted_mapped, all_appended, strict_append}
 
@@ -135,8 +136,8 @@ same_fields t (f ∷ fields) =
     ∙ (λ i. same_field t f i || same_fields t fields i)
     ∙ sym (list_any-append t (field_keys f) (flat_map field_keys fields))
 
--- an article's keys in order are those of its fields in order, each with its words in order
-pub keys_by_field : (fields : Fields) → Any ∷ flat_map ordered_keys (finite.entries fields) ≡ article_keys fields
+-- an article's keys but for the fronts in order are those of its fields in order, each with its words in order
+pub keys_by_field : (fields : Fields) → Any ∷ flat_map ordered_keys (finite.entries fields) ≡ word_part_keys fields
 keys_by_field fields =
     strict_keys key_cmp_total key_cmp_same (Any ∷ flat_map ordered_keys (finite.entries fields)) (Any ∷ flat_map field_keys (finite.entries fields))
     (any_rises (finite.entries fields) (entries_in_order bytes_cmp fields))

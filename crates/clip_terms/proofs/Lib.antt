@@ -1,3 +1,4 @@
+pub mod AskedFronts
 pub mod KeysByField
 pub mod NumberedKeys
 pub mod Numbers

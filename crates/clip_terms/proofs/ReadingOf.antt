@@ -1,18 +1,23 @@
 -- What a reading is made of: numbers and flags of keys, and numbers at places.
-use Rattle.std.proofs.Common.{◌≡◌, ℕ, suc, ◌+◌, ◌<◌, Bool, true, false, ◌||◌, cond, nat_eq, List, [], ◌∷◌, ◌++◌, All, filter, map, length, take, set, get_or, Option, Some, None, is_some, unwrap_or, option_map, option_to_list, slice_get, refl, sym, ap, ◌∙◌, arith, eq-eqb, ne_eqb, get_or-set_same, get_or-set_other, inl, inr}
+use Rattle.std.proofs.Common.{◌≡◌, ℕ, suc, ◌+◌, ◌<◌, Bool, true, false, ◌||◌, cond, nat_eq, List, [], ◌∷◌, ◌++◌, All, filter, map, flat_map, length, take, set, get_or, Option, Some, None, is_some, unwrap_or, option_map, option_to_list, slice_get, refl, sym, ap, ◌∙◌, arith, eq-eqb, ne_eqb, get_or-set_same, get_or-set_other, inl, inr}
+use Rattle.std.specs.FinMap as finite
 use Rattle.std.specs.Cmp.{eq_by_cmp_equiv}
 use Rattle.std.specs.List.{list_any}
 use Rattle.std.specs.List.Sorted.{IsStrictlySortedBy}
 use Rattle.std.proofs.lemmas.Bool.{cases_eq, or_right}
 use Rattle.std.proofs.lemmas.Cmp.{nat_eq_equiv}
 use Rattle.std.proofs.lemmas.List.{map-append}
-use Rattle.std.proofs.lemmas.List.Elements.{All-nil, All-cons, All-append}
+use Rattle.std.proofs.lemmas.List.Elements.{All-nil, All-cons, All-append, All-same}
 use Rattle.std.proofs.lemmas.List.Folds.{list_any-append, list_any_more}
 use Rattle.std.proofs.lemmas.Option.{slice_get-map, unwrap_or-slice_get}
 use Rattle.clip_extract.specs.Keys.{KeyValue, Any, Word, key_cmp, is_same}
-use Rattle.clip_extract.specs.Covering.{field_keys}
-use Rattle.clip_extract.proofs.Order.{key_cmp_total}
+use Rattle.clip_meaning.specs.Article.{Fields}
+use Rattle.clip_extract.specs.Covering.{field_keys, front_keys}
+use Rattle.clip_extract.proofs.Covers.{all_keys}
+use Rattle.clip_extract.proofs.Order.{key_cmp_total, among_in_order}
 use Rattle.clip_terms.specs.Terms.{term_at, number_of}
+use Rattle.clip_terms.specs.Reading.{has_key, word_part_keys}
+use Rattle.clip_terms.specs.Steps.Fronts.{AddsNumbersOf}
 use Rattle.clip_terms.specs.Steps.Numbers.{known, number_at, AreFlags}
 use Rattle.clip_terms.specs.Steps.Runs.{is_number}
 use Rattle.clip_terms.proofs.NumberedKeys.{term_of_number, key_numbered}
@@ -121,3 +126,27 @@ module _ (terms keys : List KeyValue) where
       let here : map (term_at keys) (items v) ≡ map (Word f.0) f.1 = cc in
       let later : map (λ v. map (term_at keys) (items v)) all ≡ map field_keys fields = cc in
       λ i. places_numbered f.0 (items v) f.1 here i ∷ fields_numbered items all fields later i
+
+-- ---- the numbers of all keys of an article
+
+module _ (terms : List KeyValue) (fields : Fields) (keys : List KeyValue) (old new : List ℕ) (of_words : keys ≡ word_part_keys fields) (first : old ≡ known (map (number_of terms) keys))
+    (fronts : AddsNumbersOf terms (flat_map front_keys (finite.entries fields)) old new) where
+  whole : new ≡ known (map (number_of terms) keys) ++ known (map (number_of terms) fronts.asked)
+  whole = fronts.added ∙ ap (λ ns. ns ++ known (map (number_of terms) fronts.asked)) first
+
+  pub numbers_within : All (λ n. n < length terms) new
+  numbers_within =
+      All-same (λ n. n < length terms) _ _ whole
+      (All-append (λ n. n < length terms) (known (map (number_of terms) keys)) (known (map (number_of terms) fronts.asked)) (known_within terms keys) (known_within terms fronts.asked))
+
+  pub numbers_had : IsStrictlySortedBy key_cmp terms → (n : ℕ) → n < length terms → list_any (nat_eq n) new ≡ has_key fields (term_at terms n)
+  numbers_had strict n lt =
+      let is : KeyValue → Bool = is_same (term_at terms n) in
+      let words : List KeyValue = Any ∷ flat_map field_keys (finite.entries fields) in
+      ap (list_any (nat_eq n)) whole
+      ∙ list_any-append (nat_eq n) (known (map (number_of terms) keys)) (known (map (number_of terms) fronts.asked))
+      ∙ (λ i. known_is terms n strict lt keys i || known_is terms n strict lt fronts.asked i)
+      ∙ (λ i. list_any is (of_words i) || fronts.same is i)
+      ∙ ap (λ b. b || list_any is (flat_map front_keys (finite.entries fields))) (among_in_order words (term_at terms n))
+      ∙ sym (list_any-append is words (flat_map front_keys (finite.entries fields)))
+      ∙ sym (among_in_order (all_keys fields) (term_at terms n))

@@ -1,5 +1,5 @@
 -- Runs of keys by the numbers of their terms.
-use Rattle.std.proofs.Common.{◌≡◌, ℕ, Bool, true, false, ◌&&◌, ◌||◌, List, [], ◌∷◌, Option, None, unwrap_or, nat_eq, map, flat_map, length, refl, sym, ap, ◌∙◌, inl, inr}
+use Rattle.std.proofs.Common.{◌≡◌, ℕ, Bool, true, false, ◌&&◌, ◌||◌, List, [], ◌∷◌, ◌++◌, Option, None, unwrap_or, nat_eq, map, flat_map, length, refl, sym, ap, ◌∙◌, inl, inr}
 use Rattle.std.specs.FinMap as finite
 use Rattle.std.specs.Cmp.{eq_by_cmp_equiv}
 use Rattle.std.specs.List.{list_any, list_all, starts_with, slice_get}
@@ -8,7 +8,8 @@ use Rattle.std.proofs.lemmas.Bool.{or_cases, or_left, or_right, and_parts, and_f
 use Rattle.std.proofs.lemmas.List.Folds.{list_any-append, list_all-map}
 use Rattle.clip_meaning.specs.Article.{Fields}
 use Rattle.clip_extract.specs.Keys.{KeyValue, Any, Word, key_cmp, is_same}
-use Rattle.clip_extract.specs.Covering.{field_keys}
+use Rattle.clip_extract.specs.Covering.{field_keys, front_keys}
+use Rattle.clip_extract.proofs.Covers.{all_keys}
 use Rattle.clip_extract.proofs.Order.{key_cmp_total, same_itself, among_in_order}
 use Rattle.clip_terms.specs.Terms.{term_at, number_of}
 use Rattle.clip_terms.specs.Reading.{has_key, has_run, stands_in, is_run}
@@ -70,7 +71,7 @@ module _ (among : KeyValue → Bool) where
 
 -- every article has the key Any
 pub has_any : (fields : Fields) → has_key fields Any ≡ true
-has_any fields = among_in_order (Any ∷ flat_map field_keys (finite.entries fields)) Any ∙ or_left (is_same Any Any) (list_any (is_same Any) (flat_map field_keys (finite.entries fields))) (same_itself Any)
+has_any fields = among_in_order (all_keys fields) Any ∙ or_left (is_same Any Any) (list_any (is_same Any) (flat_map field_keys (finite.entries fields) ++ flat_map front_keys (finite.entries fields))) (same_itself Any)
 
 -- a run some key of which the article lacks stands nowhere
 pub lacks : (fields : Fields) (run : List KeyValue) → list_all (has_key fields) run ≡ false → has_run fields run ≡ false
@@ -78,7 +79,7 @@ lacks fields run h =
     false_from_ne_true (has_run fields run)
     (λ has. let parts = and_parts (is_run run) _ has in
     let all = standing_any (has_key fields) run (finite.entries fields)
-    (λ q is. among_in_order (Any ∷ flat_map field_keys (finite.entries fields)) q ∙ or_right (is_same q Any) _ is) parts.1 in
+    (λ q is. among_in_order (all_keys fields) q ∙ or_right (is_same q Any) _ (list_any-append (is_same q) (flat_map field_keys (finite.entries fields)) _ ∙ or_left (list_any (is_same q) (flat_map field_keys (finite.entries fields))) _ is)) parts.1 in
     false≢true (sym h ∙ all))
 
 -- past the last term stands the key that every article has

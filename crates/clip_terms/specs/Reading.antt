@@ -1,10 +1,10 @@
 -- What an article is asked by terms.
-use Rattle.std.specs.Prelude.{◌≡◌, ℕ, Bool, false, true, ◌&&◌, ◌||◌, List, [], ◌∷◌, refl}
-use Rattle.std.specs.Coded.{Coded, code_by, coded×, coded_list}
+use Rattle.std.specs.Prelude.{◌≡◌, ℕ, zero, suc, Bool, false, true, ◌&&◌, ◌||◌, List, [], ◌∷◌, flat_map, refl}
+use Rattle.std.specs.Coded.{Coded, code_by, coded×, coded_list, coded_ℕ}
 use Rattle.std.specs.FinMap as finite
 use Rattle.std.specs.List.{list_any, starts_with}
 use Rattle.clip_grammar.specs.TreeCode.{bytes_code}
-use Rattle.clip_extract.specs.Keys.{KeyValue, Any, Word, texts, is_same}
+use Rattle.clip_extract.specs.Keys.{KeyValue, Any, Word, Front, rank, texts, in_order, is_same}
 use Rattle.clip_extract.specs.Covering.{article_keys, field_keys}
 use Rattle.clip_meaning.specs.Article.{ArticleValue, Fields, article_code}
 
@@ -14,19 +14,25 @@ pub record ReadingValue : Type 0 where
   pub article : ArticleValue
 
 -- by these codes a type whose value holds keys, or is a reading, has a model
-abbrev pub with_texts : List (List ℕ) → KeyValue
-with_texts (field ∷ word ∷ []) = Word field word
-with_texts _ = Any
+abbrev pub with_parts : ℕ → List (List ℕ) → KeyValue
+with_parts (suc zero) (field ∷ word ∷ []) = Word field word
+with_parts (suc (suc zero)) (field ∷ front ∷ []) = Front field front
+with_parts _ _ = Any
 
-pub with_its_texts : (key : KeyValue) → with_texts (texts key) ≡ key
-with_its_texts Any = refl
-with_its_texts (Word field word) = refl
+pub with_its_parts : (key : KeyValue) → with_parts (rank key) (texts key) ≡ key
+with_its_parts Any = refl
+with_its_parts (Word field word) = refl
+with_its_parts (Front field front) = refl
 
 abbrev pub key_code : Coded KeyValue
-key_code = code_by (List (List ℕ)) (coded_list bytes_code) texts with_texts with_its_texts
+key_code = code_by (ℕ × List (List ℕ)) (coded× coded_ℕ (coded_list bytes_code)) (λ key. (rank key, texts key)) (λ parts. with_parts parts.0 parts.1) with_its_parts
 
 abbrev pub reading_code : Coded ReadingValue
 reading_code = code_by (List KeyValue × ArticleValue) (coded× (coded_list key_code) article_code) (λ r. (r.terms, r.article)) (λ p. record { terms = p.0; article = p.1 }) (λ _. refl)
+
+-- an article's keys but for the fronts: Any, and each word of each field; in order, each once
+abbrev pub word_part_keys : Fields → List KeyValue
+word_part_keys fields = in_order (Any ∷ flat_map field_keys (finite.entries fields))
 
 -- the article has the key
 abbrev pub has_key : Fields → KeyValue → Bool

@@ -1,10 +1,11 @@
-//! Articles that are ready to be asked: their keys, and which of them stands at each place.
+//! Articles that are ready to be asked: the keys of their words, and which of them stands at each place.
 ghost use Rattle.std.specs.Prelude.{◌≡◌, ◌++◌, None, IfOk, OnOk, List, All, map, length, option_map};
 ghost use Rattle.std.specs.Arc.{arc_str_bytes};
 ghost use Rattle.std.specs.FinMap as finite;
 ghost use Rattle.clip_extract.specs.Keys.{Word, key_of};
 ghost use Rattle.clip_extract.specs.declared.key.Key.{Key};
-ghost use Rattle.clip_extract.specs.Covering.{article_keys, field_keys};
+ghost use Rattle.clip_extract.specs.Covering.{field_keys};
+ghost use Rattle.clip_terms.specs.Reading.{word_part_keys};
 ghost use Rattle.clip_terms.specs.Terms.{term_at};
 ghost use Rattle.clip_terms.specs.Steps.KeysByField.{differing, ordered_keys, key_added};
 ghost use Rattle.clip_terms.specs.Steps.Places.{AreOfWords, IsPlaced};
@@ -16,8 +17,8 @@ use std::alloc::Global;
 use std::marker::Model;
 use std::sync::ArcStr;
 
-/// An article with its keys in order, each once, and for each field the keys of its words, by their places in that list
-/// and in the order of its text. Contracts see the article.
+/// An article with its keys but for the fronts, in order, each once, and for each field the keys of its words, by their
+/// places in that list and in the order of its text. Contracts see the article.
 #[derive(Drop)]
 pub struct Asking<'a> {
     article: &'a Article,
@@ -119,9 +120,9 @@ impl<'a> Asking<'a> {
         self.article
     }
 
-    /// The article's keys, in order, each once. Constant time.
+    /// The article's keys but for the fronts, in order, each once: Any, and each word of each field. Constant time.
     pub fn keys(&self) -> &[Key]
-        ensures { map key_of result.now ≡ article_keys self.now.fields }
+        ensures { map key_of result.now ≡ word_part_keys self.now.fields }
     {
         &self.keys
     }
@@ -129,16 +130,9 @@ impl<'a> Asking<'a> {
     /// For each field, in the byte order of their names, and each word in the order of its text, which of the keys is
     /// the word's, from 0. Constant time.
     pub fn places(&self) -> &[Vec<usize>]
-        ensures { (keys : List Key) → map key_of keys ≡ article_keys self.now.fields
+        ensures { (keys : List Key) → map key_of keys ≡ word_part_keys self.now.fields
             → map (λ places. map (term_at (map key_of keys)) places.items) result.now ≡ map field_keys (finite.entries self.now.fields) }
     {
         &self.places
-    }
-
-    /// The article's keys, in order, each once. Constant time.
-    pub fn into_keys(self) -> Vec<Key>
-        ensures { map key_of result.items ≡ article_keys self.entry.fields }
-    {
-        self.keys
     }
 }

@@ -4,6 +4,7 @@
 ghost use Rattle.std.specs.Prelude.{◌≡◌};
 
 mod asking;
+mod numbering;
 mod reading;
 mod terms;
 

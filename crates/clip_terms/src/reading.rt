@@ -1,16 +1,14 @@
 //! Articles as they are asked by the numbers of terms.
-ghost use Rattle.std.specs.Prelude.{◌≡◌, ◌<◌, ◌++◌, IfOk, OnOk, length, map, filter, option_to_list};
+ghost use Rattle.std.specs.Prelude.{◌≡◌, ℕ, ◌<◌, IfOk, nat_eq, length, map};
 ghost use Rattle.std.specs.List.{All, list_any, list_all};
-ghost use Rattle.clip_extract.specs.Keys.{key_of, is_same};
-ghost use Rattle.clip_extract.specs.Covering.{article_keys};
-ghost use Rattle.clip_terms.specs.Terms.{term_at, number_of};
+ghost use Rattle.clip_terms.specs.Terms.{term_at};
 ghost use Rattle.clip_terms.specs.Reading.{has_key, has_run};
-ghost use Rattle.clip_terms.specs.Steps.Numbers.{known, number_at, AreFlags};
+ghost use Rattle.clip_terms.specs.Steps.Numbers.{number_at, AreFlags};
 ghost use Rattle.clip_terms.specs.Steps.Runs.{is_number, begins_with, stands_among};
 
 use crate::asking::Asking;
+use crate::numbering::{add_front_numbers, key_numbers, known_numbers};
 use crate::terms::Terms;
-use clip_extract::Key;
 use clip_meaning::Article;
 use clip_words::NoMemory;
 use std::alloc::Global;
@@ -38,38 +36,6 @@ impl<'a> Model for Reading<'a> {
     ghost view = { reading_of };
 
     ghost invariant = { IsReading };
-}
-
-/// The numbers of keys, in order; none of a key that is no term.
-fn key_numbers(alloc: Global, terms: &Terms, keys: &[Key]) -> Result<Vec<Option<u32>>, NoMemory>
-    ensures { IfOk result (λ numbers. numbers.items ≡ map (number_of terms.now) (map key_of keys.now)) }
-{
-    let mut numbers = Vec::with_capacity(alloc, keys.len())?;
-    for key in keys {
-        numbers.push(terms.number(key))?;
-    }
-    Ok(numbers)
-}
-
-/// Adds a number, if it is one.
-fn add_known(number: Option<u32>, numbers: &mut Vec<u32>) -> Result<(), NoMemory>
-    ensures { OnOk result (numbers.new.items ≡ numbers.old.items ++ option_to_list number) }
-{
-    if let Some(number) = number {
-        numbers.push(number)?;
-    }
-    Ok(())
-}
-
-/// Those that are numbers, in order.
-fn known_numbers(alloc: Global, by_key: &[Option<u32>]) -> Result<Vec<u32>, NoMemory>
-    ensures { IfOk result (λ numbers. numbers.items ≡ known by_key.now) }
-{
-    let mut numbers = Vec::new(alloc);
-    for number in by_key {
-        add_known(*number, &mut numbers)?;
-    }
-    Ok(numbers)
 }
 
 /// For each number below a bound, whether it is among these.
@@ -129,14 +95,16 @@ fn field_numbers(
 impl<'a> Reading<'a> {
     /// Reads an article by these terms.
     ///
-    /// `NoMemory` where an allocation failed. Cost: one search among the terms for each key of the article, a step for
-    /// each of its words, and a byte for each term.
+    /// `NoMemory` where an allocation failed. Cost: one search among the terms for each word of the article that differs
+    /// from the others, and, where there is a front among the terms, one for each front of such a word that the word
+    /// before it, by bytes, does not have; a step for each of its words, and a byte for each term.
     pub fn of(alloc: Global, terms: &'a Terms, asking: &Asking<'a>) -> Result<Reading<'a>, NoMemory>
         ensures { IfOk result (λ reading. reading ≡ record { terms = terms.now; article = asking.now }) }
     {
         terms.order_law();
         let by_key = key_numbers(alloc, terms, asking.keys())?;
-        let numbers = known_numbers(alloc, &by_key)?;
+        let mut numbers = known_numbers(alloc, &by_key)?;
+        add_front_numbers(terms, asking.article().fields(), &mut numbers)?;
         let flags = flags_of(alloc, &numbers, terms.len())?;
         let fields = field_numbers(alloc, asking.places(), &by_key)?;
         Ok(Reading {
@@ -155,11 +123,11 @@ impl<'a> Reading<'a> {
         self.article
     }
 
-    /// The numbers of the article's keys that are terms, in order, each once. Constant time.
+    /// The numbers of the terms that the article has, in any order. Constant time.
     pub fn numbers(&self) -> &[u32]
         ensures within { All (λ n. n < length self.now.terms) result.now }
-        ensures keys { map (term_at self.now.terms) result.now
-            ≡ filter (λ k. list_any (is_same k) self.now.terms) (article_keys self.now.article.fields) }
+        ensures had { (n : ℕ) → n < length self.now.terms
+            → list_any (nat_eq n) result.now ≡ has_key self.now.article.fields (term_at self.now.terms n) }
     {
         &self.numbers
     }

@@ -1,11 +1,13 @@
 //! Keys in order, by their numbers.
-ghost use Rattle.std.specs.Prelude.{◌≡◌, ◌==◌, IfOk, length, map};
+ghost use Rattle.std.specs.Prelude.{◌≡◌, ℕ, ◌==◌, List, false, None, IfOk, length, map};
 ghost use Rattle.std.specs.List.Sorted.{IsStrictlySortedBy};
-ghost use Rattle.clip_extract.specs.Keys.{key_of, key_cmp, in_order};
+ghost use Rattle.clip_extract.specs.Keys.{Front, key_of, key_cmp, in_order};
 ghost use Rattle.clip_terms.specs.Terms.{number_of};
+ghost use Rattle.clip_terms.specs.Steps.Fronts.{is_front};
 
 use clip_extract::{Key, sorted};
 use clip_words::NoMemory;
+use std::cmp::Ordering;
 use std::marker::Model;
 
 /// The most terms of a table, so that each number fits in 32 bits.
@@ -28,6 +30,26 @@ impl Model for Terms {
     ghost view = { λ t. map key_of t.keys.items };
 
     ghost invariant = { λ t. IsStrictlySortedBy key_cmp (map key_of t.keys.items) × (length t.keys.items ≤ MOST_TERMS) };
+}
+
+/// Compares a key with a front of a field.
+fn compare(key: &Key, field: &str, text: &str) -> Ordering
+    ensures { result ≡ key_cmp (key_of key.now) (Front field.now text.now) }
+{
+    match key {
+        Key::Front(name, front) => name.as_str().cmp(field).then(front.as_str().cmp(text)),
+        _ => Ordering::Less,
+    }
+}
+
+/// Whether a key is a front.
+fn is_front(key: &Key) -> bool
+    ensures { result ≡ is_front (key_of key.now) }
+{
+    match key {
+        Key::Front(_, _) => true,
+        _ => false,
+    }
 }
 
 impl Terms {
@@ -66,6 +88,31 @@ impl Terms {
         match self.keys.binary_search(key) {
             Ok(number) => Some(number as u32),
             Err(_) => None,
+        }
+    }
+
+    /// The number of a front of a field, `None` where it is no term. Takes no memory. Cost: a search by halves.
+    pub fn front(&self, field: &str, text: &str) -> Option<u32>
+        ensures { result ≡ number_of self.now (Front field.now text.now) }
+    {
+        let found = self.keys.binary_search_by(
+            |key: &Key| -> Ordering
+                ensures { result ≡ key_cmp (key_of key.now) (Front field.entry.now text.entry.now) }
+            { compare(key, field, text) },
+        );
+        match found {
+            Ok(number) => Some(number as u32),
+            Err(_) => None,
+        }
+    }
+
+    /// Whether some term is a front; where none is, no front has a number. Takes no memory. Constant time.
+    pub(crate) fn has_fronts(&self) -> bool
+        ensures { result ≡ false → (field : List ℕ) (text : List ℕ) → number_of self.now (Front field text) ≡ None }
+    {
+        match self.keys.last() {
+            Some(key) => is_front(key),
+            None => false,
         }
     }
 

@@ -9,7 +9,7 @@ use std::alloc::Global;
 use std::test::Fail;
 
 /// Each the text of a query, and its keys and its weight.
-static ROWS: [(&str, &str); 21] = [
+static ROWS: [(&str, &str); 25] = [
     ("+tea +coffee", "text:coffee 6"),
     ("tea coffee", "text:coffee text:tea 3"),
     ("+tea +mat", "text:tea 3"),
@@ -17,7 +17,12 @@ static ROWS: [(&str, &str); 21] = [
     ("\"tea mat\"", "text:tea 3"),
     ("-spam", "* 0"),
     ("[a TO b]", "* 0"),
-    ("tea*", "* 0"),
+    ("tea*", "text:tea* 3"),
+    ("tea* coffee", "text:coffee text:tea* 3"),
+    // a front is the first on a tie, and has eight characters at most
+    ("+tea* +mat", "text:tea* 3"),
+    ("+extraordinarily* +[a TO b]", "text:extraord* 8"),
+    ("+éééééééééé* +[a TO b]", "text:éééééééé* 8"),
     ("title:tea tea tea", "text:tea title:tea 3"),
     // a required group that nothing narrows, alone and beside one that is narrowed
     ("+([a TO b] tea)", "* text:tea 0"),
@@ -70,17 +75,32 @@ fn a_query_has_the_keys_and_the_weight_of_the_table(rt: HostRuntime) -> Result<(
 type Fields = &'static [(&'static str, &'static str)];
 
 /// Each the fields of an article, and its keys.
-static ARTICLES: [(Fields, &str); 4] = [
-    (&[("text", "tea")], "* text:tea "),
+static ARTICLES: [(Fields, &str); 6] = [
+    (
+        &[("text", "tea")],
+        "* text:tea text:t* text:te* text:tea* ",
+    ),
+    // folded, and in characters
+    (
+        &[("text", "Straße")],
+        "* text:strasse text:s* text:st* text:str* text:stra* text:stras* text:strass* text:strasse* ",
+    ),
+    // eight characters at most
+    (
+        &[("text", "extraordinarily")],
+        "* text:extraordinarily text:e* text:ex* text:ext* text:extr* text:extra* text:extrao* text:extraor* text:extraord* ",
+    ),
     (
         &[("title", "Zebra apple"), ("body", "tea Milk, tea and TEA")],
-        "* body:and body:milk body:tea title:apple title:zebra ",
+        "* body:and body:milk body:tea title:apple title:zebra body:a* body:an* body:and* body:m* body:mi* body:mil* \
+            body:milk* body:t* body:te* body:tea* title:a* title:ap* title:app* title:appl* title:apple* title:z* \
+            title:ze* title:zeb* title:zebr* title:zebra* ",
     ),
     (&[("text", "")], "* "),
-    // by field and then by word, in the order of bytes
+    // words and then fronts, by field and then by text, in the order of bytes
     (
         &[("title", "a"), ("text", "tea é tea te")],
-        "* text:te text:tea text:é title:a ",
+        "* text:te text:tea text:é title:a text:t* text:te* text:tea* text:é* title:a* ",
     ),
 ];
 
@@ -91,7 +111,7 @@ fn keys_of(alloc: Global, fields: Fields) -> Result<String, Fail> {
 }
 
 #[test]
-fn an_article_has_any_and_each_of_its_words_once_in_order(rt: HostRuntime) -> Result<(), Fail> {
+fn an_article_has_any_and_its_words_and_their_fronts_once_in_order(rt: HostRuntime) -> Result<(), Fail> {
     for (fields, wanted) in &ARTICLES {
         let told = keys_of(rt.alloc(), fields)?;
         assert!(rt; told.as_str() == *wanted, "{told}");

@@ -4,11 +4,12 @@ use clip_grammar::query::{Bound, Occur, Query};
 use std::alloc::{AllocError, Global};
 use std::sync::ArcStr;
 
-/// A key: `*` for Any and `field:word` for a word, with a space after it.
+/// A key: `*` for Any, `field:word` for a word and `field:front*` for a front, with a space after it.
 fn show_key(key: &Key, text: &mut String) -> Result<(), AllocError> {
     match key {
         Key::Any => text.push_str("* "),
         Key::Word(field, word) => write!(text, "{field}:{word} "),
+        Key::Front(field, front) => write!(text, "{field}:{front}* "),
     }
 }
 

@@ -1,10 +1,10 @@
 -- A reading as contracts see it, and what holds of each.
-use Rattle.std.specs.Prelude.{◌≡◌, ℕ, ◌<◌, map, length, filter, unwrap_or, slice_get, true}
+use Rattle.std.specs.Prelude.{◌≡◌, ℕ, ◌<◌, nat_eq, map, length, unwrap_or, slice_get, true}
 use Rattle.std.specs.FinMap as finite
 use Rattle.std.specs.List.{list_any, All}
 use Rattle.std.specs.List.Sorted.{IsStrictlySortedBy}
-use Rattle.clip_extract.specs.Keys.{key_cmp, is_same}
-use Rattle.clip_extract.specs.Covering.{article_keys, field_keys}
+use Rattle.clip_extract.specs.Keys.{key_cmp}
+use Rattle.clip_extract.specs.Covering.{field_keys}
 use Rattle.clip_terms.specs.Terms.{term_at, number_of}
 use Rattle.clip_terms.specs.Reading.{ReadingValue, has_key}
 use Rattle.clip_terms.specs.declared.reading.Reading.TheInside.{Inside}
@@ -12,12 +12,12 @@ use Rattle.clip_terms.specs.declared.reading.Reading.TheInside.{Inside}
 abbrev pub reading_of : Inside → ReadingValue
 reading_of r = record { terms = r.terms.now; article = r.article.now }
 
--- The terms are in order, each once; the numbers are those of the article's keys that are terms; each term has its
--- flag; and each place of each field has the number of its word, if that is a term.
+-- The terms are in order, each once; the numbers are those of the terms that the article has; each term has its flag;
+-- and each place of each field has the number of its word, if that is a term.
 pub record IsReading (r : Inside) : Type 0 where
   pub strict : IsStrictlySortedBy key_cmp r.terms.now
   pub within : All (λ n. n < length r.terms.now) r.numbers.items
-  pub numbers : map (term_at r.terms.now) r.numbers.items ≡ filter (λ k. list_any (is_same k) r.terms.now) (article_keys r.article.now.fields)
+  pub numbers : (n : ℕ) → n < length r.terms.now → list_any (nat_eq n) r.numbers.items ≡ has_key r.article.now.fields (term_at r.terms.now n)
   pub long : length r.flags.items ≡ length r.terms.now
   pub flags : (n : ℕ) → n < length r.terms.now → unwrap_or (slice_get r.flags.items n) true ≡ has_key r.article.now.fields (term_at r.terms.now n)
   pub fields : map (λ places. places.items) r.fields.items ≡ map (λ field. map (number_of r.terms.now) (field_keys field)) (finite.entries r.article.now.fields)

@@ -1,0 +1,11 @@
+use Rattle.std.proofs.Common.{◌≡◌, ◌∙◌}
+use Rattle.clip_terms.proofs.AskedFronts.{words_more}
+use Rattle.clip_terms.proofs.numbering.add_posting_fronts.Goals as goal
+
+pub loop-posting-preserved : goal.loop-posting-preserved
+loop-posting-preserved c =
+    let word : c.as_str-word.result.now ≡ c.posting-item.result.0 = c.as_str-word.ensures.value ∙ c.word.ensures in (
+      c.as_str-word.utf8,
+      words_more c.args.terms.now c.args.name.now c.loop-posting.last.now c.as_str-word.result.now c.loop-posting.numbers.items c.add_word_fronts.new.numbers.items _ c.args.postings.now c.loop-posting.posting-index c.posting-item.result
+          c.loop-posting-test.true c.posting-item.is word c.in_ok-add_word_fronts.ensures c.loop-posting.invariant.1,
+    )

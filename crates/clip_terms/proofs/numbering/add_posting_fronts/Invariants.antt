@@ -1,0 +1,14 @@
+use Rattle.std.proofs.Common.{◌≡◌, ◌++◌, [], map, drop}
+use denote.Text.{Utf8}
+use denote.Shadow.{shadow}
+use Rattle.clip_extract.specs.Keys.{Front}
+use Rattle.clip_terms.specs.Terms.{number_of}
+use Rattle.clip_terms.specs.Steps.Numbers.{known}
+use Rattle.clip_terms.specs.Steps.Fronts.{asked_fronts}
+use Rattle.clip_terms.proofs.numbering.add_posting_fronts.Given as goal
+
+abbrev pub invariant-loop-posting : goal.invariant-loop-posting
+invariant-loop-posting l =
+    shadow (Utf8 l.last)
+    × (l.numbers.items ++ known (map (number_of l.terms) (map (Front l.name) (asked_fronts l.last (map (λ p. p.0) (drop l.posting-index l.postings)))))
+    ≡ l.fn.numbers.items ++ known (map (number_of l.terms) (map (Front l.name) (asked_fronts [] (map (λ p. p.0) l.postings)))))

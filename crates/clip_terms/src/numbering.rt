@@ -1,0 +1,116 @@
+//! The numbers of an article's keys.
+ghost use Rattle.std.specs.Prelude.{◌≡◌, ◌++◌, [], IfOk, OnOk, map, flat_map, option_map, option_to_list};
+ghost use Rattle.clip_extract.specs.Keys.{Front, key_of};
+ghost use Rattle.clip_extract.specs.Fronts.{fronts};
+ghost use Rattle.clip_extract.specs.Covering.{front_keys};
+ghost use Rattle.clip_terms.specs.Terms.{number_of};
+ghost use Rattle.clip_terms.specs.Steps.KeysByField.{is_word};
+ghost use Rattle.clip_terms.specs.Steps.Numbers.{known};
+ghost use Rattle.clip_terms.specs.Steps.Fronts.{other_fronts, asked_fronts, AddsNumbersOf};
+
+use crate::terms::Terms;
+use clip_extract::{Fronts, Key};
+use clip_meaning::{Field, Posting};
+use clip_words::NoMemory;
+use std::alloc::Global;
+
+/// The numbers of keys, in order; none of a key that is no term.
+pub(crate) fn key_numbers(
+    alloc: Global,
+    terms: &Terms,
+    keys: &[Key],
+) -> Result<Vec<Option<u32>>, NoMemory>
+    ensures { IfOk result (λ numbers. numbers.items ≡ map (number_of terms.now) (map key_of keys.now)) }
+{
+    let mut numbers = Vec::with_capacity(alloc, keys.len())?;
+    for key in keys {
+        numbers.push(terms.number(key))?;
+    }
+    Ok(numbers)
+}
+
+/// Adds a number, if it is one.
+fn add_known(number: Option<u32>, numbers: &mut Vec<u32>) -> Result<(), NoMemory>
+    ensures { OnOk result (numbers.new.items ≡ numbers.old.items ++ option_to_list number) }
+{
+    if let Some(number) = number {
+        numbers.push(number)?;
+    }
+    Ok(())
+}
+
+/// Those that are numbers, in order.
+pub(crate) fn known_numbers(alloc: Global, by_key: &[Option<u32>]) -> Result<Vec<u32>, NoMemory>
+    ensures { IfOk result (λ numbers. numbers.items ≡ known by_key.now) }
+{
+    let mut numbers = Vec::new(alloc);
+    for number in by_key {
+        add_known(*number, &mut numbers)?;
+    }
+    Ok(numbers)
+}
+
+/// Whether a text is there and is this one.
+fn is_text(text: Option<&str>, wanted: &str) -> bool
+    ensures { result ≡ is_word (option_map (λ w. w.now) text.entry) wanted.now }
+{
+    text == Some(wanted)
+}
+
+/// Adds the numbers of a word's fronts in a field, but for those that another word has too.
+fn add_word_fronts(
+    terms: &Terms,
+    name: &str,
+    last: &str,
+    word: &str,
+    numbers: &mut Vec<u32>,
+) -> Result<(), NoMemory>
+    ensures { OnOk result (numbers.new.items ≡ numbers.old.items
+        ++ known (map (number_of terms.now) (map (Front name.now) (other_fronts (fronts last.now) (fronts word.now))))) }
+{
+    let mut lasts = Fronts::of(last);
+    let mut fronts = Fronts::of(word);
+    while let Some(front) = fronts.next() {
+        if is_text(lasts.next(), front) {
+            continue;
+        }
+        add_known(terms.front(name, front), numbers)?;
+    }
+    Ok(())
+}
+
+/// Adds the numbers of the fronts of a field's words, of each word those that the word before it does not have.
+fn add_posting_fronts(
+    terms: &Terms,
+    name: &str,
+    postings: &[Posting],
+    numbers: &mut Vec<u32>,
+) -> Result<(), NoMemory>
+    ensures { OnOk result (numbers.new.items ≡ numbers.old.items
+        ++ known (map (number_of terms.now) (map (Front name.now) (asked_fronts [] (map (λ p. p.0) postings.now))))) }
+{
+    let mut last = "";
+    for posting in postings {
+        let word = posting.word().as_str();
+        add_word_fronts(terms, name, last, word, numbers)?;
+        last = word;
+    }
+    Ok(())
+}
+
+/// Adds the numbers of the fronts of the fields' words.
+pub(crate) fn add_front_numbers(
+    terms: &Terms,
+    fields: &[Field],
+    numbers: &mut Vec<u32>,
+) -> Result<(), NoMemory>
+    ensures { OnOk result (AddsNumbersOf terms.now (flat_map front_keys fields.now) numbers.old.items numbers.new.items) }
+{
+    if !terms.has_fronts() {
+        return Ok(());
+    }
+    for field in fields {
+        add_posting_fronts(terms, field.name(), field.postings(), numbers)?;
+    }
+    Ok(())
+}
