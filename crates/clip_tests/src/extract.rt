@@ -88,7 +88,8 @@ static ARTICLES: [(Fields, &str); 6] = [
     // eight characters at most
     (
         &[("text", "extraordinarily")],
-        "* text:extraordinarily text:e* text:ex* text:ext* text:extr* text:extra* text:extrao* text:extraor* text:extraord* ",
+        "* text:extraordinarily text:e* text:ex* text:ext* text:extr* text:extra* text:extrao* text:extraor* \
+            text:extraord* ",
     ),
     (
         &[("title", "Zebra apple"), ("body", "tea Milk, tea and TEA")],
