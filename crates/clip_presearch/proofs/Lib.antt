@@ -1,3 +1,4 @@
+pub mod ArticleKeys
 pub mod Numbers
 pub mod Places
 pub mod Whole
