@@ -13,8 +13,11 @@ from typing import Iterable, Optional
 from prose import Article, words_of
 from queries import All, Group, Phrase, Prefix, Query, Span, Word
 
-# A word of a field, or None for what nothing narrows.
-Key = Optional[tuple[str, str]]
+# A field, a word or a front of it, and whether it is a front; or None for what nothing narrows.
+Key = Optional[tuple[str, str, bool]]
+
+# The most characters of a front that is a key.
+FRONT = 8
 
 
 @dataclass(frozen=True)
@@ -65,13 +68,16 @@ def group_holds(group: Group, fields: dict[str, Field]) -> bool:
 
 
 def extract(query: Query) -> tuple[int, list[Key]]:
-    """The weight and the keys of a query: of a phrase its longest word, of a group its weightiest required clause or,
-    without one, all that are optional; None for what nothing narrows."""
+    """The weight and the keys of a query: of a phrase its longest word, of a prefix its first characters, of a group its
+    weightiest required clause or, without one, all that are optional; None for what nothing narrows."""
     if isinstance(query, Word):
-        return len(query.word), [(query.field, query.word)]
+        return len(query.word), [(query.field, query.word, False)]
     if isinstance(query, Phrase):
         longest = max(query.words, key=len)
-        return len(longest), [(query.field, longest)]
+        return len(longest), [(query.field, longest, False)]
+    if isinstance(query, Prefix):
+        front = query.front[:FRONT]
+        return len(front), [(query.field, front, True)]
     if isinstance(query, Group):
         musts = [extract(child) for sign, child in query.clauses if sign == "+"]
         if musts:
@@ -101,5 +107,7 @@ class Presearcher:
         found = set(self._holders.get(None, ()))
         for name, field in fields.items():
             for word in field.distinct:
-                found.update(self._holders.get((name, word), ()))
+                found.update(self._holders.get((name, word, False), ()))
+                for end in range(1, min(FRONT, len(word)) + 1):
+                    found.update(self._holders.get((name, word[:end], True), ()))
         return found

@@ -1,2 +1,3 @@
+pub mod ArticleKeys
 pub mod Places
 pub mod Whole

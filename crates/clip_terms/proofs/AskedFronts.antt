@@ -124,6 +124,20 @@ words_more terms name last word old new goal ps i p lt is same added before =
     ∙ ap (λ ns. old ++ ns) (sym (ap (λ ks. known (map (number_of terms) ks)) (map-append (Front name) here rest) ∙ known_append (map (Front name) here) (map (Front name) rest) terms))
     ∙ ap (λ ws. old ++ numbers (asked_fronts last ws)) (sym next) ∙ before
 
+none_other : (fs : List (List ℕ)) → other_fronts fs fs ≡ []
+none_other [] = refl
+none_other (f ∷ fs) = ap (λ b. cond b (other_fronts fs fs) (f ∷ other_fronts fs fs)) ((bytes_eq-Decides f f).1 refl) ∙ none_other fs
+
+-- the same word once more
+pub word_again : (terms : List KeyValue) (name last : List ℕ) (old goal : List ℕ) (ps : List Place) (i : ℕ) (p : Place) → i < length ps → p ≡ get_or ps i p → p.0 ≡ last
+    → old ++ known (map (number_of terms) (map (Front name) (asked_fronts last (words_at (drop i ps))))) ≡ goal
+    → old ++ known (map (number_of terms) (map (Front name) (asked_fronts last (words_at (drop (i + 1) ps))))) ≡ goal
+word_again terms name last old goal ps i p lt is same before =
+    let rest = words_at (drop (i + 1) ps) in
+    let next : words_at (drop i ps) ≡ last ∷ rest = ap words_at (drop_more ps i p lt ∙ ap (λ (q : Place). q ∷ drop (i + 1) ps) (sym is)) ∙ ap (λ w. w ∷ rest) same in
+    ap (λ fs. old ++ known (map (number_of terms) (map (Front name) (fs ++ asked_fronts last rest)))) (sym (none_other (fronts last)))
+    ∙ ap (λ ws. old ++ known (map (number_of terms) (map (Front name) (asked_fronts last ws)))) (sym next) ∙ before
+
 -- a field more
 pub fields_added : (terms : List KeyValue) (fields : List (List ℕ × List (List ℕ))) (i : ℕ) (field : List ℕ × List (List ℕ)) (name : List ℕ) (ps : List Place) (old now new : List ℕ)
     → i < length fields → field ≡ get_or fields i field → name ≡ field.0 → IsPermutation (numbered 0 field.1) ps

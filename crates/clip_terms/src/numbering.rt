@@ -92,6 +92,9 @@ fn add_posting_fronts(
     let mut last = "";
     for posting in postings {
         let word = posting.word().as_str();
+        if word == last {
+            continue;
+        }
         add_word_fronts(terms, name, last, word, numbers)?;
         last = word;
     }

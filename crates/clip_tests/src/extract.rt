@@ -76,10 +76,7 @@ type Fields = &'static [(&'static str, &'static str)];
 
 /// Each the fields of an article, and its keys.
 static ARTICLES: [(Fields, &str); 6] = [
-    (
-        &[("text", "tea")],
-        "* text:tea text:t* text:te* text:tea* ",
-    ),
+    (&[("text", "tea")], "* text:tea text:t* text:te* text:tea* "),
     // folded, and in characters
     (
         &[("text", "Straße")],
@@ -88,7 +85,8 @@ static ARTICLES: [(Fields, &str); 6] = [
     // eight characters at most
     (
         &[("text", "extraordinarily")],
-        "* text:extraordinarily text:e* text:ex* text:ext* text:extr* text:extra* text:extrao* text:extraor* text:extraord* ",
+        "* text:extraordinarily text:e* text:ex* text:ext* text:extr* text:extra* text:extrao* text:extraor* \
+            text:extraord* ",
     ),
     (
         &[("title", "Zebra apple"), ("body", "tea Milk, tea and TEA")],
@@ -111,7 +109,9 @@ fn keys_of(alloc: Global, fields: Fields) -> Result<String, Fail> {
 }
 
 #[test]
-fn an_article_has_any_and_its_words_and_their_fronts_once_in_order(rt: HostRuntime) -> Result<(), Fail> {
+fn an_article_has_any_and_its_words_and_their_fronts_once_in_order(
+    rt: HostRuntime,
+) -> Result<(), Fail> {
     for (fields, wanted) in &ARTICLES {
         let told = keys_of(rt.alloc(), fields)?;
         assert!(rt; told.as_str() == *wanted, "{told}");
