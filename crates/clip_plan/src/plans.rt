@@ -93,7 +93,7 @@ fn add_run(
 }
 
 /// Adds a query that is asked as it is, as a clause.
-fn add_asked(
+pub(crate) fn add_asked(
     occur: Occur,
     query: Query,
     asked: &mut Vec<Query>,
