@@ -3,6 +3,7 @@ pub mod Clauses
 pub mod Copies
 pub mod Judging
 pub mod Leaves
+pub mod Names
 pub mod Numbering
 pub mod Renumbering
 pub mod Sent
