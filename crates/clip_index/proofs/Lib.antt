@@ -1,9 +1,13 @@
 pub mod Answering
 pub mod AnyOf
 pub mod Asked
+pub mod Flagged
+pub mod KeptLists
+pub mod KeptTerms
 pub mod Keys
 pub mod Lists
 pub mod Numbers
 pub mod Places
 pub mod Sent
+pub mod SeveralIndexes
 pub mod Sharing

@@ -1,5 +1,5 @@
 //! The terms of the queries that are kept of several indexes.
-ghost use Rattle.std.specs.Prelude.{◌≡◌, ◌++◌, ◌||◌, ◌<◌, ℕ, List, IfOk, OnOk, length, map, flat_map, nat_eq, unwrap_or, slice_get, vec_items, []};
+ghost use Rattle.std.specs.Prelude.{◌≡◌, ◌++◌, ◌||◌, ◌<◌, ◌∷◌, ℕ, List, IfOk, OnOk, length, map, flat_map, nat_eq, unwrap_or, slice_get, vec_items, []};
 ghost use Rattle.std.specs.List.{list_any};
 ghost use Rattle.std.specs.List.Sorted.{IsStrictlySortedBy};
 ghost use Rattle.clip_grammar.specs.Tree.{Tree};
@@ -77,16 +77,32 @@ fn kept_numbers(alloc: Global, plans: &Plans, kept: &[bool]) -> Result<Vec<u32>,
     Ok(numbers)
 }
 
+/// Sets the flag of a number, if there is one.
+fn set_flag(flags: &mut Vec<bool>, number: usize)
+    ensures long { length flags.new.items ≡ length flags.old.items }
+    ensures flags { (n : ℕ) → n < length flags.old.items → flag_at flags.new.items n ≡ (flag_at flags.old.items n || nat_eq n number) }
+{
+    if number < flags.len() {
+        flags[number] = true;
+    }
+}
+
 /// Sets the flags of numbers; one past the last flag is left out.
 fn set_all(flags: &mut Vec<bool>, numbers: &[u32])
     ensures long { length flags.new.items ≡ length flags.old.items }
     ensures flags { (n : ℕ) → n < length flags.old.items → flag_at flags.new.items n ≡ (flag_at flags.old.items n || list_any (nat_eq n) numbers.now) }
 {
     for number in numbers {
-        if (*number as usize) < flags.len() {
-            flags[*number as usize] = true;
-        }
+        set_flag(flags, *number as usize);
     }
+}
+
+/// Adds a copy of a key. Texts are shared.
+fn add_copy(key: &Key, all: &mut Vec<Key>) -> Result<(), NoMemory>
+    ensures { OnOk result (map key_of all.new.items ≡ map key_of all.old.items ++ key_of key.now ∷ []) }
+{
+    all.push(key.clone()?)?;
+    Ok(())
 }
 
 /// Adds the keys whose flags are set.
@@ -95,7 +111,7 @@ fn add_flagged(keys: &[Key], flags: &[bool], all: &mut Vec<Key>) -> Result<(), N
 {
     for place in 0..keys.len() {
         if flag_at(flags, place) {
-            all.push(keys[place].clone()?)?;
+            add_copy(&keys[place], all)?;
         }
     }
     Ok(())

@@ -32,5 +32,5 @@ with_more keys more under term = under term ++ flat_map (λ key. if is_same key 
 
 -- over these terms the lists are the places of the queries, and the plans their plans
 pub record AreMadeOf (terms : List KeyValue) (trees : List Tree) (lists : List (List ℕ)) (plans : List (List (Mark ℕ))) : Type 0 where
-  pub positions : lists ≡ map (λ term. places_with term trees) terms
-  pub plans : map (decoded terms) plans ≡ map plan_of trees
+  pub placed : lists ≡ map (λ term. places_with term trees) terms
+  pub planned : map (decoded terms) plans ≡ map plan_of trees
