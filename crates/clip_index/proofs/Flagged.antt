@@ -4,7 +4,7 @@ use Rattle.std.specs.Prelude.{option_to_list}
 use Rattle.std.specs.List.{list_any, enumerate_from, count_by}
 use Rattle.std.proofs.Math.Bool.{or-true, or-false}
 use Rattle.std.proofs.lemmas.Bool.{cases_eq, false≢true}
-use Rattle.std.proofs.lemmas.List.{drop_all}
+use Rattle.std.proofs.lemmas.List.{drop_all, map_more}
 use Rattle.std.proofs.lemmas.List.Folds.{list_any_more}
 use Rattle.std.proofs.lemmas.List.Sums.{sum_by-cons}
 use Rattle.std.proofs.lemmas.Option.{unwrap_or-slice_get}
@@ -239,3 +239,12 @@ flags_more n numbers i d old before new lt so e =
     or_assoc : (a b c : Bool) → ((a || b) || c) ≡ (a || (b || c))
     or_assoc true b c = refl
     or_assoc false b c = refl
+
+-- ---- lists, one after another
+
+pub next_tested : {A B : Type 0} (f : List A → B) (lists : List (List A)) (i : ℕ) (before new : List B) (here : List A) (b : B) → i < length lists
+    → before ≡ map f (take i lists) → here ≡ unwrap_or (slice_get lists i) [] → b ≡ f here → new ≡ before ++ b ∷ [] → new ≡ map f (take (i + 1) lists)
+next_tested f lists i before new here b lt so at is e =
+    e ∙ ap (λ l. l ++ b ∷ []) so
+    ∙ ap (λ y. map f (take i lists) ++ y ∷ []) (is ∙ ap f (at ∙ unwrap_or-slice_get lists i []))
+    ∙ sym (map_more f lists i [] lt)

@@ -1,5 +1,5 @@
 -- The terms that the kept queries of an index ask for.
-use Rattle.std.proofs.Common.{◌≡◌, ℕ, zero, suc, ◌+◌, ◌<◌, ◌≤◌, Bool, true, false, ◌||◌, nat_eq, List, [], ◌∷◌, ◌++◌, length, map, flat_map, unwrap_or, slice_get, refl, sym, ap, ◌∙◌, arith, inl, inr, eq-eqb}
+use Rattle.std.proofs.Common.{◌≡◌, ℕ, zero, suc, ◌+◌, ◌<◌, Bool, true, false, ◌||◌, nat_eq, List, [], ◌∷◌, ◌++◌, length, map, flat_map, refl, sym, ap, ◌∙◌, arith, inl, inr, eq-eqb}
 use Rattle.std.specs.List.{list_any}
 use Rattle.std.proofs.Math.Bool.{or-true}
 use Rattle.std.proofs.lemmas.Bool.{cases_lt, eqb-true, false≢true}
@@ -89,7 +89,6 @@ flag_of_term g f (t ∷ ts) (suc n) lt = flag_of_term g f ts n (omega arith)
 module _ (trees : List Tree) (index : IndexValue) (is : IsIndexOf trees index) (flags used by_place : List Bool) (numbers : List ℕ)
     (placed : by_place ≡ map (list_any (flag_at flags)) index.positions) (named : numbers ≡ flat_map names (flagged flags index.plans))
     (both : (n : ℕ) → n < length by_place → flag_at used n ≡ (flag_at by_place n || list_any (nat_eq n) numbers)) where
-
   abbrev kept : List Tree
   kept = flagged flags trees
 

@@ -71,11 +71,7 @@ impl Index {
     /// the terms that kept queries ask for, each once for each index; a search by halves for each term; a step for each
     /// flag and each place; and for each kept query a step for each word and each leaf. No key is extracted, and no text
     /// is copied but ends of ranges.
-    pub fn select(
-        alloc: Global,
-        indexes: &[&Index],
-        kept: &[Vec<bool>],
-    ) -> Result<Index, NoMemory>
+    pub fn select(alloc: Global, indexes: &[&Index], kept: &[Vec<bool>]) -> Result<Index, NoMemory>
         requires { count_set (map vec_items kept.now) ≤ MOST_QUERIES }
         ensures { IfOk result (λ index. (trees : List (List Tree)) → AreIndexesOf trees (map (λ i. i.now) indexes.now)
             → AreFlagsOf trees (map vec_items kept.now) → IsIndexOf (kept_of trees (map vec_items kept.now)) index) }

@@ -1,5 +1,5 @@
 //! Plans with other numbers of terms, as where tables of terms are put together.
-ghost use Rattle.std.specs.Prelude.{◌≡◌, ◌≤◌, ◌++◌, ◌∷◌, [], ℕ, List, OnOk, IfOk, length, map, unwrap_or, slice_get};
+ghost use Rattle.std.specs.Prelude.{◌≡◌, ◌≤◌, ◌++◌, ◌∷◌, [], List, OnOk, IfOk, length, map, unwrap_or, slice_get};
 ghost use Rattle.clip_grammar.specs.Tree.{Tree, tree_of};
 ghost use Rattle.clip_extract.specs.Keys.{KeyValue};
 ghost use Rattle.clip_plan.specs.Plan.{decoded, mark_names, names, renumbered, renamed};
@@ -14,11 +14,7 @@ use clip_words::NoMemory;
 use std::alloc::Global;
 
 /// Adds the numbers that a step names, in order.
-fn add_named(
-    runs: &PackedLists<u32>,
-    step: Step,
-    numbers: &mut Vec<u32>,
-) -> Result<(), NoMemory>
+fn add_named(runs: &PackedLists<u32>, step: Step, numbers: &mut Vec<u32>) -> Result<(), NoMemory>
     ensures { OnOk result ((asked : List Tree) → numbers.new.items ≡ numbers.old.items ++ mark_names (mark_of runs.now asked step)) }
 {
     match step {
@@ -60,11 +56,7 @@ fn renumbered(numbers: &[Option<u32>], number: u32) -> u32
 }
 
 /// The new numbers of a run.
-fn renumbered_run(
-    alloc: Global,
-    run: &[u32],
-    numbers: &[Option<u32>],
-) -> Result<Vec<u32>, NoMemory>
+fn renumbered_run(alloc: Global, run: &[u32], numbers: &[Option<u32>]) -> Result<Vec<u32>, NoMemory>
     ensures { IfOk result (λ new. new.items ≡ map (renumbered numbers.now) run.now) }
 {
     let mut new = Vec::with_capacity(alloc, run.len())?;

@@ -1,5 +1,4 @@
-use Rattle.std.proofs.Common.{◌||◌, nat_eq, take, ap, sym, ◌∙◌, arith}
-use Rattle.std.specs.List.{list_any}
+use Rattle.std.proofs.Common.{◌∙◌, arith}
 use Rattle.clip_index.proofs.Flagged.{flags_more}
 use Rattle.clip_index.proofs.kept_terms.set_all.Goals as goal
 

@@ -19,8 +19,11 @@ loop-index-preserved c = record {
   place = ap (λ n. n + 1) c.loop-index.invariant.place;
   long = c.in_ok-add_kept.ensures.long;
   few =
-      omega (arith, c.in_ok-add_kept.ensures.few,
-      few_next (map vec_items c.args.kept.now) c.loop-index.index-index c.loop-index.place (length c.loop-index.plans) MOST_QUERIES c.flags_of.result.now c.flags_of.ensures c.loop-index.invariant.place c.loop-index.invariant.few);
+      omega (
+        arith,
+        c.in_ok-add_kept.ensures.few,
+        few_next (map vec_items c.args.kept.now) c.loop-index.index-index c.loop-index.place (length c.loop-index.plans) MOST_QUERIES c.flags_of.result.now c.flags_of.ensures c.loop-index.invariant.place c.loop-index.invariant.few,
+      );
   made = λ trees are flagged_all terms_are start.
       let terms = c.args.terms.now in
       let flags = map vec_items c.args.kept.now in

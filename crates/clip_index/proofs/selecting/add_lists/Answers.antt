@@ -1,7 +1,7 @@
-use Rattle.std.proofs.Common.{◌+◌, map, take, length, vec_items, unwrap_or, slice_get, [], ap, sym, ◌∙◌, arith}
+use Rattle.std.proofs.Common.{◌+◌, map, length, vec_items, unwrap_or, slice_get, [], ap, sym, ◌∙◌, arith}
 use Rattle.std.proofs.lemmas.List.{length-map, take_all}
 use Rattle.clip_terms.specs.Terms.{number_of}
-use Rattle.clip_index.specs.Steps.Parts.{list_added, moved, with_more}
+use Rattle.clip_index.specs.Steps.Parts.{moved, with_more}
 use Rattle.clip_index.proofs.KeptLists.{length_added, next_list}
 use Rattle.clip_index.proofs.selecting.add_lists.Goals as goal
 

@@ -1,6 +1,5 @@
-use Rattle.std.proofs.Common.{◌≤◌, [], length, map, replicate, vec_items, refl, ap, ◌∙◌, arith}
+use Rattle.std.proofs.Common.{[], map, replicate, vec_items, ap, ◌∙◌, arith}
 use Rattle.clip_plan.specs.Plan.{decoded}
-use Rattle.clip_index.specs.Selecting.{kept_of}
 use Rattle.clip_index.specs.Steps.Parts.{AreMadeOf}
 use Rattle.clip_index.proofs.Flagged.{kept_few}
 use Rattle.clip_index.proofs.Lists.{none_yet}

@@ -1,4 +1,4 @@
-use Rattle.std.proofs.Common.{map, ap, ◌∙◌}
+use Rattle.std.proofs.Common.{map, ◌∙◌}
 use Rattle.clip_grammar.specs.Tree.{tree_of}
 use Rattle.clip_plan.proofs.Renumbering.{run_renamed, asked_renamed}
 use Rattle.clip_plan.proofs.renaming.Source.add_step.Goals as goal

@@ -1,4 +1,4 @@
-use Rattle.std.proofs.Common.{map, ap, subst, arith}
+use Rattle.std.proofs.Common.{map, subst, arith}
 use Rattle.std.proofs.lemmas.List.{take_all}
 use Rattle.clip_grammar.specs.Tree.{tree_of}
 use Rattle.clip_plan.specs.Steps.Plans.{Adds}
