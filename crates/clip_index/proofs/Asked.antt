@@ -13,10 +13,10 @@ use Rattle.clip_plan.proofs.Numbering.{are_parts}
 use Rattle.clip_index.specs.Index.{asked_of, terms_of}
 
 -- what passes in one of two lists passes in both together
-in_first : (p : KeyValue → Bool) (xs ys : List KeyValue) → list_any p xs ≡ true → list_any p (xs ++ ys) ≡ true
+pub in_first : (p : KeyValue → Bool) (xs ys : List KeyValue) → list_any p xs ≡ true → list_any p (xs ++ ys) ≡ true
 in_first p xs ys h = list_any-append p xs ys ∙ ap (λ b. b || list_any p ys) h
 
-in_second : (p : KeyValue → Bool) (xs ys : List KeyValue) → list_any p ys ≡ true → list_any p (xs ++ ys) ≡ true
+pub in_second : (p : KeyValue → Bool) (xs ys : List KeyValue) → list_any p ys ≡ true → list_any p (xs ++ ys) ≡ true
 in_second p xs ys h = list_any-append p xs ys ∙ ap (λ b. list_any p xs || b) h ∙ or-true (list_any p xs)
 
 -- what an item asks is among what all ask
@@ -27,7 +27,7 @@ asked_among seen (y ∷ ys) zero x key inside is h = in_first (is_same key) (ask
 asked_among seen (y ∷ ys) (suc i) x key inside is h = in_second (is_same key) (asked_of (seen y)) (flat_map asked_of (map seen ys)) (asked_among seen ys i x key (omega arith) is h)
 
 -- keys all of which stand in a list are terms of it
-terms_from : (terms keys : List KeyValue) → ((key : KeyValue) → list_any (is_same key) keys ≡ true → list_any (is_same key) terms ≡ true) → are_terms terms keys ≡ true
+pub terms_from : (terms keys : List KeyValue) → ((key : KeyValue) → list_any (is_same key) keys ≡ true → list_any (is_same key) terms ≡ true) → are_terms terms keys ≡ true
 terms_from terms [] among = refl
 terms_from terms (k ∷ ks) among =
     and_from (list_any (is_same k) terms) (are_terms terms ks)

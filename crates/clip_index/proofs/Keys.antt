@@ -20,7 +20,7 @@ use Rattle.clip_extract.specs.declared.key.Key.{Key}
 -- ---- each key of a list in order stands there once
 
 -- a key is not the same as one below it
-above_apart : (k q : KeyValue) → is_lt (key_cmp k q) ≡ true → is_same q k ≡ false
+pub above_apart : (k q : KeyValue) → is_lt (key_cmp k q) ≡ true → is_same q k ≡ false
 above_apart k q lower = ap is_eq (key_cmp_total.antisymm q k) ∙ reversed (key_cmp k q) lower where
   reversed : (o : Ordering) → is_lt o ≡ true → is_eq (ordering_reverse o) ≡ false
   reversed Less h = refl

@@ -1,8 +1,12 @@
 pub mod Answering
 pub mod AnyOf
 pub mod Asked
+pub mod Flagged
+pub mod KeptLists
+pub mod KeptTerms
 pub mod Keys
 pub mod Lists
 pub mod Places
 pub mod Sent
+pub mod SeveralIndexes
 pub mod Sharing

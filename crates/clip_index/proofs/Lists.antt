@@ -11,38 +11,42 @@ use Rattle.clip_terms.specs.Terms.{number_of}
 use Rattle.clip_index.specs.Index.{places_with}
 use Rattle.clip_index.proofs.Keys.{key_added}
 
--- what stands under a term, with a place more where it is the key
+-- what stands under a term, with more where it is the key
+abbrev pub with_list : KeyValue → List ℕ → (KeyValue → List ℕ) → KeyValue → List ℕ
+with_list key more under term = under term ++ cond (is_same key term) more []
+
+-- with a place more
 abbrev pub with_place : KeyValue → ℕ → (KeyValue → List ℕ) → KeyValue → List ℕ
-with_place key place under term = under term ++ cond (is_same key term) (place ∷ []) []
+with_place key place = with_list key (place ∷ [])
 
--- no place comes to terms above the key
-untouched : (key : KeyValue) (place : ℕ) (under : KeyValue → List ℕ) (ts : List KeyValue) → AllByRecursion (λ t. key_cmp key t ≡ Less) ts → map under ts ≡ map (with_place key place under) ts
-untouched key place under [] above = refl
-untouched key place under (t ∷ ts) above =
-    let same : under t ≡ with_place key place under t = sym (append-nil (under t)) ∙ ap (λ b. under t ++ cond b (place ∷ []) []) (sym (ap is_eq above.0)) in
-    ap (λ x. x ∷ map under ts) same ∙ ap (λ xs. with_place key place under t ∷ xs) (untouched key place under ts above.1)
+-- nothing comes to terms above the key
+untouched : (key : KeyValue) (more : List ℕ) (under : KeyValue → List ℕ) (ts : List KeyValue) → AllByRecursion (λ t. key_cmp key t ≡ Less) ts → map under ts ≡ map (with_list key more under) ts
+untouched key more under [] above = refl
+untouched key more under (t ∷ ts) above =
+    let same : under t ≡ with_list key more under t = sym (append-nil (under t)) ∙ ap (λ b. under t ++ cond b more []) (sym (ap is_eq above.0)) in
+    ap (λ x. x ∷ map under ts) same ∙ ap (λ xs. with_list key more under t ∷ xs) (untouched key more under ts above.1)
 
--- a place more in the list of a key's number
-pub place_added : (key : KeyValue) (place : ℕ) (under : KeyValue → List ℕ) (terms : List KeyValue) (n : ℕ) → IsStrictlySortedBy key_cmp terms → number_of terms key ≡ Some n
-    → set (map under terms) n (get_or (map under terms) n [] ++ place ∷ []) ≡ map (with_place key place under) terms
+-- more in the list of a key's number
+pub place_added : (key : KeyValue) (more : List ℕ) (under : KeyValue → List ℕ) (terms : List KeyValue) (n : ℕ) → IsStrictlySortedBy key_cmp terms → number_of terms key ≡ Some n
+    → set (map under terms) n (get_or (map under terms) n [] ++ more) ≡ map (with_list key more under) terms
 unfolding IsStrictlySortedBy
-place_added key place under [] n rising e = cc
-place_added key place under (t ∷ ts) n rising e = at (is_same key t) refl (number_of ts key) (λ m. place_added key place under ts m rising.1) e
+place_added key more under [] n rising e = cc
+place_added key more under (t ∷ ts) n rising e = at (is_same key t) refl (number_of ts key) (λ m. place_added key more under ts m rising.1) e
   where
     Adds : ℕ → Type 0
-    Adds m = set (map under (t ∷ ts)) m (get_or (map under (t ∷ ts)) m [] ++ place ∷ []) ≡ map (with_place key place under) (t ∷ ts)
+    Adds m = set (map under (t ∷ ts)) m (get_or (map under (t ∷ ts)) m [] ++ more) ≡ map (with_list key more under) (t ∷ ts)
 
     at : (b : Bool) → is_same key t ≡ b → (o : Option ℕ)
-        → ((m : ℕ) → o ≡ Some m → set (map under ts) m (get_or (map under ts) m [] ++ place ∷ []) ≡ map (with_place key place under) ts)
+        → ((m : ℕ) → o ≡ Some m → set (map under ts) m (get_or (map under ts) m [] ++ more) ≡ map (with_list key more under) ts)
         → cond b (Some 0) (option_map suc o) ≡ Some n → Adds n
     at true same o rest f =
         let z : 0 ≡ n = cc in
         let above : AllByRecursion (λ l. key_cmp key l ≡ Less) ts = subst (λ k. AllByRecursion (λ l. key_cmp k l ≡ Less) ts) (sym (same_key key t same)) rising.0 in
-        subst Adds z (ap (λ xs. (under t ++ place ∷ []) ∷ xs) (untouched key place under ts above) ∙ ap (λ b. (under t ++ cond b (place ∷ []) []) ∷ map (with_place key place under) ts) (sym same))
+        subst Adds z (ap (λ xs. (under t ++ more) ∷ xs) (untouched key more under ts above) ∙ ap (λ b. (under t ++ cond b more []) ∷ map (with_list key more under) ts) (sym same))
     at false other None rest f = cc
     at false other (Some m) rest f =
         let z : suc m ≡ n = cc in
-        subst Adds z (ap (λ xs. under t ∷ xs) (rest m refl) ∙ ap (λ x. x ∷ map (with_place key place under) ts) (sym (append-nil (under t)) ∙ ap (λ b. under t ++ cond b (place ∷ []) []) (sym other)))
+        subst Adds z (ap (λ xs. under t ∷ xs) (rest m refl) ∙ ap (λ x. x ∷ map (with_list key more under) ts) (sym (append-nil (under t)) ∙ ap (λ b. under t ++ cond b more []) (sym other)))
 
 -- what stands under a term, with a place more where it is one of the keys
 abbrev pub with_places : List KeyValue → ℕ → (KeyValue → List ℕ) → KeyValue → List ℕ

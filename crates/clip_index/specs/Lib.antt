@@ -1,2 +1,3 @@
 pub mod Index
+pub mod Selecting
 pub mod Steps

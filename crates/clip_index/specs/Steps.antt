@@ -1,2 +1,3 @@
 -- Private fields as contracts see them; no public clause cites it.
+pub mod Parts
 pub mod Views

@@ -38,7 +38,7 @@ pub(crate) fn terms_of(alloc: Global, queries: &[&Query]) -> Result<Terms, NoMem
 }
 
 /// So many empty lists.
-fn empty_lists(alloc: Global, count: usize) -> Result<Vec<Vec<u32>>, NoMemory>
+pub(crate) fn empty_lists(alloc: Global, count: usize) -> Result<Vec<Vec<u32>>, NoMemory>
     ensures { IfOk result (λ lists. map vec_items lists.items ≡ replicate count []) }
 {
     let mut lists = Vec::with_capacity(alloc, count)?;
@@ -123,7 +123,7 @@ fn lists_of(alloc: Global, terms: &Terms, queries: &[&Query]) -> Result<Vec<Vec<
 }
 
 /// These lists in one buffer.
-fn packed(alloc: Global, lists: &[Vec<u32>]) -> Result<PackedLists<u32>, NoMemory>
+pub(crate) fn packed(alloc: Global, lists: &[Vec<u32>]) -> Result<PackedLists<u32>, NoMemory>
     ensures { IfOk result (λ packed. packed ≡ map vec_items lists.now) }
 {
     let mut packed = PackedLists::new(alloc);

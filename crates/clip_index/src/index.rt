@@ -1,12 +1,15 @@
 //! Indexes.
-ghost use Rattle.std.specs.Prelude.{◌≡◌, ◌≤◌, IfOk, List, length, map};
+ghost use Rattle.std.specs.Prelude.{◌≡◌, ◌≤◌, IfOk, List, length, map, vec_items};
 ghost use Rattle.clip_grammar.specs.Tree.{Tree, tree_of};
 ghost use Rattle.clip_extract.specs.Keys.{key_of};
 ghost use Rattle.clip_index.specs.Index.{IsIndexOf, places_with};
+ghost use Rattle.clip_index.specs.Selecting.{AreFlagsOf, AreIndexesOf, count_set, kept_of};
 ghost use Rattle.clip_index.specs.declared.index.TheConstants.{MOST_QUERIES};
 
-use crate::building::{plans_of, positions_of, terms_of};
+use crate::building::{empty_lists, packed, plans_of, positions_of, terms_of};
+use crate::kept_terms::kept_terms;
 use crate::reading::IndexReading;
+use crate::selecting::add_all_kept;
 use clip_extract::Key;
 use clip_grammar::query::Query;
 use clip_pieces::PackedLists;
@@ -23,9 +26,9 @@ pub const MOST_QUERIES: usize = 4_294_967_295;
 /// terms, the places under each and the plans, and say of which queries it is the index (`IsIndexOf`).
 #[derive(Debug, Drop)]
 pub struct Index {
-    terms: Terms,
-    positions: PackedLists<u32>,
-    plans: Plans,
+    pub(crate) terms: Terms,
+    pub(crate) positions: PackedLists<u32>,
+    pub(crate) plans: Plans,
 }
 
 impl Model for Index {
@@ -54,6 +57,30 @@ impl Index {
         let terms = terms_of(alloc, queries)?;
         let positions = positions_of(alloc, &terms, queries)?;
         let plans = plans_of(alloc, &terms, queries)?;
+        Ok(Index {
+            terms,
+            positions,
+            plans,
+        })
+    }
+
+    /// The index of the kept queries of several indexes, in order: `kept` has a list of flags for each index, with a flag
+    /// for each of its queries. At most `MOST_QUERIES` flags are set.
+    ///
+    /// `NoMemory` where an allocation failed, and where the queries have more than 4,294,967,295 terms. Cost: a sort of
+    /// the terms that kept queries ask for, each once for each index; a search by halves for each term; a step for each
+    /// flag and each place; and for each kept query a step for each word and each leaf. No key is extracted, and no text
+    /// is copied but ends of ranges.
+    pub fn select(alloc: Global, indexes: &[&Index], kept: &[Vec<bool>]) -> Result<Index, NoMemory>
+        requires { count_set (map vec_items kept.now) ≤ MOST_QUERIES }
+        ensures { IfOk result (λ index. (trees : List (List Tree)) → AreIndexesOf trees (map (λ i. i.now) indexes.now)
+            → AreFlagsOf trees (map vec_items kept.now) → IsIndexOf (kept_of trees (map vec_items kept.now)) index) }
+    {
+        let terms = kept_terms(alloc, indexes, kept)?;
+        let mut lists = empty_lists(alloc, terms.len())?;
+        let mut plans = Plans::new(alloc);
+        add_all_kept(alloc, &terms, indexes, kept, &mut lists, &mut plans)?;
+        let positions = packed(alloc, &lists)?;
         Ok(Index {
             terms,
             positions,

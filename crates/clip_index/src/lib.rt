@@ -5,7 +5,9 @@ ghost use Rattle.std.specs.Prelude.{◌≡◌};
 
 mod building;
 mod index;
+mod kept_terms;
 mod reading;
+mod selecting;
 
 pub use index::{Index, MOST_QUERIES};
 pub use reading::IndexReading;

@@ -4,10 +4,7 @@ use Rattle.std.specs.Arc.{arc_str_bytes}
 use Rattle.std.specs.declared.sync.ArcStr.{ArcStr}
 use Rattle.std.proofs.lemmas.Result.{on_ok_weaker}
 use Rattle.clip_grammar.specs.Tree.{Tree, tree_of, tree_step, end_of}
-use Rattle.clip_grammar.specs.Tokens.{End}
 use Rattle.clip_grammar.specs.declared.query.Bound.{Bound}
-use Rattle.clip_grammar.specs.declared.query.Bound.TheVariants as bound
-use Rattle.clip_grammar.specs.contracts.query.BoundClone.TheImpl as bound_clone
 use Rattle.clip_grammar.specs.declared.query.Occur.{Occur}
 use Rattle.clip_grammar.specs.declared.query.Query.{Query}
 use Rattle.clip_grammar.specs.declared.query.Query.TheOpen as layer
@@ -35,18 +32,6 @@ tree_of_span field low high = ap tree_of (sym (rolls-Span field low high)) ∙ f
 
 pub tree_of_all : tree_of All ≡ Tree.All
 tree_of_all = ap tree_of (sym rolls-All) ∙ fold-roll-Query Tree tree_step layer.All
-
--- a copy of an end is the same end
-pub same_end : (b d : Bound) → bound_clone.ghosts.is_clone b d → end_of d ≡ end_of b
-same_end bound.Free bound.Free h = refl
-same_end bound.Free (bound.With u) h = absurd h
-same_end bound.Free (bound.Without u) h = absurd h
-same_end (bound.With t) bound.Free h = absurd h
-same_end (bound.With t) (bound.With u) h = ap (λ b. End.With b) h
-same_end (bound.With t) (bound.Without u) h = absurd h
-same_end (bound.Without t) bound.Free h = absurd h
-same_end (bound.Without t) (bound.With u) h = absurd h
-same_end (bound.Without t) (bound.Without u) h = ap (λ b. End.Without b) h
 
 -- ---- what is added
 

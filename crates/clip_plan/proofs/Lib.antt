@@ -1,8 +1,11 @@
 pub mod AskedKeys
 pub mod Clauses
+pub mod Copies
 pub mod Judging
 pub mod Leaves
+pub mod Names
 pub mod Numbering
+pub mod Renumbering
 pub mod Sent
 pub mod Standing
 pub mod Words

@@ -1,5 +1,5 @@
 -- Plans: a query as a list of marks, by which it is judged from front to back.
-use Rattle.std.specs.Prelude.{ℕ, Bool, List, [], ◌∷◌, ◌++◌, map}
+use Rattle.std.specs.Prelude.{ℕ, Bool, List, [], ◌∷◌, ◌++◌, map, flat_map, Option, None, unwrap_or, slice_get}
 use Rattle.std.specs.List.{list_all, list_any}
 use Rattle.clip_grammar.specs.Tree.{Tree, Clauses, none, clause}
 use Rattle.clip_grammar.specs.declared.query.Occur.{Occur}
@@ -35,6 +35,30 @@ named f (Close occur) = Close occur
 -- marks with the terms in the place of their numbers
 abbrev pub decoded : List KeyValue → List (Mark ℕ) → List (Mark KeyValue)
 decoded terms marks = map (named (term_at terms)) marks
+
+-- ---- the keys that marks name
+
+abbrev pub asks_names : {K : Type 0} → Asks K → List K
+asks_names (Has k) = k ∷ []
+asks_names (Run ks) = ks
+asks_names (Is tree) = []
+
+abbrev pub mark_names : {K : Type 0} → Mark K → List K
+mark_names (Leaf occur asks) = asks_names asks
+mark_names Open = []
+mark_names (Close occur) = []
+
+-- those of a plan, in order
+abbrev pub names : {K : Type 0} → List (Mark K) → List K
+names marks = flat_map mark_names marks
+
+-- the new number of a number, by a list of new ones; 0 where it has none
+abbrev pub renumbered : List (Option ℕ) → ℕ → ℕ
+renumbered numbers n = unwrap_or (unwrap_or (slice_get numbers n) None) 0
+
+-- a plan with new numbers
+abbrev pub renamed : List (Option ℕ) → List (Mark ℕ) → List (Mark ℕ)
+renamed numbers marks = map (named (renumbered numbers)) marks
 
 -- ---- the plan of a query
 

@@ -3,8 +3,10 @@
 
 ghost use Rattle.std.specs.Prelude.{◌≡◌};
 
+mod copy;
 mod judge;
 mod plans;
+mod renaming;
 mod step;
 mod word_keys;
 

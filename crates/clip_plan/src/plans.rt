@@ -7,6 +7,7 @@ ghost use Rattle.clip_terms.specs.Terms.{term_at};
 ghost use Rattle.clip_plan.specs.Plan.{Mark, Leaf, Is, decoded, plan_of, clause_marks, are_terms, word_keys};
 ghost use Rattle.clip_plan.specs.Steps.Plans.{Grows, Adds, IsNoGroup};
 
+use crate::copy::copied;
 use crate::step::Step;
 use clip_extract::Key;
 use clip_grammar::query::{Occur, Query};
@@ -93,7 +94,7 @@ fn add_run(
 }
 
 /// Adds a query that is asked as it is, as a clause.
-fn add_asked(
+pub(crate) fn add_asked(
     occur: Occur,
     query: Query,
     asked: &mut Vec<Query>,
@@ -135,21 +136,14 @@ fn add_leaf(
             steps.push(Step::Phrase(occur, add_run(alloc, terms, field, words, runs)?))?;
             Ok(())
         }
-        Query::Prefix { field, front } => {
-            let copy = Query::Prefix {
-                field: field.clone()?,
-                front: front.clone()?,
-            };
-            add_asked(occur, copy, asked, steps)
+        Query::Prefix { field: _, front: _ } => {
+            add_asked(occur, copied(alloc, query)?, asked, steps)
         }
-        Query::Span { field, low, high } => {
-            let copy = Query::Span {
-                field: field.clone()?,
-                low: low.clone()?,
-                high: high.clone()?,
-            };
-            add_asked(occur, copy, asked, steps)
-        }
+        Query::Span {
+            field: _,
+            low: _,
+            high: _,
+        } => add_asked(occur, copied(alloc, query)?, asked, steps),
         Query::All => add_asked(occur, Query::All, asked, steps),
         Query::Group(_) => Ok(()),
     }

@@ -7,6 +7,7 @@ ghost use Rattle.clip_terms.specs.Steps.Fronts.{is_front};
 
 use clip_extract::{Key, sorted};
 use clip_words::NoMemory;
+use std::alloc::Global;
 use std::cmp::Ordering;
 use std::marker::Model;
 
@@ -81,6 +82,13 @@ impl Terms {
         self.keys.is_empty()
     }
 
+    /// The terms, in order. Constant time.
+    pub fn keys(&self) -> &[Key]
+        ensures { map key_of result.now ≡ self.now }
+    {
+        &self.keys
+    }
+
     /// The number of a key, `None` where it is no term. Takes no memory. Cost: a search by halves.
     pub fn number(&self, key: &Key) -> Option<u32>
         ensures { result ≡ number_of self.now (key_of key.now) }
@@ -114,6 +122,19 @@ impl Terms {
             Some(key) => is_front(key),
             None => false,
         }
+    }
+
+    /// The numbers of keys, in their order; none of a key that is no term.
+    ///
+    /// `NoMemory` where an allocation failed. Cost: a search by halves for each key.
+    pub fn numbers(&self, alloc: Global, keys: &[Key]) -> Result<Vec<Option<u32>>, NoMemory>
+        ensures { IfOk result (λ numbers. numbers.items ≡ map (number_of self.now) (map key_of keys.now)) }
+    {
+        let mut numbers = Vec::with_capacity(alloc, keys.len())?;
+        for key in keys {
+            numbers.push(self.number(key))?;
+        }
+        Ok(numbers)
     }
 
     /// That the terms are in order, each once, for proofs. Takes no memory. Constant time.

@@ -12,4 +12,4 @@ returns-clause-added c = λ under start.
     let n = c.number_of.result in
     c.in_ok-add_to_list.ensures
     ∙ ap (λ (xs : List (List ℕ)). set xs n (get_or xs n [] ++ c.args.place ∷ [])) start
-    ∙ place_added (key_of c.args.key.now) c.args.place under c.args.terms.now n c.requires.rising c.number_of.ensures
+    ∙ place_added (key_of c.args.key.now) (c.args.place ∷ []) under c.args.terms.now n c.requires.rising c.number_of.ensures

@@ -1,7 +1,7 @@
 use Rattle.std.proofs.Common.{refl, ap, ◌∙◌}
 use Rattle.std.specs.Arc.{arc_str_bytes}
 use Rattle.clip_grammar.specs.Tree.{Tree, tree_of, end_of}
-use Rattle.clip_plan.proofs.Leaves.{tree_of_prefix, tree_of_span, tree_of_all, same_end, phrase_added, asked_added}
+use Rattle.clip_plan.proofs.Leaves.{tree_of_prefix, tree_of_span, tree_of_all, phrase_added, asked_added}
 use Rattle.clip_plan.proofs.plans.add_leaf.Goals as goal
 
 pub returns-in_ok-push-in-Phrase-clause-added : goal.returns-in_ok-push-in-Phrase-clause-added
@@ -9,22 +9,17 @@ returns-in_ok-push-in-Phrase-clause-added c =
     phrase_added c.args.terms.now c.args.runs.now c.add_run.new.runs c.args.asked.now.items c.args.steps.now.items c.push-in-Phrase.new.self.items c.args.occur c.in_ok-add_run-in-Phrase.field-0 c.args.query.now c.in-Phrase.field c.in-Phrase.words c.deref.result.now
     c.in-Phrase.is c.deref.ensures.value c.in_ok-add_run-in-Phrase.ensures.grows c.in_ok-add_run-in-Phrase.ensures.inside c.in_ok-add_run-in-Phrase.ensures.run c.in_ok-push-in-Phrase.ensures.items
 
-pub returns-in_ok-clone-in-Prefix-2-clause-added : goal.returns-in_ok-clone-in-Prefix-2-clause-added
-returns-in_ok-clone-in-Prefix-2-clause-added c =
-    asked_added c.add_asked.result c.args.terms.now c.args.runs.now c.args.asked.now.items c.add_asked.new.asked.items c.args.steps.now.items c.add_asked.new.steps.items c.args.occur _ c.args.query.now
-    (Tree.Prefix (arc_str_bytes c.in-Prefix.field) (arc_str_bytes c.in-Prefix.front))
-    (tree_of_prefix c.in_ok-clone-in-Prefix.field-0 c.in_ok-clone-in-Prefix-2.field-0 ∙ ap (λ t. Tree.Prefix t (arc_str_bytes c.in_ok-clone-in-Prefix-2.field-0)) c.in_ok-clone-in-Prefix.ensures.cases ∙ ap (λ t. Tree.Prefix (arc_str_bytes c.in-Prefix.field) t) c.in_ok-clone-in-Prefix-2.ensures.cases)
-    (ap tree_of c.in-Prefix.is ∙ tree_of_prefix c.in-Prefix.field c.in-Prefix.front) refl c.add_asked.ensures.added
+pub returns-in_ok-copied-in-Prefix-clause-added : goal.returns-in_ok-copied-in-Prefix-clause-added
+returns-in_ok-copied-in-Prefix-clause-added c =
+    let is = ap tree_of c.in-Prefix.is ∙ tree_of_prefix c.in-Prefix.field c.in-Prefix.front in
+    asked_added c.add_asked.result c.args.terms.now c.args.runs.now c.args.asked.now.items c.add_asked.new.asked.items c.args.steps.now.items c.add_asked.new.steps.items c.args.occur c.in_ok-copied-in-Prefix.field-0 c.args.query.now
+    (Tree.Prefix (arc_str_bytes c.in-Prefix.field) (arc_str_bytes c.in-Prefix.front)) (c.in_ok-copied-in-Prefix.ensures ∙ is) is refl c.add_asked.ensures.added
 
-pub returns-in_ok-clone-in-Span-3-clause-added : goal.returns-in_ok-clone-in-Span-3-clause-added
-returns-in_ok-clone-in-Span-3-clause-added c =
-    asked_added c.add_asked-in-Span.result c.args.terms.now c.args.runs.now c.args.asked.now.items c.add_asked-in-Span.new.asked.items c.args.steps.now.items c.add_asked-in-Span.new.steps.items c.args.occur _ c.args.query.now
-    (Tree.Span (arc_str_bytes c.in-Span.field) (end_of c.in-Span.low) (end_of c.in-Span.high))
-    (tree_of_span c.in_ok-clone-in-Span.field-0 c.in_ok-clone-in-Span-2.field-0 c.in_ok-clone-in-Span-3.field-0
-    ∙ ap (λ t. Tree.Span t (end_of c.in_ok-clone-in-Span-2.field-0) (end_of c.in_ok-clone-in-Span-3.field-0)) c.in_ok-clone-in-Span.ensures.cases
-    ∙ ap (λ e. Tree.Span (arc_str_bytes c.in-Span.field) e (end_of c.in_ok-clone-in-Span-3.field-0)) (same_end c.in-Span.low c.in_ok-clone-in-Span-2.field-0 c.in_ok-clone-in-Span-2.ensures.cases)
-    ∙ ap (λ e. Tree.Span (arc_str_bytes c.in-Span.field) (end_of c.in-Span.low) e) (same_end c.in-Span.high c.in_ok-clone-in-Span-3.field-0 c.in_ok-clone-in-Span-3.ensures.cases))
-    (ap tree_of c.in-Span.is ∙ tree_of_span c.in-Span.field c.in-Span.low c.in-Span.high) refl c.add_asked-in-Span.ensures.added
+pub returns-in_ok-copied-in-Span-clause-added : goal.returns-in_ok-copied-in-Span-clause-added
+returns-in_ok-copied-in-Span-clause-added c =
+    let is = ap tree_of c.in-Span.is ∙ tree_of_span c.in-Span.field c.in-Span.low c.in-Span.high in
+    asked_added c.add_asked-in-Span.result c.args.terms.now c.args.runs.now c.args.asked.now.items c.add_asked-in-Span.new.asked.items c.args.steps.now.items c.add_asked-in-Span.new.steps.items c.args.occur c.in_ok-copied-in-Span.field-0 c.args.query.now
+    (Tree.Span (arc_str_bytes c.in-Span.field) (end_of c.in-Span.low) (end_of c.in-Span.high)) (c.in_ok-copied-in-Span.ensures ∙ is) is refl c.add_asked-in-Span.ensures.added
 
 pub returns-in-All-clause-added : goal.returns-in-All-clause-added
 returns-in-All-clause-added c =

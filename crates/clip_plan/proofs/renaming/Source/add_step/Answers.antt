@@ -1,0 +1,17 @@
+use Rattle.std.proofs.Common.{map, ◌∙◌}
+use Rattle.clip_grammar.specs.Tree.{tree_of}
+use Rattle.clip_plan.proofs.Renumbering.{run_renamed, asked_renamed}
+use Rattle.clip_plan.proofs.renaming.Source.add_step.Goals as goal
+
+pub returns-in_ok-push-in-Phrase-2-clause-added : goal.returns-in_ok-push-in-Phrase-2-clause-added
+returns-in_ok-push-in-Phrase-2-clause-added c = λ terms.
+    let source = c.args.self.now in
+    run_renamed terms source.numbers.now source.runs.now c.args.runs.now c.push-in-Phrase.new.self (map tree_of source.asked.now) c.args.asked.now.items c.args.steps.now.items c.push-in-Phrase-2.new.self.items
+    c.in-Phrase.occur c.in-Phrase.place c.len-new.result c.deref.result.now c.get.result.now c.args.step c.in-Phrase.is c.get.ensures (c.deref.ensures.value ∙ c.in_ok-run-in-Phrase.ensures)
+    c.in_ok-push-in-Phrase.ensures.ok c.len-new.ensures c.in_ok-push-in-Phrase-2.ensures.items
+
+pub returns-in_ok-query-in-Asked-clause-added : goal.returns-in_ok-query-in-Asked-clause-added
+returns-in_ok-query-in-Asked-clause-added c =
+    let source = c.args.self.now in
+    asked_renamed c.add_asked.result source.numbers.now source.runs.now c.args.runs.now (map tree_of source.asked.now) c.args.asked.now.items c.add_asked.new.asked.items c.args.steps.now.items c.add_asked.new.steps.items
+    c.in-Asked.occur c.in-Asked.place c.in_ok-query-in-Asked.query c.args.step c.in-Asked.is c.in_ok-query-in-Asked.ensures c.add_asked.ensures.added
