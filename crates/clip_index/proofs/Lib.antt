@@ -6,6 +6,7 @@ pub mod KeptLists
 pub mod KeptTerms
 pub mod Keys
 pub mod Lists
+pub mod Numbers
 pub mod Places
 pub mod Sent
 pub mod SeveralIndexes
