@@ -6,7 +6,7 @@ ghost use Rattle.clip_index.specs.Index.{IsIndexOf, places_with};
 ghost use Rattle.clip_index.specs.Selecting.{AreFlagsOf, AreIndexesOf, count_set, kept_of};
 ghost use Rattle.clip_index.specs.declared.index.TheConstants.{MOST_QUERIES};
 
-use crate::building::{empty_lists, packed, plans_of, positions_of, terms_of};
+use crate::building::{empty_lists, packed, plans_of, positions_of, terms_of, with_keys};
 use crate::kept_terms::kept_terms;
 use crate::reading::IndexReading;
 use crate::selecting::add_all_kept;
@@ -47,16 +47,17 @@ impl Model for Index {
 impl Index {
     /// The index of these queries, of which there are at most `MOST_QUERIES`.
     ///
-    /// `NoMemory` where an allocation failed, and where the queries have more than 4,294,967,295 terms. Cost: two
-    /// extractions of each query's keys, a sort of the keys and words of all, and a search by halves for each of them.
+    /// `NoMemory` where an allocation failed, and where the queries have more than 4,294,967,295 terms. Cost: an
+    /// extraction of each query's keys, a sort of the keys and words of all, and a search by halves for each of them.
     /// No text is copied but ends of ranges.
     pub fn of(alloc: Global, queries: &[&Query]) -> Result<Index, NoMemory>
         requires { length queries.now ≤ MOST_QUERIES }
         ensures { IfOk result (λ index. IsIndexOf (map (λ q. tree_of q.now) queries.now) index) }
     {
-        let terms = terms_of(alloc, queries)?;
-        let positions = positions_of(alloc, &terms, queries)?;
-        let plans = plans_of(alloc, &terms, queries)?;
+        let keyed = with_keys(alloc, queries)?;
+        let terms = terms_of(alloc, &keyed)?;
+        let positions = positions_of(alloc, &terms, &keyed)?;
+        let plans = plans_of(alloc, &terms, &keyed)?;
         Ok(Index {
             terms,
             positions,
