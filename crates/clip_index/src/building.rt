@@ -35,9 +35,8 @@ pub(crate) fn with_keys<'a>(
 {
     let mut keyed = Vec::with_capacity(alloc, queries.len())?;
     for query in queries {
-        let query: &'a Query = query;
         keyed.push(Keyed {
-            query,
+            query: *query,
             keys: keys(alloc, query)?,
         })?;
     }

@@ -65,13 +65,13 @@ impl Index {
         })
     }
 
-    /// The index of the kept queries of several indexes, in order: `kept` has a list of flags for each index, with a flag
-    /// for each of its queries. At most `MOST_QUERIES` flags are set.
+    /// The index of the kept queries of several indexes, in order. `kept` has a list of flags for each index, and in it
+    /// a flag for each of its queries; at most `MOST_QUERIES` flags are set.
     ///
     /// `NoMemory` where an allocation failed, and where the queries have more than 4,294,967,295 terms. Cost: a sort of
     /// the terms that kept queries ask for, each once for each index; a search by halves for each term; a step for each
-    /// flag and each place; and for each kept query a step for each word and each leaf. No key is extracted, and no text
-    /// is copied but ends of ranges.
+    /// flag and each place; and for each kept query a step for each word and each leaf. No key is extracted, and no
+    /// text is copied but ends of ranges.
     pub fn select(alloc: Global, indexes: &[&Index], kept: &[Vec<bool>]) -> Result<Index, NoMemory>
         requires { count_set (map vec_items kept.now) ≤ MOST_QUERIES }
         ensures { IfOk result (λ index. (trees : List (List Tree)) → AreIndexesOf trees (map (λ i. i.now) indexes.now)
