@@ -11,7 +11,7 @@ use Rattle.std.proofs.lemmas.Option.{unwrap_or-slice_get}
 use Rattle.clip_grammar.specs.Tree.{Tree}
 use Rattle.clip_grammar.proofs.Booleans.{either}
 use Rattle.clip_index.specs.Index.{places}
-use Rattle.clip_index.specs.Selecting.{flagged, kept_of, count_set}
+use Rattle.clip_index.specs.Selecting.{AreFlagsOf, flagged, kept_of, count_set}
 use Rattle.clip_index.specs.Steps.Parts.{flag_at, moved, new_place, new_places}
 
 -- nothing is kept of none
@@ -209,6 +209,23 @@ pub kept_few : {A : Type 0} (lists : List (List A)) (flags : List (List Bool)) �
 kept_few [] flags = omega arith
 kept_few (xs ∷ lists) [] = omega arith
 kept_few (xs ∷ lists) (fs ∷ flags) = omega (arith, length-append (flagged fs xs) (kept_of lists flags), flagged_few fs xs, kept_few lists flags, count_from (fs ∷ flags) 0)
+
+-- with a flag for each item just as many are kept as flags are set
+flagged_many : {A : Type 0} (flags : List Bool) (xs : List A) → length flags ≡ length xs → length (flagged flags xs) ≡ count_by (λ flag. flag) flags
+flagged_many [] [] long = refl
+flagged_many [] (x ∷ xs) long = absurd (omega arith)
+flagged_many (flag ∷ flags) [] long = absurd (omega arith)
+flagged_many (true ∷ flags) (x ∷ xs) long = omega (arith, flagged_many flags xs (omega arith), count_first true flags)
+flagged_many (false ∷ flags) (x ∷ xs) long = omega (arith, flagged_many flags xs (omega arith), count_first false flags)
+
+pub kept_many : {A : Type 0} (lists : List (List A)) (flags : List (List Bool)) → AreFlagsOf lists flags → length (kept_of lists flags) ≡ count_set flags
+kept_many [] [] are = refl
+kept_many [] (fs ∷ flags) are = cc
+kept_many (xs ∷ lists) [] are = cc
+kept_many (xs ∷ lists) (fs ∷ flags) are =
+    let here : length fs ≡ length xs = cc in
+    let others : AreFlagsOf lists flags = cc in
+    omega (arith, length-append (flagged fs xs) (kept_of lists flags), flagged_many fs xs here, kept_many lists flags others, count_from (fs ∷ flags) 0)
 
 -- ---- flags that are set
 

@@ -1,5 +1,5 @@
 -- The places and the plans of the kept queries of an index, behind those of others.
-use Rattle.std.proofs.Common.{◌≡◌, ℕ, ◌+◌, ◌<◌, ◌≤◌, Bool, true, false, cond, ◌||◌, List, [], ◌∷◌, ◌++◌, length, map, flat_map, take, get_or, set, unwrap_or, slice_get, Option, Some, None, is_some, refl, sym, ap, ◌∙◌, arith, append-nil, append_assoc, length-append, length-set, subst, IsTrue}
+use Rattle.std.proofs.Common.{◌≡◌, ℕ, ◌+◌, ◌<◌, ◌≤◌, Bool, true, false, cond, ◌||◌, List, [], ◌∷◌, ◌++◌, length, map, flat_map, take, get_or, unwrap_or, slice_get, Option, Some, None, is_some, refl, sym, ap, ◌∙◌, arith, append-nil, append_assoc, length-append, length-set, subst, IsTrue}
 use Rattle.std.specs.Prelude.{IfSome}
 use Rattle.std.specs.List.{All, count_by, list_any, AllByRecursion}
 use Rattle.std.specs.List.Sorted.{IsStrictlySortedBy}

@@ -1,5 +1,5 @@
 -- The terms that the kept queries of an index ask for.
-use Rattle.std.proofs.Common.{◌≡◌, ℕ, zero, suc, ◌+◌, ◌<◌, Bool, true, false, ◌||◌, nat_eq, List, [], ◌∷◌, ◌++◌, length, map, flat_map, refl, sym, ap, ◌∙◌, arith, inl, inr, eq-eqb}
+use Rattle.std.proofs.Common.{◌≡◌, ℕ, zero, suc, ◌<◌, Bool, true, false, ◌||◌, nat_eq, List, [], ◌∷◌, ◌++◌, length, map, flat_map, refl, sym, ap, ◌∙◌, arith, inl, inr, eq-eqb}
 use Rattle.std.specs.List.{list_any}
 use Rattle.std.proofs.Math.Bool.{or-true}
 use Rattle.std.proofs.lemmas.Bool.{cases_lt, eqb-true, false≢true}

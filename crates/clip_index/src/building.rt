@@ -9,6 +9,7 @@ ghost use Rattle.clip_plan.specs.Plan.{are_terms, decoded, plan_of};
 ghost use Rattle.clip_index.specs.Index.{asked_of, has_key, places_with, terms_of};
 ghost use Rattle.clip_index.specs.declared.index.TheConstants.{MOST_QUERIES};
 
+use crate::kept_terms::add_copy;
 use clip_extract::{Key, keys};
 use clip_grammar::query::Query;
 use clip_pieces::PackedLists;
@@ -17,22 +18,56 @@ use clip_terms::Terms;
 use clip_words::NoMemory;
 use std::alloc::Global;
 
-/// Adds the keys of a query, and the words that it asks for. Texts are shared.
-fn add_asked(alloc: Global, query: &Query, all: &mut Vec<Key>) -> Result<(), NoMemory>
-    ensures { OnOk result (map key_of all.new.items ≡ map key_of all.old.items ++ asked_of (tree_of query.now)) }
+/// A query with its keys.
+#[derive(Drop)]
+pub(crate) struct Keyed<'a> {
+    query: &'a Query,
+    keys: Vec<Key>,
+    ghost own: { map key_of keys.items ≡ query_keys (tree_of query.now) },
+}
+
+/// Queries with their keys.
+pub(crate) fn with_keys<'a>(
+    alloc: Global,
+    queries: &[&'a Query],
+) -> Result<Vec<Keyed<'a>>, NoMemory>
+    ensures { IfOk result (λ keyed. map (λ k. tree_of k.query.now) keyed.items ≡ map (λ q. tree_of q.now) queries.now) }
 {
-    let mut own = keys(alloc, query)?;
-    all.append(&mut own)?;
-    add_word_keys(query, all)
+    let mut keyed = Vec::with_capacity(alloc, queries.len())?;
+    for query in queries {
+        keyed.push(Keyed {
+            query: *query,
+            keys: keys(alloc, query)?,
+        })?;
+    }
+    Ok(keyed)
+}
+
+/// Adds copies of keys. Texts are shared.
+fn add_copies(keys: &[Key], all: &mut Vec<Key>) -> Result<(), NoMemory>
+    ensures { OnOk result (map key_of all.new.items ≡ map key_of all.old.items ++ map key_of keys.now) }
+{
+    for key in keys {
+        add_copy(key, all)?;
+    }
+    Ok(())
+}
+
+/// Adds the keys of a query, and the words that it asks for. Texts are shared.
+fn add_asked(keyed: &Keyed, all: &mut Vec<Key>) -> Result<(), NoMemory>
+    ensures { OnOk result (map key_of all.new.items ≡ map key_of all.old.items ++ asked_of (tree_of keyed.now.query.now)) }
+{
+    add_copies(&keyed.keys, all)?;
+    add_word_keys(keyed.query, all)
 }
 
 /// The keys of queries and the words that they ask for, in order, each once.
-pub(crate) fn terms_of(alloc: Global, queries: &[&Query]) -> Result<Terms, NoMemory>
-    ensures { IfOk result (λ terms. terms ≡ terms_of (map (λ q. tree_of q.now) queries.now)) }
+pub(crate) fn terms_of(alloc: Global, queries: &[Keyed]) -> Result<Terms, NoMemory>
+    ensures { IfOk result (λ terms. terms ≡ terms_of (map (λ k. tree_of k.query.now) queries.now)) }
 {
     let mut all = Vec::new(alloc);
     for query in queries {
-        add_asked(alloc, query, &mut all)?;
+        add_asked(query, &mut all)?;
     }
     Terms::of(all)
 }
@@ -89,34 +124,33 @@ fn add_to_key(
 
 /// Adds a query's place to the list of each of its keys, which are terms, where each term has its list.
 fn add_place(
-    alloc: Global,
     terms: &Terms,
-    query: &Query,
+    keyed: &Keyed,
     place: u32,
     lists: &mut Vec<Vec<u32>>,
 ) -> Result<(), NoMemory>
     requires rising { IsStrictlySortedBy key_cmp terms.now }
-    requires terms { IsTrue (are_terms terms.now (query_keys (tree_of query.now))) }
+    requires terms { IsTrue (are_terms terms.now (query_keys (tree_of keyed.now.query.now))) }
     requires long { length lists.old.items ≡ length terms.now }
     ensures { OnOk result ((under : KeyValue → List ℕ) → map vec_items lists.old.items ≡ map under terms.now
-        → map vec_items lists.new.items ≡ map (λ term. under term ++ (if has_key term (tree_of query.now) then place ∷ [] else [])) terms.now) }
+        → map vec_items lists.new.items ≡ map (λ term. under term ++ (if has_key term (tree_of keyed.now.query.now) then place ∷ [] else [])) terms.now) }
 {
-    for key in &keys(alloc, query)? {
+    for key in &keyed.keys {
         add_to_key(terms, key, place, lists)?;
     }
     Ok(())
 }
 
 /// For each term the places of the queries that have it, rising.
-fn lists_of(alloc: Global, terms: &Terms, queries: &[&Query]) -> Result<Vec<Vec<u32>>, NoMemory>
+fn lists_of(alloc: Global, terms: &Terms, queries: &[Keyed]) -> Result<Vec<Vec<u32>>, NoMemory>
     requires short { length queries.now ≤ MOST_QUERIES }
-    requires terms { terms.now ≡ terms_of (map (λ q. tree_of q.now) queries.now) }
-    ensures { IfOk result (λ lists. map vec_items lists.items ≡ map (λ term. places_with term (map (λ q. tree_of q.now) queries.now)) terms.now) }
+    requires terms { terms.now ≡ terms_of (map (λ k. tree_of k.query.now) queries.now) }
+    ensures { IfOk result (λ lists. map vec_items lists.items ≡ map (λ term. places_with term (map (λ k. tree_of k.query.now) queries.now)) terms.now) }
 {
     let mut lists = empty_lists(alloc, terms.len())?;
     let mut place = 0;
     for query in queries {
-        add_place(alloc, terms, query, place, &mut lists)?;
+        add_place(terms, query, place, &mut lists)?;
         place += 1;
     }
     Ok(lists)
@@ -137,24 +171,24 @@ pub(crate) fn packed(alloc: Global, lists: &[Vec<u32>]) -> Result<PackedLists<u3
 pub(crate) fn positions_of(
     alloc: Global,
     terms: &Terms,
-    queries: &[&Query],
+    queries: &[Keyed],
 ) -> Result<PackedLists<u32>, NoMemory>
     requires short { length queries.now ≤ MOST_QUERIES }
-    requires terms { terms.now ≡ terms_of (map (λ q. tree_of q.now) queries.now) }
-    ensures { IfOk result (λ positions. positions ≡ map (λ term. places_with term (map (λ q. tree_of q.now) queries.now)) terms.now) }
+    requires terms { terms.now ≡ terms_of (map (λ k. tree_of k.query.now) queries.now) }
+    ensures { IfOk result (λ positions. positions ≡ map (λ term. places_with term (map (λ k. tree_of k.query.now) queries.now)) terms.now) }
 {
     let lists = lists_of(alloc, terms, queries)?;
     packed(alloc, &lists)
 }
 
 /// The plans of queries, in order.
-pub(crate) fn plans_of(alloc: Global, terms: &Terms, queries: &[&Query]) -> Result<Plans, NoMemory>
-    requires { terms.now ≡ terms_of (map (λ q. tree_of q.now) queries.now) }
-    ensures { IfOk result (λ plans. map (decoded terms.now) plans ≡ map plan_of (map (λ q. tree_of q.now) queries.now)) }
+pub(crate) fn plans_of(alloc: Global, terms: &Terms, queries: &[Keyed]) -> Result<Plans, NoMemory>
+    requires { terms.now ≡ terms_of (map (λ k. tree_of k.query.now) queries.now) }
+    ensures { IfOk result (λ plans. map (decoded terms.now) plans ≡ map plan_of (map (λ k. tree_of k.query.now) queries.now)) }
 {
     let mut plans = Plans::new(alloc);
     for query in queries {
-        plans.push(alloc, terms, query)?;
+        plans.push(alloc, terms, query.query)?;
     }
     Ok(plans)
 }

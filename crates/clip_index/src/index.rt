@@ -6,7 +6,7 @@ ghost use Rattle.clip_index.specs.Index.{IsIndexOf, places_with};
 ghost use Rattle.clip_index.specs.Selecting.{AreFlagsOf, AreIndexesOf, count_set, kept_of};
 ghost use Rattle.clip_index.specs.declared.index.TheConstants.{MOST_QUERIES};
 
-use crate::building::{empty_lists, packed, plans_of, positions_of, terms_of};
+use crate::building::{empty_lists, packed, plans_of, positions_of, terms_of, with_keys};
 use crate::kept_terms::kept_terms;
 use crate::reading::IndexReading;
 use crate::selecting::add_all_kept;
@@ -47,16 +47,17 @@ impl Model for Index {
 impl Index {
     /// The index of these queries, of which there are at most `MOST_QUERIES`.
     ///
-    /// `NoMemory` where an allocation failed, and where the queries have more than 4,294,967,295 terms. Cost: two
-    /// extractions of each query's keys, a sort of the keys and words of all, and a search by halves for each of them.
+    /// `NoMemory` where an allocation failed, and where the queries have more than 4,294,967,295 terms. Cost: an
+    /// extraction of each query's keys, a sort of the keys and words of all, and a search by halves for each of them.
     /// No text is copied but ends of ranges.
     pub fn of(alloc: Global, queries: &[&Query]) -> Result<Index, NoMemory>
         requires { length queries.now ≤ MOST_QUERIES }
         ensures { IfOk result (λ index. IsIndexOf (map (λ q. tree_of q.now) queries.now) index) }
     {
-        let terms = terms_of(alloc, queries)?;
-        let positions = positions_of(alloc, &terms, queries)?;
-        let plans = plans_of(alloc, &terms, queries)?;
+        let keyed = with_keys(alloc, queries)?;
+        let terms = terms_of(alloc, &keyed)?;
+        let positions = positions_of(alloc, &terms, &keyed)?;
+        let plans = plans_of(alloc, &terms, &keyed)?;
         Ok(Index {
             terms,
             positions,
@@ -64,13 +65,13 @@ impl Index {
         })
     }
 
-    /// The index of the kept queries of several indexes, in order: `kept` has a list of flags for each index, with a flag
-    /// for each of its queries. At most `MOST_QUERIES` flags are set.
+    /// The index of the kept queries of several indexes, in order. `kept` has a list of flags for each index, and in it
+    /// a flag for each of its queries; at most `MOST_QUERIES` flags are set.
     ///
     /// `NoMemory` where an allocation failed, and where the queries have more than 4,294,967,295 terms. Cost: a sort of
     /// the terms that kept queries ask for, each once for each index; a search by halves for each term; a step for each
-    /// flag and each place; and for each kept query a step for each word and each leaf. No key is extracted, and no text
-    /// is copied but ends of ranges.
+    /// flag and each place; and for each kept query a step for each word and each leaf. No key is extracted, and no
+    /// text is copied but ends of ranges.
     pub fn select(alloc: Global, indexes: &[&Index], kept: &[Vec<bool>]) -> Result<Index, NoMemory>
         requires { count_set (map vec_items kept.now) ≤ MOST_QUERIES }
         ensures { IfOk result (λ index. (trees : List (List Tree)) → AreIndexesOf trees (map (λ i. i.now) indexes.now)

@@ -98,7 +98,7 @@ fn set_all(flags: &mut Vec<bool>, numbers: &[u32])
 }
 
 /// Adds a copy of a key. Texts are shared.
-fn add_copy(key: &Key, all: &mut Vec<Key>) -> Result<(), NoMemory>
+pub(crate) fn add_copy(key: &Key, all: &mut Vec<Key>) -> Result<(), NoMemory>
     ensures { OnOk result (map key_of all.new.items ≡ map key_of all.old.items ++ key_of key.now ∷ []) }
 {
     all.push(key.clone()?)?;

@@ -1,5 +1,5 @@
 -- The marks of queries that are no groups.
-use Rattle.std.proofs.Common.{◌≡◌, ℕ, ◌<◌, List, [], ◌∷◌, ◌++◌, map, length, slice_get, unwrap_or, Vec, Global, Result, OnOk, refl, sym, ap, ◌∙◌, subst}
+use Rattle.std.proofs.Common.{◌≡◌, ℕ, ◌<◌, List, [], ◌∷◌, ◌++◌, map, length, slice_get, unwrap_or, Vec, Global, Result, OnOk, sym, ap, ◌∙◌, subst}
 use Rattle.std.specs.Arc.{arc_str_bytes}
 use Rattle.std.specs.declared.sync.ArcStr.{ArcStr}
 use Rattle.std.proofs.lemmas.Result.{on_ok_weaker}

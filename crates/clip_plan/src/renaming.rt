@@ -159,8 +159,9 @@ impl Plans {
         add_all_named(&self.runs, self.steps.get(place), numbers)
     }
 
-    /// Adds the plan of a place of other plans, past the last of these an empty one, with new numbers: `numbers` has for
-    /// each number of the other plan its new one. `NoMemory` where an allocation failed; the plans are then of no use.
+    /// Adds the plan of a place of other plans, past the last of these an empty one, with new numbers: `numbers` has
+    /// for each number of the other plan its new one. `NoMemory` where an allocation failed; the plans are then of no
+    /// use.
     ///
     /// Cost: a step for each step of the plan and each word of its phrases. Texts of prefixes are shared, and those of
     /// ranges are copied.

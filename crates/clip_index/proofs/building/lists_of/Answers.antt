@@ -23,9 +23,9 @@ add_place-requires-clause-rising c = subst (IsStrictlySortedBy key_cmp) (sym c.r
 
 pub add_place-requires-clause-terms : goal.add_place-requires-clause-terms
 add_place-requires-clause-terms c =
-    let tree = tree_of c.query-item.result.now in
+    let tree = tree_of c.query-item.result.query.now in
     (are_parts c.args.terms.now (query_keys tree) (word_keys tree)
-    (asked_terms (λ q. tree_of q.now) c.args.queries.now c.loop-query.query-index c.query-item.result c.args.terms.now c.loop-query-test.true c.query-item.is c.requires.terms)).0
+    (asked_terms (λ k. tree_of k.query.now) c.args.queries.now c.loop-query.query-index c.query-item.result c.args.terms.now c.loop-query-test.true c.query-item.is c.requires.terms)).0
 
 pub add_place-requires-clause-long : goal.add_place-requires-clause-long
 add_place-requires-clause-long c =
@@ -35,6 +35,6 @@ pub loop-query-preserved : goal.loop-query-preserved
 loop-query-preserved c = record {
   place = ap (λ n. n + 1) c.loop-query.invariant.place;
   lists =
-      next_query (λ q. tree_of q.now) c.args.terms.now c.args.queries.now c.loop-query.query-index c.query-item.result c.loop-query.place _ _
+      next_query (λ k. tree_of k.query.now) c.args.terms.now c.args.queries.now c.loop-query.query-index c.query-item.result c.loop-query.place _ _
       c.loop-query-test.true c.query-item.is c.loop-query.invariant.place c.loop-query.invariant.lists c.in_ok-add_place.ensures;
 }

@@ -7,6 +7,6 @@ use Rattle.clip_index.proofs.building.plans_of.Goals as goal
 
 pub push-requires : goal.push-requires
 push-requires c =
-    let tree = tree_of c.query-item.result.now in
+    let tree = tree_of c.query-item.result.query.now in
     (are_parts c.args.terms.now (query_keys tree) (word_keys tree)
-    (asked_terms (λ q. tree_of q.now) c.args.queries.now c.loop-query.query-index c.query-item.result c.args.terms.now c.loop-query-test.true c.query-item.is c.requires)).1
+    (asked_terms (λ k. tree_of k.query.now) c.args.queries.now c.loop-query.query-index c.query-item.result c.args.terms.now c.loop-query-test.true c.query-item.is c.requires)).1

@@ -5,4 +5,4 @@ use Rattle.clip_index.specs.Index.{asked_of}
 use Rattle.clip_index.proofs.building.terms_of.Given as goal
 
 abbrev pub invariant-loop-query : goal.invariant-loop-query
-invariant-loop-query l = map key_of l.all.items ≡ flat_map asked_of (map (λ q. tree_of q.now) (take l.query-index l.queries))
+invariant-loop-query l = map key_of l.all.items ≡ flat_map asked_of (map (λ k. tree_of k.query.now) (take l.query-index l.queries))
