@@ -1,4 +1,7 @@
+pub mod FirstBytes
+pub mod Headings
 pub mod KeysByField
+pub mod LeadsOfTerms
 pub mod NumberedKeys
 pub mod Numbers
 pub mod PlacedWords

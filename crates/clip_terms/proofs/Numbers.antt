@@ -23,7 +23,7 @@ IsRising = IsStrictlySortedBy key_cmp
 pub in_order_rises : (keys : List KeyValue) → IsRising (in_order keys)
 in_order_rises keys = keys_in_order key_cmp _
 
-above_at : (key : KeyValue) (ts : List KeyValue) (j : ℕ) (d : KeyValue) → AllByRecursion (λ t. key_cmp key t ≡ Less) ts → j < length ts → key_cmp key (get_or ts j d) ≡ Less
+pub above_at : (key : KeyValue) (ts : List KeyValue) (j : ℕ) (d : KeyValue) → AllByRecursion (λ t. key_cmp key t ≡ Less) ts → j < length ts → key_cmp key (get_or ts j d) ≡ Less
 above_at key [] j d all inside = absurd (omega arith)
 above_at key (t ∷ ts) zero d all inside = all.0
 above_at key (t ∷ ts) (suc j) d all inside = above_at key ts j d all.1 (omega arith)
