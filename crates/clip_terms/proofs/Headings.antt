@@ -12,16 +12,14 @@ use Rattle.clip_meaning.proofs.Fields.{bytes_exact}
 use Rattle.clip_extract.specs.Keys.{KeyValue, Any, Word, key_of, key_cmp, is_same}
 use Rattle.clip_extract.specs.declared.key.Key.{Key}
 use Rattle.clip_extract.specs.declared.key.Key.TheVariants as variant
+use Rattle.clip_extract.proofs.Members.{less_from}
 use Rattle.clip_extract.proofs.Order.{key_cmp_same, same_key}
 use Rattle.clip_terms.specs.Terms.{number_of}
 use Rattle.clip_terms.specs.Steps.Leads.{text_of, heading, heading_cmp, IsPart, TextsRise, IsPlaceOf}
-use Rattle.clip_terms.proofs.Numbers.{above_at, found_number, missing_number}
+use Rattle.clip_terms.proofs.Numbers.{IsRising, above_at, found_number, missing_number}
 
 abbrev pub Heading : Type 0
 Heading = ℕ × List ℕ
-
-abbrev IsRising : List KeyValue → Type 0
-IsRising = IsStrictlySortedBy key_cmp
 
 heading_cmp_total : IsTotalOrder heading_cmp
 heading_cmp_total = then_total (on_total (λ (h : Heading). h.0) nat_cmp_total) (on_total (λ (h : Heading). h.1) nat_list_cmp_total)
@@ -80,7 +78,7 @@ headings_rise ts up m n d le inside =
           ap (λ k. is_gt (heading_cmp (heading (get_or ts k d)) (heading (get_or ts n d)))) same ∙ ap is_gt (tied_itself heading_cmp_total (heading (get_or ts n d)))
     ]
 
--- what is not above y, and y is below z, or not above it
+-- what is not above y is below what y is below
 below_then : (x y z : Heading) → is_gt (heading_cmp x y) ≡ false → heading_cmp y z ≡ Less → heading_cmp x z ≡ Less
 below_then x y z le less = by_order (heading_cmp x y) refl le
   where
@@ -89,14 +87,10 @@ below_then x y z le less = by_order (heading_cmp x y) refl le
     by_order Equal e le = heading_cmp_total.congr x y z e ∙ less
     by_order Greater e le = absurd (true≢false le)
 
-lt_at : (o : Ordering) → is_lt o ≡ true → o ≡ Less
-lt_at Less h = refl
-lt_at Equal h = absurd (false≢true h)
-lt_at Greater h = absurd (false≢true h)
-
 lower_still : (x y z : Heading) → is_gt (heading_cmp x y) ≡ false → is_lt (heading_cmp y z) ≡ true → is_lt (heading_cmp x z) ≡ true
-lower_still x y z le less = ap is_lt (below_then x y z le (lt_at (heading_cmp y z) less))
+lower_still x y z le less = ap is_lt (below_then x y z le (less_from (heading_cmp y z) less))
 
+-- and not above what y is not above
 upto_still : (x y z : Heading) → is_gt (heading_cmp x y) ≡ false → is_le (heading_cmp y z) ≡ true → is_le (heading_cmp x z) ≡ true
 upto_still x y z le upto = by_order (heading_cmp y z) refl upto
   where
@@ -111,6 +105,16 @@ upto_still x y z le upto = by_order (heading_cmp y z) refl upto
     by_order Greater e h = absurd (false≢true h)
 
 -- ---- a search by halves for the terms under a heading
+
+level : (o : Ordering) → is_lt o ≡ false → is_le o ≡ true → o ≡ Equal
+level Less a b = absurd (true≢false a)
+level Equal a b = refl
+level Greater a b = absurd (false≢true b)
+
+le_of_lt : (o : Ordering) → is_lt o ≡ true → is_le o ≡ false → ⊥
+le_of_lt Less a b = true≢false b
+le_of_lt Equal a b = false≢true a
+le_of_lt Greater a b = false≢true a
 
 module _ (keys : List Key) where
   abbrev terms : List KeyValue
@@ -136,20 +140,10 @@ module _ (keys : List Key) where
   pub upto_first : (h : Heading) → IsRising terms → IsPartitionedBy (λ k. is_le (heading_cmp (heading (key_of k)) h)) keys
   upto_first h up = partitioned up (λ x. is_le (heading_cmp x h)) (λ x y. upto_still x y h)
 
-  level : (o : Ordering) → is_lt o ≡ false → is_le o ≡ true → o ≡ Equal
-  level Less a b = absurd (true≢false a)
-  level Equal a b = refl
-  level Greater a b = absurd (false≢true b)
-
   -- between the places that two searches end at stand just the terms under the heading
   module _ (h : Heading) (start end : ℕ) (low : start ≤ length keys) (high : end ≤ length keys)
       (lower : IsPartitionPoint (λ k. is_lt (heading_cmp (heading (key_of k)) h) ≡ true) (λ k. is_lt (heading_cmp (heading (key_of k)) h) ≡ false) keys start)
       (upto : IsPartitionPoint (λ k. is_le (heading_cmp (heading (key_of k)) h) ≡ true) (λ k. is_le (heading_cmp (heading (key_of k)) h) ≡ false) keys end) where
-    le_of_lt : (o : Ordering) → is_lt o ≡ true → is_le o ≡ false → ⊥
-    le_of_lt Less a b = true≢false b
-    le_of_lt Equal a b = false≢true a
-    le_of_lt Greater a b = false≢true a
-
     ends_rise : start ≤ end
     ends_rise =
         elim (cases_lt end start) [

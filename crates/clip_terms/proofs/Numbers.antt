@@ -17,7 +17,7 @@ use Rattle.clip_extract.proofs.Order.{key_cmp_total, key_cmp_same, same_itself}
 use Rattle.clip_extract.proofs.Sorting.{key_order}
 use Rattle.clip_terms.specs.Terms.{number_of}
 
-abbrev IsRising : List KeyValue → Type 0
+abbrev pub IsRising : List KeyValue → Type 0
 IsRising = IsStrictlySortedBy key_cmp
 
 pub in_order_rises : (keys : List KeyValue) → IsRising (in_order keys)

@@ -41,8 +41,8 @@ impl Model for Terms {
 impl Terms {
     /// These keys in order, each once.
     ///
-    /// `NoMemory` where an allocation failed, and where there are more than `MOST_TERMS`. Cost: n log n comparisons of n
-    /// keys, and a step for each. Texts are shared.
+    /// `NoMemory` where an allocation failed, and where there are more than `MOST_TERMS`. Cost: n log n comparisons of
+    /// n keys, and a step for each. Texts are shared.
     pub fn of(keys: Vec<Key>) -> Result<Terms, NoMemory>
         ensures { IfOk result (λ terms. terms ≡ in_order (map key_of keys.items)) }
     {
