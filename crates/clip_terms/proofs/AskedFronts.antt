@@ -138,33 +138,34 @@ word_again terms name last old goal ps i p lt is same before =
     ap (λ fs. old ++ known (map (number_of terms) (map (Front name) (fs ++ asked_fronts last rest)))) (sym (none_other (fronts last)))
     ∙ ap (λ ws. old ++ known (map (number_of terms) (map (Front name) (asked_fronts last ws)))) (sym next) ∙ before
 
--- a field more
-pub fields_added : (terms : List KeyValue) (fields : List (List ℕ × List (List ℕ))) (i : ℕ) (field : List ℕ × List (List ℕ)) (name : List ℕ) (ps : List Place) (old now new : List ℕ)
-    → i < length fields → field ≡ get_or fields i field → name ≡ field.0 → IsPermutation (numbered 0 field.1) ps
-    → new ≡ now ++ known (map (number_of terms) (map (Front name) (asked_fronts [] (words_at ps))))
-    → AddsNumbersOf terms (flat_map front_keys (take i fields)) old now → AddsNumbersOf terms (flat_map front_keys (take (i + 1) fields)) old new
-fields_added terms fields i field name ps old now new lt is same moved added before =
-    subst (λ (keys : List KeyValue). AddsNumbersOf terms keys old new) (flat_map_more front_keys [] (take i fields) field ∙ ap (flat_map front_keys) (ap (λ (f : List ℕ × List (List ℕ)). take i fields ++ f ∷ []) is ∙ sym (take_more fields i field lt)))
-    (added_more terms (flat_map front_keys (take i fields)) (front_keys field) old now new (map (Front name) (asked_fronts [] (words_at ps))) before
-    (λ test. fronts_at test name field.1 ps moved ∙ ap (λ n. list_any test (front_keys (n, field.1))) same) added)
-
--- no front has a number
-none_known : (terms : List KeyValue) (name : List ℕ) (fs : List (List ℕ)) → ((field text : List ℕ) → number_of terms (Front field text) ≡ None) → known (map (number_of terms) (map (Front name) fs)) ≡ []
-none_known terms name [] none = refl
-none_known terms name (f ∷ fs) none = ap (λ o. option_to_list o ++ known (map (number_of terms) (map (Front name) fs))) (none name f) ∙ none_known terms name fs none
-
-none_of_fields : (terms : List KeyValue) (fields : List (List ℕ × List (List ℕ))) → ((field text : List ℕ) → number_of terms (Front field text) ≡ None) → known (map (number_of terms) (flat_map front_keys fields)) ≡ []
-none_of_fields terms [] none = refl
-none_of_fields terms (f ∷ fields) none =
-    known_append (front_keys f) (flat_map front_keys fields) terms
-    ∙ (λ i. none_known terms f.0 (flat_map fronts f.1) none i ++ none_of_fields terms fields none i)
-
-pub none_numbered : (terms : List KeyValue) (fields : List (List ℕ × List (List ℕ))) (numbers : List ℕ) → ((field text : List ℕ) → number_of terms (Front field text) ≡ None) → AddsNumbersOf terms (flat_map front_keys fields) numbers numbers
-none_numbered terms fields numbers none = record {
-  asked = flat_map front_keys fields;
-  same = λ test. refl;
-  added = sym (append-nil numbers) ∙ ap (λ ns. numbers ++ ns) (sym (none_of_fields terms fields none));
+-- a field's fronts
+pub field_asked : (terms : List KeyValue) (field : List ℕ × List (List ℕ)) (name : List ℕ) (ps : List Place) (old new : List ℕ) → name ≡ field.0 → IsPermutation (numbered 0 field.1) ps
+    → new ≡ old ++ known (map (number_of terms) (map (Front name) (asked_fronts [] (words_at ps)))) → AddsNumbersOf terms (front_keys field) old new
+field_asked terms field name ps old new same moved added = record {
+  asked = map (Front name) (asked_fronts [] (words_at ps));
+  same = λ test. fronts_at test name field.1 ps moved ∙ ap (λ n. list_any test (front_keys (n, field.1))) same;
+  added = added;
 }
+
+none_known : (terms : List KeyValue) (name : List ℕ) (fs : List (List ℕ)) → ((text : List ℕ) → number_of terms (Front name text) ≡ None) → known (map (number_of terms) (map (Front name) fs)) ≡ []
+none_known terms name [] none = refl
+none_known terms name (f ∷ fs) none = ap (λ o. option_to_list o ++ known (map (number_of terms) (map (Front name) fs))) (none f) ∙ none_known terms name fs none
+
+-- no front of the field has a number
+pub none_asked : (terms : List KeyValue) (field : List ℕ × List (List ℕ)) (name : List ℕ) (numbers : List ℕ) → name ≡ field.0 → ((text : List ℕ) → number_of terms (Front name text) ≡ None)
+    → AddsNumbersOf terms (front_keys field) numbers numbers
+none_asked terms field name numbers same none = record {
+  asked = front_keys (name, field.1);
+  same = λ test. ap (λ n. list_any test (front_keys (n, field.1))) same;
+  added = sym (append-nil numbers) ∙ ap (λ ns. numbers ++ ns) (sym (none_known terms name (flat_map fronts field.1) none));
+}
+
+-- a field more
+pub fields_added : (terms : List KeyValue) (fields : List (List ℕ × List (List ℕ))) (i : ℕ) (field : List ℕ × List (List ℕ)) (old now new : List ℕ) → i < length fields → field ≡ get_or fields i field
+    → AddsNumbersOf terms (front_keys field) now new → AddsNumbersOf terms (flat_map front_keys (take i fields)) old now → AddsNumbersOf terms (flat_map front_keys (take (i + 1) fields)) old new
+fields_added terms fields i field old now new lt is more before =
+    subst (λ (keys : List KeyValue). AddsNumbersOf terms keys old new) (flat_map_more front_keys [] (take i fields) field ∙ ap (flat_map front_keys) (ap (λ (f : List ℕ × List (List ℕ)). take i fields ++ f ∷ []) is ∙ sym (take_more fields i field lt)))
+    (added_more terms (flat_map front_keys (take i fields)) (front_keys field) old now new more.asked before more.same more.added)
 
 -- ---- front by front
 

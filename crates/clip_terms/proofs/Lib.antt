@@ -1,5 +1,8 @@
 pub mod AskedFronts
+pub mod FirstBytes
+pub mod Headings
 pub mod KeysByField
+pub mod LeadsOfTerms
 pub mod NumberedKeys
 pub mod Numbers
 pub mod PlacedWords

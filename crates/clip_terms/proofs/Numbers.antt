@@ -1,16 +1,15 @@
 -- The number of a key among terms in order, by a search by halves.
-use Rattle.std.proofs.Common.{◌≡◌, ℕ, suc, zero, ◌-◌, ◌<◌, false, cond, slice_get, Bool, Option, List, [], ◌∷◌, length, map, get_or, Some, None, option_map, is_eq, is_lt, refl, sym, ap, ◌∙◌, subst, arith, add-one, inl, inr}
+use Rattle.std.proofs.Common.{◌≡◌, ℕ, suc, zero, ◌<◌, false, cond, List, [], ◌∷◌, length, map, get_or, Some, None, option_map, is_eq, is_lt, refl, sym, ap, ◌∙◌, subst, arith, add-one, inl, inr}
 use Rattle.std.specs.Prelude.{Result, Ok, Err, MatchResult}
 use Rattle.std.specs.Ordering.{ordering_reverse}
 use Rattle.std.specs.declared.cmp.Ordering.{Ordering}
 use Rattle.std.specs.declared.cmp.Ordering.TheVariants.{Less, Greater}
 use Rattle.std.specs.List.{AllByRecursion}
 use Rattle.std.specs.List.Sorted.{IsSortedBy, IsStrictlySortedBy, IsBinarySearchResult, IsSearchInRange}
-use Rattle.std.proofs.lemmas.Bool.{cases_lt, false≢true, true≢false}
+use Rattle.std.proofs.lemmas.Bool.{cases_lt}
 use Rattle.std.proofs.lemmas.List.{get_or-map, length-map}
 use Rattle.std.proofs.lemmas.List.Sorted.{searchable_from_sorted}
-use Rattle.std.proofs.lemmas.Option.{slice_get-map}
-use Rattle.clip_extract.specs.Keys.{KeyValue, Any, Word, Front, key_of, key_cmp, is_same, in_order}
+use Rattle.clip_extract.specs.Keys.{KeyValue, Any, key_of, key_cmp, is_same, in_order}
 use Rattle.clip_extract.specs.declared.key.Key.{Key}
 use Rattle.clip_extract.specs.declared.key.Key.TheVariants as variant
 use Rattle.clip_extract.specs.contracts.key.KeyOrd.TheImpl as key_ord
@@ -18,15 +17,14 @@ use Rattle.clip_extract.proofs.Members.{keys_in_order}
 use Rattle.clip_extract.proofs.Order.{key_cmp_total, key_cmp_same, same_itself}
 use Rattle.clip_extract.proofs.Sorting.{key_order}
 use Rattle.clip_terms.specs.Terms.{number_of}
-use Rattle.clip_terms.specs.Steps.Fronts.{is_front}
 
-abbrev IsRising : List KeyValue → Type 0
+abbrev pub IsRising : List KeyValue → Type 0
 IsRising = IsStrictlySortedBy key_cmp
 
 pub in_order_rises : (keys : List KeyValue) → IsRising (in_order keys)
 in_order_rises keys = keys_in_order key_cmp _
 
-above_at : (key : KeyValue) (ts : List KeyValue) (j : ℕ) (d : KeyValue) → AllByRecursion (λ t. key_cmp key t ≡ Less) ts → j < length ts → key_cmp key (get_or ts j d) ≡ Less
+pub above_at : (key : KeyValue) (ts : List KeyValue) (j : ℕ) (d : KeyValue) → AllByRecursion (λ t. key_cmp key t ≡ Less) ts → j < length ts → key_cmp key (get_or ts j d) ≡ Less
 above_at key [] j d all inside = absurd (omega arith)
 above_at key (t ∷ ts) zero d all inside = all.0
 above_at key (t ∷ ts) (suc j) d all inside = above_at key ts j d all.1 (omega arith)
@@ -99,54 +97,3 @@ pub searched_number : (keys : List Key) (q : Key) (r : Result ℕ ℕ) → IsRis
     → MatchResult r (λ i. Some i ≡ number_of (map key_of keys) (key_of q)) (λ i. None ≡ number_of (map key_of keys) (key_of q))
 searched_number keys q r up bound at =
     searched_key keys (key_of q) r up bound (subst (λ (f : Key → Ordering). IsBinarySearchResult f keys r) (λ j k. key_order k q j) at)
-
--- ---- tables without fronts
-
-lower_no_front : (k l : KeyValue) → key_cmp k l ≡ Less → is_front l ≡ false → is_front k ≡ false
-lower_no_front Any l less plain = refl
-lower_no_front (Word f w) l less plain = refl
-lower_no_front (Front f w) Any less plain = absurd (false≢true (ap is_lt less))
-lower_no_front (Front f w) (Word g v) less plain = absurd (false≢true (ap is_lt less))
-lower_no_front (Front f w) (Front g v) less plain = absurd (true≢false plain)
-
-EndsWithout : List KeyValue → Type 0
-EndsWithout ts = (k : KeyValue) → slice_get ts (length ts - 1) ≡ Some k → is_front k ≡ false
-
-all_without : (t : KeyValue) (ts : List KeyValue) → IsRising (t ∷ ts) → EndsWithout (t ∷ ts) → AllByRecursion (λ k. is_front k ≡ false) (t ∷ ts)
-unfolding IsStrictlySortedBy EndsWithout
-all_without t [] up last = (last t refl, tt)
-all_without t (u ∷ us) up last =
-    let same : length (t ∷ u ∷ us) - 1 ≡ suc (length (u ∷ us) - 1) = omega arith in
-    let rest = all_without u us up.1 (λ k e. last k (ap (slice_get (t ∷ u ∷ us)) same ∙ e)) in
-    (lower_no_front t u up.0.0 rest.0, rest)
-
-not_front : (f w : List ℕ) (k : KeyValue) → is_front k ≡ false → is_same (Front f w) k ≡ false
-not_front f w Any plain = refl
-not_front f w (Word g v) plain = refl
-not_front f w (Front g v) plain = absurd (true≢false plain)
-
-none_in : (f w : List ℕ) (ts : List KeyValue) → AllByRecursion (λ k. is_front k ≡ false) ts → number_of ts (Front f w) ≡ None
-none_in f w [] all = refl
-none_in f w (t ∷ ts) all =
-    ap (λ b. cond b (Some 0) (option_map suc (number_of ts (Front f w)))) (not_front f w t all.0) ∙ ap (option_map suc) (none_in f w ts all.1)
-
--- where the last term is no front, no front is a term
-pub no_front : (ts : List KeyValue) → IsRising ts → ((k : KeyValue) → slice_get ts (length ts - 1) ≡ Some k → is_front k ≡ false) → (f w : List ℕ) → number_of ts (Front f w) ≡ None
-unfolding EndsWithout
-no_front [] up last f w = refl
-no_front (t ∷ ts) up last f w = none_in f w (t ∷ ts) (all_without t ts up last)
-
--- the same of the keys themselves
-abbrev is_front_if : Option Key → Bool
-is_front_if None = false
-is_front_if (Some key) = is_front (key_of key)
-
-pub no_front_key : (keys : List Key) (last : Option Key) → IsRising (map key_of keys) → last ≡ slice_get keys (length keys - 1) → is_front_if last ≡ false → (f w : List ℕ) → number_of (map key_of keys) (Front f w) ≡ None
-no_front_key keys last up is plain f w =
-    let at : slice_get (map key_of keys) (length (map key_of keys) - 1) ≡ option_map key_of last =
-    slice_get-map key_of keys (length (map key_of keys) - 1) ∙ ap (option_map key_of) (ap (λ n. slice_get keys (n - 1)) (length-map keys key_of) ∙ sym is) in
-    no_front (map key_of keys) up (λ k there. of_last last k plain (sym at ∙ there)) f w
-  where
-    of_last : (last : Option Key) (k : KeyValue) → is_front_if last ≡ false → option_map key_of last ≡ Some k → is_front k ≡ false
-    of_last None k plain e = cc
-    of_last (Some key) k plain e = let same : key_of key ≡ k = cc in ap is_front (sym same) ∙ plain

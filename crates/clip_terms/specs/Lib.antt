@@ -1,3 +1,4 @@
+pub mod FieldTerms
 pub mod Reading
 pub mod Terms
 pub mod Steps

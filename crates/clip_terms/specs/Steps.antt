@@ -1,7 +1,9 @@
 -- What the proofs of this crate go through, and private fields as contracts see them; no public clause cites it.
 pub mod Asking
+pub mod FieldTerms
 pub mod Fronts
 pub mod KeysByField
+pub mod Leads
 pub mod Numbers
 pub mod Places
 pub mod Reading

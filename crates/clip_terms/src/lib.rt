@@ -4,10 +4,13 @@
 ghost use Rattle.std.specs.Prelude.{◌≡◌};
 
 mod asking;
+mod field_terms;
+mod leads;
 mod numbering;
 mod reading;
 mod terms;
 
 pub use asking::Asking;
+pub use field_terms::FieldTerms;
 pub use reading::Reading;
 pub use terms::Terms;

@@ -8,23 +8,41 @@ ghost use Rattle.clip_terms.specs.Steps.KeysByField.{is_word};
 ghost use Rattle.clip_terms.specs.Steps.Numbers.{known};
 ghost use Rattle.clip_terms.specs.Steps.Fronts.{other_fronts, asked_fronts, AddsNumbersOf};
 
+use crate::field_terms::FieldTerms;
 use crate::terms::Terms;
 use clip_extract::{Fronts, Key};
 use clip_meaning::{Field, Posting};
 use clip_words::NoMemory;
 use std::alloc::Global;
 
-/// The numbers of keys, in order; none of a key that is no term.
-pub(crate) fn key_numbers(
+/// The number of a key; none of a key that is no term. The terms of a field become those of its field.
+fn key_number<'a>(terms: &'a Terms, of_field: &mut FieldTerms<'a>, key: &'a Key) -> Option<u32>
+    requires { of_field.old.terms ≡ terms.now }
+    ensures terms { of_field.new.terms ≡ terms.now }
+    ensures number { result ≡ number_of terms.now (key_of key.now) }
+{
+    let Key::Word(field, word) = key else {
+        return terms.number(key);
+    };
+    if of_field.is_of(field) {
+        return of_field.word(word);
+    }
+    *of_field = terms.of_field(field);
+    of_field.word(word)
+}
+
+/// The numbers of keys, in order; none of a key that is no term. Keys of one field stand side by side.
+pub(crate) fn key_numbers<'a>(
     alloc: Global,
-    terms: &Terms,
-    keys: &[Key],
+    terms: &'a Terms,
+    keys: &'a [Key],
 ) -> Result<Vec<Option<u32>>, NoMemory>
     ensures { IfOk result (λ numbers. numbers.items ≡ map (number_of terms.now) (map key_of keys.now)) }
 {
     let mut numbers = Vec::with_capacity(alloc, keys.len())?;
+    let mut of_field = terms.of_field("");
     for key in keys {
-        numbers.push(terms.number(key))?;
+        numbers.push(key_number(terms, &mut of_field, key))?;
     }
     Ok(numbers)
 }
@@ -57,16 +75,15 @@ fn is_text(text: Option<&str>, wanted: &str) -> bool
     text == Some(wanted)
 }
 
-/// Adds the numbers of a word's fronts in a field, but for those that another word has too.
+/// Adds the numbers of a word's fronts among the terms of a field, but for those that another word has too.
 fn add_word_fronts(
-    terms: &Terms,
-    name: &str,
+    of_field: &FieldTerms<'_>,
     last: &str,
     word: &str,
     numbers: &mut Vec<u32>,
 ) -> Result<(), NoMemory>
     ensures { OnOk result (numbers.new.items ≡ numbers.old.items
-        ++ known (map (number_of terms.now) (map (Front name.now) (other_fronts (fronts last.now) (fronts word.now))))) }
+        ++ known (map (number_of of_field.now.terms) (map (Front of_field.now.field) (other_fronts (fronts last.now) (fronts word.now))))) }
 {
     let mut lasts = Fronts::of(last);
     let mut fronts = Fronts::of(word);
@@ -74,20 +91,19 @@ fn add_word_fronts(
         if is_text(lasts.next(), front) {
             continue;
         }
-        add_known(terms.front(name, front), numbers)?;
+        add_known(of_field.front(front), numbers)?;
     }
     Ok(())
 }
 
 /// Adds the numbers of the fronts of a field's words, of each word those that the word before it does not have.
 fn add_posting_fronts(
-    terms: &Terms,
-    name: &str,
+    of_field: &FieldTerms<'_>,
     postings: &[Posting],
     numbers: &mut Vec<u32>,
 ) -> Result<(), NoMemory>
     ensures { OnOk result (numbers.new.items ≡ numbers.old.items
-        ++ known (map (number_of terms.now) (map (Front name.now) (asked_fronts [] (map (λ p. p.0) postings.now))))) }
+        ++ known (map (number_of of_field.now.terms) (map (Front of_field.now.field) (asked_fronts [] (map (λ p. p.0) postings.now))))) }
 {
     let mut last = "";
     for posting in postings {
@@ -95,9 +111,21 @@ fn add_posting_fronts(
         if word == last {
             continue;
         }
-        add_word_fronts(terms, name, last, word, numbers)?;
+        add_word_fronts(of_field, last, word, numbers)?;
         last = word;
     }
+    Ok(())
+}
+
+/// Adds the numbers of the fronts of a field's words, where there is a front of the field among the terms.
+fn add_field_fronts(terms: &Terms, field: &Field, numbers: &mut Vec<u32>) -> Result<(), NoMemory>
+    ensures { OnOk result (AddsNumbersOf terms.now (front_keys field.now) numbers.old.items numbers.new.items) }
+{
+    let of_field = terms.of_field(field.name());
+    if !of_field.has_fronts() {
+        return Ok(());
+    }
+    add_posting_fronts(&of_field, field.postings(), numbers)?;
     Ok(())
 }
 
@@ -109,11 +137,8 @@ pub(crate) fn add_front_numbers(
 ) -> Result<(), NoMemory>
     ensures { OnOk result (AddsNumbersOf terms.now (flat_map front_keys fields.now) numbers.old.items numbers.new.items) }
 {
-    if !terms.has_fronts() {
-        return Ok(());
-    }
     for field in fields {
-        add_posting_fronts(terms, field.name(), field.postings(), numbers)?;
+        add_field_fronts(terms, field, numbers)?;
     }
     Ok(())
 }

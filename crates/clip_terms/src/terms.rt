@@ -1,63 +1,50 @@
 //! Keys in order, by their numbers.
-ghost use Rattle.std.specs.Prelude.{◌≡◌, ℕ, ◌==◌, List, false, None, IfOk, length, map};
+ghost use Rattle.std.specs.Prelude.{◌≡◌, ◌≤◌, ◌==◌, IfOk, length, map};
 ghost use Rattle.std.specs.List.Sorted.{IsStrictlySortedBy};
-ghost use Rattle.clip_extract.specs.Keys.{Front, key_of, key_cmp, in_order};
+ghost use Rattle.clip_extract.specs.Keys.{key_of, key_cmp, in_order};
 ghost use Rattle.clip_terms.specs.Terms.{number_of};
-ghost use Rattle.clip_terms.specs.Steps.Fronts.{is_front};
+ghost use Rattle.clip_terms.specs.Steps.Leads.{AreLeads};
 
+use crate::field_terms::FieldTerms;
+use crate::leads::leads_of;
+use crate::numbering::key_numbers;
 use clip_extract::{Key, sorted};
 use clip_words::NoMemory;
 use std::alloc::Global;
-use std::cmp::Ordering;
 use std::marker::Model;
 
 /// The most terms of a table, so that each number fits in 32 bits.
 pub const MOST_TERMS: usize = 4_294_967_295;
 
 /// Keys in order, each once and numbered from 0. Contracts see the list of the keys.
+///
+/// The first bytes of their texts stand beside them as numbers, by which most are told apart without a look at them.
 #[derive(Debug, Drop)]
 pub struct Terms {
     keys: Vec<Key>,
+    leads: Vec<u64>,
 }
 
 impl Model for Terms {
     ghost use Rattle.std.specs.Prelude.{List, map, length, ◌≤◌};
     ghost use Rattle.std.specs.List.Sorted.{IsStrictlySortedBy};
     ghost use Rattle.clip_extract.specs.Keys.{KeyValue, key_of, key_cmp};
+    ghost use Rattle.clip_terms.specs.Steps.Leads.{AreLeads};
     ghost use Rattle.clip_terms.specs.declared.terms.TheConstants.{MOST_TERMS};
 
     ghost Value = { List KeyValue };
 
     ghost view = { λ t. map key_of t.keys.items };
 
-    ghost invariant = { λ t. IsStrictlySortedBy key_cmp (map key_of t.keys.items) × (length t.keys.items ≤ MOST_TERMS) };
-}
-
-/// Compares a key with a front of a field.
-fn compare(key: &Key, field: &str, text: &str) -> Ordering
-    ensures { result ≡ key_cmp (key_of key.now) (Front field.now text.now) }
-{
-    match key {
-        Key::Front(name, front) => name.as_str().cmp(field).then(front.as_str().cmp(text)),
-        _ => Ordering::Less,
-    }
-}
-
-/// Whether a key is a front.
-fn is_front(key: &Key) -> bool
-    ensures { result ≡ is_front (key_of key.now) }
-{
-    match key {
-        Key::Front(_, _) => true,
-        _ => false,
-    }
+    ghost invariant = { λ t. IsStrictlySortedBy key_cmp (map key_of t.keys.items) × (length t.keys.items ≤ MOST_TERMS)
+        × AreLeads (map key_of t.keys.items) t.leads.items };
 }
 
 impl Terms {
     /// These keys in order, each once.
     ///
-    /// `NoMemory` where an allocation failed, and where there are more than `MOST_TERMS`. Cost: n log n comparisons of n
-    /// keys. Texts are shared.
+    /// `NoMemory` where an allocation failed, and where there are more than `MOST_TERMS`. Cost: n log n comparisons of
+    /// n keys, and a step for each. Texts are shared.
     pub fn of(keys: Vec<Key>) -> Result<Terms, NoMemory>
         ensures { IfOk result (λ terms. terms ≡ in_order (map key_of keys.items)) }
     {
@@ -65,7 +52,8 @@ impl Terms {
         if keys.len() > MOST_TERMS {
             return Err(NoMemory);
         }
-        Ok(Terms { keys })
+        let leads = leads_of(*keys.allocator(), &keys)?;
+        Ok(Terms { keys, leads })
     }
 
     /// How many terms there are. Takes no memory. Constant time.
@@ -82,13 +70,6 @@ impl Terms {
         self.keys.is_empty()
     }
 
-    /// The terms, in order. Constant time.
-    pub fn keys(&self) -> &[Key]
-        ensures { map key_of result.now ≡ self.now }
-    {
-        &self.keys
-    }
-
     /// The number of a key, `None` where it is no term. Takes no memory. Cost: a search by halves.
     pub fn number(&self, key: &Key) -> Option<u32>
         ensures { result ≡ number_of self.now (key_of key.now) }
@@ -99,42 +80,36 @@ impl Terms {
         }
     }
 
-    /// The number of a front of a field, `None` where it is no term. Takes no memory. Cost: a search by halves.
-    pub fn front(&self, field: &str, text: &str) -> Option<u32>
-        ensures { result ≡ number_of self.now (Front field.now text.now) }
+    /// The terms of one field, to look its words and fronts up. Takes no memory. Cost: searches by halves among the terms.
+    pub fn of_field<'a>(&'a self, field: &'a str) -> FieldTerms<'a>
+        ensures { result ≡ record { terms = self.now; field = field.now } }
     {
-        let found = self.keys.binary_search_by(
-            |key: &Key| -> Ordering
-                ensures { result ≡ key_cmp (key_of key.now) (Front field.entry.now text.entry.now) }
-            { compare(key, field, text) },
-        );
-        match found {
-            Ok(number) => Some(number as u32),
-            Err(_) => None,
-        }
+        FieldTerms::of(self, field)
     }
 
-    /// Whether some term is a front; where none is, no front has a number. Takes no memory. Constant time.
-    pub(crate) fn has_fronts(&self) -> bool
-        ensures { result ≡ false → (field : List ℕ) (text : List ℕ) → number_of self.now (Front field text) ≡ None }
+    /// The terms, in order. Constant time.
+    pub fn keys(&self) -> &[Key]
+        ensures terms { map key_of result.now ≡ self.now }
+        ensures few { length result.now ≤ MOST_TERMS }
     {
-        match self.keys.last() {
-            Some(key) => is_front(key),
-            None => false,
-        }
+        &self.keys
+    }
+
+    /// The leads of the keys. Constant time.
+    pub(crate) fn leads(&self) -> &[u64]
+        ensures { AreLeads self.now result.now }
+    {
+        &self.leads
     }
 
     /// The numbers of keys, in their order; none of a key that is no term.
     ///
-    /// `NoMemory` where an allocation failed. Cost: a search by halves for each key.
+    /// `NoMemory` where an allocation failed. Cost: a search by halves for each key, by the first bytes of its text; keys
+    /// of one field are best side by side.
     pub fn numbers(&self, alloc: Global, keys: &[Key]) -> Result<Vec<Option<u32>>, NoMemory>
         ensures { IfOk result (λ numbers. numbers.items ≡ map (number_of self.now) (map key_of keys.now)) }
     {
-        let mut numbers = Vec::with_capacity(alloc, keys.len())?;
-        for key in keys {
-            numbers.push(self.number(key))?;
-        }
-        Ok(numbers)
+        key_numbers(alloc, self, keys)
     }
 
     /// That the terms are in order, each once, for proofs. Takes no memory. Constant time.

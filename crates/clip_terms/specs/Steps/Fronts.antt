@@ -1,17 +1,11 @@
 -- The fronts that are asked of a table of terms, word by word.
-use Rattle.std.specs.Prelude.{◌≡◌, ℕ, Bool, true, false, List, [], ◌∷◌, ◌++◌, map, cond}
+use Rattle.std.specs.Prelude.{◌≡◌, ℕ, Bool, List, [], ◌∷◌, ◌++◌, map, cond}
 use Rattle.std.specs.List.{list_any}
 use Rattle.std.specs.Str.{bytes_eq}
-use Rattle.clip_extract.specs.Keys.{KeyValue, Any, Word, Front}
+use Rattle.clip_extract.specs.Keys.{KeyValue}
 use Rattle.clip_extract.specs.Fronts.{fronts}
 use Rattle.clip_terms.specs.Terms.{number_of}
 use Rattle.clip_terms.specs.Steps.Numbers.{known}
-
--- the key is a front
-abbrev pub is_front : KeyValue → Bool
-is_front Any = false
-is_front (Word field word) = false
-is_front (Front field front) = true
 
 -- those of a word's fronts that another word does not have at the same place
 abbrev pub other_fronts : (lasts fronts : List (List ℕ)) → List (List ℕ)

@@ -17,7 +17,7 @@ returns c =
     on_ok_weaker c.add_flagged.result (λ added trees is key.
     let inside : IsIndexOf trees index = subst (IsIndexOf trees) (sym c.index.view_is) is in
     ap (list_any (is_same key))
-    (added ∙ ap (λ flags. old ++ flagged flags (map key_of c.keys.result.now)) c.deref-2.ensures.value ∙ ap (λ keys. old ++ flagged used keys) c.keys.ensures)
+    (added ∙ ap (λ flags. old ++ flagged flags (map key_of c.keys.result.now)) c.deref-2.ensures.value ∙ ap (λ keys. old ++ flagged used keys) c.keys.ensures.terms)
     ∙ list_any-append (is_same key) old (flagged used index.terms)
     ∙ ap (λ b. list_any (is_same key) old || b)
     (used_terms trees index inside c.args.kept.now used c.in_ok-used.used.items c.deref.result.now c.in_ok-used.ensures (c.deref.ensures.value ∙ c.in_ok-numbers.ensures) c.set_all.ensures.flags key))

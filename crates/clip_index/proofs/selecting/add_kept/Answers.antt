@@ -28,7 +28,7 @@ returns-clause-made c =
     on_ok_weaker c.add_plans.result (λ added before trees is long among made.
     kept_made trees before index c.args.terms.now c.args.kept.now c.len.result numbers places old new c.args.plans.now c.add_plans.new.plans
     (subst (IsIndexOf trees) (sym c.index.view_is) is) c.requires.rising long among c.len.ensures
-    (c.in_ok-numbers.ensures ∙ ap (map (number_of c.args.terms.now)) c.keys.ensures) c.in_ok-places.ensures
+    (c.in_ok-numbers.ensures ∙ ap (map (number_of c.args.terms.now)) c.keys.ensures.terms) c.in_ok-places.ensures
     (subst (λ (ns : List (Option ℕ)). ListsAdded ns places index.positions old new) c.deref.ensures.value
     (subst (λ (ps : List (Option ℕ)). ListsAdded c.deref.result.now ps index.positions old new) c.deref-2.ensures.value c.in_ok-add_lists.ensures.added))
     (subst (λ (ns : List (Option ℕ)). PlansAdded ns c.args.kept.now index.plans c.args.plans.now c.add_plans.new.plans) c.deref-3.ensures.value added)

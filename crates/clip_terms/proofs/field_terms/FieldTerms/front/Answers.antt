@@ -1,0 +1,24 @@
+use Rattle.std.proofs.Common.{◌∙◌, ap, sym, map, []}
+use Rattle.clip_extract.specs.Keys.{Front, key_of}
+use Rattle.clip_terms.specs.Terms.{number_of}
+use Rattle.clip_terms.specs.FieldTerms.{FieldTermsValue}
+use Rattle.clip_terms.specs.Steps.Leads.{heading}
+use Rattle.clip_terms.proofs.Headings.{texts_rise, placed_number, no_number}
+use Rattle.clip_terms.proofs.field_terms.FieldTerms.front.Goals as goal
+
+pub place_of-requires-clause-rise : goal.place_of-requires-clause-rise
+place_of-requires-clause-rise c =
+    let t = c.self.inside in
+    texts_rise (map key_of t.keys.now) (heading (Front t.field.now [])) t.fronts.start t.fronts.end c.self.invariant.strict c.self.invariant.fronts
+
+pub returns-in-Some : goal.returns-in-Some
+returns-in-Some c =
+    let t = c.self.inside in
+    sym (placed_number (map key_of t.keys.now) (Front t.field.now c.args.text.now) t.fronts.start t.fronts.end c.self.invariant.strict c.self.invariant.fronts c.in-Some.place c.in-Some.ensures)
+    ∙ ap (λ (v : FieldTermsValue). number_of v.terms (Front v.field c.args.text.now)) c.self.view_is
+
+pub returns-in-None : goal.returns-in-None
+returns-in-None c =
+    let t = c.self.inside in
+    sym (no_number (map key_of t.keys.now) (Front t.field.now c.args.text.now) t.fronts.start t.fronts.end c.self.invariant.strict c.self.invariant.fronts c.in-None.ensures)
+    ∙ ap (λ (v : FieldTermsValue). number_of v.terms (Front v.field c.args.text.now)) c.self.view_is

@@ -1,0 +1,52 @@
+-- Keys by rank, field and text, and the first bytes of the texts of terms.
+use Rattle.std.specs.Prelude.{◌≡◌, ℕ, ◌<◌, ◌≤◌, List, [], ◌∷◌, Option, length, slice_index_or, MatchOption}
+use Rattle.std.specs.Ordering.{nat_cmp, then_cmp, on}
+use Rattle.std.specs.declared.cmp.Ordering.{Ordering}
+use Rattle.std.specs.declared.cmp.Ordering.TheVariants.{Less}
+use Rattle.clip_words.specs.Order.{bytes_cmp}
+use Rattle.clip_meaning.specs.Steps.Fronts.{HasItsFront}
+use Rattle.clip_extract.specs.Keys.{KeyValue, Any, Word, Front, rank}
+
+-- a key's field and text; of Any, nothing
+abbrev pub field_of : KeyValue → List ℕ
+field_of Any = []
+field_of (Word field word) = field
+field_of (Front field front) = field
+
+abbrev pub text_of : KeyValue → List ℕ
+text_of Any = []
+text_of (Word field word) = word
+text_of (Front field front) = front
+
+-- what a key's text stands under
+abbrev pub heading : KeyValue → ℕ × List ℕ
+heading key = (rank key, field_of key)
+
+-- by rank, then by field
+abbrev pub heading_cmp : ℕ × List ℕ → ℕ × List ℕ → Ordering
+heading_cmp = then_cmp (on (λ h. h.0) nat_cmp) (on (λ h. h.1) bytes_cmp)
+
+-- beside each term stands the number of the first bytes of its text
+abbrev pub AreLeads : List KeyValue → (leads : List ℕ) → Type 0
+AreLeads [] [] = Unit {0}
+AreLeads [] (lead ∷ leads) = ⊥
+AreLeads (term ∷ terms) [] = ⊥
+AreLeads (term ∷ terms) (lead ∷ leads) = HasItsFront (text_of term) lead × AreLeads terms leads
+
+-- from `start` up to `end` stand just the terms under the heading
+pub record IsPart (terms : List KeyValue) (head : ℕ × List ℕ) (start end : ℕ) : Type 0 where
+  pub rises : start ≤ end
+  pub within : end ≤ length terms
+  pub just : (n : ℕ) (d : KeyValue) → start ≤ n → n < end → heading (slice_index_or terms n d) ≡ head
+  pub all : (n : ℕ) (d : KeyValue) → n < length terms → heading (slice_index_or terms n d) ≡ head → (start ≤ n) × (n < end)
+
+-- there each text is below those after it
+abbrev pub TextsRise : List KeyValue → (start end : ℕ) → Type 0
+TextsRise terms start end = (m n : ℕ) (d : KeyValue) → start ≤ m → m < n → n < end → bytes_cmp (text_of (slice_index_or terms m d)) (text_of (slice_index_or terms n d)) ≡ Less
+
+-- where the text stands there, and `None` where it does not
+abbrev pub IsPlaceOf : List KeyValue → (start end : ℕ) → (text : List ℕ) → Option ℕ → Type 0
+IsPlaceOf terms start end text place =
+    MatchOption place
+    ((n : ℕ) (d : KeyValue) → start ≤ n → n < end → text_of (slice_index_or terms n d) ≡ text → ⊥)
+    (λ n. (start ≤ n) × (n < end) × ((d : KeyValue) → text_of (slice_index_or terms n d) ≡ text))

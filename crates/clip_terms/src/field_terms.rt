@@ -1,0 +1,134 @@
+//! The terms of one field, found by the first bytes of their texts.
+ghost use Rattle.std.specs.Prelude.{◌≡◌, ℕ, ◌≤◌, List, false, None, map, length};
+ghost use Rattle.std.specs.List.Sorted.{IsStrictlySortedBy};
+ghost use Rattle.std.specs.Ordering.{is_lt, is_le};
+ghost use Rattle.std.specs.Str.{bytes_eq};
+ghost use Rattle.clip_extract.specs.Keys.{Word, Front, key_of, key_cmp};
+ghost use Rattle.clip_terms.specs.Terms.{number_of};
+ghost use Rattle.clip_terms.specs.Steps.Leads.{heading, heading_cmp, AreLeads, IsPart, TextsRise, IsPlaceOf};
+
+use crate::leads::{FRONT_RANK, WORD_RANK, heading_order, lead_of, text_order};
+use crate::terms::Terms;
+use clip_extract::Key;
+use std::cmp::Ordering;
+use std::marker::Model;
+use std::ops::Range;
+
+/// The terms of one field, and where they stand among all terms. Contracts see the terms and the name of the field.
+///
+/// A word is searched for by its first eight bytes, as a number, among those of the field's words, which lie side by
+/// side; texts are compared only where these bytes are the same. Fronts are found likewise among the field's fronts.
+#[derive(Drop)]
+pub struct FieldTerms<'a> {
+    keys: &'a [Key],
+    leads: &'a [u64],
+    field: &'a str,
+    words: Range<usize>,
+    fronts: Range<usize>,
+}
+
+impl<'a> Model for FieldTerms<'a> {
+    ghost use Rattle.clip_terms.specs.FieldTerms.{FieldTermsValue, field_terms_code};
+    ghost use Rattle.clip_terms.specs.Steps.FieldTerms.{field_terms_of, AreFieldTerms};
+
+    ghost Value = { FieldTermsValue };
+
+    ghost coded = { field_terms_code };
+
+    ghost view = { field_terms_of };
+
+    ghost invariant = { AreFieldTerms };
+}
+
+/// Where the keys of a rank and a field stand among keys in order.
+fn part_of(keys: &[Key], rank: u8, field: &str) -> Range<usize>
+    requires { IsStrictlySortedBy key_cmp (map key_of keys.now) }
+    ensures { IsPart (map key_of keys.now) (rank, field.now) result.start result.end }
+{
+    let start = keys.partition_point(
+        |key: &Key| -> bool
+            ensures { result ≡ is_lt (heading_cmp (heading (key_of key.now)) (rank, field.entry.now)) }
+        { heading_order(key, rank, field).is_lt() },
+    );
+    let end = keys.partition_point(
+        |key: &Key| -> bool
+            ensures { result ≡ is_le (heading_cmp (heading (key_of key.now)) (rank, field.entry.now)) }
+        { heading_order(key, rank, field).is_le() },
+    );
+    start..end
+}
+
+/// Where the key of a text stands among keys whose texts rise.
+fn place_of(keys: &[Key], leads: &[u64], part: &Range<usize>, text: &str) -> Option<usize>
+    requires within { part.now.end ≤ length keys.now }
+    requires leads { AreLeads (map key_of keys.now) leads.now }
+    requires rise { TextsRise (map key_of keys.now) part.now.start part.now.end }
+    ensures { IsPlaceOf (map key_of keys.now) part.now.start part.now.end text.now result }
+{
+    let lead = lead_of(text);
+    let mut low = part.start;
+    let mut high = part.end;
+    while low < high {
+        let middle = low + (high - low) / 2;
+        match text_order(&keys[middle], leads[middle], text, lead) {
+            Ordering::Less => low = middle + 1,
+            Ordering::Greater => high = middle,
+            Ordering::Equal => return Some(middle),
+        }
+    }
+    None
+}
+
+impl<'a> FieldTerms<'a> {
+    /// Looks for the words and the fronts of a field among terms.
+    pub(crate) fn of(terms: &'a Terms, field: &'a str) -> FieldTerms<'a>
+        ensures { result ≡ record { terms = terms.now; field = field.now } }
+    {
+        terms.order_law();
+        let keys = terms.keys();
+        FieldTerms {
+            keys,
+            leads: terms.leads(),
+            field,
+            words: part_of(keys, WORD_RANK, field),
+            fronts: part_of(keys, FRONT_RANK, field),
+        }
+    }
+
+    /// Whether these are the terms of this field. Takes no memory. Cost: one comparison.
+    pub(crate) fn is_of(&self, field: &str) -> bool
+        ensures { result ≡ bytes_eq self.now.field field.now }
+    {
+        self.field == field
+    }
+
+    /// The number of a word of the field, `None` where it is no term. Takes no memory. Cost: a search by halves among
+    /// the field's words.
+    pub fn word(&self, word: &str) -> Option<u32>
+        ensures { result ≡ number_of self.now.terms (Word self.now.field word.now) }
+    {
+        match place_of(self.keys, self.leads, &self.words, word) {
+            Some(place) => Some(place as u32),
+            None => None,
+        }
+    }
+
+    /// The number of a front of the field, `None` where it is no term. Takes no memory. Cost: a search by halves among
+    /// the field's fronts.
+    pub fn front(&self, text: &str) -> Option<u32>
+        ensures { result ≡ number_of self.now.terms (Front self.now.field text.now) }
+    {
+        match place_of(self.keys, self.leads, &self.fronts, text) {
+            Some(place) => Some(place as u32),
+            None => None,
+        }
+    }
+
+    /// Whether some front of the field is a term; where none is, no front of it has a number. Takes no memory. Constant
+    /// time.
+    pub(crate) fn has_fronts(&self) -> bool
+        ensures { result ≡ false → (text : List ℕ) → number_of self.now.terms (Front self.now.field text) ≡ None }
+    {
+        self.fronts.start < self.fronts.end
+    }
+}
