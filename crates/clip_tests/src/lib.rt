@@ -7,6 +7,10 @@ mod desk;
 #[cfg(test)]
 mod extract;
 #[cfg(test)]
+mod generated;
+#[cfg(test)]
+mod index;
+#[cfg(test)]
 mod ledger;
 #[cfg(test)]
 mod listen;
