@@ -1,8 +1,15 @@
-//! Tests of the crates below the front, by their public calls: worked examples, limits, and each call that takes memory once.
+//! Tests of the crates by their public calls: worked examples, limits, each call that takes memory once, callers and
+//! pieces in threads, and whole runs over devices in memory.
 #![tactic(auto)]
 
 #[cfg(test)]
+mod desk;
+#[cfg(test)]
 mod extract;
+#[cfg(test)]
+mod generated;
+#[cfg(test)]
+mod index;
 #[cfg(test)]
 mod ledger;
 #[cfg(test)]
@@ -18,9 +25,15 @@ mod merge;
 #[cfg(test)]
 mod merging;
 #[cfg(test)]
+mod numbers;
+#[cfg(test)]
+mod pieces;
+#[cfg(test)]
 mod random;
 #[cfg(test)]
 mod registry;
+#[cfg(test)]
+mod runs;
 #[cfg(test)]
 mod script;
 #[cfg(test)]
@@ -31,5 +44,7 @@ mod showing;
 mod syntax;
 #[cfg(test)]
 mod updates;
+#[cfg(test)]
+mod waiting;
 #[cfg(test)]
 mod words;

@@ -11,13 +11,13 @@ use std::cell::Cell;
 use std::test::Fail;
 
 /// A folder of the style of these texts.
-fn folder(alloc: Global, head: &str, middle: &str) -> Result<Box<Folder<Style>>, NoMemory> {
+pub fn folder(alloc: Global, head: &str, middle: &str) -> Result<Box<Folder<Style>>, NoMemory> {
     let render = Render::in_style(Style::new(alloc, head, middle)?)?;
     Ok(Box::new(alloc, Folder::new(alloc, render))?)
 }
 
 /// A teller of the style of these texts.
-fn teller(alloc: Global, head: &str, middle: &str) -> Result<Box<Teller<Style>>, NoMemory> {
+pub fn teller(alloc: Global, head: &str, middle: &str) -> Result<Box<Teller<Style>>, NoMemory> {
     let render = Render::in_style(Style::new(alloc, head, middle)?)?;
     Ok(Box::new(alloc, Teller::new(render))?)
 }
@@ -111,7 +111,7 @@ fn add_all_heard(text: &mut String, parts: &[Named]) -> Result<(), AllocError> {
 }
 
 /// Adds a listener under a name.
-fn add(
+pub fn add(
     alloc: Global,
     parts: &mut Vec<Named>,
     name: &str,

@@ -1,9 +1,10 @@
 //! What the tests give to calls: long texts, standing queries, entries, a segment, articles, alerts.
 ghost use Rattle.std.specs.Prelude.{◌≡◌, IfOk};
 
+use clip_extract::Key;
 use clip_match::{Alert, Alerts};
 use clip_meaning::{Article, ArticleFault};
-use clip_segment::{Entry, Segment, Standing};
+use clip_segment::{Entry, Segment, Standing, StandingFault};
 use std::alloc::{AllocError, Global};
 use std::sync::{Arc, ArcStr};
 use std::test::Fail;
@@ -35,14 +36,17 @@ pub fn owned(alloc: Global, texts: &[&str]) -> Result<Vec<String>, AllocError> {
 }
 
 /// A shared standing query without a listener.
-pub fn standing(alloc: Global, id: &str, text: &str) -> Result<Arc<Standing>, Fail> {
-    Ok(Arc::new(alloc, Standing::read(alloc, id, text, None)?)?)
+pub fn standing(alloc: Global, id: &str, text: &str) -> Result<Arc<Standing>, StandingFault> {
+    match Arc::new(alloc, Standing::read(alloc, id, text, None)?) {
+        Ok(standing) => Ok(standing),
+        Err(_) => Err(StandingFault::NoMemory),
+    }
 }
 
 /// A shared standing query with the id `q` and a number.
 pub fn query_of(alloc: Global, number: u64, text: &str) -> Result<Arc<Standing>, Fail> {
     let id = format!(in alloc; "q{number}")?;
-    standing(alloc, &id, text)
+    Ok(standing(alloc, &id, text)?)
 }
 
 /// The entry of a query's text under a number.
@@ -60,6 +64,12 @@ pub fn segment(alloc: Global) -> Result<Segment, Fail> {
         entry(alloc, 2, "+tea +coffee")?,
     ]?;
     Ok(Segment::build(alloc, entries)?)
+}
+
+/// The key of a word of the field `text`.
+pub fn text_key(alloc: Global, word: &str) -> Result<Key, AllocError> {
+    let word = ArcStr::from_str(alloc, word)?;
+    Ok(Key::Word(ArcStr::from_str(alloc, "text")?, word))
 }
 
 /// Pairs of a field's name and its text.

@@ -1,6 +1,7 @@
 //! Random traces, with many merges open: each batch is finished with what a plain filter over the plain list of the
 //! commands before its look gives.
 use crate::making::{article, query_of};
+use crate::numbers::next;
 use clip_match::Alerts;
 use clip_registry::Command;
 use clip_trace::{Event, TraceAnswer, trace};
@@ -32,13 +33,6 @@ enum Turn {
 
 /// So many events make a trace.
 const EVENTS: u64 = 600;
-
-/// The number after this one, of a linear congruential sequence (Knuth's MMIX).
-fn next(number: u64) -> u64 {
-    number
-        .wrapping_mul(6364136223846793005)
-        .wrapping_add(1442695040888963407)
-}
 
 /// The event that a number stands for: its upper digits tell the kind, and others the rest.
 fn drawn(number: u64) -> Turn {

@@ -1,6 +1,7 @@
 //! Scripts: steps with a registrar, and what each is to give.
 use crate::making::{article, owned, standing};
-use clip_match::{Alerts, match_article, match_batch};
+use crate::showing::{add_alerts, told};
+use clip_match::{match_article, match_batch};
 use clip_meaning::Article;
 use clip_model::MOST_CALLERS;
 use clip_presearch::candidates;
@@ -152,19 +153,6 @@ fn articles(alloc: Global, texts: &[(&str, &str)]) -> Result<Vec<Article>, Fail>
     Ok(articles)
 }
 
-/// Adds alerts: the article, the place and how many were asked, of each alert the query, the article and the listener,
-/// and a full stop.
-fn add_alerts(text: &mut String, found: &Alerts) -> Result<(), AllocError> {
-    let (article, place, asked) = (&found.article, found.place, found.asked);
-    write!(text, "{article} {place} {asked}")?;
-    for alert in &found.alerts {
-        let (query, article) = (&alert.query, &alert.article);
-        let listener = alert.listener.as_deref().unwrap_or("-");
-        write!(text, " {query}/{article}/{listener}")?;
-    }
-    text.push_str(". ")
-}
-
 /// The alerts of one article.
 fn matched(alloc: Global, view: &View, id: &str, text: &str) -> Result<String, Fail> {
     let article = article_of(alloc, id, text)?;
@@ -177,12 +165,7 @@ fn matched(alloc: Global, view: &View, id: &str, text: &str) -> Result<String, F
 /// The alerts of articles.
 fn batch_matched(alloc: Global, view: &View, texts: &[(&str, &str)]) -> Result<String, Fail> {
     let articles = articles(alloc, texts)?;
-    let all = match_batch(alloc, view, &articles)?;
-    let mut told = String::new(alloc);
-    for found in &all {
-        add_alerts(&mut told, found)?;
-    }
-    Ok(told)
+    Ok(told(alloc, &match_batch(alloc, view, &articles)?)?)
 }
 
 /// What a step asks of a view.

@@ -1,10 +1,8 @@
 //! Standing queries, entries and segments: worked examples and limits.
-use crate::making::segment;
-use crate::showing::tree;
-use clip_extract::Key;
+use crate::making::{segment, text_key};
+use crate::showing::{places, tree};
 use clip_segment::{Segment, Standing, StandingFault};
 use std::alloc::{AllocError, Global};
-use std::sync::ArcStr;
 use std::test::Fail;
 
 /// Each an id and a query's text, and the standing query or why it is refused.
@@ -48,20 +46,10 @@ fn a_standing_query_is_read_or_its_first_refusal_is_answered(rt: HostRuntime) ->
     Ok(())
 }
 
-/// The key of a word of the field `text`.
-fn key_of(alloc: Global, word: &str) -> Result<Key, AllocError> {
-    let word = ArcStr::from_str(alloc, word)?;
-    Ok(Key::Word(ArcStr::from_str(alloc, "text")?, word))
-}
-
 /// The positions of the entries that hold a word of the field `text`, each with a space after it.
 fn positions(alloc: Global, segment: &Segment, word: &str) -> Result<String, AllocError> {
-    let key = key_of(alloc, word)?;
-    let mut text = String::new(alloc);
-    for position in segment.with_key(&key) {
-        write!(text, "{position} ")?;
-    }
-    Ok(text)
+    let key = text_key(alloc, word)?;
+    places(alloc, segment.with_key(&key))
 }
 
 /// Each a word, and the positions of the entries that hold it.

@@ -1,6 +1,7 @@
 //! What calls give, as text.
 use clip_extract::Key;
 use clip_grammar::query::{Bound, Occur, Query};
+use clip_match::Alerts;
 use std::alloc::{AllocError, Global};
 use std::sync::ArcStr;
 
@@ -90,5 +91,36 @@ fn show_span(low: &Bound, high: &Bound, text: &mut String) -> Result<(), AllocEr
 pub fn tree(alloc: Global, query: &Query) -> Result<String, AllocError> {
     let mut text = String::new(alloc);
     show(query, &mut text)?;
+    Ok(text)
+}
+
+/// Adds alerts: the article, the place and how many were asked, of each alert the query, the article and the listener,
+/// and a full stop.
+pub fn add_alerts(text: &mut String, found: &Alerts) -> Result<(), AllocError> {
+    let (article, place, asked) = (&found.article, found.place, found.asked);
+    write!(text, "{article} {place} {asked}")?;
+    for alert in &found.alerts {
+        let (query, article) = (&alert.query, &alert.article);
+        let listener = alert.listener.as_deref().unwrap_or("-");
+        write!(text, " {query}/{article}/{listener}")?;
+    }
+    text.push_str(". ")
+}
+
+/// Alerts of articles, one after the other.
+pub fn told(alloc: Global, all: &[Alerts]) -> Result<String, AllocError> {
+    let mut text = String::new(alloc);
+    for found in all {
+        add_alerts(&mut text, found)?;
+    }
+    Ok(text)
+}
+
+/// Places, each with a space after it.
+pub fn places(alloc: Global, all: &[u32]) -> Result<String, AllocError> {
+    let mut text = String::new(alloc);
+    for place in all {
+        write!(text, "{place} ")?;
+    }
     Ok(text)
 }

@@ -1,0 +1,113 @@
+//! The alerts of a batch are the same, however it is cut.
+mod gates;
+mod making;
+mod memory;
+
+use crate::pieces::gates::{BATCH, Counts, Overlap};
+use crate::pieces::making::{ALERTS_OF_THREE, article_of, three_articles, three_queries};
+use crate::showing::told;
+use clip_match::{OpenGate, match_article, match_batch, match_piece, match_pieces};
+use clip_meaning::Article;
+use std::alloc::Global;
+use std::process::Abort;
+use std::test::Fail;
+use std::thread::Threads;
+
+#[test]
+fn one_article_is_matched_alike_by_each_call(rt: HostRuntime) -> Result<(), Fail> {
+    let alloc = rt.alloc();
+    let view = three_queries(alloc).expect(&rt, "a view");
+    let articles = vec![in alloc; article_of(alloc, "a1", "tea").expect(&rt, "an article")]?;
+    let wanted = "a1 1 1 q1/a1/-. ";
+    let one = vec![in alloc; match_article(alloc, &view, &articles[0])?]?;
+    assert_eq!(rt; told(alloc, &one)?.as_str(), wanted);
+    assert_eq!(rt;
+        told(alloc, &match_batch(alloc, &view, &articles)?)?.as_str(),
+        wanted
+    );
+    for workers in [0u32, 1, 2] {
+        let found = match_pieces(&rt, alloc, &view, &articles, 1, workers, &OpenGate)?;
+        assert_eq!(rt; told(alloc, &found)?.as_str(), wanted);
+    }
+    Ok(())
+}
+
+#[test]
+fn three_articles_give_what_a_batch_gives(rt: HostRuntime) -> Result<(), Fail> {
+    let alloc = rt.alloc();
+    let view = three_queries(alloc).expect(&rt, "a view");
+    let articles = three_articles(alloc).expect(&rt, "articles");
+    assert_eq!(rt;
+        told(alloc, &match_batch(alloc, &view, &articles)?)?.as_str(),
+        ALERTS_OF_THREE
+    );
+    for workers in [0u32, 1, 2, 3, 4, 64] {
+        let found = match_pieces(&rt, alloc, &view, &articles, 1, workers, &OpenGate)?;
+        assert_eq!(rt; told(alloc, &found)?.as_str(), ALERTS_OF_THREE);
+    }
+    Ok(())
+}
+
+/// The sums of the marks of what was entered and left, where articles are matched by so many workers.
+fn sums<R: Threads + Abort + Sync>(
+    rt: &R,
+    alloc: Global,
+    articles: &[Article],
+    workers: u32,
+) -> Result<(u64, u64), Fail> {
+    let gate = Counts::new();
+    let view = three_queries(alloc).expect(rt, "a view");
+    let found = match_pieces(rt, alloc, &view, articles, BATCH, workers, &gate)?;
+    assert_eq!(rt; found.len(), articles.len());
+    Ok(gate.sums())
+}
+
+#[test]
+fn each_piece_is_entered_and_left_once(rt: HostRuntime) -> Result<(), Fail> {
+    let alloc = rt.alloc();
+    let articles = three_articles(alloc).expect(&rt, "articles");
+    for (workers, wanted) in [
+        (0u32, 1u64),
+        (1, 1),
+        (2, 101),
+        (3, 10101),
+        (4, 10101),
+        (64, 10101),
+    ] {
+        assert_eq!(rt; sums(&rt, alloc, &articles, workers)?, (wanted, wanted));
+    }
+    for workers in [0u32, 1, 64] {
+        assert_eq!(rt; sums(&rt, alloc, &[], workers)?, (0, 0));
+    }
+    Ok(())
+}
+
+#[test]
+fn a_piece_matched_alone_is_entered_and_left(rt: HostRuntime) -> Result<(), Fail> {
+    let alloc = rt.alloc();
+    let gate = Counts::new();
+    let view = three_queries(alloc).expect(&rt, "a view");
+    let articles = three_articles(alloc).expect(&rt, "articles");
+    let found = match_piece(alloc, &view, &articles, BATCH, 2, &gate)?;
+    assert_eq!(rt; told(alloc, &found)?.as_str(), ALERTS_OF_THREE);
+    assert_eq!(rt; gate.sums(), (10000, 10000));
+    Ok(())
+}
+
+#[test]
+fn two_pieces_are_matched_at_one_time(rt: HostRuntime) -> Result<(), Fail> {
+    let alloc = rt.alloc();
+    let gate = Overlap::new();
+    let view = three_queries(alloc).expect(&rt, "a view");
+    let articles = vec![in alloc;
+        article_of(alloc, "a1", "tea").expect(&rt, "an article"),
+        article_of(alloc, "a2", "coffee").expect(&rt, "an article"),
+    ]?;
+    let found = match_pieces(&rt, alloc, &view, &articles, 1, 2, &gate)?;
+    assert_eq!(rt;
+        told(alloc, &found)?.as_str(),
+        "a1 1 1 q1/a1/-. a2 1 1 q2/a2/-. "
+    );
+    assert!(rt; gate.is_met(), "one piece was held to the limit");
+    Ok(())
+}
