@@ -8,16 +8,25 @@ candidates, which replies do not tell.
 from __future__ import annotations
 
 from dataclasses import dataclass
-from typing import Iterable, Optional
+from typing import Iterable, NamedTuple
 
 from prose import Article, words_of
 from queries import All, Group, Phrase, Prefix, Query, Span, Word
 
-# A field, a word or a front of it, and whether it is a front; or None for what nothing narrows.
-Key = Optional[tuple[str, str, bool]]
-
-# The most characters of a front that is a key.
+# The most characters of a front that find a prefix.
 FRONT = 8
+
+
+class Key(NamedTuple):
+    """What a query is found by: a word of a field, or the front of one."""
+
+    kind: str
+    field: str
+    text: str
+
+
+# The key of what nothing narrows, which each article has.
+ANY = Key("any", "", "")
 
 
 @dataclass(frozen=True)
@@ -69,15 +78,15 @@ def group_holds(group: Group, fields: dict[str, Field]) -> bool:
 
 def extract(query: Query) -> tuple[int, list[Key]]:
     """The weight and the keys of a query: of a phrase its longest word, of a prefix its first characters, of a group its
-    weightiest required clause or, without one, all that are optional; None for what nothing narrows."""
+    weightiest required clause or, without one, all that are optional; `ANY` for what nothing narrows."""
     if isinstance(query, Word):
-        return len(query.word), [(query.field, query.word, False)]
+        return len(query.word), [Key("word", query.field, query.word)]
     if isinstance(query, Phrase):
         longest = max(query.words, key=len)
-        return len(longest), [(query.field, longest, False)]
-    if isinstance(query, Prefix):
+        return len(longest), [Key("word", query.field, longest)]
+    if isinstance(query, Prefix) and query.front:
         front = query.front[:FRONT]
-        return len(front), [(query.field, front, True)]
+        return len(front), [Key("front", query.field, front)]
     if isinstance(query, Group):
         musts = [extract(child) for sign, child in query.clauses if sign == "+"]
         if musts:
@@ -85,7 +94,17 @@ def extract(query: Query) -> tuple[int, list[Key]]:
         shoulds = [extract(child) for sign, child in query.clauses if sign == ""]
         if shoulds:
             return min(weight for weight, _ in shoulds), [key for _, keys in shoulds for key in keys]
-    return 0, [None]
+    return 0, [ANY]
+
+
+def article_keys(fields: dict[str, Field]) -> set[Key]:
+    """The keys of an article: `ANY`, each word, and the first one to eight characters of each."""
+    keys = {ANY}
+    for name, field in fields.items():
+        for word in field.distinct:
+            keys.add(Key("word", name, word))
+            keys.update(Key("front", name, word[:end]) for end in range(1, min(FRONT, len(word)) + 1))
+    return keys
 
 
 class Presearcher:
@@ -104,10 +123,7 @@ class Presearcher:
 
     def candidates(self, fields: dict[str, Field]) -> set[int]:
         """The numbers of the queries that share a key with an article of these fields."""
-        found = set(self._holders.get(None, ()))
-        for name, field in fields.items():
-            for word in field.distinct:
-                found.update(self._holders.get((name, word, False), ()))
-                for end in range(1, min(FRONT, len(word)) + 1):
-                    found.update(self._holders.get((name, word[:end], True), ()))
+        found: set[int] = set()
+        for key in article_keys(fields):
+            found.update(self._holders.get(key, ()))
         return found

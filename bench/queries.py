@@ -249,7 +249,7 @@ def with_range(source: QuerySource) -> Query:
 
 
 def prefix_alone(source: QuerySource) -> Query:
-    """`fron*`, which no word narrows, so it is tried on each article."""
+    """`fron*`, which its first characters find."""
     return source.front()
 
 
