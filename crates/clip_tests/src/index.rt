@@ -205,21 +205,36 @@ fn check_article_keys(
     Ok(())
 }
 
-/// Checks the index over queries that are drawn against a map of their keys.
-fn check_map(rt: &impl Abort, alloc: Global, numbers: &mut Numbers) -> Result<(), Fail> {
-    let queries = drawn_queries(alloc, numbers, u64::from(COUNT))?;
-    let index = index_of(alloc, &queries)?;
-    let map = places_by_key(alloc, &queries)?;
-    check_keys(rt, alloc, &index, &map)?;
-    let article = drawn_article(alloc, numbers)?;
-    check_article_keys(rt, alloc, &index, &map, &article)
+/// Checks that an index has what a map has, under the keys of the map and of an article.
+fn check_all_keys(
+    rt: &impl Abort,
+    alloc: Global,
+    index: &Index,
+    map: &BTreeMap<Key, String>,
+    article: &Article,
+) -> Result<(), Fail> {
+    check_keys(rt, alloc, index, map)?;
+    check_article_keys(rt, alloc, index, map, article)
+}
+
+/// Checks the index over queries against a map of their keys.
+fn check_map(
+    rt: &impl Abort,
+    alloc: Global,
+    queries: &[Query],
+    article: &Article,
+) -> Result<(), Fail> {
+    let index = index_of(alloc, queries)?;
+    check_all_keys(rt, alloc, &index, &places_by_key(alloc, queries)?, article)
 }
 
 #[test]
 fn an_index_has_under_each_key_what_a_map_has(rt: HostRuntime) -> Result<(), Fail> {
     let mut numbers = Numbers::after(2);
     for _ in 0..32u32 {
-        check_map(&rt, rt.alloc(), &mut numbers)?;
+        let queries = drawn_queries(rt.alloc(), &mut numbers, u64::from(COUNT))?;
+        let article = drawn_article(rt.alloc(), &mut numbers)?;
+        check_map(&rt, rt.alloc(), &queries, &article)?;
     }
     Ok(())
 }
@@ -249,21 +264,37 @@ fn under(alloc: Global, index: &Index, word: &str) -> Result<String, NoMemory> {
     Ok(places(alloc, index.with_key(&key))?)
 }
 
-/// Checks an index over so many queries.
-fn check_count(rt: &impl Abort, alloc: Global, count: u32) -> Result<(), Fail> {
+/// What an index over so many queries has under the word of all and, after a bar, under that of the last.
+fn counted(alloc: Global, count: u32) -> Result<String, Fail> {
     let index = index_of(alloc, &numbered_queries(alloc, count)?)?;
-    let shared = under(alloc, &index, "tea")?;
-    assert!(rt; shared == all_places(alloc, count)?, "{count}: {shared}");
+    Ok(first_and_last(alloc, &index, count.saturating_sub(1))?)
+}
+
+/// What an index has under the word of all and, after a bar, under that of the query of a number.
+fn first_and_last(alloc: Global, index: &Index, last: u32) -> Result<String, NoMemory> {
+    let mut text = under(alloc, index, "tea")?;
+    let own = format!(in alloc; "own{last}")?;
+    text.push_str("| ")?;
+    text.push_str(&under(alloc, index, &own)?)?;
+    Ok(text)
+}
+
+/// All places up to a bound, a bar, and the last of them.
+fn wanted_places(alloc: Global, count: u32) -> Result<String, NoMemory> {
+    let mut text = all_places(alloc, count)?;
     let last = count.saturating_sub(1);
-    let own = under(alloc, &index, &format!(in alloc; "own{last}")?)?;
-    assert!(rt; own == format!(in alloc; "{last} ")?, "{count}: {own}");
-    Ok(())
+    write!(text, "| {last} ")?;
+    Ok(text)
 }
 
 #[test]
 fn an_index_finds_all_queries_and_the_last_one(rt: HostRuntime) -> Result<(), Fail> {
     for count in [1u32, 63, 64, 65, 4096] {
-        check_count(&rt, rt.alloc(), count)?;
+        let told = counted(rt.alloc(), count)?;
+        assert!(rt;
+            told == wanted_places(rt.alloc(), count)?,
+            "{count}: {told}"
+        );
     }
     Ok(())
 }

@@ -8,28 +8,62 @@ use crate::pieces::making::{ALERTS_OF_THREE, article_of, three_articles, three_q
 use crate::showing::told;
 use clip_match::{OpenGate, match_article, match_batch, match_piece, match_pieces};
 use clip_meaning::Article;
+use clip_registry::View;
 use std::alloc::Global;
 use std::process::Abort;
 use std::test::Fail;
 use std::thread::Threads;
 
+/// The alerts of a batch, matched in pieces by so many workers, as a text.
+fn in_pieces<R: Threads + Sync>(
+    rt: &R,
+    alloc: Global,
+    view: &View,
+    articles: &[Article],
+    workers: u32,
+) -> Result<String, Fail> {
+    let found = match_pieces(rt, alloc, view, articles, 1, workers, &OpenGate)?;
+    Ok(told(alloc, &found)?)
+}
+
+/// The alerts of a batch are these, matched whole and in pieces.
+fn are_matched<R: Threads + Abort + Sync>(
+    rt: &R,
+    alloc: Global,
+    view: &View,
+    articles: &[Article],
+    wanted: &str,
+) -> Result<(), Fail> {
+    let whole = told(alloc, &match_batch(alloc, view, articles)?)?;
+    assert!(rt; whole.as_str() == wanted, "{whole}");
+    for workers in [0u32, 1, 2, 3, 4, 64] {
+        let told = in_pieces(rt, alloc, view, articles, workers)?;
+        assert!(rt; told.as_str() == wanted, "{workers}: {told}");
+    }
+    Ok(())
+}
+
+/// The alerts of one article, matched alone, are these.
+fn is_matched(
+    rt: &impl Abort,
+    alloc: Global,
+    view: &View,
+    article: &Article,
+    wanted: &str,
+) -> Result<(), Fail> {
+    let one = vec![in alloc; match_article(alloc, view, article)?]?;
+    let told = told(alloc, &one)?;
+    assert!(rt; told.as_str() == wanted, "{told}");
+    Ok(())
+}
+
 #[test]
 fn one_article_is_matched_alike_by_each_call(rt: HostRuntime) -> Result<(), Fail> {
     let alloc = rt.alloc();
     let view = three_queries(alloc).expect(&rt, "a view");
-    let articles = vec![in alloc; article_of(alloc, "a1", "tea").expect(&rt, "an article")]?;
-    let wanted = "a1 1 1 q1/a1/-. ";
-    let one = vec![in alloc; match_article(alloc, &view, &articles[0])?]?;
-    assert_eq!(rt; told(alloc, &one)?.as_str(), wanted);
-    assert_eq!(rt;
-        told(alloc, &match_batch(alloc, &view, &articles)?)?.as_str(),
-        wanted
-    );
-    for workers in [0u32, 1, 2] {
-        let found = match_pieces(&rt, alloc, &view, &articles, 1, workers, &OpenGate)?;
-        assert_eq!(rt; told(alloc, &found)?.as_str(), wanted);
-    }
-    Ok(())
+    let article = article_of(alloc, "a1", "tea").expect(&rt, "an article");
+    is_matched(&rt, alloc, &view, &article, "a1 1 1 q1/a1/-. ")?;
+    are_matched(&rt, alloc, &view, &[article], "a1 1 1 q1/a1/-. ")
 }
 
 #[test]
@@ -37,15 +71,7 @@ fn three_articles_give_what_a_batch_gives(rt: HostRuntime) -> Result<(), Fail> {
     let alloc = rt.alloc();
     let view = three_queries(alloc).expect(&rt, "a view");
     let articles = three_articles(alloc).expect(&rt, "articles");
-    assert_eq!(rt;
-        told(alloc, &match_batch(alloc, &view, &articles)?)?.as_str(),
-        ALERTS_OF_THREE
-    );
-    for workers in [0u32, 1, 2, 3, 4, 64] {
-        let found = match_pieces(&rt, alloc, &view, &articles, 1, workers, &OpenGate)?;
-        assert_eq!(rt; told(alloc, &found)?.as_str(), ALERTS_OF_THREE);
-    }
-    Ok(())
+    are_matched(&rt, alloc, &view, &articles, ALERTS_OF_THREE)
 }
 
 /// The sums of the marks of what was entered and left, where articles are matched by so many workers.
