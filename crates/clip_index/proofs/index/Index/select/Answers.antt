@@ -1,9 +1,14 @@
-use Rattle.std.proofs.Common.{[], map, replicate, vec_items, ap, ◌∙◌, arith}
+use Rattle.std.proofs.Common.{◌≡◌, List, [], length, map, replicate, vec_items, sym, ap, ◌∙◌, arith}
+use Rattle.std.proofs.lemmas.List.{length-map, length-replicate}
 use Rattle.clip_plan.specs.Plan.{decoded}
 use Rattle.clip_index.specs.Steps.Parts.{AreMadeOf}
 use Rattle.clip_index.proofs.Flagged.{kept_few}
 use Rattle.clip_index.proofs.Lists.{none_yet}
 use Rattle.clip_index.proofs.index.Index.select.Goals as goal
+
+pub add_all_kept-requires-clause-long : goal.add_all_kept-requires-clause-long
+add_all_kept-requires-clause-long c =
+    sym (length-map c.in_ok-lists.lists.items vec_items) ∙ ap length c.in_ok-lists.ensures ∙ length-replicate c.len.result [] ∙ c.len.ensures
 
 pub returns : goal.returns
 returns c = λ trees are flagged_all.
