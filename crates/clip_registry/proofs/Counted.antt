@@ -10,7 +10,7 @@ use Rattle.std.specs.FinMap as finite
 use Rattle.std.specs.FinMap.{get-empty, len-remove, empty_of_len}
 use Rattle.clip_words.specs.Order.{bytes_cmp}
 use Rattle.clip_merge.specs.Plan.{run_at}
-use Rattle.clip_merge.proofs.Named.{all_entries-append}
+use Rattle.clip_registry.proofs.Entries.{all_entries-append}
 use Rattle.clip_segment.specs.Segment.{IsRising, all_entries}
 use Rattle.clip_model.specs.History.{Registered, Registry, replay, is_live}
 use Rattle.clip_model.proofs.ById.{bytes_same}

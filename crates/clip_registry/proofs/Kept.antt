@@ -8,7 +8,7 @@ use Rattle.clip_model.specs.History.{Registered, replay, listed, is_live}
 use Rattle.clip_model.proofs.Live.{given_live}
 use Rattle.clip_model.proofs.Numbering.{replay_numbered}
 use Rattle.clip_merge.specs.Plan.{run_at}
-use Rattle.clip_merge.proofs.Named.{all_entries-append}
+use Rattle.clip_registry.proofs.Entries.{all_entries-append}
 use Rattle.clip_registry.specs.Merging.{StandsAt, has_entries, purged, shelf}
 use Rattle.clip_registry.specs.RegistryState.{RegistryState, IsWhole}
 use Rattle.clip_registry.specs.Steps.Merging.{AreKept, replaced}

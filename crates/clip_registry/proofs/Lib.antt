@@ -5,6 +5,7 @@ pub mod Whole
 pub mod Marks
 pub mod Clones
 pub mod Entering
+pub mod Entries
 pub mod Entered
 pub mod Keeping
 pub mod Kept
