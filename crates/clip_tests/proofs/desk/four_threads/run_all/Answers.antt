@@ -4,7 +4,7 @@ use denote.Param.{param}
 use denote.Param.Send.{IsSync, param_send, arg_send, sendable}
 use denote.Struct.Field.{shr_ref_field}
 use Rattle.clip_tests.specs.contracts.desk.four_threads.Room as room
-use Rattle.clip_tests.proofs.Rooms.{room_sync, two_send}
+use Rattle.clip_tests.proofs.desk.four_threads.Shared.{room_sync, two_send}
 use Rattle.clip_tests.proofs.desk.four_threads.run_all.Goals as goal
 
 pub join-seats-requires-send-F : goal.join-seats-requires-send-F

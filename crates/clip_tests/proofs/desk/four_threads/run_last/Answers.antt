@@ -6,7 +6,7 @@ use denote.Struct.Field.{shr_ref_field}
 use Rattle.clip_desk.specs.contracts.seat.Seat as seat
 use Rattle.clip_desk.proofs.Sent.{seat_send}
 use Rattle.clip_tests.specs.contracts.desk.four_threads.Room as room
-use Rattle.clip_tests.proofs.Rooms.{room_sync, three_send}
+use Rattle.clip_tests.proofs.desk.four_threads.Shared.{room_sync, three_send}
 use Rattle.clip_tests.proofs.desk.four_threads.run_last.Goals as goal
 
 pub join-requires-send-F : goal.join-requires-send-F
