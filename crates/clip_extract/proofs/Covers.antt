@@ -24,7 +24,7 @@ use Rattle.clip_extract.proofs.FrontsOfWords.{front_of_longer}
 use Rattle.clip_extract.proofs.Order.{same_itself, share_in_order}
 
 -- the word is one of these
-abbrev is_word_of : List (List ℕ) → List ℕ → Bool
+abbrev pub is_word_of : List (List ℕ) → List ℕ → Bool
 is_word_of words word = list_any (λ w. bytes_eq w word) words
 
 -- the article has the key
@@ -100,7 +100,7 @@ words_cover fields field (p ∷ ps) all =
 
 -- ---- prefixes
 
-front_among : (front : List ℕ) (b : ℕ) (bs : List ℕ) (ws : List (List ℕ)) → key_front front ≡ b ∷ bs → list_any (begins_with front) ws ≡ true → is_word_of (flat_map fronts ws) (key_front front) ≡ true
+pub front_among : (front : List ℕ) (b : ℕ) (bs : List ℕ) (ws : List (List ℕ)) → key_front front ≡ b ∷ bs → list_any (begins_with front) ws ≡ true → is_word_of (flat_map fronts ws) (key_front front) ≡ true
 front_among front b bs [] some h = absurd (false≢true h)
 front_among front b bs (w ∷ ws) some h =
     list_any-append (λ p. bytes_eq p (key_front front)) (fronts w) (flat_map fronts ws)
@@ -181,7 +181,7 @@ mutual
 abbrev keys_of : (List ℕ → List ℕ → KeyValue) → (List (List ℕ) → List (List ℕ)) → List ℕ × List (List ℕ) → List KeyValue
 keys_of key texts field = map (key field.0) (texts field.1)
 
-text_among : (key : List ℕ → KeyValue) (text : List ℕ) (ts : List (List ℕ)) → is_word_of ts text ≡ true → list_any (is_same (key text)) (map key ts) ≡ true
+pub text_among : (key : List ℕ → KeyValue) (text : List ℕ) (ts : List (List ℕ)) → is_word_of ts text ≡ true → list_any (is_same (key text)) (map key ts) ≡ true
 text_among key text [] h = absurd (false≢true h)
 text_among key text (t ∷ ts) h =
     either (bytes_eq t text) (is_word_of ts text) h

@@ -5,3 +5,4 @@ pub mod Groups
 pub mod Cuts
 pub mod Sorting
 pub mod FrontsOfWords
+mod FrontKeys

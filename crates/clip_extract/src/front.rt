@@ -1,8 +1,12 @@
 //! Fronts of words.
 ghost use Rattle.std.specs.Prelude.{◌≡◌, ◌∷◌, [], MatchOption};
+ghost use Rattle.std.specs.List.{list_any};
+ghost use Rattle.clip_extract.specs.Covering.{front_keys};
 ghost use Rattle.clip_extract.specs.Fronts.{fronts, key_front};
+ghost use Rattle.clip_extract.specs.Keys.{Front, is_same};
 
 use crate::key::MOST_FRONT_CHARACTERS;
+use clip_meaning::Field;
 use std::marker::Model;
 
 /// The fronts of a word that may be keys, from the shortest: its first one to `MOST_FRONT_CHARACTERS` characters.
@@ -64,4 +68,18 @@ pub(crate) fn key_front(text: &str) -> &str
         longest = front;
     }
     longest
+}
+
+/// Whether a text is a front of one of a field's words: whether the field has the text's key. Takes no memory. Cost: a
+/// search by halves among the field's words.
+pub fn has_front_key(field: &Field, text: &str) -> bool
+    ensures { result ≡ list_any (is_same (Front field.now.0 text.now)) (front_keys field.now) }
+{
+    if !field.has_front(text) {
+        return false;
+    }
+    if text.is_empty() {
+        return false;
+    }
+    key_front(text) == text
 }

@@ -9,6 +9,6 @@ mod key;
 mod laws;
 
 pub use extraction::{keys, weight};
-pub use front::Fronts;
+pub use front::{Fronts, has_front_key};
 pub use key::{Key, MOST_FRONT_CHARACTERS, sorted};
 pub use laws::covering_law;

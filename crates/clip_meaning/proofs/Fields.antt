@@ -1,5 +1,6 @@
 -- Lists of entries whose keys rise: where a search ends, what it finds there, and what an insertion there makes.
-use Rattle.std.proofs.Common.{◌≡◌, ◌≢◌, ℕ, zero, suc, ◌+◌, ◌<◌, ◌≤◌, Bool, true, false, cond, T, List, [], ◌∷◌, length, get_or, Some, None, Option, is_some, is_lt, is_eq, is_gt, Ordering, Less, Equal, Greater, insert, refl, sym, ap, subst, ◌∙◌, arith, true≢false}
+use Rattle.std.proofs.Common.{◌≡◌, ◌≢◌, All, map, Global, ℕ, zero, suc, ◌+◌, ◌<◌, ◌≤◌, Bool, true, false, cond, T, List, [], ◌∷◌, length, get_or, Some, None, Option, is_some, is_lt, is_eq, is_gt, Ordering, Less, Equal, Greater, insert, refl, sym, ap, subst, ◌∙◌, arith, true≢false}
+use Rattle.std.specs.Arc.{arc_str_bytes}
 use Rattle.std.specs.List.{prefix_len}
 use Rattle.std.specs.List.Sorted.{IsPartitionedBy, IsPartitionPoint}
 use Rattle.std.specs.Ordering.{ordering_reverse}
@@ -8,8 +9,12 @@ use Rattle.std.specs.FinMap.{FinMap, empty, empty_of_len, len-entries, find, put
 use Rattle.std.specs.FinMap as finite
 use Rattle.std.specs.FinMap.{get, contains_key, get-entries, entries-insert, entries_sorted, same_entries_map, IsAntisymmetric, slice_cmp-IsAntisymmetric, nat_cmp-IsAntisymmetric}
 use Rattle.std.specs.FinMap.Entries.{below_all, by_order}
+use Rattle.std.specs.Str.{IsUtf8}
+use Rattle.std.specs.declared.sync.ArcStr.{ArcStr}
 use Rattle.std.proofs.lemmas.Cmp.{tied_itself}
+use Rattle.std.proofs.lemmas.List.Elements.{All-nil, All-cons}
 use Rattle.std.proofs.lemmas.List.Sums.{prefix_len_is, prefix_len-le-length}
+use Rattle.std.proofs.lemmas.Str.{IsUtf8-string_bytes}
 use Rattle.std.specs.Cmp.Lexicographic.{nat_list_cmp_total}
 use Rattle.clip_words.specs.Order.{bytes_cmp}
 use Rattle.clip_grammar.proofs.Booleans.{first, second, both}
@@ -144,3 +149,10 @@ inserted es new m q v n h e is fresh made =
 
 pub place_within : (es : List Entry) (m : Fields) (q : List ℕ) (n : ℕ) → T (is_sorted bytes_cmp es) → from_sorted es ≡ m → n ≡ count bytes_cmp nat_list_cmp_total q (entries m) → n ≤ length es
 place_within es m q n h e is = rw (is, kept_entries es m h e) (prefix_len-le-length (λ (x : Entry). is_gt (bytes_cmp q x.0)) (entries m))
+
+-- ---- words
+
+-- shared texts are texts
+pub texts_all : (words : List (ArcStr Global)) → All IsUtf8 (map arc_str_bytes words)
+texts_all [] = All-nil IsUtf8
+texts_all (word ∷ words) = All-cons IsUtf8 (arc_str_bytes word) (map arc_str_bytes words) (IsUtf8-string_bytes word.text.value) (texts_all words)

@@ -1,9 +1,9 @@
 //! The words of one field of an article.
 ghost use Rattle.std.specs.Prelude.{◌≡◌, map, drop, IfOk, IsPermutation};
 ghost use Rattle.std.specs.Arc.{arc_str_bytes};
-ghost use Rattle.std.specs.List.{list_any, starts_with};
+ghost use Rattle.std.specs.List.{All, list_any, starts_with};
 ghost use Rattle.std.specs.List.Sorted.{IsSorted, IsSortedByKey};
-ghost use Rattle.std.specs.Str.{bytes_eq};
+ghost use Rattle.std.specs.Str.{IsUtf8, bytes_eq};
 ghost use Rattle.clip_words.specs.Order.{bytes_cmp};
 ghost use Rattle.clip_words.specs.Words.{words_of};
 ghost use Rattle.clip_grammar.specs.Tree.{end_of};
@@ -98,10 +98,11 @@ impl Field {
         stands_at_any(&self.words, self.index.occurrences(first), phrase)
     }
 
-    /// Whether a word begins with the front, as in Lucene's PrefixQuery. Compares about the logarithm of the number of
-    /// words.
-    pub(crate) fn has_front(&self, front: &str) -> bool
-        ensures { result ≡ list_any (begins_with front.now) self.now.1 }
+    /// Whether a word begins with the front, as in Lucene's PrefixQuery. Takes no memory. Compares about the logarithm of
+    /// the number of words.
+    pub fn has_front(&self, front: &str) -> bool
+        ensures front { result ≡ list_any (begins_with front.now) self.now.1 }
+        ensures texts { All IsUtf8 self.now.1 }
     {
         self.index.has_front(front)
     }

@@ -1,5 +1,5 @@
 //! The words of a field in byte order, each with its position.
-ghost use Rattle.std.specs.Prelude.{◌≡◌, map, slice_index, filter, not, IfOk, IsPermutation};
+ghost use Rattle.std.specs.Prelude.{◌≡◌, map, filter, not, IfOk, IsPermutation};
 ghost use Rattle.std.specs.Arc.{arc_str_bytes};
 ghost use Rattle.std.specs.List.{list_any};
 ghost use Rattle.std.specs.List.Sorted.{IsSorted, IsSortedByKey};
@@ -9,10 +9,10 @@ ghost use Rattle.clip_words.specs.Order.{bytes_cmp};
 ghost use Rattle.clip_grammar.specs.Tokens.{End};
 ghost use Rattle.clip_grammar.specs.Tree.{end_of};
 ghost use Rattle.clip_meaning.specs.Index.{numbered, posting_cmp};
-ghost use Rattle.clip_meaning.specs.Steps.Fronts.{HasItsFront};
 ghost use Rattle.clip_meaning.specs.Steps.Searches.{from_low};
 ghost use Rattle.clip_meaning.specs.Meaning.{below, begins_with, is_between};
 
+use crate::lead::{compare_by_leads, lead_of};
 use clip_grammar::query::Bound;
 use clip_words::NoMemory;
 use std::alloc::Global;
@@ -22,10 +22,10 @@ use std::sync::ArcStr;
 
 /// A word of a field and its position among the field's words, counted from 0. Contracts see the pair of both.
 ///
-/// The word's first bytes stand beside it as a number, by which most words are told apart without a look at their texts.
+/// The word's lead stands beside it, by which most words are told apart without a look at their texts.
 #[derive(Debug, Drop)]
 pub struct Posting {
-    front: u64,
+    lead: u64,
     word: ArcStr,
     position: usize,
 }
@@ -38,9 +38,9 @@ impl Model for Posting {
 
     ghost view = { λ p. (arc_str_bytes p.word, p.position) };
 
-    ghost use Rattle.clip_meaning.specs.Steps.Fronts.{HasItsFront};
+    ghost use Rattle.clip_meaning.specs.Leads.{IsLead};
 
-    ghost invariant = { λ p. HasItsFront (arc_str_bytes p.word) p.front };
+    ghost invariant = { λ p. IsLead (arc_str_bytes p.word) p.lead };
 }
 
 impl Posting {
@@ -60,33 +60,13 @@ impl Posting {
 }
 
 /// Compares postings by their words, and those of one word by their positions. Looks at the texts only where the words
-/// begin with the same eight bytes.
+/// have the same lead.
 fn order(a: &Posting, b: &Posting) -> Ordering
     ensures { result ≡ posting_cmp a.now b.now }
 {
-    if a.front != b.front {
-        return a.front.cmp(&b.front);
-    }
-    a.word.cmp(&b.word).then(a.position.cmp(&b.position))
-}
-
-/// A byte of a text, 0 past its end.
-fn byte_at(bytes: &[u8], i: usize) -> u8
-    ensures { result ≡ slice_index bytes.now i }
-{
-    if i < bytes.len() { bytes[i] } else { 0 }
-}
-
-/// The first eight bytes of a word as a number, the first as the greatest digit.
-fn front_of(word: &str) -> u64
-    ensures { HasItsFront word.now result }
-{
-    let bytes = word.as_bytes();
-    let mut front = 0;
-    for i in 0..8 {
-        front = front * 256 + byte_at(bytes, i) as u64;
-    }
-    front
+    compare_by_leads(a.word.as_str(), a.lead, b.word.as_str(), b.lead).then(
+        a.position.cmp(&b.position),
+    )
 }
 
 /// The postings of a field, in the byte order of their words.
@@ -114,7 +94,7 @@ fn postings_of(alloc: Global, words: &[ArcStr]) -> Result<Vec<Posting>, NoMemory
     let mut postings = Vec::with_capacity(alloc, words.len())?;
     for word in words {
         let posting = Posting {
-            front: front_of(word),
+            lead: lead_of(word),
             word: word.clone()?,
             position: postings.len(),
         };

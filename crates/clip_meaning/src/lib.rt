@@ -11,10 +11,12 @@ mod fault;
 mod field;
 mod field_map;
 mod index;
+mod lead;
 mod meaning;
 
 pub use article::Article;
 pub use fault::{ArticleFault, MOST_FIELDS, MOST_NAME_BYTES};
 pub use field::Field;
 pub use index::Posting;
+pub use lead::{compare_by_leads, lead_of};
 pub use meaning::holds;

@@ -1,20 +1,23 @@
--- The fronts that are asked word by word are those of all words.
-use Rattle.std.proofs.Common.{◌≡◌, ℕ, Bool, true, false, cond, ◌||◌, List, [], ◌∷◌, ◌++◌, ◌+◌, ◌<◌, Option, None, Some, MatchOption, option_map, map, flat_map, length, take, drop, get_or, option_to_list, IsPermutation, refl, sym, ap, ◌∙◌, subst, append_assoc, append-nil}
+-- The fronts that are asked for word by word are those of all words.
+use Rattle.std.proofs.Common.{◌≡◌, ℕ, Bool, true, false, cond, ◌||◌, List, [], ◌∷◌, ◌++◌, ◌+◌, ◌<◌, nat_eq, Option, None, Some, MatchOption, option_map, map, flat_map, length, take, drop, get_or, option_to_list, IsPermutation, refl, sym, ap, ◌∙◌, subst, append_assoc}
 use Rattle.std.specs.List.{list_any}
+use Rattle.std.specs.List.Sorted.{IsStrictlySortedBy}
 use Rattle.std.specs.Str.{bytes_eq, chars}
 use Rattle.std.proofs.lemmas.List.{map-append, drop_more, take_more, flat_map_more}
+use Rattle.std.proofs.lemmas.List.Elements.{All-same, All-append}
 use Rattle.std.proofs.lemmas.List.Folds.{list_any-append}
 use Rattle.std.proofs.lemmas.Slice.Eq.{bytes_eq-Decides}
 use Rattle.clip_meaning.specs.Index.{numbered}
 use Rattle.clip_meaning.proofs.Numbered.{words_pass}
-use Rattle.clip_extract.specs.Keys.{KeyValue, Front}
+use Rattle.clip_extract.specs.Keys.{KeyValue, Front, key_cmp, is_same}
 use Rattle.clip_extract.specs.Fronts.{fronts}
 use Rattle.clip_extract.specs.Covering.{front_keys}
 use Rattle.clip_extract.proofs.Members.{any_map, any_flat_map}
-use Rattle.clip_terms.specs.Terms.{number_of}
+use Rattle.clip_terms.specs.Terms.{number_of, term_at}
 use Rattle.clip_terms.specs.Steps.KeysByField.{is_word}
 use Rattle.clip_terms.specs.Steps.Numbers.{known}
 use Rattle.clip_terms.specs.Steps.Fronts.{other_fronts, asked_fronts, AddsNumbersOf}
+use Rattle.clip_terms.proofs.ReadingOf.{or_none, known_within, known_is}
 
 -- ---- fronts that two words share
 
@@ -27,6 +30,10 @@ or_other true b c o f later = refl
 or_other false true c o f later = refl
 or_other false false true o f later = refl
 or_other false false false o f later = later
+
+or_assoc : (a b c : Bool) → ((a || b) || c) ≡ (a || (b || c))
+or_assoc true b c = refl
+or_assoc false b c = refl
 
 module _ (test : List ℕ → Bool) where
   others_alone : (fs : List (List ℕ)) → list_any test (other_fronts [] fs) ≡ list_any test fs
@@ -94,18 +101,16 @@ known_append (x ∷ xs) ys terms =
     ∙ sym (append_assoc (option_to_list (number_of terms x)) (known (map (number_of terms) xs)) (known (map (number_of terms) ys)))
 
 pub none_added : (terms : List KeyValue) (numbers : List ℕ) → AddsNumbersOf terms [] numbers numbers
-none_added terms numbers = record { asked = []; same = λ test. refl; added = sym (append-nil numbers) }
+none_added terms numbers = record { within = λ all. all; among = λ n lt. sym (or_none (list_any (nat_eq n) numbers)) }
 
-pub added_more : (terms keys more : List KeyValue) (old now new : List ℕ) (asked : List KeyValue) → AddsNumbersOf terms keys old now → ((test : KeyValue → Bool) → list_any test asked ≡ list_any test more)
-    → new ≡ now ++ known (map (number_of terms) asked) → AddsNumbersOf terms (keys ++ more) old new
-added_more terms keys more old now new asked before same added = record {
-  asked = before.asked ++ asked;
-  same = λ test.
-      list_any-append test before.asked asked ∙ (λ i. before.same test i || same test i) ∙ sym (list_any-append test keys more);
-  added =
-      added ∙ ap (λ ns. ns ++ known (map (number_of terms) asked)) before.added
-      ∙ append_assoc old (known (map (number_of terms) before.asked)) (known (map (number_of terms) asked))
-      ∙ ap (λ ns. old ++ ns) (sym (known_append before.asked asked terms));
+added_more : (terms keys more : List KeyValue) (old now new : List ℕ) → AddsNumbersOf terms keys old now → AddsNumbersOf terms more now new → AddsNumbersOf terms (keys ++ more) old new
+added_more terms keys more old now new before next = record {
+  within = λ all. next.within (before.within all);
+  among = λ n lt.
+      let is : KeyValue → Bool = is_same (term_at terms n) in
+      next.among n lt ∙ ap (λ b. b || list_any is more) (before.among n lt)
+      ∙ or_assoc (list_any (nat_eq n) old) (list_any is keys) (list_any is more)
+      ∙ ap (λ b. list_any (nat_eq n) old || b) (sym (list_any-append is keys more));
 }
 
 -- ---- posting by posting, and field by field
@@ -139,33 +144,25 @@ word_again terms name last old goal ps i p lt is same before =
     ∙ ap (λ ws. old ++ known (map (number_of terms) (map (Front name) (asked_fronts last ws)))) (sym next) ∙ before
 
 -- a field's fronts
-pub field_asked : (terms : List KeyValue) (field : List ℕ × List (List ℕ)) (name : List ℕ) (ps : List Place) (old new : List ℕ) → name ≡ field.0 → IsPermutation (numbered 0 field.1) ps
+pub field_asked : (terms : List KeyValue) (field : List ℕ × List (List ℕ)) (name : List ℕ) (ps : List Place) (old new : List ℕ) → IsStrictlySortedBy key_cmp terms → name ≡ field.0 → IsPermutation (numbered 0 field.1) ps
     → new ≡ old ++ known (map (number_of terms) (map (Front name) (asked_fronts [] (words_at ps)))) → AddsNumbersOf terms (front_keys field) old new
-field_asked terms field name ps old new same moved added = record {
-  asked = map (Front name) (asked_fronts [] (words_at ps));
-  same = λ test. fronts_at test name field.1 ps moved ∙ ap (λ n. list_any test (front_keys (n, field.1))) same;
-  added = added;
-}
-
-none_known : (terms : List KeyValue) (name : List ℕ) (fs : List (List ℕ)) → ((text : List ℕ) → number_of terms (Front name text) ≡ None) → known (map (number_of terms) (map (Front name) fs)) ≡ []
-none_known terms name [] none = refl
-none_known terms name (f ∷ fs) none = ap (λ o. option_to_list o ++ known (map (number_of terms) (map (Front name) fs))) (none f) ∙ none_known terms name fs none
-
--- no front of the field has a number
-pub none_asked : (terms : List KeyValue) (field : List ℕ × List (List ℕ)) (name : List ℕ) (numbers : List ℕ) → name ≡ field.0 → ((text : List ℕ) → number_of terms (Front name text) ≡ None)
-    → AddsNumbersOf terms (front_keys field) numbers numbers
-none_asked terms field name numbers same none = record {
-  asked = front_keys (name, field.1);
-  same = λ test. ap (λ n. list_any test (front_keys (n, field.1))) same;
-  added = sym (append-nil numbers) ∙ ap (λ ns. numbers ++ ns) (sym (none_known terms name (flat_map fronts field.1) none));
-}
+field_asked terms field name ps old new strict same moved added =
+    let asked = map (Front name) (asked_fronts [] (words_at ps)) in
+    record {
+      within = λ all. All-same (λ n. n < length terms) _ _ added (All-append (λ n. n < length terms) old (known (map (number_of terms) asked)) all (known_within terms asked));
+      among = λ n lt.
+          let is : KeyValue → Bool = is_same (term_at terms n) in
+          ap (list_any (nat_eq n)) added
+          ∙ list_any-append (nat_eq n) old (known (map (number_of terms) asked))
+          ∙ ap (λ b. list_any (nat_eq n) old || b) (known_is terms n strict lt asked ∙ fronts_at is name field.1 ps moved ∙ ap (λ of. list_any is (front_keys (of, field.1))) same);
+    }
 
 -- a field more
 pub fields_added : (terms : List KeyValue) (fields : List (List ℕ × List (List ℕ))) (i : ℕ) (field : List ℕ × List (List ℕ)) (old now new : List ℕ) → i < length fields → field ≡ get_or fields i field
     → AddsNumbersOf terms (front_keys field) now new → AddsNumbersOf terms (flat_map front_keys (take i fields)) old now → AddsNumbersOf terms (flat_map front_keys (take (i + 1) fields)) old new
 fields_added terms fields i field old now new lt is more before =
     subst (λ (keys : List KeyValue). AddsNumbersOf terms keys old new) (flat_map_more front_keys [] (take i fields) field ∙ ap (flat_map front_keys) (ap (λ (f : List ℕ × List (List ℕ)). take i fields ++ f ∷ []) is ∙ sym (take_more fields i field lt)))
-    (added_more terms (flat_map front_keys (take i fields)) (front_keys field) old now new more.asked before more.same more.added)
+    (added_more terms (flat_map front_keys (take i fields)) (front_keys field) old now new before more)
 
 -- ---- front by front
 

@@ -1,5 +1,5 @@
 pub mod AskedFronts
-pub mod FirstBytes
+pub mod FrontsOfTerms
 pub mod Headings
 pub mod KeysByField
 pub mod LeadsOfTerms

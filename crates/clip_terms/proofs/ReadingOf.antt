@@ -22,7 +22,7 @@ use Rattle.clip_terms.specs.Steps.Numbers.{known, number_at, AreFlags}
 use Rattle.clip_terms.specs.Steps.Runs.{is_number}
 use Rattle.clip_terms.proofs.NumberedKeys.{term_of_number, key_numbered}
 
-or_none : (b : Bool) → (b || false) ≡ b
+pub or_none : (b : Bool) → (b || false) ≡ b
 or_none true = refl
 or_none false = refl
 
@@ -131,22 +131,15 @@ module _ (terms keys : List KeyValue) where
 
 module _ (terms : List KeyValue) (fields : Fields) (keys : List KeyValue) (old new : List ℕ) (of_words : keys ≡ word_part_keys fields) (first : old ≡ known (map (number_of terms) keys))
     (fronts : AddsNumbersOf terms (flat_map front_keys (finite.entries fields)) old new) where
-  whole : new ≡ known (map (number_of terms) keys) ++ known (map (number_of terms) fronts.asked)
-  whole = fronts.added ∙ ap (λ ns. ns ++ known (map (number_of terms) fronts.asked)) first
-
   pub numbers_within : All (λ n. n < length terms) new
-  numbers_within =
-      All-same (λ n. n < length terms) _ _ whole
-      (All-append (λ n. n < length terms) (known (map (number_of terms) keys)) (known (map (number_of terms) fronts.asked)) (known_within terms keys) (known_within terms fronts.asked))
+  numbers_within = fronts.within (All-same (λ n. n < length terms) _ _ first (known_within terms keys))
 
   pub numbers_had : IsStrictlySortedBy key_cmp terms → (n : ℕ) → n < length terms → list_any (nat_eq n) new ≡ has_key fields (term_at terms n)
   numbers_had strict n lt =
       let is : KeyValue → Bool = is_same (term_at terms n) in
       let words : List KeyValue = Any ∷ flat_map field_keys (finite.entries fields) in
-      ap (list_any (nat_eq n)) whole
-      ∙ list_any-append (nat_eq n) (known (map (number_of terms) keys)) (known (map (number_of terms) fronts.asked))
-      ∙ (λ i. known_is terms n strict lt keys i || known_is terms n strict lt fronts.asked i)
-      ∙ (λ i. list_any is (of_words i) || fronts.same is i)
-      ∙ ap (λ b. b || list_any is (flat_map front_keys (finite.entries fields))) (among_in_order words (term_at terms n))
+      let others : Bool = list_any is (flat_map front_keys (finite.entries fields)) in
+      fronts.among n lt
+      ∙ ap (λ b. b || others) (ap (list_any (nat_eq n)) first ∙ known_is terms n strict lt keys ∙ ap (list_any is) of_words ∙ among_in_order words (term_at terms n))
       ∙ sym (list_any-append is words (flat_map front_keys (finite.entries fields)))
       ∙ sym (among_in_order (all_keys fields) (term_at terms n))

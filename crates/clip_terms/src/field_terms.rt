@@ -1,15 +1,19 @@
 //! The terms of one field, found by the first bytes of their texts.
-ghost use Rattle.std.specs.Prelude.{◌≡◌, ℕ, ◌≤◌, List, false, None, map, length};
+ghost use Rattle.std.specs.Prelude.{◌≡◌, ◌≤◌, OnOk, map, length};
 ghost use Rattle.std.specs.List.Sorted.{IsStrictlySortedBy};
 ghost use Rattle.std.specs.Ordering.{is_lt, is_le};
 ghost use Rattle.std.specs.Str.{bytes_eq};
+ghost use Rattle.clip_extract.specs.Covering.{front_keys};
 ghost use Rattle.clip_extract.specs.Keys.{Word, Front, key_of, key_cmp};
 ghost use Rattle.clip_terms.specs.Terms.{number_of};
+ghost use Rattle.clip_terms.specs.Steps.Fronts.{AddsNumbersOf};
 ghost use Rattle.clip_terms.specs.Steps.Leads.{heading, heading_cmp, AreLeads, IsPart, TextsRise, IsPlaceOf};
 
-use crate::leads::{FRONT_RANK, WORD_RANK, heading_order, lead_of, text_order};
+use crate::leads::{FRONT_RANK, WORD_RANK, heading_order, text_of, text_order};
 use crate::terms::Terms;
-use clip_extract::Key;
+use clip_extract::{Key, has_front_key};
+use clip_meaning::{Field, lead_of};
+use clip_words::NoMemory;
 use std::cmp::Ordering;
 use std::marker::Model;
 use std::ops::Range;
@@ -124,11 +128,28 @@ impl<'a> FieldTerms<'a> {
         }
     }
 
-    /// Whether some front of the field is a term; where none is, no front of it has a number. Takes no memory. Constant
-    /// time.
-    pub(crate) fn has_fronts(&self) -> bool
-        ensures { result ≡ false → (text : List ℕ) → number_of self.now.terms (Front self.now.field text) ≡ None }
+    /// How many fronts of the field are terms. Takes no memory. Constant time.
+    pub(crate) fn front_count(&self) -> usize {
+        self.fronts.end - self.fronts.start
+    }
+
+    /// Adds the numbers of the fronts that are fronts of the words of an article's field. Cost: for each front of the
+    /// field a search by halves among these words.
+    pub(crate) fn add_fronts_of(
+        &self,
+        field: &Field,
+        numbers: &mut Vec<u32>,
+    ) -> Result<(), NoMemory>
+        requires { self.now.field ≡ field.now.0 }
+        ensures { OnOk result (AddsNumbersOf self.now.terms (front_keys field.now) numbers.old.items numbers.new.items) }
     {
-        self.fronts.start < self.fronts.end
+        for number in self.fronts.start..self.fronts.end {
+            let text = text_of(&self.keys[number]);
+            if !has_front_key(field, text) {
+                continue;
+            }
+            numbers.push(number as u32)?;
+        }
+        Ok(())
     }
 }

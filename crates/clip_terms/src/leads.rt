@@ -1,11 +1,12 @@
-//! Keys by rank, field and text, and the first bytes of their texts as numbers.
-ghost use Rattle.std.specs.Prelude.{◌≡◌, IfOk, map, slice_index};
+//! Keys by rank, field and text, and the leads of their texts.
+ghost use Rattle.std.specs.Prelude.{◌≡◌, IfOk, map};
 ghost use Rattle.clip_words.specs.Order.{bytes_cmp};
-ghost use Rattle.clip_meaning.specs.Steps.Fronts.{HasItsFront};
+ghost use Rattle.clip_meaning.specs.Leads.{IsLead};
 ghost use Rattle.clip_extract.specs.Keys.{key_of, rank};
 ghost use Rattle.clip_terms.specs.Steps.Leads.{field_of, text_of, heading, heading_cmp, AreLeads};
 
 use clip_extract::Key;
+use clip_meaning::{compare_by_leads, lead_of};
 use clip_words::NoMemory;
 use std::alloc::Global;
 use std::cmp::Ordering;
@@ -39,7 +40,7 @@ fn field_of(key: &Key) -> &str
 }
 
 /// The text of a key; of `Any`, nothing.
-fn text_of(key: &Key) -> &str
+pub(crate) fn text_of(key: &Key) -> &str
     ensures { result.now ≡ text_of (key_of key.now) }
 {
     match key {
@@ -56,25 +57,6 @@ pub(crate) fn heading_order(key: &Key, rank: u8, field: &str) -> Ordering
     rank_of(key).cmp(&rank).then(field_of(key).cmp(field))
 }
 
-/// A byte of a text, 0 past its end.
-fn byte_at(bytes: &[u8], i: usize) -> u8
-    ensures { result ≡ slice_index bytes.now i }
-{
-    if i < bytes.len() { bytes[i] } else { 0 }
-}
-
-/// The first eight bytes of a text as a number, the first as the greatest digit, and 0 past its end.
-pub(crate) fn lead_of(text: &str) -> u64
-    ensures { HasItsFront text.now result }
-{
-    let bytes = text.as_bytes();
-    let mut lead = 0;
-    for i in 0..8 {
-        lead = lead * 256 + byte_at(bytes, i) as u64;
-    }
-    lead
-}
-
 /// The leads of keys, in order.
 pub(crate) fn leads_of(alloc: Global, keys: &[Key]) -> Result<Vec<u64>, NoMemory>
     ensures { IfOk result (λ leads. AreLeads (map key_of keys.now) leads.items) }
@@ -88,12 +70,9 @@ pub(crate) fn leads_of(alloc: Global, keys: &[Key]) -> Result<Vec<u64>, NoMemory
 
 /// Compares the text of a key with a text. Looks at them only where they have the same lead.
 pub(crate) fn text_order(key: &Key, key_lead: u64, text: &str, lead: u64) -> Ordering
-    requires key { HasItsFront (text_of (key_of key.now)) key_lead }
-    requires text { HasItsFront text.now lead }
+    requires key { IsLead (text_of (key_of key.now)) key_lead }
+    requires text { IsLead text.now lead }
     ensures { result ≡ bytes_cmp (text_of (key_of key.now)) text.now }
 {
-    if key_lead != lead {
-        return key_lead.cmp(&lead);
-    }
-    text_of(key).cmp(text)
+    compare_by_leads(text_of(key), key_lead, text, lead)
 }

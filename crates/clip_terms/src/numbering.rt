@@ -117,13 +117,15 @@ fn add_posting_fronts(
     Ok(())
 }
 
-/// Adds the numbers of the fronts of a field's words, where there is a front of the field among the terms.
+/// Adds the numbers of the fronts of a field's words. Asks for each front among the terms, or for each front of the words
+/// where these are fewer.
 fn add_field_fronts(terms: &Terms, field: &Field, numbers: &mut Vec<u32>) -> Result<(), NoMemory>
     ensures { OnOk result (AddsNumbersOf terms.now (front_keys field.now) numbers.old.items numbers.new.items) }
 {
+    terms.order_law();
     let of_field = terms.of_field(field.name());
-    if !of_field.has_fronts() {
-        return Ok(());
+    if of_field.front_count() <= field.words().len() {
+        return of_field.add_fronts_of(field, numbers);
     }
     add_posting_fronts(&of_field, field.postings(), numbers)?;
     Ok(())

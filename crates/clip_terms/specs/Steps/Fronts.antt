@@ -1,11 +1,10 @@
--- The fronts that are asked of a table of terms, word by word.
-use Rattle.std.specs.Prelude.{◌≡◌, ℕ, Bool, List, [], ◌∷◌, ◌++◌, map, cond}
-use Rattle.std.specs.List.{list_any}
+-- The fronts of an article's words among terms: asked for word by word, or front by front of the terms.
+use Rattle.std.specs.Prelude.{◌≡◌, ℕ, ◌<◌, ◌≤◌, nat_eq, ◌||◌, List, [], ◌∷◌, ◌++◌, length, cond}
+use Rattle.std.specs.List.{All, list_any}
 use Rattle.std.specs.Str.{bytes_eq}
-use Rattle.clip_extract.specs.Keys.{KeyValue}
+use Rattle.clip_extract.specs.Keys.{KeyValue, is_same}
 use Rattle.clip_extract.specs.Fronts.{fronts}
-use Rattle.clip_terms.specs.Terms.{number_of}
-use Rattle.clip_terms.specs.Steps.Numbers.{known}
+use Rattle.clip_terms.specs.Terms.{term_at}
 
 -- those of a word's fronts that another word does not have at the same place
 abbrev pub other_fronts : (lasts fronts : List (List ℕ)) → List (List ℕ)
@@ -18,8 +17,13 @@ abbrev pub asked_fronts : (last : List ℕ) → List (List ℕ) → List (List �
 asked_fronts last [] = []
 asked_fronts last (word ∷ words) = other_fronts (fronts last) (fronts word) ++ asked_fronts word words
 
--- The new numbers are the old ones and those of some keys, which are just these, in any order.
+-- The new numbers are the old ones and those of the terms that are among some keys, in any order.
 pub record AddsNumbersOf (terms keys : List KeyValue) (old new : List ℕ) : Type 0 where
-  pub asked : List KeyValue
-  pub same : (test : KeyValue → Bool) → list_any test asked ≡ list_any test keys
-  pub added : new ≡ old ++ known (map (number_of terms) asked)
+  pub within : All (λ n. n < length terms) old → All (λ n. n < length terms) new
+  pub among : (n : ℕ) → n < length terms → list_any (nat_eq n) new ≡ (list_any (nat_eq n) old || list_any (is_same (term_at terms n)) keys)
+
+-- The same of the terms below a number alone.
+pub record AddsNumbersBelow (terms keys : List KeyValue) (upto : ℕ) (old new : List ℕ) : Type 0 where
+  pub within : All (λ n. n < length terms) old → All (λ n. n < length terms) new
+  pub below : (n : ℕ) → n < upto → n < length terms → list_any (nat_eq n) new ≡ (list_any (nat_eq n) old || list_any (is_same (term_at terms n)) keys)
+  pub others : (n : ℕ) → upto ≤ n → list_any (nat_eq n) new ≡ list_any (nat_eq n) old

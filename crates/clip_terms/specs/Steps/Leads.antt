@@ -4,7 +4,7 @@ use Rattle.std.specs.Ordering.{nat_cmp, then_cmp, on}
 use Rattle.std.specs.declared.cmp.Ordering.{Ordering}
 use Rattle.std.specs.declared.cmp.Ordering.TheVariants.{Less}
 use Rattle.clip_words.specs.Order.{bytes_cmp}
-use Rattle.clip_meaning.specs.Steps.Fronts.{HasItsFront}
+use Rattle.clip_meaning.specs.Leads.{IsLead}
 use Rattle.clip_extract.specs.Keys.{KeyValue, Any, Word, Front, rank}
 
 -- a key's field and text; of Any, nothing
@@ -26,12 +26,12 @@ heading key = (rank key, field_of key)
 abbrev pub heading_cmp : ℕ × List ℕ → ℕ × List ℕ → Ordering
 heading_cmp = then_cmp (on (λ h. h.0) nat_cmp) (on (λ h. h.1) bytes_cmp)
 
--- beside each term stands the number of the first bytes of its text
+-- beside each term stands the lead of its text
 abbrev pub AreLeads : List KeyValue → (leads : List ℕ) → Type 0
 AreLeads [] [] = Unit {0}
 AreLeads [] (lead ∷ leads) = ⊥
 AreLeads (term ∷ terms) [] = ⊥
-AreLeads (term ∷ terms) (lead ∷ leads) = HasItsFront (text_of term) lead × AreLeads terms leads
+AreLeads (term ∷ terms) (lead ∷ leads) = IsLead (text_of term) lead × AreLeads terms leads
 
 -- from `start` up to `end` stand just the terms under the heading
 pub record IsPart (terms : List KeyValue) (head : ℕ × List ℕ) (start end : ℕ) : Type 0 where

@@ -1,16 +1,11 @@
-use Rattle.std.proofs.Common.{◌≡◌, ℕ, ◌+◌, ◌-◌, ◌/◌, ◌<◌, List, length, map, get_or, ap, sym, ◌∙◌, subst, arith}
-use Rattle.std.proofs.lemmas.List.{get_or-map, length-map}
-use Rattle.clip_meaning.specs.Steps.Fronts.{HasItsFront}
+use Rattle.std.proofs.Common.{◌+◌, ◌-◌, ◌/◌, ◌<◌, length, map, get_or, sym, subst, arith}
+use Rattle.std.proofs.lemmas.List.{length-map}
+use Rattle.clip_meaning.specs.Leads.{IsLead}
 use Rattle.clip_extract.specs.Keys.{KeyValue, key_of}
-use Rattle.clip_extract.specs.declared.key.Key.{Key}
 use Rattle.clip_terms.specs.Steps.Leads.{text_of}
 use Rattle.clip_terms.proofs.Headings.{below_middle, above_middle, found_middle, found_nowhere}
-use Rattle.clip_terms.proofs.LeadsOfTerms.{leads_long, lead_at}
+use Rattle.clip_terms.proofs.LeadsOfTerms.{leads_long, lead_at, read_at}
 use Rattle.clip_terms.proofs.field_terms.place_of.Goals as goal
-
--- the term at a place is the key that was read there
-read_at : (keys : List Key) (n : ℕ) (k : Key) → n < length keys → k ≡ get_or keys n k → (d : KeyValue) → get_or (map key_of keys) n d ≡ key_of k
-read_at keys n k inside is d = get_or-map key_of keys n k d inside ∙ ap key_of (sym is)
 
 pub bounds-leads-middle : goal.bounds-leads-middle
 bounds-leads-middle c = omega (arith, leads_long (map key_of c.args.keys.now) c.args.leads.now c.requires.leads, length-map c.args.keys.now key_of)
@@ -21,7 +16,7 @@ text_order-requires-clause-key c =
     let middle = c.loop-low.low + (c.loop-low.high - c.loop-low.low) / 2 in
     let k = c.index-keys-middle.result in
     let inside : middle < length keys = omega arith in
-    subst (λ (t : KeyValue). HasItsFront (text_of t) (get_or c.args.leads.now middle 0)) (read_at keys middle k inside c.index-keys-middle.is (key_of k))
+    subst (λ (t : KeyValue). IsLead (text_of t) (get_or c.args.leads.now middle 0)) (read_at keys middle k inside c.index-keys-middle.is (key_of k))
     (lead_at (map key_of keys) c.args.leads.now c.requires.leads middle (key_of k) (omega (arith, length-map keys key_of)))
 
 pub loop-low-preserved-in-Less : goal.loop-low-preserved-in-Less

@@ -1,21 +1,16 @@
-use Rattle.std.proofs.Common.{◌≡◌, ◌++◌, ℕ, List, [], None, map, ◌∙◌, subst}
+use Rattle.std.proofs.Common.{◌≡◌, ◌++◌, [], map, ◌∙◌, subst}
 use Rattle.clip_extract.specs.Keys.{Front}
 use Rattle.clip_terms.specs.Terms.{number_of}
 use Rattle.clip_terms.specs.FieldTerms.{FieldTermsValue}
 use Rattle.clip_terms.specs.Steps.Numbers.{known}
 use Rattle.clip_terms.specs.Steps.Fronts.{asked_fronts}
-use Rattle.clip_terms.proofs.AskedFronts.{none_asked, field_asked}
+use Rattle.clip_terms.proofs.AskedFronts.{field_asked}
 use Rattle.clip_terms.proofs.numbering.add_field_fronts.Goals as goal
-
-pub returns-then-not-has_fronts : goal.returns-then-not-has_fronts
-returns-then-not-has_fronts c =
-    none_asked c.args.terms.now c.args.field.now c.deref.result.now c.args.numbers.now.items (c.deref.ensures.value ∙ c.name.ensures)
-    (subst (λ (v : FieldTermsValue). (text : List ℕ) → number_of v.terms (Front v.field text) ≡ None) c.of_field-of_field.ensures (c.has_fronts.ensures c.if-not-has_fronts.true))
 
 pub returns : goal.returns
 returns c =
     let old = c.args.numbers.now.items in
     let new = c.add_posting_fronts.new.numbers.items in
     let ps = c.postings.result.now in
-    field_asked c.args.terms.now c.args.field.now c.deref.result.now ps old new (c.deref.ensures.value ∙ c.name.ensures) c.postings.ensures.words
+    field_asked c.args.terms.now c.args.field.now c.deref.result.now ps old new c.order_law.ensures (c.deref.ensures.value ∙ c.name.ensures) c.postings.ensures.words
     (subst (λ (v : FieldTermsValue). new ≡ old ++ known (map (number_of v.terms) (map (Front v.field) (asked_fronts [] (map (λ p. p.0) ps))))) c.of_field-of_field.ensures c.in_ok-add_posting_fronts.ensures)

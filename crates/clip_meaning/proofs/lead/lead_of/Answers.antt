@@ -1,7 +1,7 @@
 use Rattle.std.proofs.Common.{◌+◌, ◌*◌, ◌<◌, ◌^◌, ap, ◌∙◌, arith}
-use Rattle.clip_meaning.specs.Steps.Fronts.{front_of}
-use Rattle.clip_terms.proofs.FirstBytes.{bytes_of, one_more, all_read, room}
-use Rattle.clip_terms.proofs.leads.lead_of.Goals as goal
+use Rattle.clip_meaning.specs.Leads.{lead_of}
+use Rattle.clip_meaning.proofs.Leads.{bytes_of, one_more, all_read, room}
+use Rattle.clip_meaning.proofs.lead.lead_of.Goals as goal
 
 pub overflow_mul-lead : goal.overflow_mul-lead
 overflow_mul-lead c =
@@ -20,5 +20,5 @@ loop-i-preserved c = record {
 pub returns : goal.returns
 returns c = record {
   bytes = bytes_of c.args.text.now (λ i. omega (arith, c.type_inv.text i));
-  number = all_read c.loop-i.lead c.loop-i.i c.as_bytes-bytes.result.now (omega arith) c.loop-i.invariant.read ∙ ap front_of c.as_bytes-bytes.ensures.value;
+  number = all_read c.loop-i.lead c.loop-i.i c.as_bytes-bytes.result.now (omega arith) c.loop-i.invariant.read ∙ ap lead_of c.as_bytes-bytes.ensures.value;
 }

@@ -1,0 +1,65 @@
+use Rattle.std.proofs.Common.{◌+◌, ℕ, List, [], map, sym, ap, ◌∙◌, subst, arith}
+use Rattle.std.proofs.lemmas.List.{length-map}
+use Rattle.std.specs.List.{list_any}
+use Rattle.clip_extract.specs.Keys.{Front, key_of, is_same}
+use Rattle.clip_extract.specs.Covering.{front_keys}
+use Rattle.clip_terms.specs.FieldTerms.{FieldTermsValue}
+use Rattle.clip_terms.specs.Steps.Fronts.{AddsNumbersOf, AddsNumbersBelow}
+use Rattle.clip_terms.specs.Steps.Leads.{heading, text_of, IsPart}
+use Rattle.clip_terms.proofs.FrontsOfTerms.{begun, taken, passed, ended}
+use Rattle.clip_terms.proofs.LeadsOfTerms.{read_at}
+use Rattle.clip_terms.proofs.field_terms.FieldTerms.add_fronts_of.Goals as goal
+
+pub loop-number-init : goal.loop-number-init
+loop-number-init c =
+    let t = c.self.inside in
+    let part = subst (λ (f : List ℕ). IsPart (map key_of t.keys.now) (heading (Front f [])) t.fronts.start t.fronts.end) (ap (λ (v : FieldTermsValue). v.field) c.self.view_is ∙ c.requires) c.self.invariant.fronts in
+    let old = c.args.numbers.now.items in
+    subst (λ (v : FieldTermsValue). AddsNumbersBelow v.terms (front_keys c.args.field.now) t.fronts.start old old) c.self.view_is (begun (map key_of t.keys.now) c.args.field.now t.fronts.start t.fronts.end part old)
+
+pub loop-number-preserved-then-not-has_front_key : goal.loop-number-preserved-then-not-has_front_key
+loop-number-preserved-then-not-has_front_key c =
+    let t = c.self.inside in
+    let keys = t.keys.now in
+    let field = c.args.field.now in
+    let old = c.args.numbers.now.items in
+    let now = c.loop-number.numbers.items in
+    let i = c.loop-number.number in
+    let k = c.index-self-number.result in
+    let part = subst (λ (f : List ℕ). IsPart (map key_of keys) (heading (Front f [])) t.fronts.start t.fronts.end) (ap (λ (v : FieldTermsValue). v.field) c.self.view_is ∙ c.requires) c.self.invariant.fronts in
+    let within = part.within in
+    let is = read_at keys i k (omega (arith, c.loop-number-test.true, length-map keys key_of)) c.index-self-number.is in
+    let text = c.text_of-text.ensures ∙ ap (λ k. text_of (key_of k)) (sym c.index-self-number.is) in
+    let before = subst (λ (v : FieldTermsValue). AddsNumbersBelow v.terms (front_keys field) i old now) (sym c.self.view_is) c.loop-number.invariant in
+    let found = sym c.if-not-has_front_key.true ∙ c.has_front_key.ensures ∙ ap (λ x. list_any (is_same (Front field.0 x)) (front_keys field)) text in
+    subst (λ (v : FieldTermsValue). AddsNumbersBelow v.terms (front_keys field) (i + 1) old now) c.self.view_is
+    (passed (map key_of keys) field t.fronts.start t.fronts.end part old now i (key_of k) (omega (arith, c.loop-number.auto)) c.loop-number-test.true is found before)
+
+pub loop-number-preserved : goal.loop-number-preserved
+loop-number-preserved c =
+    let t = c.self.inside in
+    let keys = t.keys.now in
+    let field = c.args.field.now in
+    let old = c.args.numbers.now.items in
+    let now = c.loop-number.numbers.items in
+    let i = c.loop-number.number in
+    let k = c.index-self-number.result in
+    let part = subst (λ (f : List ℕ). IsPart (map key_of keys) (heading (Front f [])) t.fronts.start t.fronts.end) (ap (λ (v : FieldTermsValue). v.field) c.self.view_is ∙ c.requires) c.self.invariant.fronts in
+    let within = part.within in
+    let is = read_at keys i k (omega (arith, c.loop-number-test.true, length-map keys key_of)) c.index-self-number.is in
+    let text = c.text_of-text.ensures ∙ ap (λ k. text_of (key_of k)) (sym c.index-self-number.is) in
+    let before = subst (λ (v : FieldTermsValue). AddsNumbersBelow v.terms (front_keys field) i old now) (sym c.self.view_is) c.loop-number.invariant in
+    let new = c.push.new.self.items in
+    let found = sym c.if-not-has_front_key.false ∙ c.has_front_key.ensures ∙ ap (λ x. list_any (is_same (Front field.0 x)) (front_keys field)) text in
+    subst (λ (v : FieldTermsValue). AddsNumbersBelow v.terms (front_keys field) (i + 1) old new) c.self.view_is
+    (taken (map key_of keys) field t.fronts.start t.fronts.end part old now new i (key_of k) (omega (arith, c.loop-number.auto)) c.loop-number-test.true is found c.in_ok-push.ensures.items before)
+
+pub returns : goal.returns
+returns c =
+    let t = c.self.inside in
+    let part = subst (λ (f : List ℕ). IsPart (map key_of t.keys.now) (heading (Front f [])) t.fronts.start t.fronts.end) (ap (λ (v : FieldTermsValue). v.field) c.self.view_is ∙ c.requires) c.self.invariant.fronts in
+    let old = c.args.numbers.now.items in
+    let new = c.loop-number.numbers.items in
+    let before = subst (λ (v : FieldTermsValue). AddsNumbersBelow v.terms (front_keys c.args.field.now) c.loop-number.number old new) (sym c.self.view_is) c.loop-number.invariant in
+    subst (λ (v : FieldTermsValue). AddsNumbersOf v.terms (front_keys c.args.field.now) old new) c.self.view_is
+    (ended (map key_of t.keys.now) c.args.field.now t.fronts.start t.fronts.end part old new c.loop-number.number (omega (arith, c.loop-number-test.false)) (omega (arith, c.loop-number.auto)) before)

@@ -1,9 +1,0 @@
-use Rattle.std.proofs.Common.{◌≡◌, ◌<◌, ◌-◌, ◌^◌, drop}
-use Rattle.clip_meaning.specs.Steps.Fronts.{front_after}
-use Rattle.clip_terms.proofs.leads.lead_of.Given as goal
-
-abbrev pub invariant-loop-i : goal.invariant-loop-i
-invariant-loop-i l = record {
-  small : l.lead < 256 ^ l.i;
-  read : front_after l.lead (8 - l.i) (drop l.i l.bytes) ≡ front_after 0 8 l.bytes;
-}
