@@ -50,9 +50,9 @@ impl Index {
     /// `NoMemory` where an allocation failed, and where the queries have more than 4,294,967,295 terms. Cost: an
     /// extraction of each query's keys, a sort of the keys and words of all, and a search by halves for each of them.
     /// No text is copied but ends of ranges.
-    pub fn of(alloc: Global, queries: &[&Query]) -> Result<Index, NoMemory>
+    pub fn of(alloc: Global, queries: &[Query]) -> Result<Index, NoMemory>
         requires { length queries.now ≤ MOST_QUERIES }
-        ensures { IfOk result (λ index. IsIndexOf (map (λ q. tree_of q.now) queries.now) index) }
+        ensures { IfOk result (λ index. IsIndexOf (map tree_of queries.now) index) }
     {
         let keyed = with_keys(alloc, queries)?;
         let terms = terms_of(alloc, &keyed)?;

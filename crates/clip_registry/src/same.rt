@@ -10,9 +10,8 @@ use std::sync::Arc;
 fn is_same_standing(a: &Standing, b: &Standing) -> bool
     ensures { IsTrue result ↔ (a.now ≡ b.now) }
 {
-    // Each query is the reading of its text.
-    let _ = a.query();
-    let _ = b.query();
+    a.law();
+    b.law();
     a.id() == b.id() && a.text() == b.text() && a.listener() == b.listener()
 }
 

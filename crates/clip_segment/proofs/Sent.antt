@@ -7,7 +7,6 @@ use Rattle.std.proofs.sync.ArcStr.TheSendSync as arc_str_sent
 use Rattle.std.proofs.option.Option.TheSendSync as option_sent
 use Rattle.std.proofs.sync.Arc.TheSendSync as arc_sent
 use Rattle.std.proofs.vec.Vec.TheSendSync as vec_sent
-use Rattle.clip_grammar.proofs.Sent.{query_send, query_sync}
 use Rattle.clip_index.proofs.Sent.{index_send, index_sync}
 use Rattle.clip_segment.specs.contracts.standing.Standing as standing
 use Rattle.clip_segment.specs.contracts.standing.Standing.TheInside as standing_inside
@@ -19,10 +18,10 @@ use Rattle.clip_segment.specs.contracts.segment.Segment.TheInside as segment_ins
 ruleset global = (sendable, global_sent.the_send, global_sent.the_sync, allocator_sent.the_frees)
 
 pub standing_send : IsSend standing.the_row
-standing_send = view_send standing_inside.the_row _ _ _ _ (declared_send standing_inside.the_type (search (global, arc_str_sent.the_send), (search (global, arc_str_sent.the_send), (query_send, (search (global, arc_str_sent.the_send, option_sent.the_send), tt)))))
+standing_send = view_send standing_inside.the_row _ _ _ _ (declared_send standing_inside.the_type (search (global, arc_str_sent.the_send), (search (global, arc_str_sent.the_send), (search (global, arc_str_sent.the_send, option_sent.the_send), tt))))
 
 pub standing_sync : IsSync standing.the_row
-standing_sync = view_sync standing_inside.the_row _ _ _ _ (declared_sync standing_inside.the_type (search (global, arc_str_sent.the_sync), (search (global, arc_str_sent.the_sync), (query_sync, (search (global, arc_str_sent.the_sync, option_sent.the_sync), tt)))))
+standing_sync = view_sync standing_inside.the_row _ _ _ _ (declared_sync standing_inside.the_type (search (global, arc_str_sent.the_sync), (search (global, arc_str_sent.the_sync), (search (global, arc_str_sent.the_sync, option_sent.the_sync), tt))))
 
 pub entry_send : IsSend entry.the_row
 entry_send = view_send entry_inside.the_row _ _ _ _ (declared_send entry_inside.the_type (search global, (search (global, arc_sent.the_send, standing_send, standing_sync), tt)))

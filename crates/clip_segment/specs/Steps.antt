@@ -1,5 +1,6 @@
--- Private fields as contracts see them; no public clause cites it.
+-- Private fields, as they are kept and as contracts see them; no public clause cites it.
 pub mod EntryView
+pub mod KeptReading
 pub mod ReadingView
 pub mod SegmentView
 pub mod StandingView

@@ -4,6 +4,7 @@ ghost use Rattle.std.specs.Arc.{arc_value};
 ghost use Rattle.std.specs.List.{All, AllPairs, slice_get};
 ghost use Rattle.std.specs.Option.{option_copied};
 ghost use Rattle.clip_extract.specs.Keys.{key_of};
+ghost use Rattle.clip_grammar.specs.Tree.{tree_of};
 ghost use Rattle.clip_index.specs.Index.{IsIndexOf};
 ghost use Rattle.clip_index.specs.Selecting.{AreFlagsOf, count_set, kept_of};
 ghost use Rattle.clip_segment.specs.Segment.{IsRising, positions_with, trees_of, seqs_of};
@@ -48,16 +49,15 @@ impl Model for Segment {
     ghost invariant = { IsSegment };
 }
 
-/// The index over the queries of these entries.
-fn index_of(alloc: Global, entries: &[Arc<Entry>]) -> Result<Index, NoMemory>
-    requires { length entries.now ≤ MOST_POSITIONS }
-    ensures { IfOk result (λ index. IsIndexOf (trees_of (map arc_value entries.now)) index) }
+/// The queries of these entries, read again from their texts.
+fn queries_of(alloc: Global, entries: &[Arc<Entry>]) -> Result<Vec<Query>, NoMemory>
+    ensures { IfOk result (λ queries. map tree_of queries.items ≡ trees_of (map arc_value entries.now)) }
 {
-    let mut queries: Vec<&Query> = Vec::with_capacity(alloc, entries.len())?;
+    let mut queries = Vec::with_capacity(alloc, entries.len())?;
     for entry in entries {
-        queries.push(entry.standing().query())?;
+        queries.push(entry.standing().query(alloc)?)?;
     }
-    Index::of(alloc, &queries)
+    Ok(queries)
 }
 
 /// The seqs of these entries.
@@ -74,13 +74,15 @@ fn seqs_of(alloc: Global, entries: &[Arc<Entry>]) -> Result<Vec<u64>, NoMemory>
 impl Segment {
     /// The segment of these entries, which it shares. Their seqs rise, and there are at most `MOST_POSITIONS`.
     ///
-    /// `NoMemory` where an allocation failed. Cost: that of `Index::of` over their queries.
+    /// `NoMemory` where an allocation failed. Cost: the reading of their texts, and that of `Index::of` over their queries,
+    /// which aren't kept.
     pub fn build(alloc: Global, entries: Vec<Arc<Entry>>) -> Result<Segment, NoMemory>
         requires short { length entries.items ≤ MOST_POSITIONS }
         requires rising { IsRising (map arc_value entries.items) }
         ensures { IfOk result (λ segment. segment ≡ map arc_value entries.items) }
     {
-        let index = index_of(alloc, &entries)?;
+        let queries = queries_of(alloc, &entries)?;
+        let index = Index::of(alloc, &queries)?;
         let seqs = seqs_of(alloc, &entries)?;
         Ok(Segment {
             entries,

@@ -3,9 +3,13 @@ ghost use Rattle.std.specs.Prelude.{◌≡◌, IfOk, IfErr, option_map, string_b
 ghost use Rattle.std.specs.Arc.{arc_str_bytes};
 ghost use Rattle.std.specs.Option.{option_copied};
 ghost use Rattle.clip_segment.specs.Standing.{IsStanding, IsStandingFault};
+ghost use Rattle.clip_segment.specs.Steps.KeptReading.{KeptReading, one_tree_of};
+ghost use Rattle.clip_grammar.specs.Laws.{IsRead};
+ghost use Rattle.clip_grammar.specs.Reading.{IsFault};
 ghost use Rattle.clip_grammar.specs.Tree.{tree_of};
 
 use clip_grammar::fault::QueryFault;
+use clip_grammar::laws::one_reading;
 use clip_grammar::query::Query;
 use clip_syntax::read_query;
 use clip_words::{NoMemory, is_id};
@@ -63,14 +67,14 @@ impl From<QueryFault> for StandingFault {
 
 /// A standing query: a query under an id, with the name of a listener or none.
 ///
-/// Its query is the reading of its text, which is kept beside it. Its texts are shared by clones. No reader takes memory,
-/// and each takes constant time.
+/// Its query is the reading of its text; it isn't kept, since a query's tree takes some ten times the memory of its text.
+/// Its texts are shared by clones. No reader but `query` takes memory, and each takes constant time.
 #[derive(Debug, Drop)]
 pub struct Standing {
     id: ArcStr,
     text: ArcStr,
-    query: Query,
     listener: Option<ArcStr>,
+    ghost reading: { KeptReading (arc_str_bytes text) } by { one_tree_of _ },
 }
 
 impl Model for Standing {
@@ -114,6 +118,15 @@ fn shared_texts(
     Ok((id, ArcStr::from_str(alloc, text)?, listener))
 }
 
+/// Reads a text as a query, which isn't kept.
+fn check_text(alloc: Global, text: &str) -> Result<(), QueryFault>
+    ensures read { IfOk result (λ _. IsRead text.now) }
+    ensures refused { IfErr result (λ fault. IsFault text.now fault) }
+{
+    read_query(alloc, text)?;
+    Ok(())
+}
+
 impl Standing {
     /// Reads the text as a query, which stands under the id, with the name of a listener or none.
     ///
@@ -138,14 +151,9 @@ impl Standing {
         if !is_id(id) {
             return Err(StandingFault::Id);
         }
-        let query = read_query(alloc, text)?;
+        check_text(alloc, text)?;
         let (id, text, listener) = shared_texts(alloc, id, text, listener)?;
-        Ok(Standing {
-            id,
-            text,
-            query,
-            listener,
-        })
+        Ok(Standing { id, text, listener })
     }
 
     /// The id, 1 to 256 bytes.
@@ -169,12 +177,25 @@ impl Standing {
         self.text.as_str()
     }
 
-    /// The query that the text is read as.
-    pub fn query(&self) -> &Query
-        ensures tree { tree_of result.now ≡ self.now.tree }
-        ensures standing { IsStanding self.now }
+    /// The query that the text is read as. It is read again at each call.
+    ///
+    /// `NoMemory` where an allocation failed. Cost: the reading of the text.
+    pub fn query(&self, alloc: Global) -> Result<Query, NoMemory>
+        ensures { IfOk result (λ query. tree_of query ≡ self.now.tree) }
     {
-        &self.query
+        one_reading();
+        match read_query(alloc, self.text.as_str()) {
+            Ok(query) => Ok(query),
+            Err(QueryFault::NoMemory) => Err(NoMemory),
+            Err(_) => unreachable!(),
+        }
+    }
+
+    /// The law that every standing query keeps. Takes no memory. Constant time.
+    pub fn law(&self)
+        ensures { IsStanding self.now }
+    {
+        let _id = &self.id;
     }
 
     /// The name of the listener, if there is one.

@@ -21,14 +21,10 @@ const COUNT: u32 = 64;
 
 /// The index over queries.
 fn index_of(alloc: Global, queries: &[Query]) -> Result<Index, NoMemory> {
-    let mut all = Vec::new(alloc);
-    for query in queries {
-        all.push(query)?;
-    }
-    if all.len() > MOST_QUERIES {
+    if queries.len() > MOST_QUERIES {
         return Err(NoMemory);
     }
-    Index::of(alloc, &all)
+    Index::of(alloc, queries)
 }
 
 /// The places of the queries that hold, as a reading judges them.

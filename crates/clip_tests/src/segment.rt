@@ -2,6 +2,7 @@
 use crate::making::{segment, text_key};
 use crate::showing::{places, tree};
 use clip_segment::{Segment, Standing, StandingFault};
+use clip_words::NoMemory;
 use std::alloc::{AllocError, Global};
 use std::test::Fail;
 
@@ -16,11 +17,11 @@ static STANDINGS: [(&str, &str, &str); 6] = [
 ];
 
 /// A standing query as text.
-fn show(alloc: Global, standing: &Standing) -> Result<String, AllocError> {
-    let query = tree(alloc, standing.query())?;
+fn show(alloc: Global, standing: &Standing) -> Result<String, NoMemory> {
+    let query = tree(alloc, &standing.query(alloc)?)?;
     let (id, text) = (standing.id(), standing.text());
     let listener = standing.listener().unwrap_or("-");
-    format!(in alloc; "{id} `{text}` {query} {listener}")
+    Ok(format!(in alloc; "{id} `{text}` {query} {listener}")?)
 }
 
 /// A fault as text.
@@ -29,11 +30,11 @@ fn fault_text(alloc: Global, fault: StandingFault) -> Result<String, AllocError>
 }
 
 /// The standing query of an id and a text for the listener `desk`, or why it is refused.
-fn standing_or_fault(alloc: Global, id: &str, text: &str) -> Result<String, AllocError> {
+fn standing_or_fault(alloc: Global, id: &str, text: &str) -> Result<String, NoMemory> {
     let listener = String::from_str(alloc, "desk")?;
     match Standing::read(alloc, id, text, Some(listener)) {
         Ok(standing) => show(alloc, &standing),
-        Err(fault) => fault_text(alloc, fault),
+        Err(fault) => Ok(fault_text(alloc, fault)?),
     }
 }
 

@@ -3,4 +3,4 @@ use Rattle.clip_grammar.specs.Tree.{tree_of}
 use Rattle.clip_index.proofs.building.with_keys.Given as goal
 
 abbrev pub invariant-loop-query : goal.invariant-loop-query
-invariant-loop-query l = map (λ k. tree_of k.query.now) l.keyed.items ≡ map (λ q. tree_of q.now) (take l.query-index l.queries)
+invariant-loop-query l = map (λ k. tree_of k.query.now) l.keyed.items ≡ map tree_of (take l.query-index l.queries)

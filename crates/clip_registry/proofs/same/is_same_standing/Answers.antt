@@ -20,7 +20,7 @@ returns-then-eq-2 c = elim c.if-eq.branch [
       let ids : c.args.a.now.id ≡ c.args.b.now.id = sym c.id.ensures ∙ (bytes_eq-Decides c.id.result.now c.id-2.result.now).0 (sym c.eq.ensures ∙ w.if-eq.true) ∙ c.id-2.ensures in
       let texts : c.args.a.now.text ≡ c.args.b.now.text =
       sym w.text.ensures ∙ (bytes_eq-Decides w.text.result.now w.text-then-eq.result.now).0 (sym w.eq-then-eq.ensures ∙ sym w.value-is ∙ c.if-eq-2.true) ∙ w.text-then-eq.ensures in (
-        λ h. same_standing c.args.a.now c.args.b.now c.query.ensures.standing c.query-2.ensures.standing ids texts ((listeners c).0 h),
+        λ h. same_standing c.args.a.now c.args.b.now c.law.ensures c.law-2.ensures ids texts ((listeners c).0 h),
         λ h. (listeners c).1 (ap (λ (s : Standing). s.listener) h),
       )
   | else-eq w ↦ absurd (false≢true (sym w.if-eq.false ∙ sym w.value-is ∙ c.if-eq-2.true))
