@@ -81,8 +81,8 @@ fn step_holds(runs: &PackedLists<u32>, asked: &[Query], step: Step, reading: &Re
 {
     match step {
         Step::Term(_, number) => reading.has(number),
-        Step::Phrase(_, place) => reading.has_run(runs.get(place)),
-        Step::Asked(_, place) => asked_holds(asked, place, reading),
+        Step::Phrase(_, place) => reading.has_run(runs.get(place as usize)),
+        Step::Asked(_, place) => asked_holds(asked, place as usize, reading),
         Step::Open | Step::Close(_) => true,
     }
 }

@@ -18,6 +18,9 @@ use std::alloc::Global;
 use std::marker::Model;
 use std::sync::ArcStr;
 
+/// The greatest place of a run or a query that a step keeps.
+const MOST_PLACE: usize = 4_294_967_295;
+
 /// Plans of queries in one buffer, in the order in which they were added. Contracts see each as its marks over the
 /// numbers of terms.
 #[derive(Debug, Drop)]
@@ -72,6 +75,16 @@ fn numbers_of(
     Ok(run)
 }
 
+/// A place as a step keeps it; want of memory where it doesn't fit in 32 bits.
+pub(crate) fn kept_place(place: usize) -> Result<u32, NoMemory>
+    ensures { IfOk result (λ kept. kept ≡ place) }
+{
+    if place > MOST_PLACE {
+        return Err(NoMemory);
+    }
+    Ok(place as u32)
+}
+
 /// Adds the numbers of a phrase's words as a run, and gives its place.
 fn add_run(
     alloc: Global,
@@ -79,7 +92,7 @@ fn add_run(
     field: &ArcStr,
     words: &[ArcStr],
     runs: &mut PackedLists<u32>,
-) -> Result<usize, NoMemory>
+) -> Result<u32, NoMemory>
     requires { IsTrue (are_terms terms.now (map (Word (arc_str_bytes field.now)) (map arc_str_bytes words.now))) }
     ensures grows { IfOk result (λ _. Grows runs.old runs.new) }
     ensures long { length runs.old ≤ length runs.new }
@@ -88,7 +101,7 @@ fn add_run(
         ≡ map (Word (arc_str_bytes field.now)) (map arc_str_bytes words.now)) }
 {
     let run = numbers_of(alloc, terms, field, words)?;
-    let place = runs.len();
+    let place = kept_place(runs.len())?;
     runs.push(&run)?;
     Ok(place)
 }
@@ -104,7 +117,7 @@ pub(crate) fn add_asked(
     ensures added { OnOk result ((terms : List KeyValue) (runs : List (List ℕ))
         → Adds terms runs asked.old.items steps.old.items runs asked.new.items steps.new.items (Leaf occur (Is (tree_of query)) ∷ [])) }
 {
-    let place = asked.len();
+    let place = kept_place(asked.len())?;
     asked.push(query)?;
     steps.push(Step::Asked(occur, place))?;
     Ok(())

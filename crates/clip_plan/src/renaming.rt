@@ -6,7 +6,7 @@ ghost use Rattle.clip_plan.specs.Plan.{decoded, mark_names, names, renumbered, r
 ghost use Rattle.clip_plan.specs.Steps.Plans.{Adds, mark_of};
 
 use crate::copy::copied;
-use crate::plans::{Plans, add_asked};
+use crate::plans::{Plans, add_asked, kept_place};
 use crate::step::Step;
 use clip_grammar::query::Query;
 use clip_pieces::PackedLists;
@@ -23,7 +23,7 @@ fn add_named(runs: &PackedLists<u32>, step: Step, numbers: &mut Vec<u32>) -> Res
             Ok(())
         }
         Step::Phrase(_, place) => {
-            numbers.extend_from_slice(runs.get(place))?;
+            numbers.extend_from_slice(runs.get(place as usize))?;
             Ok(())
         }
         Step::Asked(_, _) | Step::Open | Step::Close(_) => Ok(()),
@@ -106,14 +106,14 @@ impl<'a> Source<'a> {
                 Ok(())
             }
             Step::Phrase(occur, place) => {
-                let run = renumbered_run(alloc, self.runs.get(place), self.numbers)?;
-                let new = runs.len();
+                let run = renumbered_run(alloc, self.runs.get(place as usize), self.numbers)?;
+                let new = kept_place(runs.len())?;
                 runs.push(&run)?;
                 steps.push(Step::Phrase(occur, new))?;
                 Ok(())
             }
             Step::Asked(occur, place) => {
-                let query = asked_at(alloc, self.asked, place)?;
+                let query = asked_at(alloc, self.asked, place as usize)?;
                 add_asked(occur, query, asked, steps)
             }
             Step::Open => {

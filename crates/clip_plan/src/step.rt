@@ -7,9 +7,9 @@ pub(crate) enum Step {
     /// The article has the term of this number.
     Term(Occur, u32),
     /// The words of the run of this place stand next to each other in a field, in order.
-    Phrase(Occur, usize),
+    Phrase(Occur, u32),
     /// The query of this place holds.
-    Asked(Occur, usize),
+    Asked(Occur, u32),
     /// A group begins.
     Open,
     /// The group that was begun last ends, and is a clause of the one around it.

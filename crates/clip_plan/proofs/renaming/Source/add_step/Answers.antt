@@ -7,8 +7,8 @@ pub returns-in_ok-push-in-Phrase-2-clause-added : goal.returns-in_ok-push-in-Phr
 returns-in_ok-push-in-Phrase-2-clause-added c = λ terms.
     let source = c.args.self.now in
     run_renamed terms source.numbers.now source.runs.now c.args.runs.now c.push-in-Phrase.new.self (map tree_of source.asked.now) c.args.asked.now.items c.args.steps.now.items c.push-in-Phrase-2.new.self.items
-    c.in-Phrase.occur c.in-Phrase.place c.len-new.result c.deref.result.now c.get.result.now c.args.step c.in-Phrase.is c.get.ensures (c.deref.ensures.value ∙ c.in_ok-run-in-Phrase.ensures)
-    c.in_ok-push-in-Phrase.ensures.ok c.len-new.ensures c.in_ok-push-in-Phrase-2.ensures.items
+    c.in-Phrase.occur c.in-Phrase.place c.in_ok-new-in-Phrase.new c.deref.result.now c.get.result.now c.args.step c.in-Phrase.is c.get.ensures (c.deref.ensures.value ∙ c.in_ok-run-in-Phrase.ensures)
+    c.in_ok-push-in-Phrase.ensures.ok (c.in_ok-new-in-Phrase.ensures ∙ c.len.ensures) c.in_ok-push-in-Phrase-2.ensures.items
 
 pub returns-in_ok-query-in-Asked-clause-added : goal.returns-in_ok-query-in-Asked-clause-added
 returns-in_ok-query-in-Asked-clause-added c =
