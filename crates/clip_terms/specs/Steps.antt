@@ -5,6 +5,7 @@ pub mod Fronts
 pub mod KeysByField
 pub mod Leads
 pub mod Numbers
+pub mod Parts
 pub mod Places
 pub mod Reading
 pub mod Runs

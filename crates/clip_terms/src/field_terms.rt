@@ -1,15 +1,13 @@
 //! The terms of one field, found by the first bytes of their texts.
 ghost use Rattle.std.specs.Prelude.{◌≡◌, ◌≤◌, OnOk, map, length};
-ghost use Rattle.std.specs.List.Sorted.{IsStrictlySortedBy};
-ghost use Rattle.std.specs.Ordering.{is_lt, is_le};
 ghost use Rattle.std.specs.Str.{bytes_eq};
 ghost use Rattle.clip_extract.specs.Covering.{front_keys};
-ghost use Rattle.clip_extract.specs.Keys.{Word, Front, key_of, key_cmp};
+ghost use Rattle.clip_extract.specs.Keys.{Word, Front, key_of};
 ghost use Rattle.clip_terms.specs.Terms.{number_of};
 ghost use Rattle.clip_terms.specs.Steps.Fronts.{AddsNumbersOf};
-ghost use Rattle.clip_terms.specs.Steps.Leads.{heading, heading_cmp, AreLeads, IsPart, TextsRise, IsPlaceOf};
+ghost use Rattle.clip_terms.specs.Steps.Leads.{AreLeads, TextsRise, IsPlaceOf};
 
-use crate::leads::{FRONT_RANK, WORD_RANK, heading_order, text_of, text_order};
+use crate::leads::{text_of, text_order};
 use crate::terms::Terms;
 use clip_extract::{Key, has_front_key};
 use clip_meaning::{Field, lead_of};
@@ -44,24 +42,6 @@ impl<'a> Model for FieldTerms<'a> {
     ghost invariant = { AreFieldTerms };
 }
 
-/// Where the keys of a rank and a field stand among keys in order.
-fn part_of(keys: &[Key], rank: u8, field: &str) -> Range<usize>
-    requires { IsStrictlySortedBy key_cmp (map key_of keys.now) }
-    ensures { IsPart (map key_of keys.now) (rank, field.now) result.start result.end }
-{
-    let start = keys.partition_point(
-        |key: &Key| -> bool
-            ensures { result ≡ is_lt (heading_cmp (heading (key_of key.now)) (rank, field.entry.now)) }
-        { heading_order(key, rank, field).is_lt() },
-    );
-    let end = keys.partition_point(
-        |key: &Key| -> bool
-            ensures { result ≡ is_le (heading_cmp (heading (key_of key.now)) (rank, field.entry.now)) }
-        { heading_order(key, rank, field).is_le() },
-    );
-    start..end
-}
-
 /// Where the key of a text stands among keys whose texts rise.
 fn place_of(keys: &[Key], leads: &[u64], part: &Range<usize>, text: &str) -> Option<usize>
     requires within { part.now.end ≤ length keys.now }
@@ -89,13 +69,13 @@ impl<'a> FieldTerms<'a> {
         ensures { result ≡ record { terms = terms.now; field = field.now } }
     {
         terms.order_law();
-        let keys = terms.keys();
+        let (words, fronts) = terms.ranges_of(field);
         FieldTerms {
-            keys,
+            keys: terms.keys(),
             leads: terms.leads(),
             field,
-            words: part_of(keys, WORD_RANK, field),
-            fronts: part_of(keys, FRONT_RANK, field),
+            words,
+            fronts,
         }
     }
 

@@ -7,6 +7,7 @@ mod asking;
 mod field_terms;
 mod leads;
 mod numbering;
+mod parts;
 mod reading;
 mod terms;
 

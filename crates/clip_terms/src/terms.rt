@@ -1,35 +1,41 @@
 //! Keys in order, by their numbers.
-ghost use Rattle.std.specs.Prelude.{◌≡◌, ◌≤◌, ◌==◌, IfOk, length, map};
+ghost use Rattle.std.specs.Prelude.{◌≡◌, ◌≤◌, ◌==◌, [], IfOk, length, map};
 ghost use Rattle.std.specs.List.Sorted.{IsStrictlySortedBy};
-ghost use Rattle.clip_extract.specs.Keys.{key_of, key_cmp, in_order};
+ghost use Rattle.clip_extract.specs.Keys.{Word, Front, key_of, key_cmp, in_order};
 ghost use Rattle.clip_terms.specs.Terms.{number_of};
-ghost use Rattle.clip_terms.specs.Steps.Leads.{AreLeads};
+ghost use Rattle.clip_terms.specs.Steps.Leads.{heading, AreLeads, IsPart};
 
 use crate::field_terms::FieldTerms;
 use crate::leads::leads_of;
 use crate::numbering::key_numbers;
+use crate::parts::{FieldPart, parts_of, ranges_of};
 use clip_extract::{Key, sorted};
 use clip_words::NoMemory;
 use std::alloc::Global;
 use std::marker::Model;
+use std::ops::Range;
 
 /// The most terms of a table, so that each number fits in 32 bits.
 pub const MOST_TERMS: usize = 4_294_967_295;
 
 /// Keys in order, each once and numbered from 0. Contracts see the list of the keys.
 ///
-/// The first bytes of their texts stand beside them as numbers, by which most are told apart without a look at them.
+/// The leads of their texts stand beside them, by which most are told apart without a look at them, and where the words
+/// and the fronts of each field stand.
 #[derive(Debug, Drop)]
 pub struct Terms {
     keys: Vec<Key>,
     leads: Vec<u64>,
+    parts: Vec<FieldPart>,
 }
 
 impl Model for Terms {
     ghost use Rattle.std.specs.Prelude.{List, map, length, ◌≤◌};
+    ghost use Rattle.std.specs.List.{All};
     ghost use Rattle.std.specs.List.Sorted.{IsStrictlySortedBy};
     ghost use Rattle.clip_extract.specs.Keys.{KeyValue, key_of, key_cmp};
     ghost use Rattle.clip_terms.specs.Steps.Leads.{AreLeads};
+    ghost use Rattle.clip_terms.specs.Steps.Parts.{IsFieldPart};
     ghost use Rattle.clip_terms.specs.declared.terms.TheConstants.{MOST_TERMS};
 
     ghost Value = { List KeyValue };
@@ -37,14 +43,14 @@ impl Model for Terms {
     ghost view = { λ t. map key_of t.keys.items };
 
     ghost invariant = { λ t. IsStrictlySortedBy key_cmp (map key_of t.keys.items) × (length t.keys.items ≤ MOST_TERMS)
-        × AreLeads (map key_of t.keys.items) t.leads.items };
+        × AreLeads (map key_of t.keys.items) t.leads.items × All (IsFieldPart (map key_of t.keys.items)) t.parts.items };
 }
 
 impl Terms {
     /// These keys in order, each once.
     ///
     /// `NoMemory` where an allocation failed, and where there are more than `MOST_TERMS`. Cost: n log n comparisons of
-    /// n keys, and a step for each. Texts are shared.
+    /// n keys, and a step for each; for each field some searches by halves. Texts are shared.
     pub fn of(keys: Vec<Key>) -> Result<Terms, NoMemory>
         ensures { IfOk result (λ terms. terms ≡ in_order (map key_of keys.items)) }
     {
@@ -53,7 +59,8 @@ impl Terms {
             return Err(NoMemory);
         }
         let leads = leads_of(*keys.allocator(), &keys)?;
-        Ok(Terms { keys, leads })
+        let parts = parts_of(*keys.allocator(), &keys)?;
+        Ok(Terms { keys, leads, parts })
     }
 
     /// How many terms there are. Takes no memory. Constant time.
@@ -100,6 +107,14 @@ impl Terms {
         ensures { AreLeads self.now result.now }
     {
         &self.leads
+    }
+
+    /// Where the words of a field stand, and its fronts. Takes no memory. Cost: a search by halves among the fields.
+    pub(crate) fn ranges_of(&self, field: &str) -> (Range<usize>, Range<usize>)
+        ensures words { IsPart self.now (heading (Word field.now [])) result.0.start result.0.end }
+        ensures fronts { IsPart self.now (heading (Front field.now [])) result.1.start result.1.end }
+    {
+        ranges_of(&self.keys, &self.parts, field)
     }
 
     /// The numbers of keys, in their order; none of a key that is no term.

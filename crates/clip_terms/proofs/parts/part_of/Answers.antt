@@ -3,7 +3,7 @@ use Rattle.std.proofs.lemmas.List.Sorted.{IsPartitionPoint-from_clause}
 use Rattle.clip_extract.specs.Keys.{key_of}
 use Rattle.clip_terms.specs.Steps.Leads.{heading, heading_cmp}
 use Rattle.clip_terms.proofs.Headings.{Heading, lower_first, upto_first, part_found}
-use Rattle.clip_terms.proofs.field_terms.part_of.Goals as goal
+use Rattle.clip_terms.proofs.parts.part_of.Goals as goal
 
 pub returns : goal.returns
 returns c =
