@@ -10,6 +10,7 @@ use crate::asking::Asking;
 use crate::numbering::{add_front_numbers, key_numbers, known_numbers};
 use crate::terms::Terms;
 use clip_meaning::Article;
+use clip_pieces::Marks;
 use clip_words::NoMemory;
 use std::alloc::Global;
 use std::marker::Model;
@@ -21,7 +22,7 @@ pub struct Reading<'a> {
     terms: &'a Terms,
     article: &'a Article,
     numbers: Vec<u32>,
-    flags: Vec<bool>,
+    marks: Marks,
     fields: Vec<Vec<Option<u32>>>,
 }
 
@@ -38,17 +39,16 @@ impl<'a> Model for Reading<'a> {
     ghost invariant = { IsReading };
 }
 
-/// For each number below a bound, whether it is among these.
-fn flags_of(alloc: Global, numbers: &[u32], bound: usize) -> Result<Vec<bool>, NoMemory>
-    requires { All (λ n. n < bound) numbers.now }
-    ensures long { IfOk result (λ flags. length flags.items ≡ bound) }
-    ensures flags { IfOk result (λ flags. AreFlags flags.items bound numbers.now) }
+/// The numbers below a bound, of which these are marked.
+fn marks_of(alloc: Global, numbers: &[u32], bound: usize) -> Result<Marks, NoMemory>
+    ensures long { IfOk result (λ marks. length marks ≡ bound) }
+    ensures flags { IfOk result (λ marks. AreFlags marks bound numbers.now) }
 {
-    let mut flags = vec![in alloc; false; bound]?;
+    let mut marks = Marks::new(alloc, bound)?;
     for number in numbers {
-        flags[*number as usize] = true;
+        marks.mark(*number as usize);
     }
-    Ok(flags)
+    Ok(marks)
 }
 
 /// The number of the key at a place, if there is one.
@@ -98,7 +98,7 @@ impl<'a> Reading<'a> {
     /// `NoMemory` where an allocation failed. Cost: for each field of the article eight searches among the terms; among
     /// the field's terms one for each of its words that differs from the others, and, where a front of the field is a
     /// term, one for each front of such a word that the word before it, by bytes, does not have; a step for each word of
-    /// the article, and a byte for each term.
+    /// the article, and one for each 64 terms.
     pub fn of(alloc: Global, terms: &'a Terms, asking: &Asking<'a>) -> Result<Reading<'a>, NoMemory>
         ensures { IfOk result (λ reading. reading ≡ record { terms = terms.now; article = asking.now }) }
     {
@@ -106,13 +106,13 @@ impl<'a> Reading<'a> {
         let by_key = key_numbers(alloc, terms, asking.keys())?;
         let mut numbers = known_numbers(alloc, &by_key)?;
         add_front_numbers(terms, asking.article().fields(), &mut numbers)?;
-        let flags = flags_of(alloc, &numbers, terms.len())?;
+        let marks = marks_of(alloc, &numbers, terms.len())?;
         let fields = field_numbers(alloc, asking.places(), &by_key)?;
         Ok(Reading {
             terms,
             article: asking.article(),
             numbers,
-            flags,
+            marks,
             fields,
         })
     }
@@ -137,10 +137,10 @@ impl<'a> Reading<'a> {
     pub fn has(&self, number: u32) -> bool
         ensures { result ≡ has_key self.now.article.fields (term_at self.now.terms number) }
     {
-        match self.flags.get(number as usize) {
-            Some(flag) => *flag,
-            None => true,
+        if number as usize >= self.terms.len() {
+            return true;
         }
+        self.marks.is_marked(number as usize)
     }
 
     /// Whether the words of these numbers stand in some field next to each other, in order; no numbers never do. Takes

@@ -1,6 +1,5 @@
-use Rattle.std.proofs.Common.{ℕ, ◌<◌, All, List, map, flat_map, length, Vec, Global, sym, ap, ◌∙◌, subst}
+use Rattle.std.proofs.Common.{ℕ, List, map, flat_map, length, Vec, Global, sym, ap, ◌∙◌, subst}
 use Rattle.std.specs.FinMap as finite
-use Rattle.std.proofs.lemmas.List.Elements.{All-same}
 use Rattle.clip_meaning.specs.Article.{ArticleValue}
 use Rattle.clip_extract.specs.Keys.{key_of}
 use Rattle.clip_extract.specs.Covering.{field_keys, front_keys}
@@ -10,18 +9,6 @@ use Rattle.clip_terms.specs.Steps.Fronts.{AddsNumbersOf}
 use Rattle.clip_terms.specs.Steps.Numbers.{known, number_at, AreFlags}
 use Rattle.clip_terms.proofs.ReadingOf.{numbers_within, numbers_had, fields_numbered}
 use Rattle.clip_terms.proofs.reading.Reading.of.Goals as goal
-
-pub flags_of-requires : goal.flags_of-requires
-flags_of-requires c =
-    let terms = c.args.terms.now in
-    let fields = c.args.asking.now.fields in
-    let first = c.in_ok-numbers.ensures ∙ ap known (c.deref.ensures.value ∙ c.in_ok-by_key.ensures) in
-    let fronts : AddsNumbersOf terms (flat_map front_keys (finite.entries fields)) c.in_ok-numbers.numbers.items c.add_front_numbers.new.numbers.items =
-    subst (λ (fs : List (List ℕ × List (List ℕ))). AddsNumbersOf terms (flat_map front_keys fs) c.in_ok-numbers.numbers.items c.add_front_numbers.new.numbers.items)
-    (c.fields.ensures ∙ ap (λ (a : ArticleValue). finite.entries a.fields) c.article.ensures) c.in_ok-add_front_numbers.ensures in
-    subst (λ (m : ℕ). All (λ n. n < m) c.deref-2.result.now) (sym c.len.ensures)
-    (All-same (λ n. n < length terms) _ _ c.deref-2.ensures.value
-    (numbers_within terms fields (map key_of c.keys.result.now) c.in_ok-numbers.numbers.items c.add_front_numbers.new.numbers.items c.keys.ensures first fronts))
 
 pub invariant_of-result : goal.invariant_of-result
 invariant_of-result c =
@@ -35,14 +22,14 @@ invariant_of-result c =
     subst (λ (fs : List (List ℕ × List (List ℕ))). AddsNumbersOf terms (flat_map front_keys fs) old new)
     (c.fields.ensures ∙ ap (λ (a : ArticleValue). finite.entries a.fields) c.article.ensures) c.in_ok-add_front_numbers.ensures in
     let had = numbers_had terms fields keys old new c.keys.ensures first fronts c.order_law.ensures in
-    let flags : AreFlags c.in_ok-flags.flags.items (length terms) new =
-    subst (λ (m : ℕ). AreFlags c.in_ok-flags.flags.items m new) c.len.ensures
-    (subst (λ (ns : List ℕ). AreFlags c.in_ok-flags.flags.items c.len.result ns) c.deref-2.ensures.value c.in_ok-flags.ensures.flags) in
+    let flags : AreFlags c.in_ok-marks.marks (length terms) new =
+    subst (λ (m : ℕ). AreFlags c.in_ok-marks.marks m new) c.len.ensures
+    (subst (λ (ns : List ℕ). AreFlags c.in_ok-marks.marks c.len.result ns) c.deref-2.ensures.value c.in_ok-marks.ensures.flags) in
     record {
       strict = c.order_law.ensures;
       within = numbers_within terms fields keys old new c.keys.ensures first fronts;
       numbers = λ n lt. had n lt ∙ ap (λ (a : ArticleValue). has_key a.fields (term_at terms n)) (sym c.article-2.ensures);
-      long = c.in_ok-flags.ensures.long ∙ c.len.ensures;
+      long = c.in_ok-marks.ensures.long ∙ c.len.ensures;
       flags = λ n lt. flags n lt ∙ had n lt ∙ ap (λ (a : ArticleValue). has_key a.fields (term_at terms n)) (sym c.article-2.ensures);
       fields =
           c.in_ok-fields.ensures
