@@ -5,11 +5,14 @@ use clip_words::NoMemory;
 use std::alloc::Global;
 use std::marker::Model;
 
+/// The most items of all lists together, so that each end fits in 32 bits.
+const MOST_ITEMS: usize = 4_294_967_295;
+
 /// Lists of items that lie one after another in one buffer. Contracts see the list of the lists.
 #[derive(Debug, Drop)]
 pub struct PackedLists<T: Copy> {
     items: Vec<T>,
-    ends: Vec<usize>,
+    ends: Vec<u32>,
 }
 
 impl<T: Copy> Model for PackedLists<T> {
@@ -24,11 +27,15 @@ impl<T: Copy> Model for PackedLists<T> {
 }
 
 /// Where the list at a place begins, by the ends of the lists.
-fn start(ends: &[usize], place: usize) -> usize
+fn start(ends: &[u32], place: usize) -> usize
     requires { place < length ends.now }
     ensures { result ≡ slice_index (0 ∷ ends.now) place }
 {
-    if place == 0 { 0 } else { ends[place - 1] }
+    if place == 0 {
+        0
+    } else {
+        ends[place - 1] as usize
+    }
 }
 
 /// The items from one place up to another.
@@ -65,17 +72,22 @@ impl<T: Copy> PackedLists<T> {
         if place >= self.ends.len() {
             return &[];
         }
-        part(&self.items, start(&self.ends, place), self.ends[place])
+        let end = self.ends[place] as usize;
+        part(&self.items, start(&self.ends, place), end)
     }
 
-    /// Adds a list behind the last one; `NoMemory` where an allocation failed, with the lists as they were. Cost: a step
-    /// for each of its items, and at times a move of all lists.
+    /// Adds a list behind the last one; `NoMemory` where an allocation failed, and where there would be more than
+    /// `MOST_ITEMS` items, with the lists as they were. Cost: a step for each of its items, and at times a move of all
+    /// lists.
     pub fn push(&mut self, list: &[T]) -> Result<(), NoMemory>
         ensures ok { OnOk result (self.new ≡ self.old ++ list.now ∷ []) }
         ensures err { OnErr result (self.new ≡ self.old) }
     {
+        if list.len() > MOST_ITEMS || self.items.len() > MOST_ITEMS - list.len() {
+            return Err(NoMemory);
+        }
         self.items.extend_from_slice(list)?;
-        match self.ends.push(self.items.len()) {
+        match self.ends.push(self.items.len() as u32) {
             Ok(()) => Ok(()),
             Err(_) => {
                 self.items.truncate(self.items.len() - list.len());
