@@ -3,6 +3,6 @@ pub mod Order
 pub mod Covers
 pub mod Groups
 pub mod Cuts
-pub mod Sorting
+pub mod SortedKeys
 pub mod FrontsOfWords
 mod FrontKeys

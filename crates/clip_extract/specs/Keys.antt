@@ -33,6 +33,17 @@ texts Any = []
 texts (Word field word) = field ∷ word ∷ []
 texts (Front field front) = field ∷ front ∷ []
 
+-- a key's field and text; of Any, nothing
+abbrev pub field_of : KeyValue → List ℕ
+field_of Any = []
+field_of (Word field word) = field
+field_of (Front field front) = field
+
+abbrev pub text_of : KeyValue → List ℕ
+text_of Any = []
+text_of (Word field word) = word
+text_of (Front field front) = front
+
 -- Any first, then all words, then all fronts; of these by field, then by word or front, by their bytes
 abbrev pub key_cmp : KeyValue → KeyValue → Ordering
 key_cmp = then_cmp (on rank nat_cmp) (on texts (slice_cmp bytes_cmp))

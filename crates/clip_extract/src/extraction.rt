@@ -11,7 +11,8 @@ ghost use Rattle.clip_extract.specs.Steps.Groups.{group_from, next_found, counts
 ghost use Rattle.clip_extract.specs.Steps.Leaves.{Adds, IsNoGroup, word_found, leaf_found};
 
 use crate::front::key_front;
-use crate::key::{Key, sorted};
+use crate::key::Key;
+use crate::sorting::sorted;
 use clip_grammar::query::{Occur, Query};
 use clip_words::NoMemory;
 use std::alloc::Global;

@@ -1,8 +1,7 @@
 //! Keys.
-ghost use Rattle.std.specs.Prelude.{◌≡◌, IfOk, map};
-ghost use Rattle.clip_extract.specs.Keys.{key_of, in_order};
+ghost use Rattle.std.specs.Prelude.{◌≡◌};
+ghost use Rattle.clip_extract.specs.Keys.{key_of, rank, field_of, text_of};
 
-use clip_words::NoMemory;
 use std::sync::ArcStr;
 
 /// The most characters of a front that is a key.
@@ -22,13 +21,43 @@ pub enum Key {
     Front(ArcStr, ArcStr),
 }
 
-/// Sorts keys, and leaves each once.
-///
-/// `NoMemory` where an allocation failed. Cost: n log n comparisons of n keys.
-pub fn sorted(mut keys: Vec<Key>) -> Result<Vec<Key>, NoMemory>
-    ensures { IfOk result (λ sorted. map key_of sorted.items ≡ in_order (map key_of keys.items)) }
-{
-    keys.sort()?;
-    keys.dedup();
-    Ok(keys)
+impl Key {
+    /// The rank of words among keys: `Any` is before them.
+    pub const WORD_RANK: u8 = 1;
+
+    /// The rank of fronts among keys: they are last.
+    pub const FRONT_RANK: u8 = 2;
+
+    /// The rank of the key, by which keys are ordered first. Takes no memory. Constant time.
+    pub fn rank(&self) -> u8
+        ensures { result ≡ rank (key_of self.now) }
+    {
+        match self {
+            Key::Any => 0,
+            Key::Word(_, _) => Key::WORD_RANK,
+            Key::Front(_, _) => Key::FRONT_RANK,
+        }
+    }
+
+    /// The field of the key; of `Any`, nothing. Takes no memory. Constant time.
+    pub fn field(&self) -> &str
+        ensures { result.now ≡ field_of (key_of self.now) }
+    {
+        match self {
+            Key::Any => "",
+            Key::Word(field, _) => field.as_str(),
+            Key::Front(field, _) => field.as_str(),
+        }
+    }
+
+    /// The word or the front of the key; of `Any`, nothing. Takes no memory. Constant time.
+    pub fn text(&self) -> &str
+        ensures { result.now ≡ text_of (key_of self.now) }
+    {
+        match self {
+            Key::Any => "",
+            Key::Word(_, word) => word.as_str(),
+            Key::Front(_, front) => front.as_str(),
+        }
+    }
 }

@@ -7,8 +7,10 @@ mod extraction;
 mod front;
 mod key;
 mod laws;
+mod sorting;
 
 pub use extraction::{keys, weight};
 pub use front::{Fronts, has_front_key};
-pub use key::{Key, MOST_FRONT_CHARACTERS, sorted};
+pub use key::{Key, MOST_FRONT_CHARACTERS};
 pub use laws::covering_law;
+pub use sorting::sorted;

@@ -6,12 +6,12 @@ use Rattle.std.proofs.lemmas.List.Elements.{All-nil, All-cons, All-same, All-app
 use Rattle.std.proofs.lemmas.List.Folds.{list_any-append}
 use Rattle.std.proofs.lemmas.Option.{unwrap_or-slice_get}
 use Rattle.clip_grammar.proofs.Booleans.{either}
-use Rattle.clip_extract.specs.Keys.{KeyValue, Any, Word, Front, is_same}
+use Rattle.clip_extract.specs.Keys.{KeyValue, Any, Word, Front, is_same, text_of}
 use Rattle.clip_extract.specs.Fronts.{fronts}
 use Rattle.clip_extract.specs.Covering.{front_keys}
 use Rattle.clip_extract.proofs.Order.{same_key}
 use Rattle.clip_terms.specs.Terms.{term_at}
-use Rattle.clip_terms.specs.Steps.Leads.{text_of, heading, IsPart}
+use Rattle.clip_terms.specs.Steps.Leads.{heading, IsPart}
 use Rattle.clip_terms.specs.Steps.Fronts.{AddsNumbersOf, AddsNumbersBelow}
 use Rattle.clip_terms.proofs.ReadingOf.{or_none}
 

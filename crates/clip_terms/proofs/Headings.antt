@@ -9,13 +9,13 @@ use Rattle.std.proofs.lemmas.Cmp.{ranked}
 use Rattle.std.proofs.lemmas.List.{get_or-map, length-map}
 use Rattle.clip_words.specs.Order.{bytes_cmp}
 use Rattle.clip_meaning.proofs.Fields.{bytes_exact}
-use Rattle.clip_extract.specs.Keys.{KeyValue, Any, Word, Front, key_of, key_cmp, is_same}
+use Rattle.clip_extract.specs.Keys.{KeyValue, Any, Word, Front, key_of, key_cmp, is_same, text_of}
 use Rattle.clip_extract.specs.declared.key.Key.{Key}
 use Rattle.clip_extract.specs.declared.key.Key.TheVariants as variant
 use Rattle.clip_extract.proofs.Members.{less_from}
 use Rattle.clip_extract.proofs.Order.{key_cmp_same, same_key}
 use Rattle.clip_terms.specs.Terms.{number_of}
-use Rattle.clip_terms.specs.Steps.Leads.{text_of, heading, heading_cmp, IsPart, TextsRise, IsPlaceOf}
+use Rattle.clip_terms.specs.Steps.Leads.{heading, heading_cmp, IsPart, TextsRise, IsPlaceOf}
 use Rattle.clip_terms.proofs.Numbers.{IsRising, above_at, found_number, missing_number}
 
 abbrev pub Heading : Type 0

@@ -2,9 +2,9 @@
 use Rattle.std.proofs.Common.{◌≡◌, ℕ, zero, suc, ◌<◌, List, [], ◌∷◌, ◌++◌, length, map, get_or, refl, sym, ap, ◌∙◌, arith}
 use Rattle.std.proofs.lemmas.List.{get_or-map}
 use Rattle.clip_meaning.specs.Leads.{IsLead}
-use Rattle.clip_extract.specs.Keys.{KeyValue, key_of}
+use Rattle.clip_extract.specs.Keys.{KeyValue, key_of, text_of}
 use Rattle.clip_extract.specs.declared.key.Key.{Key}
-use Rattle.clip_terms.specs.Steps.Leads.{text_of, AreLeads}
+use Rattle.clip_terms.specs.Steps.Leads.{AreLeads}
 
 pub leads_long : (ts : List KeyValue) (leads : List ℕ) → AreLeads ts leads → length leads ≡ length ts
 leads_long [] [] are = refl

@@ -15,7 +15,7 @@ use Rattle.clip_extract.specs.declared.key.Key.TheVariants as variant
 use Rattle.clip_extract.specs.contracts.key.KeyOrd.TheImpl as key_ord
 use Rattle.clip_extract.proofs.Members.{keys_in_order}
 use Rattle.clip_extract.proofs.Order.{key_cmp_total, key_cmp_same, same_itself}
-use Rattle.clip_extract.proofs.Sorting.{key_order}
+use Rattle.clip_extract.proofs.SortedKeys.{key_order}
 use Rattle.clip_terms.specs.Terms.{number_of}
 
 abbrev pub IsRising : List KeyValue → Type 0

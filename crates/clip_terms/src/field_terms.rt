@@ -7,7 +7,7 @@ ghost use Rattle.clip_terms.specs.Terms.{number_of};
 ghost use Rattle.clip_terms.specs.Steps.Fronts.{AddsNumbersOf};
 ghost use Rattle.clip_terms.specs.Steps.Leads.{AreLeads, TextsRise, IsPlaceOf};
 
-use crate::leads::{text_of, text_order};
+use crate::leads::text_order;
 use crate::terms::Terms;
 use clip_extract::{Key, has_front_key};
 use clip_meaning::{Field, lead_of};
@@ -124,7 +124,7 @@ impl<'a> FieldTerms<'a> {
         ensures { OnOk result (AddsNumbersOf self.now.terms (front_keys field.now) numbers.old.items numbers.new.items) }
     {
         for number in self.fronts.start..self.fronts.end {
-            let text = text_of(&self.keys[number]);
+            let text = self.keys[number].text();
             if !has_front_key(field, text) {
                 continue;
             }

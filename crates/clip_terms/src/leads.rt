@@ -2,8 +2,8 @@
 ghost use Rattle.std.specs.Prelude.{◌≡◌, IfOk, map};
 ghost use Rattle.clip_words.specs.Order.{bytes_cmp};
 ghost use Rattle.clip_meaning.specs.Leads.{IsLead};
-ghost use Rattle.clip_extract.specs.Keys.{key_of, rank};
-ghost use Rattle.clip_terms.specs.Steps.Leads.{field_of, text_of, heading, heading_cmp, AreLeads};
+ghost use Rattle.clip_extract.specs.Keys.{key_of, text_of};
+ghost use Rattle.clip_terms.specs.Steps.Leads.{heading, heading_cmp, AreLeads};
 
 use clip_extract::Key;
 use clip_meaning::{compare_by_leads, lead_of};
@@ -11,50 +11,11 @@ use clip_words::NoMemory;
 use std::alloc::Global;
 use std::cmp::Ordering;
 
-/// The rank of words among keys: `Any` is before them.
-pub(crate) const WORD_RANK: u8 = 1;
-
-/// The rank of fronts among keys: they are last.
-pub(crate) const FRONT_RANK: u8 = 2;
-
-/// The rank of a key.
-fn rank_of(key: &Key) -> u8
-    ensures { result ≡ rank (key_of key.now) }
-{
-    match key {
-        Key::Any => 0,
-        Key::Word(_, _) => WORD_RANK,
-        Key::Front(_, _) => FRONT_RANK,
-    }
-}
-
-/// The field of a key; of `Any`, nothing.
-fn field_of(key: &Key) -> &str
-    ensures { result.now ≡ field_of (key_of key.now) }
-{
-    match key {
-        Key::Any => "",
-        Key::Word(field, _) => field.as_str(),
-        Key::Front(field, _) => field.as_str(),
-    }
-}
-
-/// The text of a key; of `Any`, nothing.
-pub(crate) fn text_of(key: &Key) -> &str
-    ensures { result.now ≡ text_of (key_of key.now) }
-{
-    match key {
-        Key::Any => "",
-        Key::Word(_, word) => word.as_str(),
-        Key::Front(_, front) => front.as_str(),
-    }
-}
-
 /// Compares a key with those of a rank and a field.
 pub(crate) fn heading_order(key: &Key, rank: u8, field: &str) -> Ordering
     ensures { result ≡ heading_cmp (heading (key_of key.now)) (rank, field.now) }
 {
-    rank_of(key).cmp(&rank).then(field_of(key).cmp(field))
+    key.rank().cmp(&rank).then(key.field().cmp(field))
 }
 
 /// The leads of keys, in order.
@@ -63,7 +24,7 @@ pub(crate) fn leads_of(alloc: Global, keys: &[Key]) -> Result<Vec<u64>, NoMemory
 {
     let mut leads = Vec::with_capacity(alloc, keys.len())?;
     for key in keys {
-        leads.push(lead_of(text_of(key)))?;
+        leads.push(lead_of(key.text()))?;
     }
     Ok(leads)
 }
@@ -74,5 +35,5 @@ pub(crate) fn text_order(key: &Key, key_lead: u64, text: &str, lead: u64) -> Ord
     requires text { IsLead text.now lead }
     ensures { result ≡ bytes_cmp (text_of (key_of key.now)) text.now }
 {
-    compare_by_leads(text_of(key), key_lead, text, lead)
+    compare_by_leads(key.text(), key_lead, text, lead)
 }

@@ -8,7 +8,7 @@ ghost use Rattle.clip_extract.specs.Keys.{KeyValue, Word, Front, key_of, key_cmp
 ghost use Rattle.clip_terms.specs.Steps.Leads.{heading, heading_cmp, IsPart};
 ghost use Rattle.clip_terms.specs.Steps.Parts.{IsFieldPart};
 
-use crate::leads::{FRONT_RANK, WORD_RANK, heading_order};
+use crate::leads::heading_order;
 use clip_extract::Key;
 use clip_words::NoMemory;
 use std::alloc::Global;
@@ -49,8 +49,8 @@ fn field_part(keys: &[Key], field: &ArcStr) -> Result<FieldPart, NoMemory>
 {
     Ok(FieldPart {
         field: field.clone()?,
-        words: part_of(keys, WORD_RANK, field),
-        fronts: part_of(keys, FRONT_RANK, field),
+        words: part_of(keys, Key::WORD_RANK, field),
+        fronts: part_of(keys, Key::FRONT_RANK, field),
     })
 }
 
@@ -111,8 +111,8 @@ pub(crate) fn ranges_of(
             part.fronts.start..part.fronts.end,
         ),
         None => (
-            part_of(keys, WORD_RANK, field),
-            part_of(keys, FRONT_RANK, field),
+            part_of(keys, Key::WORD_RANK, field),
+            part_of(keys, Key::FRONT_RANK, field),
         ),
     }
 }

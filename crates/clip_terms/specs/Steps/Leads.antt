@@ -5,18 +5,7 @@ use Rattle.std.specs.declared.cmp.Ordering.{Ordering}
 use Rattle.std.specs.declared.cmp.Ordering.TheVariants.{Less}
 use Rattle.clip_words.specs.Order.{bytes_cmp}
 use Rattle.clip_meaning.specs.Leads.{IsLead}
-use Rattle.clip_extract.specs.Keys.{KeyValue, Any, Word, Front, rank}
-
--- a key's field and text; of Any, nothing
-abbrev pub field_of : KeyValue → List ℕ
-field_of Any = []
-field_of (Word field word) = field
-field_of (Front field front) = field
-
-abbrev pub text_of : KeyValue → List ℕ
-text_of Any = []
-text_of (Word field word) = word
-text_of (Front field front) = front
+use Rattle.clip_extract.specs.Keys.{KeyValue, rank, field_of, text_of}
 
 -- what a key's text stands under
 abbrev pub heading : KeyValue → ℕ × List ℕ

@@ -1,8 +1,7 @@
 use Rattle.std.proofs.Common.{◌+◌, ◌-◌, ◌/◌, ◌<◌, length, map, get_or, sym, subst, arith}
 use Rattle.std.proofs.lemmas.List.{length-map}
 use Rattle.clip_meaning.specs.Leads.{IsLead}
-use Rattle.clip_extract.specs.Keys.{KeyValue, key_of}
-use Rattle.clip_terms.specs.Steps.Leads.{text_of}
+use Rattle.clip_extract.specs.Keys.{KeyValue, key_of, text_of}
 use Rattle.clip_terms.proofs.Headings.{below_middle, above_middle, found_middle, found_nowhere}
 use Rattle.clip_terms.proofs.LeadsOfTerms.{leads_long, lead_at, read_at}
 use Rattle.clip_terms.proofs.field_terms.place_of.Goals as goal

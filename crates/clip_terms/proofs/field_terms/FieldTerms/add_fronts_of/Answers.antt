@@ -1,11 +1,11 @@
 use Rattle.std.proofs.Common.{◌+◌, ℕ, List, [], map, sym, ap, ◌∙◌, subst, arith}
 use Rattle.std.proofs.lemmas.List.{length-map}
 use Rattle.std.specs.List.{list_any}
-use Rattle.clip_extract.specs.Keys.{Front, key_of, is_same}
+use Rattle.clip_extract.specs.Keys.{Front, key_of, is_same, text_of}
 use Rattle.clip_extract.specs.Covering.{front_keys}
 use Rattle.clip_terms.specs.FieldTerms.{FieldTermsValue}
 use Rattle.clip_terms.specs.Steps.Fronts.{AddsNumbersOf, AddsNumbersBelow}
-use Rattle.clip_terms.specs.Steps.Leads.{heading, text_of, IsPart}
+use Rattle.clip_terms.specs.Steps.Leads.{heading, IsPart}
 use Rattle.clip_terms.proofs.FrontsOfTerms.{begun, taken, passed, ended}
 use Rattle.clip_terms.proofs.LeadsOfTerms.{read_at}
 use Rattle.clip_terms.proofs.field_terms.FieldTerms.add_fronts_of.Goals as goal
@@ -29,7 +29,7 @@ loop-number-preserved-then-not-has_front_key c =
     let part = subst (λ (f : List ℕ). IsPart (map key_of keys) (heading (Front f [])) t.fronts.start t.fronts.end) (ap (λ (v : FieldTermsValue). v.field) c.self.view_is ∙ c.requires) c.self.invariant.fronts in
     let within = part.within in
     let is = read_at keys i k (omega (arith, c.loop-number-test.true, length-map keys key_of)) c.index-self-number.is in
-    let text = c.text_of-text.ensures ∙ ap (λ k. text_of (key_of k)) (sym c.index-self-number.is) in
+    let text = c.text-text.ensures ∙ ap (λ k. text_of (key_of k)) (sym c.index-self-number.is) in
     let before = subst (λ (v : FieldTermsValue). AddsNumbersBelow v.terms (front_keys field) i old now) (sym c.self.view_is) c.loop-number.invariant in
     let found = sym c.if-not-has_front_key.true ∙ c.has_front_key.ensures ∙ ap (λ x. list_any (is_same (Front field.0 x)) (front_keys field)) text in
     subst (λ (v : FieldTermsValue). AddsNumbersBelow v.terms (front_keys field) (i + 1) old now) c.self.view_is
@@ -47,7 +47,7 @@ loop-number-preserved c =
     let part = subst (λ (f : List ℕ). IsPart (map key_of keys) (heading (Front f [])) t.fronts.start t.fronts.end) (ap (λ (v : FieldTermsValue). v.field) c.self.view_is ∙ c.requires) c.self.invariant.fronts in
     let within = part.within in
     let is = read_at keys i k (omega (arith, c.loop-number-test.true, length-map keys key_of)) c.index-self-number.is in
-    let text = c.text_of-text.ensures ∙ ap (λ k. text_of (key_of k)) (sym c.index-self-number.is) in
+    let text = c.text-text.ensures ∙ ap (λ k. text_of (key_of k)) (sym c.index-self-number.is) in
     let before = subst (λ (v : FieldTermsValue). AddsNumbersBelow v.terms (front_keys field) i old now) (sym c.self.view_is) c.loop-number.invariant in
     let new = c.push.new.self.items in
     let found = sym c.if-not-has_front_key.false ∙ c.has_front_key.ensures ∙ ap (λ x. list_any (is_same (Front field.0 x)) (front_keys field)) text in
