@@ -1,5 +1,5 @@
 -- A list of keys that is sorted and has none twice.
-use Rattle.std.proofs.Common.{◌≡◌, ℕ, Bool, ◌&&◌, List, [], ◌∷◌, map, ◌+◌, refl, sym, ap, ◌∙◌, subst, arith, IsPermutation, is_lt}
+use Rattle.std.proofs.Common.{◌≡◌, ℕ, Bool, ◌&&◌, List, [], ◌∷◌, map, length, ◌+◌, ◌<◌, refl, sym, ap, ◌∙◌, subst, arith, IsPermutation, is_lt}
 use Rattle.std.specs.Ordering.{is_eq, on, nat_cmp, ordering_then}
 use Rattle.std.specs.declared.cmp.Ordering.TheVariants.{Less, Equal, Greater}
 use Rattle.std.specs.declared.cmp.Ordering.{Ordering}
@@ -92,3 +92,15 @@ sorted_keys xs ys alone zs moved sorted are filtered =
     ap (map key_of) left
     ∙ strict_keys key_cmp_total key_cmp_same (map key_of (dedup same_keys alone)) xs (strict_mapped (dedup same_keys alone) strict)
     (λ k. any_map (is_same k) key_of (dedup same_keys alone) ∙ any_deduped (eq_by_cmp_equiv (on_total key_of key_cmp_total)) key_of (λ x y. same_key (key_of x) (key_of y)) (is_same k) alone ∙ sym (any_map (is_same k) key_of alone) ∙ ap (list_any (is_same k)) are ∙ sym (list_any-IsPermutation (is_same k) xs ys moved))
+
+-- so few need no sort
+few_rise : (ks : List KeyValue) → length ks < 2 → IsStrictlySortedBy key_cmp ks
+unfolding IsStrictlySortedBy
+few_rise [] few = tt
+few_rise (k ∷ []) few = (tt, tt)
+few_rise (k ∷ l ∷ ks) few = absurd (omega arith)
+
+pub few_keys : (xs : List Key) → length xs < 2 → map key_of xs ≡ in_order (map key_of xs)
+few_keys xs few =
+    let long = length-map xs key_of in
+    strict_keys key_cmp_total key_cmp_same (map key_of xs) (map key_of xs) (few_rise (map key_of xs) (omega (arith, long))) (λ k. refl)

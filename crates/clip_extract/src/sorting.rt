@@ -85,11 +85,14 @@ fn keys_alone(led: Vec<LedKey>) -> Result<Vec<Key>, NoMemory>
 
 /// Sorts keys, and leaves each once.
 ///
-/// `NoMemory` where an allocation failed. Cost: n log n comparisons of n keys, each of which looks at the texts only where
-/// they begin with the same eight bytes.
+/// `NoMemory` where an allocation failed. Cost: n log n comparisons of n keys, each of which looks at texts only where they
+/// begin with the same eight bytes, and two lists of n keys made; constant time, and no memory, where n is 0 or 1.
 pub fn sorted(keys: Vec<Key>) -> Result<Vec<Key>, NoMemory>
     ensures { IfOk result (λ sorted. map key_of sorted.items ≡ in_order (map key_of keys.items)) }
 {
+    if keys.len() < 2 {
+        return Ok(keys);
+    }
     let mut led = led_keys(keys)?;
     led.sort_unstable_by(
         |a: &LedKey, b: &LedKey| -> Ordering

@@ -1,5 +1,5 @@
 -- Texts compare as their leads, where these differ.
-use Rattle.std.proofs.Common.{◌≡◌, ℕ, zero, suc, ◌+◌, ◌-◌, ◌*◌, ◌^◌, ◌<◌, List, [], ◌∷◌, Less, Equal, Greater, Ordering, refl, sym, ap, ◌∙◌, subst, arith, add-zero, add-one, drop, get_or}
+use Rattle.std.proofs.Common.{◌≡◌, ℕ, zero, suc, ◌+◌, ◌-◌, ◌*◌, ◌^◌, ◌<◌, ◌≤◌, List, length, [], ◌∷◌, Less, Equal, Greater, Ordering, refl, sym, ap, ◌∙◌, subst, arith, add-zero, add-one, drop, get_or}
 use Rattle.std.specs.Ordering.{ordering_then, nat_cmp, MatchOrdering, ordering_reverse}
 use Rattle.std.proofs.lemmas.Cmp.{ranked}
 use Rattle.std.specs.Cmp.Lexicographic.{nat_list_cmp_total}
@@ -45,6 +45,25 @@ leads_settle xs ys m n a b apart = by_order (nat_cmp m n) (ranked m n _ refl)
     by_order Less less = sym (lead_below xs ys m n a b less)
     by_order Equal same = absurd (apart same)
     by_order Greater more = sym (nat_list_cmp_total.antisymm xs ys ∙ ap ordering_reverse (lead_below ys xs n m b a more))
+
+-- of two texts of the same length that have no byte past the lead
+tied : (k m : ℕ) (xs ys : List ℕ) → AreBytes xs → AreBytes ys → length xs ≡ length ys → length xs ≤ k → lead_after m k xs ≡ lead_after m k ys → bytes_cmp xs ys ≡ Equal
+tied k m [] [] a b long short same = refl
+tied k m [] (y ∷ ys) a b long short same = absurd (omega arith)
+tied k m (x ∷ xs) [] a b long short same = absurd (omega arith)
+tied zero m (x ∷ xs) (y ∷ ys) a b long short same = absurd (omega arith)
+tied (suc k) m (x ∷ xs) (y ∷ ys) a b long short same = by_order (nat_cmp x y) (ranked x y (nat_cmp x y) refl) (tied k (m * 256 + y) xs ys a.1 b.1 (omega arith) (omega arith))
+  where
+    by_order : (o : Ordering) → MatchOrdering o (x < y) (x ≡ y) (y < x) → (lead_after (m * 256 + y) k xs ≡ lead_after (m * 256 + y) k ys → bytes_cmp xs ys ≡ Equal) → ordering_then o (bytes_cmp xs ys) ≡ Equal
+    by_order Less less rest =
+        let lt : lead_after (m * 256 + x) k xs < lead_after (m * 256 + y) k ys = grows k (m * 256 + x) (m * 256 + y) xs ys a.1 (omega arith) in absurd (omega arith)
+    by_order Equal e rest = rest (subst (λ n. lead_after (m * 256 + n) k xs ≡ lead_after (m * 256 + y) k ys) e same)
+    by_order Greater more rest =
+        let lt : lead_after (m * 256 + y) k ys < lead_after (m * 256 + x) k xs = grows k (m * 256 + y) (m * 256 + x) ys xs b.1 (omega arith) in absurd (omega arith)
+
+pub leads_tie : (xs ys : List ℕ) (m n : ℕ) → IsLead xs m → IsLead ys n → m ≡ n → length xs ≡ length ys → length xs ≤ 8 → Equal ≡ bytes_cmp xs ys
+unfolding lead_of
+leads_tie xs ys m n a b same long short = sym (tied 8 0 xs ys a.bytes b.bytes long short (sym a.number ∙ same ∙ b.number))
 
 -- ---- one byte after another
 

@@ -26,7 +26,7 @@ pub fn lead_of(text: &str) -> u64
 }
 
 /// Compares two texts by their bytes, beside which their leads are given. Takes no memory. Constant time where the leads
-/// differ; the texts are looked at only where they do not.
+/// differ, and where both texts have the same length, at most eight bytes; the texts are looked at only in other cases.
 pub fn compare_by_leads(a: &str, a_lead: u64, b: &str, b_lead: u64) -> Ordering
     requires a { IsLead a.now a_lead }
     requires b { IsLead b.now b_lead }
@@ -34,6 +34,9 @@ pub fn compare_by_leads(a: &str, a_lead: u64, b: &str, b_lead: u64) -> Ordering
 {
     if a_lead != b_lead {
         return a_lead.cmp(&b_lead);
+    }
+    if a.len() == b.len() && a.len() <= 8 {
+        return Ordering::Equal;
     }
     a.cmp(b)
 }

@@ -1,9 +1,9 @@
-use Rattle.std.proofs.Common.{◌≡◌, List, map, ap, subst, IsPermutation, rules, of_calls, is_lt}
+use Rattle.std.proofs.Common.{◌≡◌, List, map, ap, subst, arith, IsPermutation, rules, of_calls, is_lt}
 use Rattle.std.specs.List.Sorted.{IsSorted}
 use Rattle.std.proofs.lemmas.List.Sorted.{answers_always, ranks_by}
 use Rattle.clip_extract.specs.Keys.{KeyValue, key_of, key_cmp}
 use Rattle.clip_extract.proofs.Order.{key_cmp_total}
-use Rattle.clip_extract.proofs.SortedKeys.{sorted_keys}
+use Rattle.clip_extract.proofs.SortedKeys.{few_keys, sorted_keys}
 use Rattle.clip_extract.proofs.sorting.sorted.Goals as goal
 
 pub returns : goal.returns
@@ -18,3 +18,6 @@ returns c =
     sorted
     c.in_ok-keys.ensures
     c.dedup.ensures.filtered
+
+pub returns-then-len-lt2 : goal.returns-then-len-lt2
+returns-then-len-lt2 c = few_keys c.args.keys.items (omega (arith, c.len.ensures, c.if-len-lt2.true, c.args.keys.ok))
