@@ -27,10 +27,7 @@ pub(crate) struct Keyed<'a> {
 }
 
 /// Queries with their keys.
-pub(crate) fn with_keys<'a>(
-    alloc: Global,
-    queries: &'a [Query],
-) -> Result<Vec<Keyed<'a>>, NoMemory>
+pub(crate) fn with_keys<'a>(alloc: Global, queries: &'a [Query]) -> Result<Vec<Keyed<'a>>, NoMemory>
     ensures { IfOk result (λ keyed. map (λ k. tree_of k.query.now) keyed.items ≡ map tree_of queries.now) }
 {
     let mut keyed = Vec::with_capacity(alloc, queries.len())?;
