@@ -102,8 +102,7 @@ impl Index {
 
     /// An article as this index asks it.
     ///
-    /// `NoMemory` where an allocation failed. Cost: a search by halves among the terms for each key of the article, a
-    /// step for each of its words, and a byte for each term.
+    /// `NoMemory` where an allocation failed. Cost: that of `Reading::of` over its terms.
     pub fn read<'a>(
         &'a self,
         alloc: Global,

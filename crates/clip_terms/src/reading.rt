@@ -95,10 +95,10 @@ fn field_numbers(
 impl<'a> Reading<'a> {
     /// Reads an article by these terms.
     ///
-    /// `NoMemory` where an allocation failed. Cost: for each field of the article eight searches among the terms; among
-    /// the field's terms one for each of its words that differs from the others, and, where a front of the field is a
-    /// term, one for each front of such a word that the word before it, by bytes, does not have; a step for each word of
-    /// the article, and one for each 64 terms.
+    /// `NoMemory` where an allocation failed. Cost: for each field of the article a search among the field's terms for
+    /// each of its words that differs from the others, and one among its words for each front of the field that is a
+    /// term, or, where these are more than the words, one among the terms for each front of the words; a step for each
+    /// word of the article, and one for each 64 terms.
     pub fn of(alloc: Global, terms: &'a Terms, asking: &Asking<'a>) -> Result<Reading<'a>, NoMemory>
         ensures { IfOk result (λ reading. reading ≡ record { terms = terms.now; article = asking.now }) }
     {
