@@ -67,7 +67,7 @@ impl From<QueryFault> for StandingFault {
 
 /// A standing query: a query under an id, with the name of a listener or none.
 ///
-/// Its query is the reading of its text; it isn't kept, since a query's tree takes some ten times the memory of its text.
+/// Its query is the reading of its text; it isn't kept, since a query's tree takes far more memory than its text.
 /// Its texts are shared by clones. No reader but `query` takes memory, and each takes constant time.
 #[derive(Debug, Drop)]
 pub struct Standing {
