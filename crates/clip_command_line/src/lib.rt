@@ -8,6 +8,3 @@ mod mode;
 pub use command_line::ending;
 pub use listeners::{feed, mail, named};
 pub use mode::Mode;
-
-#[cfg(test)]
-mod tests;

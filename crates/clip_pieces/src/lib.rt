@@ -12,8 +12,6 @@ mod part;
 mod parts;
 mod piece;
 mod shared;
-#[cfg(test)]
-mod tests;
 
 pub use exact::Exact;
 pub use iter::Iter;

@@ -3,17 +3,19 @@
 #![tactic(auto)]
 
 #[cfg(test)]
+mod command_line;
+#[cfg(test)]
 mod desk;
 #[cfg(test)]
 mod extract;
-#[cfg(test)]
-mod generated;
 #[cfg(test)]
 mod index;
 #[cfg(test)]
 mod ledger;
 #[cfg(test)]
 mod listen;
+#[cfg(test)]
+mod lists;
 #[cfg(test)]
 mod making;
 #[cfg(test)]
@@ -25,11 +27,7 @@ mod merge;
 #[cfg(test)]
 mod merging;
 #[cfg(test)]
-mod numbers;
-#[cfg(test)]
 mod pieces;
-#[cfg(test)]
-mod random;
 #[cfg(test)]
 mod registry;
 #[cfg(test)]

@@ -1,6 +1,4 @@
 //! Update listeners: worked examples.
-ghost use Rattle.std.specs.Prelude.{◌≡◌};
-
 use crate::making::{owned, standing};
 use clip_listen::{Update, UpdateEvent, UpdateListener, UpdateListeners, UpdateLog};
 use clip_registry::Command;
@@ -26,17 +24,15 @@ impl Moody {
             refuses,
         }
     }
+}
 
-    /// Counts an event, and refuses the one of its number.
-    fn count(&mut self) -> Result<(), NoMemory>
-        ensures { self.new.log ≡ self.old.log }
-    {
-        self.refuses = self.refuses.wrapping_sub(1);
-        if self.refuses == 0 {
-            return Err(NoMemory);
-        }
-        Ok(())
+/// Counts an event, and refuses the one of this number.
+fn count(refuses: &mut u64) -> Result<(), NoMemory> {
+    *refuses = refuses.wrapping_sub(1);
+    if *refuses == 0 {
+        return Err(NoMemory);
     }
+    Ok(())
 }
 
 impl UpdateListener for Moody {
@@ -46,22 +42,22 @@ impl UpdateListener for Moody {
     ghost heard = { λ m. map event_value m.log.events.items };
 
     fn after_update(&mut self, alloc: Global, queries: &[Arc<Standing>]) -> Result<(), NoMemory> {
-        self.count()?;
+        count(&mut self.refuses)?;
         self.log.after_update(alloc, queries)
     }
 
     fn after_delete(&mut self, alloc: Global, ids: &[String]) -> Result<(), NoMemory> {
-        self.count()?;
+        count(&mut self.refuses)?;
         self.log.after_delete(alloc, ids)
     }
 
     fn after_clear(&mut self, alloc: Global) -> Result<(), NoMemory> {
-        self.count()?;
+        count(&mut self.refuses)?;
         self.log.after_clear(alloc)
     }
 
     fn on_purge(&mut self, alloc: Global) -> Result<(), NoMemory> {
-        self.count()?;
+        count(&mut self.refuses)?;
         self.log.on_purge(alloc)
     }
 }
@@ -98,7 +94,7 @@ fn add_line(text: &mut String, word: &str, ids: &[ArcStr]) -> Result<(), AllocEr
 }
 
 /// The events of a log, as lines.
-fn lines(alloc: Global, log: &UpdateLog) -> Result<String, AllocError> {
+pub fn lines(alloc: Global, log: &UpdateLog) -> Result<String, AllocError> {
     let mut text = String::new(alloc);
     for event in log.events() {
         let (word, ids): (&str, &[ArcStr]) = match event {

@@ -17,7 +17,7 @@ use std::thread::Threads;
 use std::{fs, io};
 
 /// The examples: of each the requests stand in NAME.jsonl, and the replies in NAME.out.
-const EXAMPLES: [&str; 15] = [
+const EXAMPLES: [&str; 16] = [
     "alerts",
     "changes",
     "clippings",
@@ -29,6 +29,7 @@ const EXAMPLES: [&str; 15] = [
     "meaning",
     "purging",
     "random_changes",
+    "random_queries",
     "ranges",
     "refusals",
     "shapes",
@@ -36,12 +37,13 @@ const EXAMPLES: [&str; 15] = [
 ];
 
 /// The traces, in files of the same kind.
-const TRACES: [&str; 7] = [
+const TRACES: [&str; 8] = [
     "late_install",
     "install_after_clear",
     "install_after_purge",
     "install_after_idle_purge",
     "two_merges",
+    "random_traces",
     "trace_refusals",
     "trace_limits",
 ];

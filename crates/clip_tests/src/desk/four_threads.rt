@@ -6,7 +6,7 @@ ghost use Rattle.clip_registry.specs.Command.{command_of};
 ghost use Rattle.clip_desk.specs.Locked.{IsSeatOf};
 
 use crate::desk::making::{commit, parts_of, pop_seat, purge, register};
-use crate::desk::plain::{Plain, STEPS, Step, steps_of};
+use crate::desk::plain::{Plain, STEPS, Step, steps_of, told};
 use crate::making::{article, owned};
 use clip_desk::{Desk, DeskName, DeskParts, Nudge, Seat};
 use clip_listen::UpdateLog;
@@ -34,25 +34,21 @@ struct Room<N: DeskName> {
 
 /// The article of a text.
 fn article_of<R: Abort>(rt: &R, alloc: Global, text: &str) -> Article {
-    match article(alloc, "a", &[("text", text)]) {
-        Ok(article) => article,
-        Err(_) => panic!(rt; "no article"),
-    }
+    article(alloc, "a", &[("text", text)])
+        .ok()
+        .expect(rt, "an article")
 }
 
 /// Checks that the alerts are those of just the queries with one of these two texts.
 fn check_alerts<R: Abort>(rt: &R, plain: &Plain, alerts: &[Alert], texts: [&str; 2]) {
-    let mut told = 0usize;
+    let mut alerts = alerts.iter();
     for (id, text) in plain.texts().iter() {
-        if texts[0] == text.as_str() || texts[1] == text.as_str() {
-            match alerts.get(told) {
-                Some(alert) => assert_eq!(rt; alert.query.as_str(), id.as_str()),
-                None => panic!(rt; "an alert is missing"),
-            }
-            told = told.wrapping_add(1);
+        if text.as_str() == texts[0] || text.as_str() == texts[1] {
+            let alert = alerts.next().expect(rt, "an alert");
+            assert!(rt; alert.query.as_str() == id.as_str());
         }
     }
-    assert_eq!(rt; alerts.len(), told);
+    assert!(rt; alerts.next().is_none());
 }
 
 /// Checks what a look answers of two articles: what a filter over its own history does.
@@ -86,10 +82,10 @@ fn check_look<R: Abort>(rt: &R, alloc: Global, seat: &mut Seat)
 fn command<R: Abort>(rt: &R, alloc: Global, step: &Step) -> Command
     ensures { IsTrue (fits (command_of result)) }
 {
-    let Some(text) = step.text else {
+    if step.text.is_empty() {
         return delete(rt, alloc, &step.id);
-    };
-    register(rt, alloc, &step.id, text)
+    }
+    register(rt, alloc, &step.id, step.text)
 }
 
 /// The command that deletes one query.
@@ -108,10 +104,7 @@ fn delete<R: Abort>(rt: &R, alloc: Global, id: &str) -> Command
 
 /// The commands of a caller.
 fn steps<R: Abort>(rt: &R, alloc: Global, caller: u32) -> Vec<Step> {
-    match steps_of(alloc, caller) {
-        Ok(steps) => steps,
-        Err(_) => panic!(rt; "no memory"),
-    }
+    steps_of(alloc, caller).ok().expect(rt, "no memory")
 }
 
 /// Commits all commands of the seat's caller, nudges the merger after each, and looks now and then.
@@ -311,42 +304,24 @@ fn check_closed<R: Abort>(rt: &R, alloc: Global, registrar: &Registrar) {
 
 /// Checks that the caller's commands stand in the history once each and in order.
 fn check_caller<R: Abort>(rt: &R, history: &History<'_>, caller: u32, steps: &[Step]) {
-    let mut made = 0usize;
+    let mut steps = steps.iter();
+    let mut made = 0u64;
     for place in 0..history.len() {
-        let Some(entry) = history.get(place) else {
-            panic!(rt; "an entry")
-        };
+        let entry = history.get(place).expect(rt, "an entry");
         if entry.caller == caller {
-            match steps.get(made) {
-                Some(step) => assert!(rt; is_step(&entry.command, step), "the next command"),
-                None => panic!(rt; "a command too many"),
-            }
+            let step = steps.next().expect(rt, "a command too many");
+            assert!(rt; told(&entry.command) == (step.id.as_str(), step.text));
             made = made.wrapping_add(1);
-            assert_eq!(rt; entry.number, made as u64);
+            assert!(rt; entry.number == made);
         }
     }
-    assert_eq!(rt; made, steps.len());
-}
-
-/// Whether the command does what the step says.
-fn is_step(command: &Command, step: &Step) -> bool {
-    match (command, step.text) {
-        (Command::Register(list), Some(text)) => match list.as_slice() {
-            [standing] => standing.id() == step.id.as_str() && standing.text() == text,
-            _ => false,
-        },
-        (Command::Delete(ids), None) => match ids.as_slice() {
-            [id] => id == &step.id,
-            _ => false,
-        },
-        _ => false,
-    }
+    assert!(rt; steps.next().is_none());
 }
 
 /// Checks that just the queries of the map are registered.
 fn check_registered<R: Abort>(rt: &R, view: &View, plain: &Plain) {
-    assert_eq!(rt; view.count(), plain.texts().len() as u64);
+    assert!(rt; view.count() == plain.texts().len() as u64);
     for (id, text) in plain.texts().iter() {
-        assert_eq!(rt; view.text_of(id.as_str()), Some(text.as_str()));
+        assert!(rt; view.text_of(id.as_str()) == Some(text.as_str()));
     }
 }

@@ -4,8 +4,9 @@ ghost use Rattle.clip_listen.specs.Updates.{heard_at};
 ghost use Rattle.clip_desk.specs.Locked.{IsSeatOf};
 
 use crate::desk::making::{commit_four, parts_with, pop_seat, purge};
+use crate::updates::lines;
 use clip_desk::{Closed, Desk, DeskName, DeskParts, Seat};
-use clip_listen::{UpdateEvent, UpdateLog};
+use clip_listen::UpdateLog;
 use std::alloc::Global;
 use std::marker::Brand;
 use std::process::Abort;
@@ -45,32 +46,15 @@ fn close_one<N: DeskName, R: Wait + Abort>(
         return;
     };
     match desk.close(rt, all) {
-        Ok(closed) => check_log(rt, &closed),
+        Ok(closed) => check_log(rt, alloc, &closed),
         Err(_) => panic!(rt; "all seats are there"),
     }
 }
 
-fn check_log<R: Abort>(rt: &R, closed: &Closed<UpdateLog>) {
-    let [(log, missed)] = closed.updates.as_slice() else {
-        panic!(rt; "one log")
-    };
+/// Checks that the one log heard all and missed nothing.
+fn check_log<R: Abort>(rt: &R, alloc: Global, closed: &Closed<UpdateLog>) {
+    let (log, missed) = closed.updates.first().expect(rt, "one log");
     assert!(rt; !*missed, "it missed nothing");
-    let [first, second, third, fourth, last] = log.events() else {
-        panic!(rt; "five events")
-    };
-    check_updated(rt, first, "q1");
-    check_updated(rt, second, "q2");
-    check_updated(rt, third, "q3");
-    check_updated(rt, fourth, "q4");
-    assert!(rt; matches!(last, UpdateEvent::Purged), "the purge comes last");
-}
-
-fn check_updated<R: Abort>(rt: &R, event: &UpdateEvent, name: &str) {
-    match event {
-        UpdateEvent::Updated(ids) => match ids.as_slice() {
-            [id] => assert_eq!(rt; id.as_str(), name),
-            _ => panic!(rt; "one query"),
-        },
-        _ => panic!(rt; "an update"),
-    }
+    let told = lines(alloc, log).ok().expect(rt, "no memory");
+    assert!(rt; told.as_str() == "updated q1\nupdated q2\nupdated q3\nupdated q4\npurged\n");
 }

@@ -14,8 +14,8 @@ const IDS: u64 = 1499;
 pub struct Step {
     /// The id of the query.
     pub id: String,
-    /// The text under which it is registered, or `None` where it is deleted.
-    pub text: Option<&'static str>,
+    /// The text under which it is registered, empty where it is deleted.
+    pub text: &'static str,
 }
 
 /// The text of the query of a number.
@@ -36,14 +36,25 @@ pub fn steps_of(alloc: Global, caller: u32) -> Result<Vec<Step>, AllocError> {
         let place = if is_delete { number - 1 } else { number } % IDS;
         steps.push(Step {
             id: format!(in alloc; "{caller}-{place}")?,
-            text: if is_delete {
-                None
-            } else {
-                Some(text_of(number))
-            },
+            text: if is_delete { "" } else { text_of(number) },
         })?;
     }
     Ok(steps)
+}
+
+/// The id of the one query of a command and the text under which it is registered, empty where it is deleted.
+pub fn told(command: &Command) -> (&str, &str) {
+    if let Command::Register(list) = command {
+        if let Some(standing) = list.first() {
+            return (standing.id(), standing.text());
+        }
+    }
+    if let Command::Delete(ids) = command {
+        if let Some(id) = ids.first() {
+            return (id.as_str(), "");
+        }
+    }
+    ("", "")
 }
 
 /// The texts of registered queries by their ids.
@@ -67,7 +78,12 @@ impl Plain {
         &self.texts
     }
 
-    fn put(&mut self, id: &str, text: &str) -> Result<(), AllocError> {
+    /// Registers a query under an id, or deletes it where its text is empty.
+    fn take(&mut self, id: &str, text: &str) -> Result<(), AllocError> {
+        if text.is_empty() {
+            self.texts.remove(id);
+            return Ok(());
+        }
         let id = String::from_str(self.alloc, id)?;
         self.texts.insert(id, String::from_str(self.alloc, text)?)?;
         Ok(())
@@ -76,27 +92,7 @@ impl Plain {
     /// Does what the steps say.
     pub fn take_steps(&mut self, steps: &[Step]) -> Result<(), AllocError> {
         for step in steps {
-            match step.text {
-                Some(text) => self.put(&step.id, text)?,
-                None => drop(self.texts.remove(step.id.as_str())),
-            }
-        }
-        Ok(())
-    }
-
-    fn take_command(&mut self, command: &Command) -> Result<(), AllocError> {
-        match command {
-            Command::Register(list) => {
-                for standing in list {
-                    self.put(standing.id(), standing.text())?;
-                }
-            }
-            Command::Delete(ids) => {
-                for id in ids {
-                    drop(self.texts.remove(id.as_str()));
-                }
-            }
-            Command::Clear => self.texts = BTreeMap::new(self.alloc),
+            self.take(&step.id, step.text)?;
         }
         Ok(())
     }
@@ -105,7 +101,8 @@ impl Plain {
     pub fn take_history(&mut self, history: &History<'_>) -> Result<(), AllocError> {
         for place in 0..history.len() {
             if let Some(entry) = history.get(place) {
-                self.take_command(&entry.command)?;
+                let (id, text) = told(&entry.command);
+                self.take(id, text)?;
             }
         }
         Ok(())

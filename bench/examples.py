@@ -1,0 +1,28 @@
+"""Writes an example for `crates/examples`: requests or events, one a line, and the replies that they are to have."""
+
+from __future__ import annotations
+
+import argparse
+import json
+from pathlib import Path
+from typing import Callable, Iterable
+
+DATA = Path(__file__).resolve().parent.parent / "crates" / "examples" / "data"
+
+
+def line_of(value: object) -> str:
+    """The value as compact JSON, members in the order of their names."""
+    return json.dumps(value, ensure_ascii=False, separators=(",", ":"), sort_keys=True) + "\n"
+
+
+def write(name: str, about: str, turns: Callable[[int], Iterable[tuple[dict, dict]]]) -> None:
+    """Writes NAME.jsonl and NAME.out: what `turns` gives for the seed of the command line, each line with its reply,
+    which gets its number here."""
+    parser = argparse.ArgumentParser(description=about, formatter_class=argparse.RawDescriptionHelpFormatter)
+    parser.add_argument("--seed", type=int, default=1, help="of the lines (1)")
+    parser.add_argument("--into", type=Path, default=DATA, help="the folder of the two files")
+    options = parser.parse_args()
+    lines = list(turns(options.seed))
+    (options.into / f"{name}.jsonl").write_text("".join(line_of(line) for line, _ in lines))
+    (options.into / f"{name}.out").write_text(
+        "".join(line_of({**reply, "line": number}) for number, (_, reply) in enumerate(lines, 1)))
