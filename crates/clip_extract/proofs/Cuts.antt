@@ -1,6 +1,8 @@
 -- Lists that are cut at two places, and mapped.
-use Rattle.std.proofs.Common.{◌≡◌, ℕ, ◌≤◌, List, ◌++◌, map, length, take, drop, sym, ap, ◌∙◌, arith}
-use Rattle.std.proofs.lemmas.List.{map-append, take-append-drop, take_at, drop_at, take-take, take-map, drop-map, length-take-le, length-map, drop-append-le}
+use Rattle.std.proofs.Common.{◌≡◌, ℕ, ◌≤◌, List, ◌++◌, map, length, take, drop, sym, ap, ◌∙◌, arith, Vec, Global}
+use Rattle.std.proofs.lemmas.List.{map-append, take-append-drop, take_at, drop_at, take-take, take-map, drop-map, length-take-le, length-map, drop-append-le, length-append}
+use Rattle.clip_extract.specs.Keys.{KeyValue, key_of}
+use Rattle.clip_extract.specs.declared.key.Key.{Key}
 
 module _ {A B : Type 0} (f : A → B) where
   -- the front up to `start`, and what stands from `middle` on
@@ -28,3 +30,7 @@ parts xs start middle low high =
     let whole = take-append-drop middle xs in
     let long : start ≤ length (take middle xs) = omega (arith, length-take-le middle xs high) in
     ap (drop start) (sym whole) ∙ drop-append-le start (take middle xs) (drop middle xs) long
+
+-- keys that are added make no fewer
+pub longer : (old new : Vec Key Global) (more : List KeyValue) → map key_of new.items ≡ map key_of old.items ++ more → old.len ≤ new.len
+longer old new more is = omega (arith, ap length is, length-map new.items key_of, length-map old.items key_of, length-append (map key_of old.items) more)

@@ -98,7 +98,6 @@ fn counted(tally: Tally, occur: Occur, held: bool) -> Option<Tally>
 /// place of its first word, at worst these places times the words of the phrase. A group asks its children in order, up
 /// to the first Must child that does not hold or MustNot child that does. Recurses as deep as groups nest, which is at
 /// most 65 in a query that was read.
-#[tactic(auto, using(crate::proofs::Groups::group_end))]
 pub fn holds(query: &Query, article: &Article) -> bool
     ensures { result ≡ holds (tree_of query.now) article.now.fields }
 {

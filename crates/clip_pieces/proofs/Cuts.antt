@@ -1,9 +1,23 @@
 -- Lists that lie one after another, by where each ends.
-use Rattle.std.proofs.Common.{◌≡◌, ℕ, zero, suc, ◌-◌, ◌<◌, ◌≤◌, List, [], ◌∷◌, ◌++◌, length, get_or, slice_get, take, drop, Some, unwrap_or, refl, sym, ap, ◌∙◌, arith, length-append, length-drop}
+use Rattle.std.proofs.Common.{◌≡◌, ℕ, zero, suc, ◌+◌, ◌-◌, ◌<◌, ◌≤◌, List, [], ◌∷◌, ◌++◌, length, get_or, slice_get, take, drop, Some, unwrap_or, Fits, w32, refl, sym, ap, ◌∙◌, arith, length-append, length-drop}
 use Rattle.std.proofs.Math.Seq.{drop-append_seam}
 use Rattle.std.proofs.lemmas.List.{take_all, take-append-le, drop-append-le}
 use Rattle.std.proofs.lemmas.Option.{slice_get_past}
 use Rattle.clip_pieces.specs.Packed.{cut, AreEnds}
+use Rattle.clip_pieces.specs.declared.packed.TheConstants.{MOST_ITEMS}
+
+-- ---- counts
+
+pub all_fit : (list items all : ℕ) → list ≤ MOST_ITEMS → items ≤ MOST_ITEMS - list → all ≡ items + list → Fits w32 all
+all_fit list items all few room is = omega arith
+
+pub list_within : (list items all : ℕ) → all ≡ items + list → list ≤ all
+list_within list items all is = omega arith
+
+pub items_left : (list items all : ℕ) → all ≡ items + list → all - list ≡ items
+items_left list items all is = omega arith
+
+-- ---- cuts
 
 module _ {A : Type 0} where
   pub length-cut : (start : ℕ) (ends : List ℕ) (items : List A) → length (cut start ends items) ≡ length ends

@@ -1,5 +1,5 @@
 -- Places in a list that lies in pieces.
-use Rattle.std.proofs.Common.{◌≡◌, ℕ, zero, suc, ◌+◌, ◌*◌, ◌/◌, ◌%◌, ◌<◌, ◌≤◌, List, [], ◌∷◌, ◌++◌, map, length, get_or, slice_get, Result, Ok, Err, OnOk, OnErr, refl, sym, ap, ◌∙◌, subst, arith, append_assoc, append-nil, length-append, inl, inr}
+use Rattle.std.proofs.Common.{◌≡◌, ℕ, zero, suc, ◌+◌, ◌-◌, ◌*◌, ◌/◌, ◌%◌, ◌<◌, ◌≤◌, List, [], ◌∷◌, ◌++◌, map, length, get_or, slice_get, Result, Ok, Err, OnOk, OnErr, refl, sym, ap, ◌∙◌, subst, arith, append_assoc, append-nil, length-append, inl, inr}
 use Rattle.std.specs.Option.{option_and_then}
 use Rattle.std.proofs.Math.ListN.{set, get_or-map}
 use Rattle.std.proofs.Math.Nat.{div-add-mod', mod-lt, mod-eq_of_lt, mod-eq-sub-mod, mod_self, zero-mod}
@@ -201,3 +201,7 @@ on_err_weaker (Err e) f x = f x
 pub error_only : {T E X : Type 0} (r : Result T E) → X → OnErr r X
 error_only (Ok t) x = tt
 error_only (Err e) x = x
+
+-- the place before the end
+pub before_end : (n m : ℕ) → n ≡ m → 0 < m → n - 1 < m
+before_end n m same some = omega arith

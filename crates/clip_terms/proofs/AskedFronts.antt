@@ -157,6 +157,10 @@ field_asked terms field name ps old new strict same moved added =
           ∙ ap (λ b. list_any (nat_eq n) old || b) (known_is terms n strict lt asked ∙ fronts_at is name field.1 ps moved ∙ ap (λ of. list_any is (front_keys (of, field.1))) same);
     }
 
+-- no field, no numbers
+pub nothing_added : (terms : List KeyValue) (numbers : List ℕ) → AddsNumbersOf terms [] numbers numbers
+nothing_added terms numbers = record { within = λ before. before; among = λ n lt. sym (or_none (list_any (nat_eq n) numbers)) }
+
 -- a field more
 pub fields_added : (terms : List KeyValue) (fields : List (List ℕ × List (List ℕ))) (i : ℕ) (field : List ℕ × List (List ℕ)) (old now new : List ℕ) → i < length fields → field ≡ get_or fields i field
     → AddsNumbersOf terms (front_keys field) now new → AddsNumbersOf terms (flat_map front_keys (take i fields)) old now → AddsNumbersOf terms (flat_map front_keys (take (i + 1) fields)) old new

@@ -1,5 +1,5 @@
 -- The fronts of a field among the terms, each asked for among the words of an article's field.
-use Rattle.std.proofs.Common.{◌≡◌, ℕ, ◌+◌, ◌<◌, ◌≤◌, Bool, true, false, ◌||◌, nat_eq, List, [], ◌∷◌, ◌++◌, map, flat_map, length, get_or, refl, sym, ap, ◌∙◌, arith, eq-eqb, ne_eqb, inl, inr}
+use Rattle.std.proofs.Common.{◌≡◌, ℕ, ◌+◌, ◌<◌, ◌≤◌, Bool, true, false, ◌||◌, nat_eq, List, [], ◌∷◌, ◌++◌, map, flat_map, length, get_or, Fits, w32, refl, sym, ap, ◌∙◌, arith, eq-eqb, ne_eqb, inl, inr}
 use Rattle.std.specs.List.{list_any}
 use Rattle.std.proofs.lemmas.Bool.{cases_lt, cases_eq, or_right, false≢true, false_from_ne_true}
 use Rattle.std.proofs.lemmas.List.Elements.{All-nil, All-cons, All-same, All-append}
@@ -13,7 +13,15 @@ use Rattle.clip_extract.proofs.Order.{same_key}
 use Rattle.clip_terms.specs.Terms.{term_at}
 use Rattle.clip_terms.specs.Steps.Leads.{heading, IsPart}
 use Rattle.clip_terms.specs.Steps.Fronts.{AddsNumbersOf, AddsNumbersBelow}
+use Rattle.clip_terms.specs.declared.terms.TheConstants.{MOST_TERMS}
 use Rattle.clip_terms.proofs.ReadingOf.{or_none}
+
+-- a place among the terms is one among the keys, and fits 32 bits
+pub within_keys : (n end terms keys : ℕ) → n < end → end ≤ terms → terms ≡ keys → n < keys
+within_keys n end terms keys lt upto same = omega arith
+
+pub fits_number : (n keys : ℕ) → n < keys → keys ≤ MOST_TERMS → Fits w32 n
+fits_number n keys lt few = omega arith
 
 -- a key that is among those of fronts is one
 among_fronts : (k : KeyValue) (field : List ℕ) (texts : List (List ℕ)) → list_any (is_same k) (map (Front field) texts) ≡ true → (text : List ℕ) × (k ≡ Front field text)

@@ -1,5 +1,5 @@
 -- The places of a field's words among the keys, as they are written posting by posting.
-use Rattle.std.proofs.Common.{◌≡◌, ℕ, zero, suc, ◌+◌, ◌-◌, ◌<◌, Bool, true, false, cond, List, [], ◌∷◌, ◌++◌, All, IsPermutation, map, flat_map, length, take, drop, set, get_or, Option, Some, None, unwrap_or, slice_get, refl, sym, ap, ◌∙◌, subst, arith, append_assoc, append-nil, get_or-set_same, get_or-set_other, bytes_eq, inl, inr}
+use Rattle.std.proofs.Common.{◌≡◌, ℕ, zero, suc, ◌+◌, ◌-◌, ◌<◌, Bool, true, false, cond, List, [], ◌∷◌, ◌++◌, All, IsPermutation, map, flat_map, length, take, drop, set, get_or, Option, Some, None, unwrap_or, slice_get, Vec, Global, refl, sym, ap, ◌∙◌, subst, arith, append_assoc, append-nil, get_or-set_same, get_or-set_other, bytes_eq, inl, inr}
 use Rattle.std.proofs.lemmas.Bool.{cases_eq}
 use Rattle.std.proofs.lemmas.List.{length-append, get_or_at, drop_more, take_more, flat_map_more, map_push, map_more}
 use Rattle.std.proofs.lemmas.List.Elements.{All-nil, All-cons, All-head, All-tail, All-take, All-more}
@@ -18,6 +18,10 @@ Place = List ℕ × ℕ
 
 abbrev pub words_at : List Place → List (List ℕ)
 words_at ps = map (λ (p : Place). p.0) ps
+
+-- what a vector counts is how many it has
+pub counted : {X : Type 0} (xs : Vec X Global) → length xs.items ≡ xs.len
+counted xs = omega arith
 
 -- ---- keys that are added
 

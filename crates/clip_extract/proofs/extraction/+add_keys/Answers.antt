@@ -1,10 +1,11 @@
-use Rattle.std.proofs.Common.{◌≡◌, ◌+◌, ◌≤◌, List, [], ◌++◌, map, length, take, drop, IfOk, sym, ap, subst, ◌∙◌, arith}
+use Rattle.std.proofs.Common.{◌≡◌, ℕ, ◌+◌, ◌≤◌, List, [], ◌++◌, map, length, take, drop, IfOk, sym, ap, subst, ◌∙◌, arith}
 use Rattle.std.proofs.lemmas.List.{length-map, take_all, take-append-le, take-append-drop}
 use Rattle.clip_grammar.specs.Tree.{tree_of}
 use Rattle.clip_extract.specs.Keys.{KeyValue, key_of}
 use Rattle.clip_extract.specs.Extraction.{Extracted, extract, unnarrowed}
 use Rattle.clip_extract.specs.Steps.Groups.{group_from}
 use Rattle.clip_extract.specs.declared.extraction.Found.TheVariants.{Nothing}
+use Rattle.clip_extract.proofs.Cuts.{longer}
 use Rattle.clip_extract.proofs.Groups.{extracts_of, group_start, skipped, turn, something, next_extract, extract_group, group_end, nothing_found, keys_found}
 use Rattle.clip_extract.proofs.extraction.+add_keys.Goals as goal
 
@@ -66,6 +67,14 @@ loop-occur-preserved t c =
           ∙ c.loop-occur.invariant.group;
     }
 
+pub keep-requires-clause-low : goal.keep-requires-clause-low
+keep-requires-clause-low t c = subst (λ (n : ℕ). c.len-start.result ≤ n) (sym c.len-middle.ensures) c.loop-occur.invariant.long
+
+pub keep-requires-clause-high : goal.keep-requires-clause-high
+keep-requires-clause-high t c =
+    subst (λ (n : ℕ). n ≤ c.add_keys.new.keys.len) (sym c.len-middle.ensures)
+    (longer c.loop-occur.keys c.add_keys.new.keys (extract (tree_of c.loop-occur-item.result.1)).keys c.in_ok-weight-in-Group.ensures.added)
+
 pub returns-in-Nothing-clause-added : goal.returns-in-Nothing-clause-added
 returns-in-Nothing-clause-added t c =
     let xs = map key_of c.loop-occur.keys.items in
@@ -99,3 +108,9 @@ pub returns-in_default-found-clause-weight : goal.returns-in_default-found-claus
 returns-in_default-found-clause-weight t c =
     let ks = drop c.len-start.result (map key_of c.loop-occur.keys.items) in
     sym (ap (λ (e : Extracted). e.weight) (group_end c.loop-occur.found ks c.deref-occur-items.result.now c.loop-occur.occur-index _ c.loop-occur-test.false c.loop-occur.invariant.group) ∙ c.weight_found.ensures ks)
+
+pub add_leaf_key-requires : goal.add_leaf_key-requires
+add_leaf_key-requires t c = c.in_default.not-Group
+
+pub returns-in_default : goal.returns-in_default
+returns-in_default t c = record { added = c.add_leaf_key.ensures.added; weight = c.add_leaf_key.ensures.weight }

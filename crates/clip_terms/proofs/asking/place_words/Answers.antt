@@ -1,11 +1,33 @@
-use Rattle.std.proofs.Common.{◌≡◌, ℕ, ◌-◌, ◌+◌, List, ◌++◌, All, Some, option_map, map, length, take, drop, set, length-set, ap, sym, ◌∙◌, subst, arith}
+use Rattle.std.proofs.Common.{◌≡◌, ℕ, ◌-◌, ◌+◌, ◌<◌, List, ◌++◌, All, Some, option_map, map, length, take, drop, set, length-set, append-nil, refl, ap, sym, ◌∙◌, subst, arith}
 use Rattle.std.specs.Arc.{arc_str_bytes}
-use Rattle.std.proofs.lemmas.List.{take_all, length-map}
+use Rattle.std.proofs.lemmas.List.{take_all, drop_all, length-map}
+use Rattle.std.proofs.lemmas.List.Elements.{All-nil}
 use Rattle.clip_extract.specs.Keys.{Word, key_of}
 use Rattle.clip_terms.specs.Steps.KeysByField.{differing, key_added}
 use Rattle.clip_terms.specs.Steps.Places.{IsPlaced, EndsWith}
-use Rattle.clip_terms.proofs.PlacedWords.{Place, words_at, keys_more, ends_more, placed_more}
+use Rattle.clip_terms.proofs.PlacedWords.{Place, counted, words_at, keys_more, ends_more, position_within, placed_more}
 use Rattle.clip_terms.proofs.asking.place_words.Goals as goal
+
+pub loop-posting-init : goal.loop-posting-init
+loop-posting-init c = record { keys = refl; last = tt; long = refl; placed = All-nil (IsPlaced (arc_str_bytes c.args.name.now) (map key_of c.args.keys.now.items) c.args.places.now.items) }
+
+pub overflow_sub-len : goal.overflow_sub-len
+overflow_sub-len c =
+    let name = arc_str_bytes c.args.name.now in
+    let last = option_map (λ w. w.now) c.loop-posting.last in
+    let old = map key_of c.loop-posting.keys.items in
+    let new = map key_of c.add_differing.new.keys.items in
+    let word = c.word-word.result.now in
+    let some : 0 < length new = (ends_more name (arc_str_bytes word) last old new c.loop-posting.invariant.last c.in_ok-add_differing.ensures).0 in
+    subst (λ (n : ℕ). 0 < n) (length-map c.add_differing.new.keys.items key_of ∙ counted c.add_differing.new.keys ∙ sym c.len.ensures) some
+
+pub index_mut-requires : goal.index_mut-requires
+index_mut-requires c =
+    let ps = c.args.postings.now in
+    let i = c.loop-posting.posting-index in
+    let x = c.posting-item.result in
+    subst (λ (n : ℕ). n < c.loop-posting.places.len) (sym c.position.ensures)
+    (subst (λ (n : ℕ). x.1 < n) (sym c.loop-posting.invariant.long ∙ counted c.loop-posting.places) (position_within ps (length c.args.places.now.items) i x c.requires c.loop-posting-test.true c.posting-item.is))
 
 pub loop-posting-preserved : goal.loop-posting-preserved
 loop-posting-preserved c =
@@ -31,6 +53,14 @@ loop-posting-preserved c =
           subst (λ (n : ℕ). All (IsPlaced name new (set places n (c.len.result - 1))) (take (i + 1) ps)) (sym c.position.ensures)
           (placed_more name last old new places (c.len.result - 1) (length c.args.places.now.items) ps i x c.requires before.long lt is grown place before.last before.placed);
     }
+
+pub returns-clause-keys : goal.returns-clause-keys
+returns-clause-keys c =
+    let name = arc_str_bytes c.args.name.now in
+    let new = map key_of c.loop-posting.keys.items in
+    let last = option_map (λ w. w.now) c.loop-posting.last in
+    sym (append-nil new)
+    ∙ ap (λ (ps : List Place). new ++ map (Word name) (differing last (words_at ps))) (sym (drop_all c.loop-posting.posting-index c.args.postings.now c.loop-posting-test.false)) ∙ c.loop-posting.invariant.keys
 
 pub returns-clause-placed : goal.returns-clause-placed
 returns-clause-placed c =

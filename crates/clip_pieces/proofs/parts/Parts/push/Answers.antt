@@ -1,8 +1,32 @@
 -- An item goes behind the last one of the last part, or into a new part where all are full.
-use Rattle.std.proofs.Common.{◌≡◌, ◌+◌, ◌-◌, ◌%◌, [], ◌∷◌, length, ap, arith, ◌∙◌}
-use Rattle.clip_pieces.proofs.Filled.{same_part, some_parts, last_part, new_part, error_only}
+use Rattle.std.proofs.Common.{◌≡◌, ℕ, ◌+◌, ◌-◌, ◌%◌, ◌<◌, List, [], ◌∷◌, length, map, ap, sym, subst, arith, ◌∙◌}
+use Rattle.clip_pieces.specs.Pieces.{joined, AreFilled}
+use Rattle.clip_pieces.proofs.Filled.{before_end, same_part, some_parts, last_part, new_part, error_only}
 use Rattle.clip_pieces.proofs.parts.Parts.push.Goals as goal
 use Rattle.clip_pieces.proofs.parts.Parts.push.Goals.{then-self-FULL-eq0+in_ok-part+in_ok-new+in_ok-push, else-self-FULL-eq0+in_ok-push_to}
+
+pub nonzero_rem-self-inside : goal.nonzero_rem-self-inside
+nonzero_rem-self-inside g c = subst (λ (n : ℕ). 0 < n) (sym c.FULL.ensures) g.met.P.Part.has_items
+
+pub invariant_of-self-in_err-push : goal.invariant_of-self-in_err-push
+invariant_of-self-in_err-push g c =
+    subst (λ (parts : List g.row.P.Denot). AreFilled g.P.Part.FULL (map g.P.Part.items parts) × (c.self.inside.len ≡ length (joined (map g.P.Part.items parts)))) (sym c.in_err-push.ensures.items) c.self.invariant
+
+pub returns-in_err-push-clause-err : goal.returns-in_err-push-clause-err
+returns-in_err-push-clause-err g c =
+    error_only c.from_residual-in_err-push.result (ap (λ (parts : List g.row.P.Denot). joined (map g.P.Part.items parts)) c.in_err-push.ensures.items ∙ c.self.view_is)
+
+pub overflow_sub-last : goal.overflow_sub-last
+overflow_sub-last g c =
+    let some : c.self.inside.len % g.P.Part.FULL ≡ 0 → ⊥ = rw c.FULL.ensures at c.if-self-FULL-eq0.false in
+    let parts = some_parts g.P.Part.items g.P.Part.FULL c.self.inside.parts.items c.self.inside.len c.self.invariant some in
+    subst (λ (n : ℕ). 0 < n) (sym (c.len-last.ensures ∙ c.self.inside.parts.ok.0)) parts
+
+pub index_mut-requires : goal.index_mut-requires
+index_mut-requires g c =
+    let some : c.self.inside.len % g.P.Part.FULL ≡ 0 → ⊥ = rw c.FULL.ensures at c.if-self-FULL-eq0.false in
+    let parts = some_parts g.P.Part.items g.P.Part.FULL c.self.inside.parts.items c.self.inside.len c.self.invariant some in
+    before_end c.len-last.result c.self.inside.parts.len c.len-last.ensures (subst (λ (n : ℕ). 0 < n) (sym c.self.inside.parts.ok.0) parts)
 
 pub invariant_of-self-in_err-push_to : goal.invariant_of-self-in_err-push_to
 invariant_of-self-in_err-push_to g c =

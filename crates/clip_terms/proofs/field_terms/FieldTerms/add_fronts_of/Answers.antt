@@ -1,4 +1,4 @@
-use Rattle.std.proofs.Common.{◌+◌, ℕ, List, [], map, sym, ap, ◌∙◌, subst, arith}
+use Rattle.std.proofs.Common.{◌+◌, ◌<◌, ℕ, List, [], map, length, sym, ap, ◌∙◌, subst, arith}
 use Rattle.std.proofs.lemmas.List.{length-map}
 use Rattle.std.specs.List.{list_any}
 use Rattle.clip_extract.specs.Keys.{Front, key_of, is_same, text_of}
@@ -6,7 +6,7 @@ use Rattle.clip_extract.specs.Covering.{front_keys}
 use Rattle.clip_terms.specs.FieldTerms.{FieldTermsValue}
 use Rattle.clip_terms.specs.Steps.Fronts.{AddsNumbersOf, AddsNumbersBelow}
 use Rattle.clip_terms.specs.Steps.Leads.{heading, IsPart}
-use Rattle.clip_terms.proofs.FrontsOfTerms.{begun, taken, passed, ended}
+use Rattle.clip_terms.proofs.FrontsOfTerms.{within_keys, fits_number, begun, taken, passed, ended}
 use Rattle.clip_terms.proofs.LeadsOfTerms.{read_at}
 use Rattle.clip_terms.proofs.field_terms.FieldTerms.add_fronts_of.Goals as goal
 
@@ -16,6 +16,18 @@ loop-number-init c =
     let part = subst (λ (f : List ℕ). IsPart (map key_of t.keys.now) (heading (Front f [])) t.fronts.start t.fronts.end) (ap (λ (v : FieldTermsValue). v.field) c.self.view_is ∙ c.requires) c.self.invariant.fronts in
     let old = c.args.numbers.now.items in
     subst (λ (v : FieldTermsValue). AddsNumbersBelow v.terms (front_keys c.args.field.now) t.fronts.start old old) c.self.view_is (begun (map key_of t.keys.now) c.args.field.now t.fronts.start t.fronts.end part old)
+
+pub bounds-self-inside-number : goal.bounds-self-inside-number
+bounds-self-inside-number c =
+    let t = c.self.inside in
+    within_keys c.loop-number.number t.fronts.end (length (map key_of t.keys.now)) (length t.keys.now) c.loop-number-test.true c.self.invariant.fronts.within (length-map t.keys.now key_of)
+
+pub overflow_cast-number : goal.overflow_cast-number
+overflow_cast-number c =
+    let t = c.self.inside in
+    let within : c.loop-number.number < length t.keys.now =
+    within_keys c.loop-number.number t.fronts.end (length (map key_of t.keys.now)) (length t.keys.now) c.loop-number-test.true c.self.invariant.fronts.within (length-map t.keys.now key_of) in
+    fits_number c.loop-number.number (length t.keys.now) within c.self.invariant.few
 
 pub loop-number-preserved-then-not-has_front_key : goal.loop-number-preserved-then-not-has_front_key
 loop-number-preserved-then-not-has_front_key c =
