@@ -1,5 +1,5 @@
 -- A list of keys that is sorted and has none twice.
-use Rattle.std.proofs.Common.{◌≡◌, ℕ, Bool, ◌&&◌, List, [], ◌∷◌, map, length, ◌+◌, ◌<◌, refl, sym, ap, ◌∙◌, subst, arith, IsPermutation, is_lt}
+use Rattle.std.proofs.Common.{◌≡◌, ℕ, Bool, ◌&&◌, List, [], ◌∷◌, map, length, ◌<◌, refl, sym, ap, ◌∙◌, subst, arith, IsPermutation}
 use Rattle.std.specs.Ordering.{is_eq, on, nat_cmp, ordering_then}
 use Rattle.std.specs.declared.cmp.Ordering.TheVariants.{Less, Equal, Greater}
 use Rattle.std.specs.declared.cmp.Ordering.{Ordering}
@@ -7,10 +7,10 @@ use Rattle.std.specs.Cmp.{on_total, eq_by_cmp_equiv, both_tied}
 use Rattle.std.specs.Cmp.Lexicographic.{slice_cmp, texts_ties}
 use Rattle.std.specs.Arc.{arc_str_bytes}
 use Rattle.std.specs.Str.{bytes_eq}
-use Rattle.std.specs.List.{dedup, list_any, AllByRecursion}
+use Rattle.std.specs.List.{dedup, AllByRecursion}
 use Rattle.std.specs.List.Sorted.{IsSorted, IsStrictlySortedBy}
 use Rattle.std.specs.List.Retain.{IsFiltered, DiffersFromLast}
-use Rattle.std.proofs.lemmas.List.{get_or-map, length-map}
+use Rattle.std.proofs.lemmas.List.{length-map}
 use Rattle.std.proofs.lemmas.List.Filters.{dedup_is}
 use Rattle.std.proofs.lemmas.List.Kept.{IsStrictlySortedBy-dedup}
 use Rattle.std.proofs.lemmas.List.Sorted.{list_any-IsPermutation}
@@ -75,23 +75,16 @@ unfolding IsStrictlySortedBy
 strict_mapped [] sorted = tt
 strict_mapped (x ∷ xs) sorted = (all_mapped (key_of x) xs sorted.0, strict_mapped xs sorted.1)
 
--- in order they stay, seen as what contracts see of them
-rising_mapped : (xs : List Key) → IsSorted key_cmp (map key_of xs) → IsSorted (on key_of key_cmp) xs
-rising_mapped xs sorted k d low lt =
-    let long = length-map xs key_of in
-    let first = get_or-map key_of xs k d (key_of d) (omega arith) in
-    let second = get_or-map key_of xs (k + 1) d (key_of d) lt in
-    sym (λ i. is_lt (key_cmp (second i) (first i))) ∙ sorted k (key_of d) low (omega (arith, long))
-
-pub sorted_keys : (xs ys : List KeyValue) (alone zs : List Key) → IsPermutation xs ys → IsSorted key_cmp ys → map key_of alone ≡ ys → IsFiltered (DiffersFromLast key_eq.ghosts.eq) [] alone zs → map key_of zs ≡ in_order xs
-sorted_keys xs ys alone zs moved sorted are filtered =
+pub sorted_keys : (xs ys zs : List Key) → IsPermutation xs ys → IsSorted key_ord.ghosts.cmp ys → IsFiltered (DiffersFromLast key_eq.ghosts.eq) [] ys zs → map key_of zs ≡ in_order (map key_of xs)
+sorted_keys xs ys zs moved sorted filtered =
+    let order : key_ord.ghosts.cmp ≡ on key_of key_cmp = λ i x y. key_order x y i in
     let equality : key_eq.ghosts.eq ≡ same_keys = λ i x y. key_equality x y i in
-    let rising : IsSorted (on key_of key_cmp) alone = rising_mapped alone (subst (IsSorted key_cmp) (sym are) sorted) in
-    let left : zs ≡ dedup same_keys alone = dedup_is same_keys alone zs (subst (λ (E : Key → Key → Bool). IsFiltered (DiffersFromLast E) [] alone zs) equality filtered) in
-    let strict : IsStrictlySortedBy (on key_of key_cmp) (dedup same_keys alone) = IsStrictlySortedBy-dedup (on_total key_of key_cmp_total) (λ x y. refl) alone rising in
+    let rising : IsSorted (on key_of key_cmp) ys = subst (λ (C : Key → Key → Ordering). IsSorted C ys) order sorted in
+    let left : zs ≡ dedup same_keys ys = dedup_is same_keys ys zs (subst (λ (E : Key → Key → Bool). IsFiltered (DiffersFromLast E) [] ys zs) equality filtered) in
+    let strict : IsStrictlySortedBy (on key_of key_cmp) (dedup same_keys ys) = IsStrictlySortedBy-dedup (on_total key_of key_cmp_total) (λ x y. refl) ys rising in
     ap (map key_of) left
-    ∙ strict_keys key_cmp_total key_cmp_same (map key_of (dedup same_keys alone)) xs (strict_mapped (dedup same_keys alone) strict)
-    (λ k. any_map (is_same k) key_of (dedup same_keys alone) ∙ any_deduped (eq_by_cmp_equiv (on_total key_of key_cmp_total)) key_of (λ x y. same_key (key_of x) (key_of y)) (is_same k) alone ∙ sym (any_map (is_same k) key_of alone) ∙ ap (list_any (is_same k)) are ∙ sym (list_any-IsPermutation (is_same k) xs ys moved))
+    ∙ strict_keys key_cmp_total key_cmp_same (map key_of (dedup same_keys ys)) (map key_of xs) (strict_mapped (dedup same_keys ys) strict)
+    (λ k. any_map (is_same k) key_of (dedup same_keys ys) ∙ any_deduped (eq_by_cmp_equiv (on_total key_of key_cmp_total)) key_of (λ x y. same_key (key_of x) (key_of y)) (is_same k) ys ∙ sym (list_any-IsPermutation (λ x. is_same k (key_of x)) xs ys moved) ∙ sym (any_map (is_same k) key_of xs))
 
 -- so few need no sort
 few_rise : (ks : List KeyValue) → length ks < 2 → IsStrictlySortedBy key_cmp ks

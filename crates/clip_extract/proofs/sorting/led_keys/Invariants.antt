@@ -1,7 +1,0 @@
-use Rattle.std.proofs.Common.{◌≡◌, ◌++◌, map}
-use Rattle.clip_extract.specs.Keys.{key_of}
-use Rattle.clip_extract.proofs.sorting.led_keys.Given as goal
-
--- the keys so far and those to come
-abbrev pub invariant-loop-key : goal.invariant-loop-key
-invariant-loop-key l = l.led.items ++ map key_of l.key-iterator.rest.items ≡ map key_of l.initial.key-iterator.rest.items
