@@ -8,7 +8,7 @@ ghost use Rattle.clip_grammar.specs.Steps.Lexer.{ending_at, piece_at, code_at, e
 ghost use Rattle.clip_syntax.specs.Steps.Lexing.{with_tokens, token_and_rest, tokens_and_rest, IsLexed};
 ghost use Rattle.std.specs.List.{list_any};
 ghost use Rattle.clip_syntax.specs.Steps.Marks.{class_test, and_rest, mark_and_rest, marks_and_rest, marks_after};
-ghost use Rattle.clip_grammar.specs.Tokens.{text_of, is_spelled, is_bare, is_wild, has_operator, ends_in_star, word_token, sign_token};
+ghost use Rattle.clip_grammar.specs.Tokens.{text_of, is_spelled, is_bare, is_wild, has_operator, is_operator, ends_in_star, word_token, sign_token};
 ghost use Rattle.clip_syntax.specs.Steps.TokenOf.{token_of};
 ghost use Rattle.clip_syntax.specs.Steps.Ends.{text_and_rest, end_text_and_rest, end_with, quoted_end_at, bare_end_at};
 ghost use Rattle.clip_grammar.specs.Tree.{end_of};
@@ -78,10 +78,11 @@ fn allows(place: Place, c: char) -> bool
 }
 
 /// Whether the character is a hexadecimal digit.
+#[tactic(auto, using(crate::proofs::Hexes::hex_ranges))]
 fn is_hex(c: char) -> bool
     ensures { result ≡ is_hex c }
 {
-    matches!(c, '0'..='9' | 'a'..='f' | 'A'..='F')
+    c.is_ascii_hexdigit()
 }
 
 /// The value of a hexadecimal digit.
@@ -244,6 +245,13 @@ fn has_operator(marks: &[Mark]) -> bool
     false
 }
 
+/// Whether the marks are an operator, or have one in them.
+fn is_operator(marks: &[Mark]) -> bool
+    ensures { result ≡ is_operator marks.now }
+{
+    is_spelled(&['A', 'N', 'D'], marks) || is_spelled(&['O', 'R'], marks) || has_operator(marks)
+}
+
 /// Whether a star is last, and no star or question mark is before it.
 fn ends_in_star(marks: &[Mark]) -> bool
     ensures { result ≡ ends_in_star marks.now }
@@ -269,10 +277,7 @@ fn word_token(alloc: Global, marks: &[Mark]) -> Result<Token, NoMemory>
     if is_spelled(&['*'], marks) {
         return Ok(Token::Star);
     }
-    if is_spelled(&['A', 'N', 'D'], marks)
-        || is_spelled(&['O', 'R'], marks)
-        || has_operator(marks)
-    {
+    if is_operator(marks) {
         return Ok(Token::Other);
     }
     if is_spelled(&['N', 'O', 'T'], marks) {
@@ -284,10 +289,8 @@ fn word_token(alloc: Global, marks: &[Mark]) -> Result<Token, NoMemory>
     if !ends_in_star(marks) {
         return Ok(Token::Other);
     }
-    if marks.is_empty() {
-        return Ok(Token::Front(String::new(alloc)));
-    }
-    Ok(Token::Front(text_of(alloc, &marks[..marks.len() - 1])?))
+    let front = &marks[..marks.len().saturating_sub(1)];
+    Ok(Token::Front(text_of(alloc, front)?))
 }
 
 /// What a sign says.

@@ -1,6 +1,7 @@
 //! Tokens: what the lexemes of a query's text say.
 ghost use Rattle.std.specs.Prelude.{◌≡◌, ◌+◌, ◌∷◌, map, length, false, IfNone, IfSome};
 ghost use Rattle.clip_grammar.specs.Tokens as spec;
+ghost use Rattle.clip_grammar.specs.Steps.LeftOut.{is_colon};
 ghost use Rattle.clip_grammar.specs.Steps.Parser.{begins_colon};
 ghost use Rattle.clip_grammar.specs.Reading.{begins_colon_star};
 ghost use Rattle.clip_syntax.specs.Steps.TokenOf.{token_of};
@@ -38,26 +39,29 @@ pub enum Token {
     Other,
 }
 
+/// Whether the token is a colon.
+pub fn is_colon(token: &Token) -> bool
+    ensures { result ≡ is_colon (token_of token.now) }
+{
+    matches!(token, Token::Colon)
+}
+
 /// Whether a colon comes first.
 pub fn begins_colon(tokens: &[Token]) -> bool
     ensures { result ≡ begins_colon (map token_of tokens.now) }
 {
-    match tokens.split_first() {
-        Some((Token::Colon, _)) => true,
-        _ => false,
-    }
+    after_colon(tokens).is_some()
 }
 
 /// What is left after a colon.
+#[tactic(auto, using(crate::proofs::Colons::colon_first, crate::proofs::Colons::begins_if_colon))]
 pub fn after_colon(tokens: &[Token]) -> Option<&[Token]>
     ensures none { IfNone result (begins_colon (map token_of tokens.now) ≡ false) }
     ensures some { IfSome result (λ rest. map token_of tokens.now ≡ spec.Colon ∷ map token_of rest.now) }
     ensures shorter { IfSome result (λ rest. length rest.now + 1 ≡ length tokens.now) }
 {
-    match tokens.split_first() {
-        Some((Token::Colon, rest)) => Some(rest),
-        _ => None,
-    }
+    let (first, rest) = tokens.split_first()?;
+    if is_colon(first) { Some(rest) } else { None }
 }
 
 /// What is left after a colon and a star.
