@@ -155,13 +155,3 @@ range_is left cs = sym (
     step_same : {A B C : Type 0} (g : B → C) (x : Option A) (f : A → Option B) (k : A → Option C) → ((v : A) → option_map g (f v) ≡ k v) → option_map g (x >>= f) ≡ (x >>= k)
     step_same g None f k e = refl
     step_same g (Some v) f k e = e v
-
--- ---- TO
-
-pub to_some : (cs : List ℕ) (a b : ℕ) (rest : List ℕ) → cs ≡ a ∷ b ∷ rest → a ≡ 84 → b ≡ 79 → Some rest ≡ to_at cs
-unfolding to_at
-to_some cs a b rest e f g = sym (ap to_at (e ∙ ap (λ x. x ∷ b ∷ rest) f ∙ ap (λ x. 84 ∷ x ∷ rest) g))
-
-pub to_other : (cs : List ℕ) (a b : ℕ) (rest : List ℕ) → cs ≡ a ∷ b ∷ rest → (eqb a 84 && eqb b 79) ≡ false → None ≡ to_at cs
-unfolding to_at
-to_other cs a b rest e h = sym (ap to_at e ∙ chosen_false _ _ h)

@@ -133,11 +133,11 @@ fn escape(text: &[char]) -> Option<(Mark, &[char])>
     ensures found { option_map and_rest result ≡ option_map mark_and_rest (escape_at text.now) }
     ensures shorter { IfSome result (λ found. length found.1.now < length text.now) }
 {
-    let (first, rest) = text.split_first()?;
-    if *first == 'u' {
-        return code(rest);
+    match text {
+        ['u', rest @ ..] => code(rest),
+        [first, rest @ ..] => Some((Mark::Escaped(*first), rest)),
+        [] => None,
     }
-    Some((Mark::Escaped(*first), rest))
 }
 
 /// One character or escape at the front of the text, and what is left.
@@ -146,14 +146,10 @@ fn piece(text: &[char], place: Place) -> Option<(Mark, &[char])>
     ensures found { option_map and_rest result ≡ option_map mark_and_rest (piece_at (class_test place) text.now) }
     ensures shorter { IfSome result (λ found. length found.1.now < length text.now) }
 {
-    let (first, rest) = text.split_first()?;
-    if *first == '\\' {
-        return escape(rest);
-    }
-    if allows(place, *first) {
-        Some((Mark::Bare(*first), rest))
-    } else {
-        None
+    match text {
+        ['\\', rest @ ..] => escape(rest),
+        [first, rest @ ..] if allows(place, *first) => Some((Mark::Bare(*first), rest)),
+        _ => None,
     }
 }
 
@@ -314,12 +310,9 @@ fn quoted(alloc: Global, text: &[char]) -> Result<Option<(Token, &[char])>, NoMe
     ensures { IfOk result (λ found. option_map token_and_rest found ≡ option_map with_tokens (quoted_at text.now)) }
 {
     let (marks, rest) = pieces(Vec::new(alloc), text, Place::Quoted)?;
-    let Some((close, rest)) = rest.split_first() else {
+    let ['"', rest @ ..] = rest else {
         return Ok(None);
     };
-    if *close != '"' {
-        return Ok(None);
-    }
     Ok(Some((Token::Phrase(text_of(alloc, &marks)?), rest)))
 }
 
@@ -372,12 +365,9 @@ fn gap(text: &[char]) -> Option<&[char]>
 fn to(text: &[char]) -> Option<&[char]>
     ensures { option_map (λ rest. rest.now) result ≡ to_at text.now }
 {
-    let (first, rest) = text.split_first()?;
-    let (second, rest) = rest.split_first()?;
-    if *first == 'T' && *second == 'O' {
-        Some(rest)
-    } else {
-        None
+    match text {
+        ['T', 'O', rest @ ..] => Some(rest),
+        _ => None,
     }
 }
 
@@ -386,11 +376,9 @@ fn to(text: &[char]) -> Option<&[char]>
 fn bracket(text: &[char]) -> Option<(char, &[char])>
     ensures { option_map and_rest result ≡ bracket_at text.now }
 {
-    let (first, rest) = text.split_first()?;
-    if matches!(*first, ']' | '}') {
-        Some((*first, rest))
-    } else {
-        None
+    match text {
+        [first, rest @ ..] if matches!(*first, ']' | '}') => Some((*first, rest)),
+        _ => None,
     }
 }
 
@@ -399,13 +387,10 @@ fn quoted_end(alloc: Global, text: &[char]) -> Result<Option<(Option<String>, &[
     ensures { IfOk result (λ found. option_map text_and_rest found ≡ quoted_end_at text.now) }
 {
     let (marks, rest) = pieces(Vec::new(alloc), text, Place::Quoted)?;
-    let Some((close, rest)) = rest.split_first() else {
-        return Ok(None);
-    };
-    if marks.is_empty() || *close != '"' {
-        return Ok(None);
+    match rest {
+        ['"', rest @ ..] if !marks.is_empty() => { Ok(Some((Some(text_of(alloc, &marks)?), rest))) }
+        _ => Ok(None),
     }
-    Ok(Some((Some(text_of(alloc, &marks)?), rest)))
 }
 
 /// A bare end of a range.

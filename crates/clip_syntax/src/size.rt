@@ -8,7 +8,7 @@ ghost use Rattle.clip_grammar.specs.Steps.LeftOut.{is_colon};
 ghost use Rattle.clip_syntax.specs.Steps.Sizes.{is_node, open_after, most_open};
 ghost use Rattle.clip_syntax.specs.Steps.TokenOf.{token_of, IfWritten};
 
-use crate::token::{Token, is_colon};
+use crate::token::Token;
 use clip_grammar::limits::{MOST_NODES, MOST_OPEN};
 
 /// Whether the token counts as a node.
@@ -24,6 +24,13 @@ fn is_node(token: &Token) -> bool
             | Token::Star
             | Token::Open
     )
+}
+
+/// Whether the token is a colon.
+fn is_colon(token: &Token) -> bool
+    ensures { result ≡ is_colon (token_of token.now) }
+{
+    matches!(token, Token::Colon)
 }
 
 /// How many nodes the tree has, the outermost group among them.

@@ -1,7 +1,6 @@
 //! Tokens: what the lexemes of a query's text say.
 ghost use Rattle.std.specs.Prelude.{◌≡◌, ◌+◌, ◌∷◌, map, length, false, IfNone, IfSome};
 ghost use Rattle.clip_grammar.specs.Tokens as spec;
-ghost use Rattle.clip_grammar.specs.Steps.LeftOut.{is_colon};
 ghost use Rattle.clip_grammar.specs.Steps.Parser.{begins_colon};
 ghost use Rattle.clip_grammar.specs.Reading.{begins_colon_star};
 ghost use Rattle.clip_syntax.specs.Steps.TokenOf.{token_of};
@@ -39,13 +38,6 @@ pub enum Token {
     Other,
 }
 
-/// Whether the token is a colon.
-pub fn is_colon(token: &Token) -> bool
-    ensures { result ≡ is_colon (token_of token.now) }
-{
-    matches!(token, Token::Colon)
-}
-
 /// Whether a colon comes first.
 pub fn begins_colon(tokens: &[Token]) -> bool
     ensures { result ≡ begins_colon (map token_of tokens.now) }
@@ -54,14 +46,15 @@ pub fn begins_colon(tokens: &[Token]) -> bool
 }
 
 /// What is left after a colon.
-#[tactic(auto, using(crate::proofs::Colons::colon_first, crate::proofs::Colons::begins_if_colon))]
 pub fn after_colon(tokens: &[Token]) -> Option<&[Token]>
     ensures none { IfNone result (begins_colon (map token_of tokens.now) ≡ false) }
     ensures some { IfSome result (λ rest. map token_of tokens.now ≡ spec.Colon ∷ map token_of rest.now) }
     ensures shorter { IfSome result (λ rest. length rest.now + 1 ≡ length tokens.now) }
 {
-    let (first, rest) = tokens.split_first()?;
-    if is_colon(first) { Some(rest) } else { None }
+    match tokens {
+        [Token::Colon, rest @ ..] => Some(rest),
+        _ => None,
+    }
 }
 
 /// What is left after a colon and a star.
@@ -70,9 +63,8 @@ pub fn after_colon_star(tokens: &[Token]) -> Option<&[Token]>
     ensures some { IfSome result (λ rest. map token_of tokens.now ≡ spec.Colon ∷ spec.Star ∷ map token_of rest.now) }
     ensures shorter { IfSome result (λ rest. length rest.now + 2 ≡ length tokens.now) }
 {
-    let after = after_colon(tokens)?;
-    match after.split_first() {
-        Some((Token::Star, rest)) => Some(rest),
+    match tokens {
+        [Token::Colon, Token::Star, rest @ ..] => Some(rest),
         _ => None,
     }
 }
