@@ -1,7 +1,7 @@
 //! The characters of a word, as the grammar tells them apart.
 
 /// A character of a word, a quoted text or an end of a range, and whether it stands after a backslash.
-#[derive(Clone, Copy, Debug, PartialEq, Eq)]
+#[derive(Clone, Copy)]
 pub enum Mark {
     /// As it stands: a star or a question mark is a wild card.
     Bare(char),

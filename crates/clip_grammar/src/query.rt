@@ -3,7 +3,7 @@
 use std::sync::ArcStr;
 
 /// How a clause counts in its group.
-#[derive(Clone, Copy, Debug, PartialEq, Eq)]
+#[derive(Clone, Copy, Debug)]
 pub enum Occur {
     /// It has to hold.
     Must,
@@ -14,7 +14,7 @@ pub enum Occur {
 }
 
 /// An end of a range of words, which are ordered by their bytes.
-#[derive(Clone, Debug, PartialEq, Eq, Drop)]
+#[derive(Clone, Debug, Drop)]
 pub enum Bound {
     /// No limit on this side.
     Free,
@@ -26,9 +26,9 @@ pub enum Bound {
 
 /// What is asked of an article. Fields stand as they are written; words, fronts and ends of ranges are folded.
 ///
-/// Texts are shared, but for the ends of ranges. Dropping and comparing recurse along the tree: in a query that was
-/// read 66 levels at most, which are the outermost group, 64 groups in parentheses and a leaf.
-#[derive(Debug, PartialEq, Eq, Drop)]
+/// Texts are shared, but for the ends of ranges. Dropping recurses along the tree: in a query that was read 66 levels
+/// at most, which are the outermost group, 64 groups in parentheses and a leaf.
+#[derive(Debug, Drop)]
 pub enum Query {
     /// The word is among the field's words.
     Term {

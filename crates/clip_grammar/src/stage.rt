@@ -1,7 +1,7 @@
 //! How far a clause has been read.
 
 /// What of a clause has been read.
-#[derive(Clone, Copy, Debug, PartialEq, Eq)]
+#[derive(Clone, Copy, PartialEq, Eq)]
 pub enum Stage {
     /// Nothing.
     Fresh,

@@ -1,7 +1,10 @@
+pub mod Colons
 pub mod Growing
+pub mod Hexes
 pub mod Marking
 pub mod Ranging
 pub mod Refusing
 pub mod Saying
 pub mod Sizing
+pub mod Spelling
 pub mod Wording

@@ -3,7 +3,7 @@ ghost use Rattle.std.specs.Prelude.{◌≡◌, [], map, IfOk};
 ghost use Rattle.std.specs.Arc.{arc_str_bytes};
 ghost use Rattle.clip_grammar.specs.Shape as shape;
 ghost use Rattle.clip_grammar.specs.Shape.{Written, written_tree, words_tree, fold_end};
-ghost use Rattle.clip_grammar.specs.Tree.{tree_of, end_of};
+ghost use Rattle.clip_grammar.specs.Tree.{Tree, clauses_of, tree_of, end_of};
 ghost use Rattle.clip_syntax.specs.Steps.Building.{fresh, item_field, add, add_prefix, add_span, add_words, open_group, close, read, group_of, state_of};
 ghost use Rattle.clip_syntax.specs.Steps.Items.{items_words, words_of_items};
 ghost use Rattle.clip_syntax.specs.Steps.TokenOf.{token_of, IfWritten};
@@ -45,10 +45,11 @@ impl OpenGroup {
     fn item_field(&self) -> Result<ArcStr, NoMemory>
         ensures { IfOk result (λ field. arc_str_bytes field ≡ item_field (group_of self.now)) }
     {
-        match &self.nearer {
-            Some(field) => Ok(field.clone()?),
-            None => Ok(self.field.clone()?),
-        }
+        let field = match &self.nearer {
+            Some(nearer) => nearer,
+            None => &self.field,
+        };
+        Ok(field.clone()?)
     }
 
     /// Adds a clause.
@@ -78,6 +79,14 @@ impl OpenGroup {
         let low = fold_bound(alloc, low)?;
         let high = fold_bound(alloc, high)?;
         self.add(Query::Span { field, low, high })
+    }
+
+    /// The query whose clauses have been read.
+    fn into_query(self) -> Query
+        ensures { tree_of result ≡ Tree.Group (clauses_of (group_of self).clauses) }
+    {
+        let OpenGroup { clauses, .. } = self;
+        Query::Group(clauses)
     }
 }
 
@@ -142,8 +151,7 @@ impl Builder {
     {
         if let Some(outer) = self.around.pop() {
             let inner = mem::replace(&mut self.group, outer);
-            let OpenGroup { clauses, .. } = inner;
-            self.group.add(Query::Group(clauses))?;
+            self.group.add(inner.into_query())?;
         }
         Ok(())
     }
@@ -192,6 +200,5 @@ pub fn build(alloc: Global, tokens: &[Token], words: Vec<Vec<ArcStr>>) -> Result
         builder.read(alloc, token, begins_colon(rest))?;
     }
     let Builder { group, .. } = builder;
-    let OpenGroup { clauses, .. } = group;
-    Ok(Query::Group(clauses))
+    Ok(group.into_query())
 }

@@ -8,7 +8,7 @@ ghost use Rattle.clip_grammar.specs.Steps.Lexer.{ending_at, piece_at, code_at, e
 ghost use Rattle.clip_syntax.specs.Steps.Lexing.{with_tokens, token_and_rest, tokens_and_rest, IsLexed};
 ghost use Rattle.std.specs.List.{list_any};
 ghost use Rattle.clip_syntax.specs.Steps.Marks.{class_test, and_rest, mark_and_rest, marks_and_rest, marks_after};
-ghost use Rattle.clip_grammar.specs.Tokens.{text_of, is_spelled, is_bare, is_wild, has_operator, ends_in_star, word_token, sign_token};
+ghost use Rattle.clip_grammar.specs.Tokens.{text_of, is_spelled, is_bare, is_wild, has_operator, is_operator, ends_in_star, word_token, sign_token};
 ghost use Rattle.clip_syntax.specs.Steps.TokenOf.{token_of};
 ghost use Rattle.clip_syntax.specs.Steps.Ends.{text_and_rest, end_text_and_rest, end_with, quoted_end_at, bare_end_at};
 ghost use Rattle.clip_grammar.specs.Tree.{end_of};
@@ -78,10 +78,11 @@ fn allows(place: Place, c: char) -> bool
 }
 
 /// Whether the character is a hexadecimal digit.
+#[tactic(auto, using(crate::proofs::Hexes::hex_ranges))]
 fn is_hex(c: char) -> bool
     ensures { result ≡ is_hex c }
 {
-    matches!(c, '0'..='9' | 'a'..='f' | 'A'..='F')
+    c.is_ascii_hexdigit()
 }
 
 /// The value of a hexadecimal digit.
@@ -132,11 +133,11 @@ fn escape(text: &[char]) -> Option<(Mark, &[char])>
     ensures found { option_map and_rest result ≡ option_map mark_and_rest (escape_at text.now) }
     ensures shorter { IfSome result (λ found. length found.1.now < length text.now) }
 {
-    let (first, rest) = text.split_first()?;
-    if *first == 'u' {
-        return code(rest);
+    match text {
+        ['u', rest @ ..] => code(rest),
+        [first, rest @ ..] => Some((Mark::Escaped(*first), rest)),
+        [] => None,
     }
-    Some((Mark::Escaped(*first), rest))
 }
 
 /// One character or escape at the front of the text, and what is left.
@@ -145,14 +146,10 @@ fn piece(text: &[char], place: Place) -> Option<(Mark, &[char])>
     ensures found { option_map and_rest result ≡ option_map mark_and_rest (piece_at (class_test place) text.now) }
     ensures shorter { IfSome result (λ found. length found.1.now < length text.now) }
 {
-    let (first, rest) = text.split_first()?;
-    if *first == '\\' {
-        return escape(rest);
-    }
-    if allows(place, *first) {
-        Some((Mark::Bare(*first), rest))
-    } else {
-        None
+    match text {
+        ['\\', rest @ ..] => escape(rest),
+        [first, rest @ ..] if allows(place, *first) => Some((Mark::Bare(*first), rest)),
+        _ => None,
     }
 }
 
@@ -244,6 +241,13 @@ fn has_operator(marks: &[Mark]) -> bool
     false
 }
 
+/// Whether the marks are an operator, or have one in them.
+fn is_operator(marks: &[Mark]) -> bool
+    ensures { result ≡ is_operator marks.now }
+{
+    is_spelled(&['A', 'N', 'D'], marks) || is_spelled(&['O', 'R'], marks) || has_operator(marks)
+}
+
 /// Whether a star is last, and no star or question mark is before it.
 fn ends_in_star(marks: &[Mark]) -> bool
     ensures { result ≡ ends_in_star marks.now }
@@ -269,10 +273,7 @@ fn word_token(alloc: Global, marks: &[Mark]) -> Result<Token, NoMemory>
     if is_spelled(&['*'], marks) {
         return Ok(Token::Star);
     }
-    if is_spelled(&['A', 'N', 'D'], marks)
-        || is_spelled(&['O', 'R'], marks)
-        || has_operator(marks)
-    {
+    if is_operator(marks) {
         return Ok(Token::Other);
     }
     if is_spelled(&['N', 'O', 'T'], marks) {
@@ -284,10 +285,8 @@ fn word_token(alloc: Global, marks: &[Mark]) -> Result<Token, NoMemory>
     if !ends_in_star(marks) {
         return Ok(Token::Other);
     }
-    if marks.is_empty() {
-        return Ok(Token::Front(String::new(alloc)));
-    }
-    Ok(Token::Front(text_of(alloc, &marks[..marks.len() - 1])?))
+    let front = &marks[..marks.len().saturating_sub(1)];
+    Ok(Token::Front(text_of(alloc, front)?))
 }
 
 /// What a sign says.
@@ -311,12 +310,9 @@ fn quoted(alloc: Global, text: &[char]) -> Result<Option<(Token, &[char])>, NoMe
     ensures { IfOk result (λ found. option_map token_and_rest found ≡ option_map with_tokens (quoted_at text.now)) }
 {
     let (marks, rest) = pieces(Vec::new(alloc), text, Place::Quoted)?;
-    let Some((close, rest)) = rest.split_first() else {
+    let ['"', rest @ ..] = rest else {
         return Ok(None);
     };
-    if *close != '"' {
-        return Ok(None);
-    }
     Ok(Some((Token::Phrase(text_of(alloc, &marks)?), rest)))
 }
 
@@ -369,12 +365,9 @@ fn gap(text: &[char]) -> Option<&[char]>
 fn to(text: &[char]) -> Option<&[char]>
     ensures { option_map (λ rest. rest.now) result ≡ to_at text.now }
 {
-    let (first, rest) = text.split_first()?;
-    let (second, rest) = rest.split_first()?;
-    if *first == 'T' && *second == 'O' {
-        Some(rest)
-    } else {
-        None
+    match text {
+        ['T', 'O', rest @ ..] => Some(rest),
+        _ => None,
     }
 }
 
@@ -383,11 +376,9 @@ fn to(text: &[char]) -> Option<&[char]>
 fn bracket(text: &[char]) -> Option<(char, &[char])>
     ensures { option_map and_rest result ≡ bracket_at text.now }
 {
-    let (first, rest) = text.split_first()?;
-    if matches!(*first, ']' | '}') {
-        Some((*first, rest))
-    } else {
-        None
+    match text {
+        [first, rest @ ..] if matches!(*first, ']' | '}') => Some((*first, rest)),
+        _ => None,
     }
 }
 
@@ -396,13 +387,10 @@ fn quoted_end(alloc: Global, text: &[char]) -> Result<Option<(Option<String>, &[
     ensures { IfOk result (λ found. option_map text_and_rest found ≡ quoted_end_at text.now) }
 {
     let (marks, rest) = pieces(Vec::new(alloc), text, Place::Quoted)?;
-    let Some((close, rest)) = rest.split_first() else {
-        return Ok(None);
-    };
-    if marks.is_empty() || *close != '"' {
-        return Ok(None);
+    match rest {
+        ['"', rest @ ..] if !marks.is_empty() => { Ok(Some((Some(text_of(alloc, &marks)?), rest))) }
+        _ => Ok(None),
     }
-    Ok(Some((Some(text_of(alloc, &marks)?), rest)))
 }
 
 /// A bare end of a range.

@@ -106,8 +106,12 @@ impl Progress {
         let is_fresh = self.stage == Stage::Fresh;
         let has_field = self.stage == Stage::AfterField;
         match token {
-            Token::Plus | Token::Minus | Token::Bang | Token::Not if is_fresh => {
-                Some((self.with_stage(Stage::AfterSign), rest))
+            Token::Plus | Token::Minus | Token::Bang | Token::Not => {
+                if is_fresh {
+                    Some((self.with_stage(Stage::AfterSign), rest))
+                } else {
+                    None
+                }
             }
             Token::Plain(_) => match after_colon(rest) {
                 Some(_) if has_field => None,
@@ -117,15 +121,19 @@ impl Progress {
             Token::Front(_) | Token::Phrase(_) | Token::Range(_, _) => {
                 Some((self.after_item(), rest))
             }
-            Token::Star if !has_field => match after_colon_star(rest) {
-                Some(rest) => Some((self.after_item(), rest)),
-                None => None,
+            Token::Star => match after_colon_star(rest) {
+                Some(rest) if !has_field => Some((self.after_item(), rest)),
+                _ => None,
             },
             Token::Open => Some((self.in_group(), rest)),
-            Token::Close if self.depth > 0 && self.any && is_fresh => {
-                Some((self.after_group(), rest))
+            Token::Close => {
+                if self.depth > 0 && self.any && is_fresh {
+                    Some((self.after_group(), rest))
+                } else {
+                    None
+                }
             }
-            _ => None,
+            Token::Colon | Token::Other => None,
         }
     }
 }

@@ -42,10 +42,7 @@ pub enum Token {
 pub fn begins_colon(tokens: &[Token]) -> bool
     ensures { result ≡ begins_colon (map token_of tokens.now) }
 {
-    match tokens.split_first() {
-        Some((Token::Colon, _)) => true,
-        _ => false,
-    }
+    after_colon(tokens).is_some()
 }
 
 /// What is left after a colon.
@@ -54,8 +51,8 @@ pub fn after_colon(tokens: &[Token]) -> Option<&[Token]>
     ensures some { IfSome result (λ rest. map token_of tokens.now ≡ spec.Colon ∷ map token_of rest.now) }
     ensures shorter { IfSome result (λ rest. length rest.now + 1 ≡ length tokens.now) }
 {
-    match tokens.split_first() {
-        Some((Token::Colon, rest)) => Some(rest),
+    match tokens {
+        [Token::Colon, rest @ ..] => Some(rest),
         _ => None,
     }
 }
@@ -66,9 +63,8 @@ pub fn after_colon_star(tokens: &[Token]) -> Option<&[Token]>
     ensures some { IfSome result (λ rest. map token_of tokens.now ≡ spec.Colon ∷ spec.Star ∷ map token_of rest.now) }
     ensures shorter { IfSome result (λ rest. length rest.now + 2 ≡ length tokens.now) }
 {
-    let after = after_colon(tokens)?;
-    match after.split_first() {
-        Some((Token::Star, rest)) => Some(rest),
+    match tokens {
+        [Token::Colon, Token::Star, rest @ ..] => Some(rest),
         _ => None,
     }
 }

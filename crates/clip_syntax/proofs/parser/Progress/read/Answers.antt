@@ -3,6 +3,6 @@ use Rattle.std.proofs.Common.{rules}
 use Rattle.clip_grammar.specs.Steps.Parser.{accepts}
 use Rattle.clip_syntax.proofs.parser.Progress.read.Goals as goal
 
-pub returns-in-Plus-clause-accepts : goal.returns-in-Plus-clause-accepts
+pub returns-then-is_fresh-2-clause-accepts : goal.returns-then-is_fresh-2-clause-accepts
 unfolding accepts
-returns-in-Plus-clause-accepts c = search rules
+returns-then-is_fresh-2-clause-accepts c = search rules
