@@ -9,13 +9,12 @@ use crate::live::Live;
 use clip_segment::Segment;
 use clip_words::NoMemory;
 use std::alloc::Global;
+use std::slice;
 use std::sync::Arc;
 
 /// For each of a segment's entries, whether it is live.
 fn live_flags(alloc: Global, segment: &Segment, live: &Live) -> Result<Vec<bool>, NoMemory>
-    ensures flags { IfOk result (λ flags. flags.items ≡ map (names live.now) (seqs_of segment.now)) }
-    ensures short { IfOk result (λ _. length segment.now ≤ MOST_POSITIONS) }
-    ensures rising { IfOk result (λ _. IsRising segment.now) }
+    ensures { IfOk result (λ flags. flags.items ≡ map (names live.now) (seqs_of segment.now)) }
 {
     let seqs = segment.seqs();
     let mut flags = Vec::with_capacity(alloc, seqs.len())?;
@@ -48,8 +47,7 @@ pub fn merge(alloc: Global, segments: &[Arc<Segment>], live: &Live) -> Result<Se
 pub fn purge(alloc: Global, segment: &Arc<Segment>, live: &Live) -> Result<Segment, NoMemory>
     ensures { IfOk result (λ kept. kept ≡ named live.now segment.now.value) }
 {
-    let flags = live_flags(alloc, segment, live)?;
-    let segments = vec![in alloc; segment.clone()?]?;
-    let kept = vec![in alloc; flags]?;
-    Segment::select(alloc, &segments, &kept)
+    // For what holds of every segment: its seqs rise, and they are few enough.
+    let _seqs = segment.seqs();
+    merge(alloc, slice::from_ref(segment), live)
 }

@@ -8,18 +8,21 @@ use Rattle.clip_grammar.specs.declared.query.Bound.{Bound}
 use Rattle.clip_grammar.specs.declared.query.Occur.{Occur}
 use Rattle.clip_grammar.specs.declared.query.Query.{Query}
 use Rattle.clip_grammar.specs.declared.query.Query.TheOpen as layer
-use Rattle.clip_grammar.specs.declared.query.Query.TheVariants.{Phrase, Prefix, Span, All, rolls-Phrase, rolls-Prefix, rolls-Span, rolls-All}
+use Rattle.clip_grammar.specs.declared.query.Query.TheVariants.{Term, Phrase, Prefix, Span, All, rolls-Term, rolls-Phrase, rolls-Prefix, rolls-Span, rolls-All}
 use Rattle.clip_grammar.specs.declared.query.Query.TheFolds.{fold-roll-Query}
-use Rattle.clip_extract.specs.Keys.{KeyValue}
+use Rattle.clip_extract.specs.Keys.{KeyValue, Word}
 use Rattle.clip_terms.specs.Terms.{term_at}
 use Rattle.clip_plan.specs.Plan.{Leaf, Is, clause_marks}
 use Rattle.clip_plan.specs.declared.step.Step.{Step}
 use Rattle.clip_plan.specs.declared.step.Step.TheVariants as step
 use Rattle.clip_plan.specs.Steps.Plans.{Grows, Adds}
 use Rattle.clip_plan.proofs.Words.{phrase_words}
-use Rattle.clip_plan.proofs.Standing.{adds_phrase}
+use Rattle.clip_plan.proofs.Standing.{adds_term, adds_phrase}
 
 -- ---- trees
+
+pub tree_of_term : (field word : ArcStr Global) → tree_of (Term field word) ≡ Tree.Term (arc_str_bytes field) (arc_str_bytes word)
+tree_of_term field word = ap tree_of (sym (rolls-Term field word)) ∙ fold-roll-Query Tree tree_step (layer.Term field word)
 
 pub tree_of_phrase : (field : ArcStr Global) (words : Vec (ArcStr Global) Global) → tree_of (Phrase field words) ≡ Tree.Phrase (arc_str_bytes field) (map arc_str_bytes words.items)
 tree_of_phrase field words = ap tree_of (sym (rolls-Phrase field words)) ∙ fold-roll-Query Tree tree_step (layer.Phrase field words)
@@ -34,6 +37,13 @@ pub tree_of_all : tree_of All ≡ Tree.All
 tree_of_all = ap tree_of (sym rolls-All) ∙ fold-roll-Query Tree tree_step layer.All
 
 -- ---- what is added
+
+pub term_added : (terms : List KeyValue) (runs : List (List ℕ)) (asked : List Query) (steps new : List Step) (occur : Occur) (number : ℕ) (query : Query) (field word : ArcStr Global)
+    → query ≡ Term field word → term_at terms number ≡ Word (arc_str_bytes field) (arc_str_bytes word) → new ≡ steps ++ step.Term occur number ∷ []
+    → Adds terms runs asked steps runs asked new (clause_marks occur (tree_of query))
+term_added terms runs asked steps new occur number query field word term is e =
+    subst (Adds terms runs asked steps runs asked new) (sym (ap (clause_marks occur) (ap tree_of term ∙ tree_of_term field word)))
+    (adds_term terms runs asked steps new occur number (Word (arc_str_bytes field) (arc_str_bytes word)) e is)
 
 pub phrase_added : (terms : List KeyValue) (runs new_runs : List (List ℕ)) (asked : List Query) (steps new : List Step) (occur : Occur) (place : ℕ) (query : Query) (field : ArcStr Global) (words : Vec (ArcStr Global) Global) (items : List (ArcStr Global))
     → query ≡ Phrase field words → items ≡ words.items → Grows runs new_runs → place < length new_runs → map (term_at terms) (unwrap_or (slice_get new_runs place) []) ≡ phrase_words (arc_str_bytes field) items → new ≡ steps ++ step.Phrase occur place ∷ []

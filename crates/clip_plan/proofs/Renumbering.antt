@@ -8,11 +8,11 @@ use Rattle.clip_grammar.specs.declared.query.Occur.{Occur}
 use Rattle.clip_grammar.specs.declared.query.Query.{Query}
 use Rattle.clip_extract.specs.Keys.{KeyValue}
 use Rattle.clip_terms.specs.Terms.{term_at}
-use Rattle.clip_plan.specs.Plan.{Mark, Leaf, Is, mark_names, names, decoded, renumbered, renamed}
+use Rattle.clip_plan.specs.Plan.{Mark, Leaf, Is, Open, Close, mark_names, names, decoded, renumbered, renamed}
 use Rattle.clip_plan.specs.declared.step.Step.{Step}
 use Rattle.clip_plan.specs.declared.step.Step.TheVariants as step
 use Rattle.clip_plan.specs.Steps.Plans.{Adds, mark_of}
-use Rattle.clip_plan.proofs.Standing.{adds_then, adds_phrase, grows_by, get_last}
+use Rattle.clip_plan.proofs.Standing.{adds_then, adds_step, adds_term, adds_phrase, grows_by, get_last}
 
 -- the marks of steps with new numbers, over keys
 abbrev pub marks_renamed : (terms : List KeyValue) (numbers : List (Option ℕ)) (runs : List (List ℕ)) (asked : List Tree) → List Step → List (Mark KeyValue)
@@ -67,6 +67,28 @@ past_last (x ∷ xs) zero d far = absurd (omega arith)
 past_last (x ∷ xs) (suc n) d far = past_last xs n d (omega arith)
 
 -- ---- one step, added
+
+-- a term with its new number
+pub term_renamed : (terms : List KeyValue) (numbers : List (Option ℕ)) (from runs : List (List ℕ)) (others : List Tree) (asked : List Query) (steps new : List Step)
+    (occur : Occur) (old number : ℕ) (s : Step) → s ≡ step.Term occur old → number ≡ renumbered numbers old → new ≡ steps ++ step.Term occur number ∷ []
+    → Adds terms runs asked steps runs asked new (marks_renamed terms numbers from others (s ∷ []))
+term_renamed terms numbers from runs others asked steps new occur old number s is at e =
+    subst (Adds terms runs asked steps runs asked new) (ap (λ x. marks_renamed terms numbers from others (x ∷ [])) (sym is))
+    (adds_term terms runs asked steps new occur number (term_at terms (renumbered numbers old)) e (ap (term_at terms) at))
+
+-- a group's beginning
+pub open_renamed : (terms : List KeyValue) (numbers : List (Option ℕ)) (from runs : List (List ℕ)) (others : List Tree) (asked : List Query) (steps new : List Step) (s : Step)
+    → s ≡ step.Open → new ≡ steps ++ step.Open ∷ [] → Adds terms runs asked steps runs asked new (marks_renamed terms numbers from others (s ∷ []))
+open_renamed terms numbers from runs others asked steps new s is e =
+    subst (Adds terms runs asked steps runs asked new) (ap (λ x. marks_renamed terms numbers from others (x ∷ [])) (sym is))
+    (adds_step terms runs asked steps new step.Open Open e tt refl)
+
+-- and its end
+pub close_renamed : (terms : List KeyValue) (numbers : List (Option ℕ)) (from runs : List (List ℕ)) (others : List Tree) (asked : List Query) (steps new : List Step) (occur : Occur) (s : Step)
+    → s ≡ step.Close occur → new ≡ steps ++ step.Close occur ∷ [] → Adds terms runs asked steps runs asked new (marks_renamed terms numbers from others (s ∷ []))
+close_renamed terms numbers from runs others asked steps new occur s is e =
+    subst (Adds terms runs asked steps runs asked new) (ap (λ x. marks_renamed terms numbers from others (x ∷ [])) (sym is))
+    (adds_step terms runs asked steps new (step.Close occur) (Close occur) e tt refl)
 
 -- a run with new numbers
 pub run_renamed : (terms : List KeyValue) (numbers : List (Option ℕ)) (from runs new_runs : List (List ℕ)) (others : List Tree) (asked : List Query) (steps new : List Step)

@@ -27,6 +27,10 @@ grows_then {xs = xs} g h = record { more = g.more ++ h.more; is = h.is ∙ ap (�
 pub longer : {A : Type 0} {xs ys : List A} → Grows xs ys → length xs ≤ length ys
 longer {xs = xs} {ys = ys} g = omega (arith, ap length g.is, length-append xs g.more)
 
+-- as long, where the list that has grown is as long
+pub as_long : {A : Type 0} {xs ys : List A} (n : ℕ) → Grows xs ys → length ys ≤ n → length xs ≤ n
+as_long n g le = omega (arith, longer g, le)
+
 get_front : {A : Type 0} (xs ys : List A) (i : ℕ) → i < length xs → slice_get (xs ++ ys) i ≡ slice_get xs i
 get_front [] ys i h = absurd (omega arith)
 get_front (x ∷ xs) ys zero h = refl

@@ -1,6 +1,6 @@
 -- The kept entries of segments, and the indexes over their queries.
-use Rattle.std.proofs.Common.{◌≡◌, ℕ, ◌+◌, ◌<◌, Bool, true, false, List, [], ◌∷◌, ◌++◌, map, length, take, get_or, refl, sym, ap, ◌∙◌, subst, arith, Bor}
-use Rattle.std.proofs.lemmas.List.{length-map, map-append, take_more}
+use Rattle.std.proofs.Common.{◌≡◌, Bool, true, false, List, [], ◌∷◌, ◌++◌, map, length, refl, sym, ap, ◌∙◌}
+use Rattle.std.proofs.lemmas.List.{length-map, map-append}
 use Rattle.clip_grammar.specs.Tree.{Tree}
 use Rattle.clip_index.specs.Index.{IndexValue, IsIndexOf}
 use Rattle.clip_index.specs.Selecting.{AreFlagsOf, AreIndexesOf, flagged, kept_of}

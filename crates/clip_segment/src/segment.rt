@@ -60,6 +60,15 @@ fn queries_of(alloc: Global, entries: &[Arc<Entry>]) -> Result<Vec<Query>, NoMem
     Ok(queries)
 }
 
+/// The index over the queries of these entries; the queries aren't kept.
+fn index_of(alloc: Global, entries: &[Arc<Entry>]) -> Result<Index, NoMemory>
+    requires { length entries.now ≤ MOST_POSITIONS }
+    ensures { IfOk result (λ index. IsIndexOf (trees_of (map arc_value entries.now)) index) }
+{
+    let queries = queries_of(alloc, entries)?;
+    Index::of(alloc, &queries)
+}
+
 /// The seqs of these entries.
 fn seqs_of(alloc: Global, entries: &[Arc<Entry>]) -> Result<Vec<u64>, NoMemory>
     ensures { IfOk result (λ seqs. seqs.items ≡ seqs_of (map arc_value entries.now)) }
@@ -81,9 +90,8 @@ impl Segment {
         requires rising { IsRising (map arc_value entries.items) }
         ensures { IfOk result (λ segment. segment ≡ map arc_value entries.items) }
     {
-        let queries = queries_of(alloc, &entries)?;
-        let index = Index::of(alloc, &queries)?;
         let seqs = seqs_of(alloc, &entries)?;
+        let index = index_of(alloc, &entries)?;
         Ok(Segment {
             entries,
             seqs,

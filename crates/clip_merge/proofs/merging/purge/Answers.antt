@@ -1,31 +1,26 @@
-use Rattle.std.proofs.Common.{◌≡◌, List, [], ◌∷◌, append-nil, map, vec_items, sym, ap, subst, ◌∙◌}
+use Rattle.std.proofs.Common.{◌≡◌, ◌≤◌, append-nil, map, length, sym, ap, subst, ◌∙◌, arith}
 use Rattle.std.proofs.lemmas.Result.{IfOk-weaker}
 use Rattle.std.specs.Arc.{arc_value}
-use Rattle.clip_index.specs.Selecting.{kept_of}
-use Rattle.clip_model.specs.History.{Registered}
-use Rattle.clip_segment.specs.Segment.{IsRising}
+use Rattle.clip_segment.specs.Segment.{IsRising, all_entries}
+use Rattle.clip_segment.specs.declared.segment.TheConstants.{MOST_POSITIONS}
 use Rattle.clip_merge.specs.Live.{named}
-use Rattle.clip_merge.proofs.Named.{flags_in, flags_of, kept_named, named_rising}
+use Rattle.clip_merge.proofs.Named.{named_fewer}
 use Rattle.clip_merge.proofs.merging.purge.Goals as goal
 
-pub select-requires-clause-rising : goal.select-requires-clause-rising
-select-requires-clause-rising c =
+pub merge-requires-clause-rising : goal.merge-requires-clause-rising
+merge-requires-clause-rising c =
+    let alone = ap (λ ss. all_entries (map arc_value ss)) c.from_ref.ensures.value ∙ append-nil (arc_value c.args.segment.now) in
+    subst IsRising (c.deref.ensures ∙ sym alone) c.seqs-seqs.ensures.rising
+
+pub merge-requires-clause-short : goal.merge-requires-clause-short
+merge-requires-clause-short c =
     let live = c.args.live.now in
-    let segment : List Registered = c.args.segment.now.value in
-    let segments : map arc_value c.deref-2.result.now ≡ segment ∷ [] =
-    ap (map arc_value) (c.deref-2.ensures.value ∙ c.in_ok-segments.ensures.items) ∙ ap (λ s. s ∷ []) c.in_ok-clone.ensures.cases in
-    let flags : map vec_items c.deref-3.result.now ≡ flags_of live (segment ∷ []) =
-    ap (map vec_items) (c.deref-3.ensures.value ∙ c.in_ok-kept.ensures.items) ∙ ap (λ f. f ∷ []) (c.in_ok-flags.ensures.flags ∙ ap (flags_in live) c.deref.ensures) in
-    let kept = (λ i. kept_of (segments i) (flags i)) ∙ kept_named live (segment ∷ []) ∙ ap (named live) (append-nil segment) in
-    subst IsRising (sym kept) (named_rising live segment (subst IsRising c.deref.ensures c.in_ok-flags.ensures.rising))
+    let alone = ap (λ ss. all_entries (map arc_value ss)) c.from_ref.ensures.value ∙ append-nil (arc_value c.args.segment.now) in
+    let few : length (named live c.deref.result.now) ≤ MOST_POSITIONS = omega (arith, named_fewer live c.deref.result.now, c.seqs-seqs.ensures.short) in
+    subst (λ es. length (named live es) ≤ MOST_POSITIONS) (c.deref.ensures ∙ sym alone) few
 
 pub returns : goal.returns
 returns c =
     let live = c.args.live.now in
-    let segment : List Registered = c.args.segment.now.value in
-    let segments : map arc_value c.deref-2.result.now ≡ segment ∷ [] =
-    ap (map arc_value) (c.deref-2.ensures.value ∙ c.in_ok-segments.ensures.items) ∙ ap (λ s. s ∷ []) c.in_ok-clone.ensures.cases in
-    let flags : map vec_items c.deref-3.result.now ≡ flags_of live (segment ∷ []) =
-    ap (map vec_items) (c.deref-3.ensures.value ∙ c.in_ok-kept.ensures.items) ∙ ap (λ f. f ∷ []) (c.in_ok-flags.ensures.flags ∙ ap (flags_in live) c.deref.ensures) in
-    let kept = (λ i. kept_of (segments i) (flags i)) ∙ kept_named live (segment ∷ []) ∙ ap (named live) (append-nil segment) in
-    IfOk-weaker c.select.result _ (λ found. found ≡ named live segment) (λ found is. is ∙ kept) c.select.ensures
+    let alone = ap (λ ss. all_entries (map arc_value ss)) c.from_ref.ensures.value ∙ append-nil (arc_value c.args.segment.now) in
+    IfOk-weaker c.merge.result _ (λ found. found ≡ named live (arc_value c.args.segment.now)) (λ found is. is ∙ ap (named live) alone) c.merge.ensures

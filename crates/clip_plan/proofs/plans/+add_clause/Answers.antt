@@ -1,8 +1,13 @@
-use Rattle.std.proofs.Common.{◌<◌, [], ◌∷◌, arith}
+use Rattle.std.proofs.Common.{◌<◌, [], ◌∷◌, refl, arith}
 use Rattle.clip_grammar.specs.Tree.{tree_of, nodes}
 use Rattle.clip_plan.specs.Plan.{Open}
 use Rattle.clip_plan.proofs.Clauses.{child_words, child_nodes, clause_added, group_added}
+use Rattle.clip_plan.specs.declared.step.Step.TheVariants as step
+use Rattle.clip_plan.proofs.Standing.{adds_step, as_long, longer}
 use Rattle.clip_plan.proofs.plans.+add_clause.Goals as goal
+
+pub loop-occur-init : goal.loop-occur-init
+loop-occur-init t c = adds_step c.args.terms.now c.args.runs.now c.args.asked.now.items c.args.steps.now.items _ step.Open Open c.in_ok-push-in-Group.ensures.items tt refl
 
 pub add_clause-requires : goal.add_clause-requires
 add_clause-requires t c =
@@ -15,6 +20,18 @@ add_clause-requires t c =
 pub loop-occur-preserved : goal.loop-occur-preserved
 loop-occur-preserved t c =
     clause_added (Open ∷ []) c.deref-occur-items.result.now c.loop-occur.occur-index c.loop-occur-item.result c.loop-occur-test.true c.loop-occur-item.is c.loop-occur.invariant c.in_ok-add_clause-in-Group.ensures.added
+
+pub returns-in_err-add_clause-in-Group-clause-runs : goal.returns-in_err-add_clause-in-Group-clause-runs
+returns-in_err-add_clause-in-Group-clause-runs t c = as_long _ c.loop-occur.invariant.runs_grow c.add_clause.ensures.runs
+
+pub returns-in_err-add_clause-in-Group-clause-asked : goal.returns-in_err-add_clause-in-Group-clause-asked
+returns-in_err-add_clause-in-Group-clause-asked t c = as_long _ c.loop-occur.invariant.asked_grow c.add_clause.ensures.asked
+
+pub returns-in_ok-push-in-Group-2-clause-runs : goal.returns-in_ok-push-in-Group-2-clause-runs
+returns-in_ok-push-in-Group-2-clause-runs t c = longer c.loop-occur.invariant.runs_grow
+
+pub returns-in_ok-push-in-Group-2-clause-asked : goal.returns-in_ok-push-in-Group-2-clause-asked
+returns-in_ok-push-in-Group-2-clause-asked t c = longer c.loop-occur.invariant.asked_grow
 
 pub returns-in_ok-push-in-Group-2-clause-added : goal.returns-in_ok-push-in-Group-2-clause-added
 returns-in_ok-push-in-Group-2-clause-added t c =

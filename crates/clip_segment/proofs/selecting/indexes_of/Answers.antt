@@ -1,7 +1,6 @@
-use Rattle.std.proofs.Common.{◌≡◌, ℕ, ◌+◌, ◌<◌, List, [], ◌∷◌, ◌++◌, map, length, take, get_or, sym, ap, subst, ◌∙◌, arith, Bor}
+use Rattle.std.proofs.Common.{◌≡◌, ◌+◌, ◌<◌, [], ◌∷◌, ◌++◌, map, length, take, sym, ap, subst, ◌∙◌, arith, Bor}
 use Rattle.std.proofs.lemmas.List.{map-append, take_more}
 use Rattle.std.specs.Arc.{arc_value}
-use Rattle.clip_grammar.specs.Tree.{Tree}
 use Rattle.clip_index.specs.Index.{IndexValue, IsIndexOf}
 use Rattle.clip_index.specs.Selecting.{AreIndexesOf}
 use Rattle.clip_segment.specs.Segment.{trees_of}

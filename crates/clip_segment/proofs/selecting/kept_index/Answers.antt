@@ -1,4 +1,4 @@
-use Rattle.std.proofs.Common.{map, vec_items, sym, ap, subst, Bor}
+use Rattle.std.proofs.Common.{map, vec_items, sym, subst, Bor}
 use Rattle.std.proofs.lemmas.Result.{IfOk-weaker}
 use Rattle.std.specs.Arc.{arc_value}
 use Rattle.clip_index.specs.Index.{IndexValue, IsIndexOf}

@@ -1,7 +1,25 @@
 use Rattle.std.proofs.Common.{map, ◌∙◌}
 use Rattle.clip_grammar.specs.Tree.{tree_of}
-use Rattle.clip_plan.proofs.Renumbering.{run_renamed, asked_renamed}
+use Rattle.clip_plan.proofs.Renumbering.{term_renamed, open_renamed, close_renamed, run_renamed, asked_renamed}
 use Rattle.clip_plan.proofs.renaming.Source.add_step.Goals as goal
+
+pub returns-in_ok-push-in-Term-clause-added : goal.returns-in_ok-push-in-Term-clause-added
+returns-in_ok-push-in-Term-clause-added c = λ terms.
+    let source = c.args.self.now in
+    term_renamed terms source.numbers.now source.runs.now c.args.runs.now (map tree_of source.asked.now) c.args.asked.now.items c.args.steps.now.items c.push.new.self.items
+    c.in-Term.occur c.in-Term.number c.renumbered.result c.args.step c.in-Term.is c.renumbered.ensures c.in_ok-push-in-Term.ensures.items
+
+pub returns-in_ok-push-in-Open-clause-added : goal.returns-in_ok-push-in-Open-clause-added
+returns-in_ok-push-in-Open-clause-added c = λ terms.
+    let source = c.args.self.now in
+    open_renamed terms source.numbers.now source.runs.now c.args.runs.now (map tree_of source.asked.now) c.args.asked.now.items c.args.steps.now.items c.push-in-Open.new.self.items
+    c.args.step c.in-Open.is c.in_ok-push-in-Open.ensures.items
+
+pub returns-in_ok-push-in-Close-clause-added : goal.returns-in_ok-push-in-Close-clause-added
+returns-in_ok-push-in-Close-clause-added c = λ terms.
+    let source = c.args.self.now in
+    close_renamed terms source.numbers.now source.runs.now c.args.runs.now (map tree_of source.asked.now) c.args.asked.now.items c.args.steps.now.items c.push-in-Close.new.self.items
+    c.in-Close.occur c.args.step c.in-Close.is c.in_ok-push-in-Close.ensures.items
 
 pub returns-in_ok-push-in-Phrase-2-clause-added : goal.returns-in_ok-push-in-Phrase-2-clause-added
 returns-in_ok-push-in-Phrase-2-clause-added c = λ terms.
