@@ -18,3 +18,9 @@ fronts_more {X} text name field word old now new words i x lt is named same adde
     ∙ append_assoc old (map (Front field) (flat_map fronts done)) (map (Front field) (fronts (text x)))
     ∙ ap (λ ks. old ++ ks) (sym (map-append (Front field) (flat_map fronts done) (fronts (text x))))
     ∙ ap (λ ts. old ++ map (Front field) ts) (flat_map_more fronts [] done (text x) ∙ ap (flat_map fronts) more)
+
+-- what one item more gives
+pub parts_more : {X Y : Type 0} (f : X → List Y) (old now new : List Y) (xs : List X) (i : ℕ) (x : X) → i < length xs → x ≡ get_or xs i x → new ≡ now ++ f x → now ≡ old ++ flat_map f (take i xs)
+    → new ≡ old ++ flat_map f (take (i + 1) xs)
+parts_more f old now new xs i x lt is added before =
+    added ∙ ap (λ ks. ks ++ f x) before ∙ flat_map_more f old (take i xs) x ∙ ap (λ ys. old ++ flat_map f ys) (ap (λ y. take i xs ++ y ∷ []) is ∙ sym (take_more xs i x lt))

@@ -24,27 +24,21 @@ pub struct Tried<'a> {
     pub entries: Vec<&'a Entry>,
 }
 
-/// What was found so far: the seqs of the entries that were tried, and those whose queries hold.
-#[derive(Drop)]
-struct Found<'a> {
-    asked: Vec<u64>,
-    entries: Vec<&'a Entry>,
-}
-
-/// Tries the live ones of a segment's entries that share a key with the article, which stand at these positions.
-/// `stack` is room for the groups that are open.
+/// Tries the live ones of a segment's entries that share a key with the article, which stand at these positions, and
+/// adds the seqs of those that were tried, and those whose queries hold. `stack` is room for the groups that are open.
 fn try_live<'a>(
     view: &View,
     reading: &SegmentReading<'a>,
     positions: &[u32],
     stack: &mut Vec<Tally>,
-    found: &mut Found<'a>,
+    asked: &mut Vec<u64>,
+    held: &mut Vec<&'a Entry>,
 ) -> Result<(), NoMemory>
     requires { positions.now ≡ positions_sharing (article_keys reading.now.article.fields) reading.now.entries }
-    ensures asked { OnOk result (found.new.asked.items
-        ≡ found.old.asked.items ++ seqs_of (live_with view.now.history (article_keys reading.now.article.fields) reading.now.entries)) }
-    ensures entries { OnOk result (map (λ e. e.now) found.new.entries.items
-        ≡ map (λ e. e.now) found.old.entries.items
+    ensures asked { OnOk result (asked.new.items
+        ≡ asked.old.items ++ seqs_of (live_with view.now.history (article_keys reading.now.article.fields) reading.now.entries)) }
+    ensures held { OnOk result (map (λ e. e.now) held.new.items
+        ≡ map (λ e. e.now) held.old.items
         ++ filter (λ r. holds r.standing.tree reading.now.article.fields)
         (live_with view.now.history (article_keys reading.now.article.fields) reading.now.entries)) }
 {
@@ -55,14 +49,14 @@ fn try_live<'a>(
         if !view.is_live_seq(seq) {
             continue;
         }
-        found.asked.push(seq)?;
+        asked.push(seq)?;
         if !reading.holds(*position, stack)? {
             continue;
         }
         let Some(entry) = reading.entry(*position) else {
             unreachable!();
         };
-        found.entries.push(entry)?;
+        held.push(entry)?;
     }
     Ok(())
 }
@@ -89,17 +83,17 @@ pub fn holding<'a>(
     let asking = Asking::of(alloc, article)?;
     let mut positions = Vec::new(alloc);
     let mut stack = Vec::new(alloc);
-    let mut found = Found {
-        asked: Vec::new(alloc),
-        entries: Vec::new(alloc),
-    };
+    let mut asked = Vec::new(alloc);
+    let mut held = Vec::new(alloc);
     for segment in view.segments() {
         let reading = segment.read(alloc, &asking)?;
         reading.sharers(&mut positions)?;
-        try_live(view, &reading, &positions, &mut stack, &mut found)?;
+        try_live(
+            view, &reading, &positions, &mut stack, &mut asked, &mut held,
+        )?;
     }
     Ok(Tried {
-        asked: found.asked.len() as u64,
-        entries: found.entries,
+        asked: asked.len() as u64,
+        entries: held,
     })
 }

@@ -78,9 +78,14 @@ impl<T: Drop> From<AllocFailed<T>> for Refused {
 
 /// Whether each id is 1 to 256 bytes long.
 fn are_ids(ids: &[String]) -> bool
-    ensures { result ≡ list_all (λ id. is_id (string_bytes id)) ids.now }
+    ensures { result ≡ list_all is_id (map string_bytes ids.now) }
 {
-    ids.iter().all(|id| is_id(id))
+    for id in ids {
+        if !is_id(id) {
+            return false;
+        }
+    }
+    true
 }
 
 impl Command {

@@ -64,7 +64,7 @@ impl Model for Merged {
 }
 
 /// What became of a merge.
-#[derive(Clone, Copy, Debug, PartialEq, Eq)]
+#[derive(Clone, Copy, PartialEq, Eq)]
 pub enum Installed {
     /// Its segment stands in the place of the four sources.
     Done,
@@ -131,12 +131,10 @@ impl MergeJob {
         for source in sources {
             add_live_seqs(roster, source.entries(), &mut seqs)?;
         }
-        let mut shared = Vec::with_capacity(alloc, sources.len())?;
-        shared.extend_with_clones(sources)?;
         let live = Arc::new(alloc, Live::of(seqs))?;
         Ok(MergeJob {
             alloc,
-            sources: shared,
+            sources: sources.to_vec(alloc)?,
             live,
         })
     }
@@ -148,11 +146,12 @@ impl MergeJob {
     pub fn run(&self) -> Result<Merged, NoMemory>
         ensures { IfOk result (λ merged. merged ≡ merge_of self.now) }
     {
-        let segment = merge(self.alloc, &self.sources, &self.live)?;
+        let merged = merge(self.alloc, &self.sources, &self.live)?;
+        let segment = Arc::new(self.alloc, merged)?;
         Ok(Merged {
             sources: self.sources.clone()?,
             live: self.live.clone()?,
-            segment: Arc::new(self.alloc, segment)?,
+            segment,
         })
     }
 }

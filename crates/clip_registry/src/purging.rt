@@ -40,8 +40,8 @@ fn live_segment(
     if seqs.len() == segment.len() {
         return Ok(segment.clone()?);
     }
-    let live = Live::of(seqs);
-    Ok(Arc::new(alloc, purge(alloc, segment, &live)?)?)
+    let kept = purge(alloc, segment, &Live::of(seqs))?;
+    Ok(Arc::new(alloc, kept)?)
 }
 
 /// The segments with just their live entries, and none that is empty. `NoMemory` where an allocation failed.

@@ -139,8 +139,7 @@ impl Registrar {
             return Ok(Installed::Stale);
         };
         let segments = merged.put_in(self.alloc, &shared.segments, first)?;
-        let next = shared.with_segments(segments)?;
-        self.state = Some(Arc::new(self.alloc, next)?);
+        self.state = Some(shared.with_segments(self.alloc, segments)?);
         Ok(Installed::Done)
     }
 
@@ -157,8 +156,7 @@ impl Registrar {
             return Ok(());
         };
         let segments = live_segments(self.alloc, &shared.roster, &shared.segments)?;
-        let next = shared.with_segments(segments)?;
-        self.state = Some(Arc::new(self.alloc, next)?);
+        self.state = Some(shared.with_segments(self.alloc, segments)?);
         Ok(())
     }
 

@@ -142,15 +142,20 @@ impl State {
 
     /// The state with other segments in the place of all segments: they have each live entry, and no entry that was not
     /// there. `NoMemory` where an allocation failed.
-    pub fn with_segments(&self, segments: Vec<Arc<Segment>>) -> Result<State, NoMemory>
+    pub fn with_segments(
+        &self,
+        alloc: Global,
+        segments: Vec<Arc<Segment>>,
+    ) -> Result<Arc<State>, NoMemory>
         requires { AreKept self.now (map arc_value segments.items) }
-        ensures { IfOk result (λ state. state ≡ record { segments = map arc_value segments.items; history = self.now.history }) }
+        ensures { IfOk result (λ state. state.value ≡ record { segments = map arc_value segments.items; history = self.now.history }) }
     {
-        Ok(State {
+        let next = State {
             segments,
             history: self.history.clone()?,
             roster: self.roster.clone()?,
             counts: self.counts.clone()?,
-        })
+        };
+        Ok(Arc::new(alloc, next)?)
     }
 }

@@ -1,14 +1,34 @@
-use Rattle.std.proofs.Common.{◌≡◌, ◌++◌, map, sym, ap, subst, ◌∙◌, Bor}
+use Rattle.std.proofs.Common.{◌≡◌, ◌+◌, ◌<◌, List, ◌∷◌, ◌++◌, map, length, drop, sym, ap, subst, ◌∙◌, arith, Bor}
 use Rattle.std.specs.Arc.{arc_value}
-use Rattle.std.proofs.lemmas.List.{append-nil, drop_all}
+use Rattle.std.proofs.lemmas.List.{append_assoc, append-nil, drop_all, drop_more}
 use Rattle.clip_extract.specs.Covering.{article_keys}
 use Rattle.clip_model.specs.History.{Registered}
 use Rattle.clip_segment.specs.Segment.{IsRising}
 use Rattle.clip_segment.specs.Segment.{all_entries}
 use Rattle.clip_presearch.specs.Candidates.{candidates_of, MissesNone, AreRegistered}
 use Rattle.clip_presearch.specs.Steps.Places.{live_with}
+use Rattle.clip_presearch.proofs.Places.{live_split}
 use Rattle.clip_presearch.proofs.Whole.{misses_none, candidates_registered, candidates_rise}
 use Rattle.clip_presearch.proofs.presearch.candidates.Goals as goal
+
+pub loop-segment-preserved : goal.loop-segment-preserved
+loop-segment-preserved c =
+    let keys = article_keys c.args.article.now.fields in
+    let h = c.args.view.now.history in
+    let segments = c.segments-segment-items.result.now in
+    let i = c.loop-segment.segment-index in
+    let segment : List Registered = arc_value c.segment-item.result in
+    let others : List Registered = all_entries (map arc_value (drop (i + 1) segments)) in
+    let within : i < length segments = let l = c.loop-segment-test.true in omega arith in
+    let parts : segment ++ others ≡ all_entries (map arc_value (drop i segments)) =
+    ap (λ ss. all_entries (map arc_value ss)) (sym (drop_more segments i c.segment-item.result within ∙ ap (λ x. x ∷ drop (i + 1) segments) (sym c.segment-item.is))) in
+    let found = map (λ (e : Bor Registered). e.now) c.loop-segment.found.items in
+    ap (λ xs. xs ++ live_with h keys others)
+    (c.in_ok-add_candidates.ensures ∙ ap (λ (es : List Registered). found ++ live_with h keys es) c.deref-in-loop-segment.ensures)
+    ∙ append_assoc found (live_with h keys segment) (live_with h keys others)
+    ∙ ap (λ xs. found ++ xs) (live_split h keys segment others)
+    ∙ ap (λ es. found ++ live_with h keys es) parts
+    ∙ c.loop-segment.invariant
 
 pub returns : goal.returns
 returns c =

@@ -29,8 +29,8 @@ loop-segment-preserved c =
     c.in_ok-reading.ensures
     ∙ ap (λ (es : List Registered). record { entries = es; article = c.in_ok-asking.asking }) c.deref.ensures
     ∙ ap (λ (article : ArticleValue). record { entries = segment; article = article }) c.in_ok-asking.ensures in
-    let seqs = c.loop-segment.found.asked.items in
-    let found = map (λ (e : Bor Registered). e.now) c.loop-segment.found.entries.items in
+    let seqs = c.loop-segment.asked.items in
+    let found = map (λ (e : Bor Registered). e.now) c.loop-segment.held.items in
     record {
       asked =
           ap (λ xs. xs ++ seqs_of (live_with h ks others)) (c.in_ok-try_live.ensures.asked ∙ ap (λ (r : AskedValue). seqs ++ seqs_of (live_with h (article_keys r.article.fields) r.entries)) value)
@@ -38,12 +38,12 @@ loop-segment-preserved c =
           ∙ ap (λ xs. seqs ++ xs) (seqs_split h ks segment others)
           ∙ ap (λ es. seqs ++ seqs_of (live_with h ks es)) parts
           ∙ c.loop-segment.invariant.asked;
-      entries =
-          ap (λ xs. xs ++ filter held (live_with h ks others)) (c.in_ok-try_live.ensures.entries ∙ ap (λ (r : AskedValue). found ++ filter (λ x. holds x.standing.tree r.article.fields) (live_with h (article_keys r.article.fields) r.entries)) value)
+      held =
+          ap (λ xs. xs ++ filter held (live_with h ks others)) (c.in_ok-try_live.ensures.held ∙ ap (λ (r : AskedValue). found ++ filter (λ x. holds x.standing.tree r.article.fields) (live_with h (article_keys r.article.fields) r.entries)) value)
           ∙ append_assoc found (filter held (live_with h ks segment)) (filter held (live_with h ks others))
           ∙ ap (λ xs. found ++ xs) (held_split held h ks segment others)
           ∙ ap (λ es. found ++ filter held (live_with h ks es)) parts
-          ∙ c.loop-segment.invariant.entries;
+          ∙ c.loop-segment.invariant.held;
     }
 
 pub returns : goal.returns
@@ -58,15 +58,15 @@ returns c =
     let none : all_entries (map arc_value (drop i segments)) ≡ [] = ap (λ ss. all_entries (map arc_value ss)) (drop_all i segments c.loop-segment-test.false) in
     let all : live_with state.history ks (all_entries (map arc_value segments)) ≡ candidates_of state c.args.article.now =
     ap (λ ss. live_with state.history ks (all_entries ss)) c.segments-segment-items.ensures.segments in
-    let tried : c.loop-segment.found.asked.items ≡ seqs_of (candidates_of state c.args.article.now) =
+    let tried : c.loop-segment.asked.items ≡ seqs_of (candidates_of state c.args.article.now) =
     sym (append-nil _)
-    ∙ ap (λ es. c.loop-segment.found.asked.items ++ seqs_of (live_with state.history ks es)) (sym none)
+    ∙ ap (λ es. c.loop-segment.asked.items ++ seqs_of (live_with state.history ks es)) (sym none)
     ∙ c.loop-segment.invariant.asked
     ∙ ap seqs_of all in
-    let found = map (λ (e : Bor Registered). e.now) c.loop-segment.found.entries.items in
+    let found = map (λ (e : Bor Registered). e.now) c.loop-segment.held.items in
     record {
       asked = omega (arith, c.len.ensures, ap length tried, length-map (candidates_of state c.args.article.now) (λ (e : Registered). e.seq));
-      held = sym (append-nil found) ∙ ap (λ es. found ++ filter held (live_with state.history ks es)) (sym none) ∙ c.loop-segment.invariant.entries ∙ ap (filter held) all;
+      held = sym (append-nil found) ∙ ap (λ es. found ++ filter held (live_with state.history ks es)) (sym none) ∙ c.loop-segment.invariant.held ∙ ap (filter held) all;
       misses_none = misses_none c.covering_law.ensures state c.args.article.now whole;
       registered = candidates_registered state c.args.article.now whole;
       rising = candidates_rise state c.args.article.now whole;

@@ -8,9 +8,9 @@ use Rattle.clip_presearch.proofs.trying.holding.Given as goal
 
 abbrev pub invariant-loop-segment : goal.invariant-loop-segment
 invariant-loop-segment l = record {
-  asked : l.found.asked.items ++ seqs_of (live_with l.view.history (article_keys l.article.fields) (all_entries (map arc_value (drop l.segment-index l.segment-items))))
+  asked : l.asked.items ++ seqs_of (live_with l.view.history (article_keys l.article.fields) (all_entries (map arc_value (drop l.segment-index l.segment-items))))
       ≡ seqs_of (live_with l.view.history (article_keys l.article.fields) (all_entries (map arc_value l.segment-items)));
-  entries : map (λ e. e.now) l.found.entries.items
+  held : map (λ e. e.now) l.held.items
       ++ filter (λ r. holds r.standing.tree l.article.fields) (live_with l.view.history (article_keys l.article.fields) (all_entries (map arc_value (drop l.segment-index l.segment-items))))
       ≡ filter (λ r. holds r.standing.tree l.article.fields) (live_with l.view.history (article_keys l.article.fields) (all_entries (map arc_value l.segment-items)));
 }

@@ -28,8 +28,8 @@ loop-position-preserved-then-not-is_live_seq c =
     let at = entry_of_seq _ c.in-Some.seq c.in-Some.ensures in
     let next = dead_next h ks es _ c.loop-position.position-index at.0 c.requires c.loop-position-test.true at.1.0 (sym (c.if-not-is_live_seq.ensures ∙ ap (is_live h) (sym at.1.1))) in
     record {
-      asked = c.loop-position.invariant.asked ∙ ap (λ xs. c.args.found.now.asked.items ++ seqs_of xs) next;
-      entries = c.loop-position.invariant.entries ∙ ap (λ xs. map (λ (e : Bor Registered). e.now) c.args.found.now.entries.items ++ filter held xs) next;
+      asked = c.loop-position.invariant.asked ∙ ap (λ xs. c.args.asked.now.items ++ seqs_of xs) next;
+      held = c.loop-position.invariant.held ∙ ap (λ xs. map (λ (e : Bor Registered). e.now) c.args.held.now.items ++ filter held xs) next;
     }
 
 pub loop-position-preserved-then-not-branch : goal.loop-position-preserved-then-not-branch
@@ -42,8 +42,8 @@ loop-position-preserved-then-not-branch c =
     let front = live_front h ks es i in
     let at = entry_of_seq _ c.in-Some.seq c.in-Some.ensures in
     let alive : is_live h at.0.seq ≡ true = ap (is_live h) at.1.1 ∙ sym c.if-not-is_live_seq.ensures in
-    let seqs = c.args.found.now.asked.items in
-    let old = map (λ (e : Bor Registered). e.now) c.args.found.now.entries.items in
+    let seqs = c.args.asked.now.items in
+    let old = map (λ (e : Bor Registered). e.now) c.args.held.now.items in
     let next = ap (λ xs. old ++ xs) (held_next h ks es _ i at.0 held c.requires c.loop-position-test.true at.1.0 alive) in
     let asked = c.in_ok-push.ensures.items
     ∙ ap (λ xs. xs ++ c.in-Some.seq ∷ []) c.loop-position.invariant.asked
@@ -53,8 +53,8 @@ loop-position-preserved-then-not-branch c =
     let fails : held at.0 ≡ false = sym (c.in_ok-holds.ensures at.0 (sym at.1.0)) ∙ c.if-not-branch.true in
     record {
       asked = asked;
-      entries =
-          c.loop-position.invariant.entries
+      held =
+          c.loop-position.invariant.held
           ∙ ap (λ xs. old ++ xs) (sym (append-nil (filter held front)))
           ∙ ap (λ b. old ++ (filter held front ++ cond b (at.0 ∷ []) [])) (sym fails)
           ∙ next;
@@ -70,8 +70,8 @@ loop-position-preserved c =
     let front = live_front h ks es i in
     let at = entry_of_seq _ c.in-Some.seq c.in-Some.ensures in
     let alive : is_live h at.0.seq ≡ true = ap (is_live h) at.1.1 ∙ sym c.if-not-is_live_seq.ensures in
-    let seqs = c.args.found.now.asked.items in
-    let old = map (λ (e : Bor Registered). e.now) c.args.found.now.entries.items in
+    let seqs = c.args.asked.now.items in
+    let old = map (λ (e : Bor Registered). e.now) c.args.held.now.items in
     let next = ap (λ xs. old ++ xs) (held_next h ks es _ i at.0 held c.requires c.loop-position-test.true at.1.0 alive) in
     let asked = c.in_ok-push.ensures.items
     ∙ ap (λ xs. xs ++ c.in-Some.seq ∷ []) c.loop-position.invariant.asked
@@ -83,11 +83,11 @@ loop-position-preserved c =
     let same : x ≡ at.0 = ap (λ o. unwrap_or o x) (c.in-Some-entry.ensures ∙ sym at.1.0) in
     record {
       asked = asked;
-      entries =
+      held =
           ap (map (λ (e : Bor Registered). e.now)) c.in_ok-push-2.ensures.items
-          ∙ map-append (λ (e : Bor Registered). e.now) c.loop-position.found.entries.items _
-          ∙ ap (λ v. map (λ (e : Bor Registered). e.now) c.loop-position.found.entries.items ++ v ∷ []) (c.deref.ensures ∙ same)
-          ∙ ap (λ xs. xs ++ at.0 ∷ []) c.loop-position.invariant.entries
+          ∙ map-append (λ (e : Bor Registered). e.now) c.loop-position.held.items _
+          ∙ ap (λ v. map (λ (e : Bor Registered). e.now) c.loop-position.held.items ++ v ∷ []) (c.deref.ensures ∙ same)
+          ∙ ap (λ xs. xs ++ at.0 ∷ []) c.loop-position.invariant.held
           ∙ append_assoc old (filter held front) (at.0 ∷ [])
           ∙ ap (λ b. old ++ (filter held front ++ cond b (at.0 ∷ []) [])) (sym passes)
           ∙ next;
@@ -101,18 +101,18 @@ returns-clause-asked c =
     let i = c.loop-position.position-index in
     let all : length (placed_with ks es) ≤ i = omega (arith, ap length c.requires, c.loop-position-test.false, length-map (placed_with ks es) (λ (e : ℕ × Registered). e.0)) in
     c.loop-position.invariant.asked
-    ∙ ap (λ ps. c.args.found.now.asked.items ++ seqs_of (filter (λ r. is_live h r.seq) (map (λ (e : ℕ × Registered). e.1) ps))) (take_all i (placed_with ks es) all)
-    ∙ ap (λ xs. c.args.found.now.asked.items ++ seqs_of xs) (live_places h ks es)
+    ∙ ap (λ ps. c.args.asked.now.items ++ seqs_of (filter (λ r. is_live h r.seq) (map (λ (e : ℕ × Registered). e.1) ps))) (take_all i (placed_with ks es) all)
+    ∙ ap (λ xs. c.args.asked.now.items ++ seqs_of xs) (live_places h ks es)
 
-pub returns-clause-entries : goal.returns-clause-entries
-returns-clause-entries c =
+pub returns-clause-held : goal.returns-clause-held
+returns-clause-held c =
     let es = c.args.reading.now.entries in
     let ks = article_keys c.args.reading.now.article.fields in
     let h = c.args.view.now.history in
     let i = c.loop-position.position-index in
-    let old = map (λ (e : Bor Registered). e.now) c.args.found.now.entries.items in
+    let old = map (λ (e : Bor Registered). e.now) c.args.held.now.items in
     let held : Registered → Bool = λ r. holds r.standing.tree c.args.reading.now.article.fields in
     let all : length (placed_with ks es) ≤ i = omega (arith, ap length c.requires, c.loop-position-test.false, length-map (placed_with ks es) (λ (e : ℕ × Registered). e.0)) in
-    c.loop-position.invariant.entries
+    c.loop-position.invariant.held
     ∙ ap (λ ps. old ++ filter held (filter (λ r. is_live h r.seq) (map (λ (e : ℕ × Registered). e.1) ps))) (take_all i (placed_with ks es) all)
     ∙ ap (λ xs. old ++ filter held xs) (live_places h ks es)

@@ -7,7 +7,7 @@ use Rattle.clip_presearch.proofs.trying.try_live.Given as goal
 
 abbrev pub invariant-loop-position : goal.invariant-loop-position
 invariant-loop-position l = record {
-  asked : l.found.asked.items ≡ l.fn.found.asked.items ++ seqs_of (live_front l.view.history (article_keys l.reading.article.fields) l.reading.entries l.position-index);
-  entries : map (λ e. e.now) l.found.entries.items ≡ map (λ e. e.now) l.fn.found.entries.items
+  asked : l.asked.items ≡ l.fn.asked.items ++ seqs_of (live_front l.view.history (article_keys l.reading.article.fields) l.reading.entries l.position-index);
+  held : map (λ e. e.now) l.held.items ≡ map (λ e. e.now) l.fn.held.items
       ++ filter (λ r. holds r.standing.tree l.reading.article.fields) (live_front l.view.history (article_keys l.reading.article.fields) l.reading.entries l.position-index);
 }

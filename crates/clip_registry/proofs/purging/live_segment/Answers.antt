@@ -29,13 +29,13 @@ returns-then-len c =
     omega arith in
     c.in_ok-clone.ensures.cases ∙ sym (filter_all (λ r. is_live_in m r.seq) rs many)
 
-pub of-live-requires : goal.of-live-requires
-of-live-requires c =
-    subst AreRising (sym (seqs (goal.at.of-live-requires c).In_ok-add_live_seqs))
+pub of-requires : goal.of-requires
+of-requires c =
+    subst AreRising (sym (seqs (goal.at.of-requires c).In_ok-add_live_seqs))
     (seqs_rise _ (rising_filter _ c.args.segment.now.value (subst IsRising c.deref.ensures c.entries.ensures.rising)))
 
 pub returns : goal.returns
 returns c =
     let m = c.args.roster.now.registry in
-    c.in_ok-new.ensures.ok ∙ c.in_ok-purge.ensures ∙ ap (λ seqs. named seqs c.args.segment.now.value) (c.of-live.ensures ∙ seqs (goal.at.returns c).In_ok-add_live_seqs)
+    c.in_ok-new.ensures.ok ∙ c.in_ok-kept.ensures ∙ ap (λ seqs. named seqs c.args.segment.now.value) (c.of.ensures ∙ seqs (goal.at.returns c).In_ok-add_live_seqs)
     ∙ named_picked (is_live_in m) c.args.segment.now.value

@@ -1,4 +1,4 @@
-use Rattle.std.proofs.Common.{◌≡◌, ◌≤◌, ◌&&◌, ℕ, sym, ap, ◌∙◌, refl, arith, true, List, [], ◌∷◌, length, map, string_bytes, String, nat_le}
+use Rattle.std.proofs.Common.{◌≡◌, ◌≤◌, ◌&&◌, ℕ, sym, ap, ◌∙◌, arith, true, List, length, map, string_bytes, String, nat_le}
 use Rattle.std.proofs.lemmas.Bool.Decides.{nat_tests}
 use Rattle.std.specs.List.{list_all}
 use Rattle.std.specs.declared.alloc.Global.{Global}
@@ -9,10 +9,6 @@ use Rattle.clip_registry.specs.Command.{command_of}
 use Rattle.std.proofs.lemmas.List.{length-map}
 use Rattle.clip_registry.proofs.command.Command.fits.Goals as goal
 
-all_bytes : (ids : List (String Global)) → list_all (λ id. is_id (string_bytes id)) ids ≡ list_all is_id (map string_bytes ids)
-all_bytes [] = refl
-all_bytes (id ∷ ids) = ap (λ b. is_id (string_bytes id) && b) (all_bytes ids)
-
 few : (n : ℕ) → n ≤ MOST_LISTED → nat_le n MOST_LISTED ≡ true
 few n h = grind (arith, nat_tests)
 
@@ -20,6 +16,6 @@ pub returns-then-len-le-MOST_LISTED : goal.returns-then-len-le-MOST_LISTED
 returns-then-len-le-MOST_LISTED c =
     let ids : List (String Global) = c.in-Delete.ids.items in
     let short : length (map string_bytes ids) ≤ MOST_LISTED = let a = length-map ids (string_bytes {Z = Global}) in let b = c.len-in-Delete.ensures in let d = c.if-len-le-MOST_LISTED.true in let e = c.in-Delete.ids.ok.0 in omega arith in
-    c.are_ids.ensures ∙ ap (list_all (λ (id : String Global). is_id (string_bytes id))) c.deref.ensures.value ∙ all_bytes ids
+    c.are_ids.ensures ∙ ap (λ (xs : List (String Global)). list_all is_id (map string_bytes xs)) c.deref.ensures.value
     ∙ ap (λ b. b && list_all is_id (map string_bytes ids)) (sym (few (length (map string_bytes ids)) short))
     ∙ ap (λ x. fits (command_of x)) (sym c.in-Delete.is)

@@ -32,19 +32,17 @@ of-requires c =
     subst AreRising (sym (seqs (goal.at.of-requires c).After-loop-source))
     (seqs_rise _ (rising_filter _ (all_entries (map arc_value c.args.sources.now)) (record { rises = c.requires.rising.rises })))
 
-sources : (c : goal.In_ok-live) → map arc_value c.extend_with_clones.new.self.items ≡ map arc_value c.args.sources.now
-sources c =
-    let added = c.in_ok-extend_with_clones.ensures.items in
-    ap (map arc_value) (added.1 ∙ ap (λ l. l ++ added.0) c.in_ok-shared.ensures.items) ∙ map_shared c.args.sources.now added.0 added.2
+sources : (c : goal.In_ok-to_vec) → map arc_value c.in_ok-to_vec.field-0.items ≡ map arc_value c.args.sources.now
+sources c = map_shared c.args.sources.now c.in_ok-to_vec.field-0.items c.in_ok-to_vec.ensures.ok
 
-live : (c : goal.In_ok-live) → c.in_ok-live.live.value ≡ map (λ r. r.seq) (live_in c.args.roster.now.registry (all_entries (map arc_value c.args.sources.now)))
+live : (c : goal.In_ok-to_vec) → c.in_ok-live.live.value ≡ map (λ r. r.seq) (live_in c.args.roster.now.registry (all_entries (map arc_value c.args.sources.now)))
 live c = c.in_ok-live.ensures.ok ∙ c.of.ensures ∙ seqs (goal.at.returns c).After-loop-source
 
 pub invariant_of-result : goal.invariant_of-result
 invariant_of-result c =
     let m = c.args.roster.now.registry in
     let all = all_entries (map arc_value c.args.sources.now) in
-    let picked : named c.in_ok-live.live.value (all_entries (map arc_value c.extend_with_clones.new.self.items)) ≡ live_in m all =
+    let picked : named c.in_ok-live.live.value (all_entries (map arc_value c.in_ok-to_vec.field-0.items)) ≡ live_in m all =
     ap (λ ss. named c.in_ok-live.live.value (all_entries ss)) (sources c) ∙ ap (λ seqs. named seqs all) (live c) ∙ named_picked (is_live_in m) all in
     record {
       four = ap length (sources c) ∙ length-map c.args.sources.now arc_value ∙ c.requires.four;

@@ -7,12 +7,12 @@ use Rattle.clip_registry.specs.Merging.{merge_of}
 use Rattle.clip_registry.proofs.Clones.{map_shared}
 use Rattle.clip_registry.proofs.merging.MergeJob.run.Goals as goal
 
-sources : (c : goal.In_ok-new) → map arc_value c.in_ok-clone.field-0.items ≡ map arc_value c.self.inside.sources.items
+sources : (c : goal.In_ok-clone-2) → map arc_value c.in_ok-clone.field-0.items ≡ map arc_value c.self.inside.sources.items
 sources c = map_shared c.self.inside.sources.items c.in_ok-clone.field-0.items c.in_ok-clone.ensures.cases.0
 
-entries : (c : goal.In_ok-new) → c.in_ok-new.field-0.value ≡ named c.self.inside.live.value (all_entries (map arc_value c.self.inside.sources.items))
+entries : (c : goal.In_ok-clone-2) → c.in_ok-segment.segment.value ≡ named c.self.inside.live.value (all_entries (map arc_value c.self.inside.sources.items))
 entries c =
-    c.in_ok-new.ensures.ok ∙ c.in_ok-segment.ensures ∙ ap (λ seqs. named seqs (all_entries (map arc_value c.deref.result.now))) c.deref-2.ensures
+    c.in_ok-segment.ensures.ok ∙ c.in_ok-merged.ensures ∙ ap (λ seqs. named seqs (all_entries (map arc_value c.deref.result.now))) c.deref-2.ensures
     ∙ ap (λ ss. named c.self.inside.live.value (all_entries (map arc_value ss))) c.deref.ensures.value
 
 pub invariant_of-result : goal.invariant_of-result

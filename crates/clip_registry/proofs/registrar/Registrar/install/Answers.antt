@@ -26,14 +26,15 @@ put_in-requires c =
 
 pub with_segments-requires : goal.with_segments-requires
 with_segments-requires c =
+    let here = goal.at.with_segments-requires c in
     subst (λ s. AreKept s (map arc_value c.in_ok-segments.segments.items)) (c.deref.ensures ∙ sym c.deref-4.ensures)
-    (subst (AreKept c.deref.result.now) (sym (put c (same (goal.at.with_segments-requires c).After-deref-3))) c.in-Some-place_in.ensures.kept)
+    (subst (AreKept c.deref.result.now) (sym (put here.After-deref-4 (same here.After-deref-3))) c.in-Some-place_in.ensures.kept)
 
 pub returns-clause-done : goal.returns-clause-done
 returns-clause-done c _ =
     let here = goal.at.returns-clause-done c in
     let was : c.deref.result.now ≡ c.args.self.now = c.deref.ensures ∙ ap state_or_beginning (sym c.in-Some.is) ∙ c.self.view_is in
-    let next = c.in_ok-new.ensures.ok ∙ c.in_ok-next.ensures in
+    let next = c.in_ok-with_segments.ensures in
     record {
       first = c.in-Some-place_in.first;
       stood = subst (λ (s : RegistryState). StandsAt s.segments c.args.merged.sources c.in-Some-place_in.first) was c.in-Some-place_in.ensures.stands;

@@ -9,8 +9,8 @@ use Rattle.clip_registry.specs.Steps.State.{IsConsistent, state_of}
 use Rattle.clip_registry.proofs.Kept.{consistent_kept}
 use Rattle.clip_registry.proofs.state.State.with_segments.Goals as goal
 
-pub invariant_of-result : goal.invariant_of-result
-invariant_of-result c =
+pub invariant_of-next : goal.invariant_of-next
+invariant_of-next c =
     let segments = map arc_value c.args.segments.items in
     let counts : c.in_ok-clone-3.field-0.items ≡ c.self.inside.counts.items = same_from_all_zip (λ (x y : ℕ). y ≡ x) _ _ c.in_ok-clone-3.ensures.cases.0 (λ x y e. e) in
     let is : AreKept (state_of c.self.inside) segments = subst (λ (s : RegistryState). AreKept s segments) (sym c.self.view_is) c.requires in
