@@ -2,7 +2,7 @@
 use clip_grammar::query::Occur;
 
 /// A step of a plan: a leaf as a clause of the group that is open, or the beginning or the end of a group.
-#[derive(Clone, Copy, Debug, PartialEq, Eq)]
+#[derive(Clone, Copy, Debug)]
 pub(crate) enum Step {
     /// The article has the term of this number.
     Term(Occur, u32),
