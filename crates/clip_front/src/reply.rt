@@ -1,12 +1,12 @@
 //! Replies, and their text.
-ghost use Rattle.std.specs.Prelude.{◌≡◌, ℕ, false, IfOk, Some, None, map, string_bytes};
+ghost use Rattle.std.specs.Prelude.{◌≡◌, false, codes, IfOk, map};
 ghost use Rattle.std.specs.Arc.{arc_str_bytes};
-ghost use Rattle.serde_json.specs.Data.{string};
+ghost use Rattle.serde_json.specs.Data.{string, object, put, member, no_members};
 ghost use Rattle.serde_json.specs.View.{view};
 ghost use Rattle.serde_json.specs.Written.{has_float};
 ghost use Rattle.clip_match.specs.Alerts.{alert_value, alerts_value};
 ghost use Rattle.clip_front.specs.Reply as reply;
-ghost use Rattle.clip_front.specs.Reply.{printed as printed_text, alerts_data, reply_value};
+ghost use Rattle.clip_front.specs.Reply.{printed as printed_text, alerts_data, number_of, reply_value};
 ghost use Rattle.clip_front.specs.Steps.Views.{alerts_ids};
 
 use crate::refusal::Refusal;
@@ -100,20 +100,12 @@ fn notes_json(alloc: Global, notes: &[Note]) -> Result<Vec<Value>, NoMemory>
     Ok(texts)
 }
 
-/// The value that stands for no reply, and is never printed.
-#[tactic(auto, unfolding(crate::specs::Reply::reply_value))]
-fn nothing_json() -> Value
-    ensures { (n : ℕ) → view result ≡ reply_value n reply.nothing }
+/// The reply to the line of this number that gives a word under this name.
+fn word_json(alloc: Global, number: u64, name: &str, word: &str) -> Result<Value, NoMemory>
+    ensures { IfOk result (λ v. view v ≡ object (put name.now (string word.now)
+        (member (codes "line") (number_of number) no_members))) }
 {
-    Value::Null
-}
-
-/// The reply to a line that is refused.
-#[tactic(auto, unfolding(crate::specs::Reply::reply_value))]
-fn refused_json(alloc: Global, number: u64, reason: Refusal) -> Result<Value, NoMemory>
-    ensures { IfOk result (λ v. view v ≡ reply_value number (reply.refused reason)) }
-{
-    Ok(json!(in alloc; {"line": number, "refused": reason.word()})?)
+    Ok(json!(in alloc; {"line": number, name: word})?)
 }
 
 /// The reply to a line that is refused for what its list has at a place.
@@ -129,60 +121,20 @@ fn refused_at_json(
     Ok(json!(in alloc; {"line": number, "refused": reason.word(), "which": place})?)
 }
 
-/// The reply to a register.
-#[tactic(auto, unfolding(crate::specs::Reply::reply_value))]
-fn registered_json(alloc: Global, number: u64, count: u64) -> Result<Value, NoMemory>
-    ensures { IfOk result (λ v. view v ≡ reply_value number (reply.registered count)) }
+/// The reply to the line of this number that gives a count under this name.
+fn count_json(alloc: Global, number: u64, name: &str, count: u64) -> Result<Value, NoMemory>
+    ensures { IfOk result (λ v. view v ≡ object (put name.now (number_of count)
+        (member (codes "line") (number_of number) no_members))) }
 {
-    Ok(json!(in alloc; {"line": number, "registered": count})?)
+    Ok(json!(in alloc; {"line": number, name: count})?)
 }
 
-/// The reply to a delete.
-#[tactic(auto, unfolding(crate::specs::Reply::reply_value))]
-fn deleted_json(alloc: Global, number: u64, count: u64) -> Result<Value, NoMemory>
-    ensures { IfOk result (λ v. view v ≡ reply_value number (reply.deleted count)) }
+/// The reply to the line of this number that gives a value under this name.
+fn value_json(alloc: Global, number: u64, name: &str, value: Value) -> Result<Value, NoMemory>
+    ensures { IfOk result (λ v. view v ≡ object (put name.now (view value)
+        (member (codes "line") (number_of number) no_members))) }
 {
-    Ok(json!(in alloc; {"deleted": count, "line": number})?)
-}
-
-/// The reply to a clear.
-#[tactic(auto, unfolding(crate::specs::Reply::reply_value))]
-fn cleared_json(alloc: Global, number: u64, count: u64) -> Result<Value, NoMemory>
-    ensures { IfOk result (λ v. view v ≡ reply_value number (reply.cleared count)) }
-{
-    Ok(json!(in alloc; {"cleared": count, "line": number})?)
-}
-
-/// The reply to a purge.
-#[tactic(auto, unfolding(crate::specs::Reply::reply_value))]
-fn purged_json(alloc: Global, number: u64) -> Result<Value, NoMemory>
-    ensures { IfOk result (λ v. view v ≡ reply_value number reply.purged) }
-{
-    Ok(json!(in alloc; {"line": number, "purged": true})?)
-}
-
-/// The reply to a count.
-#[tactic(auto, unfolding(crate::specs::Reply::reply_value))]
-fn counted_json(alloc: Global, number: u64, count: u64) -> Result<Value, NoMemory>
-    ensures { IfOk result (λ v. view v ≡ reply_value number (reply.counted count)) }
-{
-    Ok(json!(in alloc; {"count": count, "line": number})?)
-}
-
-/// The reply to a show that found a query.
-#[tactic(auto, unfolding(crate::specs::Reply::reply_value))]
-fn shown_json(alloc: Global, number: u64, text: String) -> Result<Value, NoMemory>
-    ensures { IfOk result (λ v. view v ≡ reply_value number (reply.shown (Some (string_bytes text)))) }
-{
-    Ok(json!(in alloc; {"line": number, "query": text})?)
-}
-
-/// The reply to a show that found none.
-#[tactic(auto, unfolding(crate::specs::Reply::reply_value))]
-fn not_shown_json(alloc: Global, number: u64) -> Result<Value, NoMemory>
-    ensures { IfOk result (λ v. view v ≡ reply_value number (reply.shown None)) }
-{
-    Ok(json!(in alloc; {"line": number, "query": null})?)
+    Ok(json!(in alloc; {"line": number, name: value})?)
 }
 
 /// The reply to a match.
@@ -199,14 +151,6 @@ fn matched_json(
     let alerts = all_alerts_json(alloc, found)?;
     let notes = notes_json(alloc, notes)?;
     Ok(json!(in alloc; {"alerts": alerts, "line": number, "notes": notes})?)
-}
-
-/// The reply to an event of a trace.
-#[tactic(auto, unfolding(crate::specs::Reply::reply_value))]
-fn stepped_json(alloc: Global, number: u64, word: &str) -> Result<Value, NoMemory>
-    ensures { IfOk result (λ v. view v ≡ reply_value number (reply.stepped word.now)) }
-{
-    Ok(json!(in alloc; {"line": number, "step": word})?)
 }
 
 /// The reply to the finish of a batch.
@@ -226,22 +170,23 @@ impl Reply {
     ghost use Rattle.clip_front.specs.Steps.Views.{reply_view};
 
     /// The JSON value of the reply to the line of this number.
+    #[tactic(auto, unfolding(crate::specs::Reply::reply_value))]
     fn value(self, alloc: Global, number: u64) -> Result<Value, NoMemory>
         ensures { IfOk result (λ v. view v ≡ reply_value number (reply_view self)) }
     {
         match self {
-            Reply::Nothing => Ok(nothing_json()),
-            Reply::Refused(reason) => refused_json(alloc, number, reason),
+            Reply::Nothing => Ok(Value::Null),
+            Reply::Refused(reason) => word_json(alloc, number, "refused", reason.word()),
             Reply::RefusedAt(reason, place) => refused_at_json(alloc, number, reason, place),
-            Reply::Registered(count) => registered_json(alloc, number, count),
-            Reply::Deleted(count) => deleted_json(alloc, number, count),
-            Reply::Cleared(count) => cleared_json(alloc, number, count),
-            Reply::Purged => purged_json(alloc, number),
-            Reply::Counted(count) => counted_json(alloc, number, count),
-            Reply::Shown(Some(text)) => shown_json(alloc, number, text),
-            Reply::Shown(None) => not_shown_json(alloc, number),
+            Reply::Registered(count) => count_json(alloc, number, "registered", count),
+            Reply::Deleted(count) => count_json(alloc, number, "deleted", count),
+            Reply::Cleared(count) => count_json(alloc, number, "cleared", count),
+            Reply::Purged => value_json(alloc, number, "purged", Value::Bool(true)),
+            Reply::Counted(count) => count_json(alloc, number, "count", count),
+            Reply::Shown(Some(text)) => value_json(alloc, number, "query", Value::String(text)),
+            Reply::Shown(None) => value_json(alloc, number, "query", Value::Null),
             Reply::Matched(found, notes) => matched_json(alloc, number, &found, &notes),
-            Reply::Stepped(word) => stepped_json(alloc, number, word),
+            Reply::Stepped(word) => word_json(alloc, number, "step", word),
             Reply::Finished(found) => finished_json(alloc, number, &found),
         }
     }
