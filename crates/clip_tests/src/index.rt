@@ -118,8 +118,10 @@ fn add_query(
 /// For each key of queries the places of those that have it.
 fn places_by_key(alloc: Global, queries: &[Query]) -> Result<Places, NoMemory> {
     let mut places = BTreeMap::new(alloc);
-    for (place, query) in queries.iter().enumerate() {
-        add_query(alloc, &mut places, query, place as u32)?;
+    let mut place = 0u32;
+    for query in queries {
+        add_query(alloc, &mut places, query, place)?;
+        place = place.wrapping_add(1);
     }
     Ok(places)
 }

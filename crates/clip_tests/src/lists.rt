@@ -32,6 +32,7 @@ fn a_write_leaves_the_other_copy_as_it_was(rt: HostRuntime) -> Result<(), Fail> 
         assert!(rt; flags.get(place) == Some(&true));
         assert!(rt; copy.get(place) == Some(&false));
     }
+    assert!(rt; copy.len() == 300);
     copy.set(1, true)?;
     copy.push(true)?;
     assert!(rt; flags.get(1) == Some(&false));
