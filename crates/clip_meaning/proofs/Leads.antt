@@ -33,7 +33,8 @@ below (suc k) m (x ∷ xs) (y ∷ ys) bytes lt = by_order (nat_cmp x y) (ranked 
     by_order Greater more rest =
         let turned : lead_after (m * 256 + y) k ys < lead_after (m * 256 + x) k xs = grows k (m * 256 + y) (m * 256 + x) ys xs bytes.1 (omega arith) in absurd (omega arith)
 
-lead_below : (xs ys : List ℕ) (m n : ℕ) → IsLead xs m → IsLead ys n → m < n → bytes_cmp xs ys ≡ Less
+-- of two texts the one of the lesser lead is below
+pub lead_below : (xs ys : List ℕ) (m n : ℕ) → IsLead xs m → IsLead ys n → m < n → bytes_cmp xs ys ≡ Less
 unfolding lead_of
 lead_below xs ys m n a b lt = below 8 0 xs ys b.bytes (let first : m ≡ lead_after 0 8 xs = a.number in let second : n ≡ lead_after 0 8 ys = b.number in omega arith)
 

@@ -1,6 +1,6 @@
 pub mod Fields
 mod Groups
-mod Leads
+pub mod Leads
 pub mod Numbered
 mod Pairs
 mod Postings

@@ -9,7 +9,6 @@ ghost use Rattle.clip_plan.specs.Steps.Plans.{Grows, Adds, IsNoGroup};
 
 use crate::copy::copied;
 use crate::step::Step;
-use clip_extract::Key;
 use clip_grammar::query::{Occur, Query};
 use clip_pieces::PackedLists;
 use clip_terms::Terms;
@@ -48,12 +47,12 @@ impl Model for Plans {
 }
 
 /// The number of a word, which is a term.
-fn number_of(terms: &Terms, field: &ArcStr, word: &ArcStr) -> Result<u32, NoMemory>
+fn number_of(terms: &Terms, field: &ArcStr, word: &ArcStr) -> u32
     requires { IsTrue (are_terms terms.now (Word (arc_str_bytes field.now) (arc_str_bytes word.now) ∷ [])) }
-    ensures { IfOk result (λ number. term_at terms.now number ≡ Word (arc_str_bytes field.now) (arc_str_bytes word.now)) }
+    ensures { term_at terms.now result ≡ Word (arc_str_bytes field.now) (arc_str_bytes word.now) }
 {
-    match terms.number(&Key::Word(field.clone()?, word.clone()?)) {
-        Some(number) => Ok(number),
+    match terms.of_field(field).word(word) {
+        Some(number) => number,
         None => unreachable!(),
     }
 }
@@ -70,7 +69,7 @@ fn numbers_of(
 {
     let mut run = Vec::new(alloc);
     for word in words {
-        run.push(number_of(terms, field, word)?)?;
+        run.push(number_of(terms, field, word))?;
     }
     Ok(run)
 }
@@ -142,7 +141,7 @@ fn add_leaf(
 {
     match query {
         Query::Term { field, word } => {
-            steps.push(Step::Term(occur, number_of(terms, field, word)?))?;
+            steps.push(Step::Term(occur, number_of(terms, field, word)))?;
             Ok(())
         }
         Query::Phrase { field, words } => {

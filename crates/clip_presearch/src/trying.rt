@@ -2,9 +2,9 @@
 ghost use Rattle.std.specs.Prelude.{◌≡◌, ◌++◌, map, filter, length, IfOk, OnOk};
 ghost use Rattle.clip_extract.specs.Covering.{article_keys};
 ghost use Rattle.clip_meaning.specs.Meaning.{holds};
-ghost use Rattle.clip_segment.specs.Segment.{IsRising, positions_sharing, seqs_of};
+ghost use Rattle.clip_segment.specs.Segment.{IsRising, seqs_of};
 ghost use Rattle.clip_presearch.specs.Candidates.{candidates_of, MissesNone, AreRegistered};
-ghost use Rattle.clip_presearch.specs.Steps.Places.{live_with};
+ghost use Rattle.clip_presearch.specs.Steps.Places.{entries_at, live_among};
 
 use clip_extract::covering_law;
 use clip_meaning::Article;
@@ -24,37 +24,50 @@ pub struct Tried<'a> {
     pub entries: Vec<&'a Entry>,
 }
 
-/// Tries the live ones of a segment's entries that share a key with the article, which stand at these positions, and
-/// adds the seqs of those that were tried, and those whose queries hold. `stack` is room for the groups that are open.
-fn try_live<'a>(
+/// Those of the positions at which a live entry of the segment stands, in place of those that were in `live`. Adds the
+/// seqs of these entries. No entry is looked at, so the positions wait for memory side by side.
+fn keep_live(
     view: &View,
-    reading: &SegmentReading<'a>,
+    reading: &SegmentReading<'_>,
     positions: &[u32],
-    stack: &mut Vec<Tally>,
+    live: &mut Vec<u32>,
     asked: &mut Vec<u64>,
-    held: &mut Vec<&'a Entry>,
 ) -> Result<(), NoMemory>
-    requires { positions.now ≡ positions_sharing (article_keys reading.now.article.fields) reading.now.entries }
-    ensures asked { OnOk result (asked.new.items
-        ≡ asked.old.items ++ seqs_of (live_with view.now.history (article_keys reading.now.article.fields) reading.now.entries)) }
-    ensures held { OnOk result (map (λ e. e.now) held.new.items
-        ≡ map (λ e. e.now) held.old.items
-        ++ filter (λ r. holds r.standing.tree reading.now.article.fields)
-        (live_with view.now.history (article_keys reading.now.article.fields) reading.now.entries)) }
+    ensures live { OnOk result (live.new.items ≡ live_among view.now.history reading.now.entries positions.now) }
+    ensures asked { OnOk result (asked.new.items ≡ asked.old.items
+        ++ seqs_of (entries_at reading.now.entries (live_among view.now.history reading.now.entries positions.now))) }
 {
+    live.clear();
     for position in positions {
         let Some(seq) = reading.seq(*position) else {
-            unreachable!();
+            continue;
         };
         if !view.is_live_seq(seq) {
             continue;
         }
+        live.push(*position)?;
         asked.push(seq)?;
+    }
+    Ok(())
+}
+
+/// Tries the entries of a segment at these positions, and adds those whose queries hold of the article. `stack` is room
+/// for the groups that are open.
+fn try_each<'a>(
+    reading: &SegmentReading<'a>,
+    positions: &[u32],
+    stack: &mut Vec<Tally>,
+    held: &mut Vec<&'a Entry>,
+) -> Result<(), NoMemory>
+    ensures { OnOk result (map (λ e. e.now) held.new.items ≡ map (λ e. e.now) held.old.items
+        ++ filter (λ r. holds r.standing.tree reading.now.article.fields) (entries_at reading.now.entries positions.now)) }
+{
+    for position in positions {
         if !reading.holds(*position, stack)? {
             continue;
         }
         let Some(entry) = reading.entry(*position) else {
-            unreachable!();
+            continue;
         };
         held.push(entry)?;
     }
@@ -82,15 +95,15 @@ pub fn holding<'a>(
     covering_law();
     let asking = Asking::of(alloc, article)?;
     let mut positions = Vec::new(alloc);
+    let mut live = Vec::new(alloc);
     let mut stack = Vec::new(alloc);
     let mut asked = Vec::new(alloc);
     let mut held = Vec::new(alloc);
     for segment in view.segments() {
         let reading = segment.read(alloc, &asking)?;
         reading.sharers(&mut positions)?;
-        try_live(
-            view, &reading, &positions, &mut stack, &mut asked, &mut held,
-        )?;
+        keep_live(view, &reading, &positions, &mut live, &mut asked)?;
+        try_each(&reading, &live, &mut stack, &mut held)?;
     }
     Ok(Tried {
         asked: asked.len() as u64,

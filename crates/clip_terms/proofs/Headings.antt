@@ -1,5 +1,5 @@
 -- The terms under a heading, and where one of a text stands among them.
-use Rattle.std.proofs.Common.{◌≡◌, ℕ, zero, suc, ◌+◌, ◌<◌, ◌≤◌, Bool, true, false, List, [], ◌∷◌, length, map, get_or, Some, None, Ordering, Less, Equal, Greater, is_lt, is_le, is_eq, is_gt, refl, sym, ap, ◌∙◌, arith, inl, inr}
+use Rattle.std.proofs.Common.{◌≡◌, ℕ, zero, suc, ◌+◌, ◌<◌, ◌≤◌, Bool, true, false, List, [], ◌∷◌, length, map, get_or, Option, Some, None, Ordering, Less, Equal, Greater, is_lt, is_le, is_eq, is_gt, refl, sym, ap, ◌∙◌, arith, inl, inr}
 use Rattle.std.specs.Ordering.{ordering_then, ordering_reverse, nat_cmp, MatchOrdering}
 use Rattle.std.specs.Cmp.{IsTotalOrder, on_total, then_total, nat_cmp_total, tied_itself}
 use Rattle.std.specs.Cmp.Lexicographic.{nat_list_cmp_total}
@@ -218,6 +218,17 @@ found_nowhere ts start end text low high met below above n d a b e =
       | inl lt ↦ true≢false (sym (ap is_eq tie) ∙ ap is_eq (below n d a lt))
       | inr ge ↦ true≢false (sym (ap is_eq tie) ∙ ap is_eq (above n d (omega arith) b))
     ]
+
+-- what is found in a later part is found in the whole, where all before it is below
+pub found_later : (ts : List KeyValue) (start first end : ℕ) (text : List ℕ) → start ≤ first
+    → ((n : ℕ) (d : KeyValue) → start ≤ n → n < first → bytes_cmp (text_of (get_or ts n d)) text ≡ Less)
+    → (place : Option ℕ) → IsPlaceOf ts first end text place → IsPlaceOf ts start end text place
+found_later ts start first end text le below None none =
+    λ n d a b e. elim (cases_lt n first) [
+      | inl lt ↦ false≢true (sym (ap is_eq (below n d a lt)) ∙ ap is_eq (ap (λ x. bytes_cmp x text) e ∙ tied_itself nat_list_cmp_total text))
+      | inr ge ↦ none n d ge b e
+    ]
+found_later ts start first end text le below (Some place) found = (let a = found.0 in omega arith, found.1, found.2)
 
 -- ---- the number of a key
 

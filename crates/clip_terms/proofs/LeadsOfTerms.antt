@@ -1,10 +1,15 @@
 -- Terms and their leads, one after another.
-use Rattle.std.proofs.Common.{◌≡◌, ℕ, zero, suc, ◌<◌, List, [], ◌∷◌, ◌++◌, length, map, get_or, refl, sym, ap, ◌∙◌, arith}
+use Rattle.std.proofs.Common.{◌≡◌, ℕ, zero, suc, ◌<◌, ◌≤◌, List, [], ◌∷◌, ◌++◌, length, map, get_or, Less, is_gt, refl, sym, ap, ◌∙◌, arith, inl, inr}
+use Rattle.std.specs.Ordering.{ordering_reverse}
+use Rattle.std.specs.Cmp.Lexicographic.{nat_list_cmp_total}
+use Rattle.std.proofs.lemmas.Bool.{cases_lt, false≢true}
 use Rattle.std.proofs.lemmas.List.{get_or-map}
+use Rattle.clip_words.specs.Order.{bytes_cmp}
 use Rattle.clip_meaning.specs.Leads.{IsLead}
-use Rattle.clip_extract.specs.Keys.{KeyValue, key_of, text_of}
+use Rattle.clip_meaning.proofs.Leads.{lead_below}
+use Rattle.clip_extract.specs.Keys.{KeyValue, Any, key_of, text_of}
 use Rattle.clip_extract.specs.declared.key.Key.{Key}
-use Rattle.clip_terms.specs.Steps.Leads.{AreLeads}
+use Rattle.clip_terms.specs.Steps.Leads.{AreLeads, NeverFall, TextsRise}
 
 pub leads_long : (ts : List KeyValue) (leads : List ℕ) → AreLeads ts leads → length leads ≡ length ts
 leads_long [] [] are = refl
@@ -27,3 +32,20 @@ leads_push (x ∷ ts) (l ∷ leads) t lead are is = (are.0, leads_push ts leads 
 -- the term at a place is the key that was read there
 pub read_at : (keys : List Key) (n : ℕ) (k : Key) → n < length keys → k ≡ get_or keys n k → (d : KeyValue) → get_or (map key_of keys) n d ≡ key_of k
 read_at keys n k inside is d = get_or-map key_of keys n k d inside ∙ ap key_of (sym is)
+
+-- where texts rise, leads never fall
+pub never_fall : (ts : List KeyValue) (leads : List ℕ) (start end : ℕ) → AreLeads ts leads → end ≤ length ts → TextsRise ts start end → NeverFall leads start end
+never_fall ts leads start end are within rise m n a lt b =
+    elim (cases_lt (get_or leads n 0) (get_or leads m 0)) [
+      | inl less ↦
+          let turned = lead_below (text_of (get_or ts n Any)) (text_of (get_or ts m Any)) _ _ (lead_at ts leads are n Any (omega arith)) (lead_at ts leads are m Any (omega arith)) less in
+          absurd (false≢true (ap is_gt (sym turned ∙ nat_list_cmp_total.antisymm (text_of (get_or ts n Any)) (text_of (get_or ts m Any)) ∙ ap ordering_reverse (rise m n Any a lt b))))
+      | inr ge ↦ ge
+    ]
+
+-- and texts of lesser leads than a text's are below it
+pub all_below : (ts : List KeyValue) (leads : List ℕ) (start end : ℕ) (text : List ℕ) (lead : ℕ) → AreLeads ts leads → IsLead text lead → end ≤ length ts
+    → ((n : ℕ) → start ≤ n → n < end → get_or leads n 0 < lead)
+    → (n : ℕ) (d : KeyValue) → start ≤ n → n < end → bytes_cmp (text_of (get_or ts n d)) text ≡ Less
+all_below ts leads start end text lead are is within lower n d a b =
+    lead_below (text_of (get_or ts n d)) text (get_or leads n 0) lead (lead_at ts leads are n d (omega arith)) is (lower n a b)

@@ -1,11 +1,12 @@
 //! The terms of one field, found by the first bytes of their texts.
-ghost use Rattle.std.specs.Prelude.{◌≡◌, ◌≤◌, OnOk, map, length};
+ghost use Rattle.std.specs.Prelude.{◌≡◌, ℕ, ◌<◌, ◌≤◌, OnOk, map, length, slice_index};
 ghost use Rattle.std.specs.Str.{bytes_eq};
 ghost use Rattle.clip_extract.specs.Covering.{front_keys};
 ghost use Rattle.clip_extract.specs.Keys.{Word, Front, key_of};
 ghost use Rattle.clip_terms.specs.Terms.{number_of};
 ghost use Rattle.clip_terms.specs.Steps.Fronts.{AddsNumbersOf};
-ghost use Rattle.clip_terms.specs.Steps.Leads.{AreLeads, TextsRise, IsPlaceOf};
+ghost use Rattle.clip_meaning.specs.Leads.{IsLead};
+ghost use Rattle.clip_terms.specs.Steps.Leads.{AreLeads, NeverFall, TextsRise, IsPlaceOf};
 
 use crate::leads::text_order;
 use crate::terms::Terms;
@@ -42,14 +43,40 @@ impl<'a> Model for FieldTerms<'a> {
     ghost invariant = { AreFieldTerms };
 }
 
-/// Where the key of a text stands among keys whose texts rise.
-fn place_of(keys: &[Key], leads: &[u64], part: &Range<usize>, text: &str) -> Option<usize>
+/// The first place of a part whose lead is not below this one. In a part no lead is below one before it.
+fn first_of_lead(leads: &[u64], part: &Range<usize>, lead: u64) -> usize
+    requires within { part.now.end ≤ length leads.now }
+    requires rise { NeverFall leads.now part.now.start part.now.end }
+    ensures from { part.now.start ≤ result }
+    ensures below { (n : ℕ) → part.now.start ≤ n → n < result → slice_index leads.now n < lead }
+{
+    let mut low = part.start;
+    let mut high = part.end;
+    while low < high {
+        let middle = low + (high - low) / 2;
+        if leads[middle] < lead {
+            low = middle + 1;
+        } else {
+            high = middle;
+        }
+    }
+    low
+}
+
+/// Where the key of a text, which has this lead, stands among keys whose texts rise.
+fn place_among(
+    keys: &[Key],
+    leads: &[u64],
+    part: &Range<usize>,
+    text: &str,
+    lead: u64,
+) -> Option<usize>
     requires within { part.now.end ≤ length keys.now }
     requires leads { AreLeads (map key_of keys.now) leads.now }
     requires rise { TextsRise (map key_of keys.now) part.now.start part.now.end }
+    requires lead { IsLead text.now lead }
     ensures { IsPlaceOf (map key_of keys.now) part.now.start part.now.end text.now result }
 {
-    let lead = lead_of(text);
     let mut low = part.start;
     let mut high = part.end;
     while low < high {
@@ -61,6 +88,26 @@ fn place_of(keys: &[Key], leads: &[u64], part: &Range<usize>, text: &str) -> Opt
         }
     }
     None
+}
+
+/// Where the key of a text stands among keys whose texts rise. Mostly this is the first key of the text's lead, or there
+/// is none: so that one is looked for by leads alone, and the others only where its text is below.
+fn place_of(keys: &[Key], leads: &[u64], part: &Range<usize>, text: &str) -> Option<usize>
+    requires within { part.now.end ≤ length keys.now }
+    requires leads { AreLeads (map key_of keys.now) leads.now }
+    requires rise { TextsRise (map key_of keys.now) part.now.start part.now.end }
+    ensures { IsPlaceOf (map key_of keys.now) part.now.start part.now.end text.now result }
+{
+    let lead = lead_of(text);
+    let first = first_of_lead(leads, part, lead);
+    if first >= part.end {
+        return None;
+    }
+    match text_order(&keys[first], leads[first], text, lead) {
+        Ordering::Less => place_among(keys, leads, &(first + 1..part.end), text, lead),
+        Ordering::Greater => None,
+        Ordering::Equal => Some(first),
+    }
 }
 
 impl<'a> FieldTerms<'a> {

@@ -77,13 +77,18 @@ impl Terms {
         self.keys.is_empty()
     }
 
-    /// The number of a key, `None` where it is no term. Takes no memory. Cost: a search by halves.
+    /// The number of a key, `None` where it is no term. Takes no memory. Cost: a search by halves among the fields, and
+    /// one among the words or the fronts of the key's field, by the first bytes of its text.
     pub fn number(&self, key: &Key) -> Option<u32>
         ensures { result ≡ number_of self.now (key_of key.now) }
     {
-        match self.keys.binary_search(key) {
-            Ok(number) => Some(number as u32),
-            Err(_) => None,
+        match key {
+            Key::Any => match self.keys.binary_search(key) {
+                Ok(number) => Some(number as u32),
+                Err(_) => None,
+            },
+            Key::Word(field, word) => self.of_field(field).word(word),
+            Key::Front(field, text) => self.of_field(field).front(text),
         }
     }
 

@@ -1,5 +1,5 @@
 -- Keys by rank, field and text, and the first bytes of the texts of terms.
-use Rattle.std.specs.Prelude.{◌≡◌, ℕ, ◌<◌, ◌≤◌, List, [], ◌∷◌, Option, length, slice_index_or, MatchOption}
+use Rattle.std.specs.Prelude.{◌≡◌, ℕ, ◌<◌, ◌≤◌, List, [], ◌∷◌, Option, length, slice_index, slice_index_or, MatchOption}
 use Rattle.std.specs.Ordering.{nat_cmp, then_cmp, on}
 use Rattle.std.specs.declared.cmp.Ordering.{Ordering}
 use Rattle.std.specs.declared.cmp.Ordering.TheVariants.{Less}
@@ -32,6 +32,10 @@ pub record IsPart (terms : List KeyValue) (head : ℕ × List ℕ) (start end : 
 -- there each text is below those after it
 abbrev pub TextsRise : List KeyValue → (start end : ℕ) → Type 0
 TextsRise terms start end = (m n : ℕ) (d : KeyValue) → start ≤ m → m < n → n < end → bytes_cmp (text_of (slice_index_or terms m d)) (text_of (slice_index_or terms n d)) ≡ Less
+
+-- and no lead is below one before it
+abbrev pub NeverFall : List ℕ → (start end : ℕ) → Type 0
+NeverFall leads start end = (m n : ℕ) → start ≤ m → m < n → n < end → slice_index leads m ≤ slice_index leads n
 
 -- where the text stands there, and `None` where it does not
 abbrev pub IsPlaceOf : List KeyValue → (start end : ℕ) → (text : List ℕ) → Option ℕ → Type 0

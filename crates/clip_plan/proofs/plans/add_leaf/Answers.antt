@@ -6,8 +6,8 @@ use Rattle.clip_plan.proofs.plans.add_leaf.Goals as goal
 
 pub returns-in_ok-push-in-Term-clause-added : goal.returns-in_ok-push-in-Term-clause-added
 returns-in_ok-push-in-Term-clause-added c =
-    term_added c.args.terms.now c.args.runs.now c.args.asked.now.items c.args.steps.now.items c.push.new.self.items c.args.occur c.in_ok-number_of-in-Term.field-0 c.args.query.now c.in-Term.field c.in-Term.word
-    c.in-Term.is c.in_ok-number_of-in-Term.ensures c.in_ok-push-in-Term.ensures.items
+    term_added c.args.terms.now c.args.runs.now c.args.asked.now.items c.args.steps.now.items c.push.new.self.items c.args.occur c.number_of.result c.args.query.now c.in-Term.field c.in-Term.word
+    c.in-Term.is c.number_of.ensures c.in_ok-push-in-Term.ensures.items
 
 pub returns-in_ok-push-in-Phrase-clause-added : goal.returns-in_ok-push-in-Phrase-clause-added
 returns-in_ok-push-in-Phrase-clause-added c =

@@ -7,5 +7,5 @@ number_of-requires c = word_among c.args.terms.now (arc_str_bytes c.args.field.n
 
 pub loop-word-preserved : goal.loop-word-preserved
 loop-word-preserved c =
-    next_number c.args.terms.now (arc_str_bytes c.args.field.now) c.args.words.now c.loop-word.word-index c.word-item.result c.loop-word.run.items c.push.new.self.items c.in_ok-number_of.field-0
-    c.loop-word-test.true c.word-item.is c.loop-word.invariant c.in_ok-number_of.ensures c.in_ok-push.ensures.items
+    next_number c.args.terms.now (arc_str_bytes c.args.field.now) c.args.words.now c.loop-word.word-index c.word-item.result c.loop-word.run.items c.push.new.self.items c.number_of.result
+    c.loop-word-test.true c.word-item.is c.loop-word.invariant c.number_of.ensures c.in_ok-push.ensures.items

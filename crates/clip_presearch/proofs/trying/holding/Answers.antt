@@ -5,10 +5,10 @@ use Rattle.clip_extract.specs.Covering.{article_keys}
 use Rattle.clip_meaning.specs.Article.{ArticleValue}
 use Rattle.clip_meaning.specs.Meaning.{holds}
 use Rattle.clip_model.specs.History.{Registered}
-use Rattle.clip_segment.specs.Segment.{AskedValue, all_entries, seqs_of}
+use Rattle.clip_segment.specs.Segment.{AskedValue, all_entries, positions_sharing, seqs_of}
 use Rattle.clip_presearch.specs.Candidates.{candidates_of}
-use Rattle.clip_presearch.specs.Steps.Places.{live_with}
-use Rattle.clip_presearch.proofs.Places.{seqs_split, held_split}
+use Rattle.clip_presearch.specs.Steps.Places.{entries_at, live_among, live_with}
+use Rattle.clip_presearch.proofs.Places.{live_entries, seqs_split, held_split}
 use Rattle.clip_presearch.proofs.Whole.{misses_none, candidates_registered, candidates_rise}
 use Rattle.clip_presearch.proofs.trying.holding.Goals as goal
 
@@ -29,17 +29,24 @@ loop-segment-preserved c =
     c.in_ok-reading.ensures
     ∙ ap (λ (es : List Registered). record { entries = es; article = c.in_ok-asking.asking }) c.deref.ensures
     ∙ ap (λ (article : ArticleValue). record { entries = segment; article = article }) c.in_ok-asking.ensures in
+    let positions = c.deref-in-loop-segment.result.now in
+    let same : positions ≡ positions_sharing ks segment =
+    c.deref-in-loop-segment.ensures.value ∙ c.in_ok-sharers.ensures ∙ ap (λ (r : AskedValue). positions_sharing (article_keys r.article.fields) r.entries) value in
+    let found_live : entries_at c.in_ok-reading.reading.entries (live_among h c.in_ok-reading.reading.entries positions) ≡ live_with h ks segment =
+    ap (λ (r : AskedValue). entries_at r.entries (live_among h r.entries positions)) value ∙ ap (λ ps. entries_at segment (live_among h segment ps)) same ∙ live_entries h ks segment in
+    let tried_live : entries_at segment c.deref-in-loop-segment-2.result.now ≡ live_with h ks segment =
+    ap (entries_at segment) (c.deref-in-loop-segment-2.ensures.value ∙ c.in_ok-keep_live.ensures.live ∙ ap (λ (r : AskedValue). live_among h r.entries positions) value ∙ ap (live_among h segment) same) ∙ live_entries h ks segment in
     let seqs = c.loop-segment.asked.items in
     let found = map (λ (e : Bor Registered). e.now) c.loop-segment.held.items in
     record {
       asked =
-          ap (λ xs. xs ++ seqs_of (live_with h ks others)) (c.in_ok-try_live.ensures.asked ∙ ap (λ (r : AskedValue). seqs ++ seqs_of (live_with h (article_keys r.article.fields) r.entries)) value)
+          ap (λ xs. xs ++ seqs_of (live_with h ks others)) (c.in_ok-keep_live.ensures.asked ∙ ap (λ es. seqs ++ seqs_of es) found_live)
           ∙ append_assoc seqs (seqs_of (live_with h ks segment)) (seqs_of (live_with h ks others))
           ∙ ap (λ xs. seqs ++ xs) (seqs_split h ks segment others)
           ∙ ap (λ es. seqs ++ seqs_of (live_with h ks es)) parts
           ∙ c.loop-segment.invariant.asked;
       held =
-          ap (λ xs. xs ++ filter held (live_with h ks others)) (c.in_ok-try_live.ensures.held ∙ ap (λ (r : AskedValue). found ++ filter (λ x. holds x.standing.tree r.article.fields) (live_with h (article_keys r.article.fields) r.entries)) value)
+          ap (λ xs. xs ++ filter held (live_with h ks others)) (c.in_ok-try_each.ensures ∙ ap (λ (r : AskedValue). found ++ filter (λ x. holds x.standing.tree r.article.fields) (entries_at r.entries c.deref-in-loop-segment-2.result.now)) value ∙ ap (λ es. found ++ filter held es) tried_live)
           ∙ append_assoc found (filter held (live_with h ks segment)) (filter held (live_with h ks others))
           ∙ ap (λ xs. found ++ xs) (held_split held h ks segment others)
           ∙ ap (λ es. found ++ filter held (live_with h ks es)) parts

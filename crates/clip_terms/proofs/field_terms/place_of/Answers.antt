@@ -1,61 +1,70 @@
-use Rattle.std.proofs.Common.{◌+◌, ◌-◌, ◌/◌, ◌<◌, length, map, get_or, sym, subst, arith}
+use Rattle.std.proofs.Common.{ℕ, ◌+◌, ◌<◌, ◌≤◌, length, map, get_or, None, sym, subst, arith}
 use Rattle.std.proofs.lemmas.List.{length-map}
 use Rattle.clip_meaning.specs.Leads.{IsLead}
 use Rattle.clip_extract.specs.Keys.{KeyValue, key_of, text_of}
-use Rattle.clip_terms.proofs.Headings.{below_middle, above_middle, found_middle, found_nowhere}
-use Rattle.clip_terms.proofs.LeadsOfTerms.{leads_long, lead_at, read_at}
+use Rattle.clip_terms.proofs.Headings.{below_middle, above_middle, found_middle, found_nowhere, found_later}
+use Rattle.clip_terms.proofs.LeadsOfTerms.{leads_long, lead_at, read_at, never_fall, all_below}
 use Rattle.clip_terms.proofs.field_terms.place_of.Goals as goal
 
-pub bounds-leads-middle : goal.bounds-leads-middle
-bounds-leads-middle c = omega (arith, leads_long (map key_of c.args.keys.now) c.args.leads.now c.requires.leads, length-map c.args.keys.now key_of)
+pub first_of_lead-first-requires-clause-within : goal.first_of_lead-first-requires-clause-within
+first_of_lead-first-requires-clause-within c = omega (arith, c.requires.within, leads_long (map key_of c.args.keys.now) c.args.leads.now c.requires.leads, length-map c.args.keys.now key_of)
+
+pub first_of_lead-first-requires-clause-rise : goal.first_of_lead-first-requires-clause-rise
+first_of_lead-first-requires-clause-rise c =
+    never_fall (map key_of c.args.keys.now) c.args.leads.now c.args.part.now.start c.args.part.now.end c.requires.leads (omega (arith, c.requires.within, length-map c.args.keys.now key_of)) c.requires.rise
+
+pub returns-then-first-part : goal.returns-then-first-part
+returns-then-first-part c =
+    let ts = map key_of c.args.keys.now in
+    let start = c.args.part.now.start in
+    let end = c.args.part.now.end in
+    let within : end ≤ length ts = omega (arith, c.requires.within, length-map c.args.keys.now key_of) in
+    let upto : end ≤ c.first_of_lead-first.result = c.if-first-part.true in
+    found_nowhere ts start end c.args.text.now end end (omega arith)
+    (all_below ts c.args.leads.now start end c.args.text.now c.lead_of-lead.result c.requires.leads c.lead_of-lead.ensures within (λ n a b. c.first_of_lead-first.ensures.below n a (omega arith)))
+    (λ n d a b. absurd (omega arith))
+
+pub bounds-leads-first : goal.bounds-leads-first
+bounds-leads-first c = omega (arith, c.if-first-part.false, c.requires.within, leads_long (map key_of c.args.keys.now) c.args.leads.now c.requires.leads, length-map c.args.keys.now key_of)
 
 pub text_order-requires-clause-key : goal.text_order-requires-clause-key
 text_order-requires-clause-key c =
     let keys = c.args.keys.now in
-    let middle = c.loop-low.low + (c.loop-low.high - c.loop-low.low) / 2 in
-    let k = c.index-keys-middle.result in
-    let inside : middle < length keys = omega arith in
-    subst (λ (t : KeyValue). IsLead (text_of t) (get_or c.args.leads.now middle 0)) (read_at keys middle k inside c.index-keys-middle.is (key_of k))
-    (lead_at (map key_of keys) c.args.leads.now c.requires.leads middle (key_of k) (omega (arith, length-map keys key_of)))
+    let first = c.first_of_lead-first.result in
+    let k = c.index-keys-first.result in
+    let inside : first < length keys = omega (arith, c.if-first-part.false, c.requires.within) in
+    subst (λ (t : KeyValue). IsLead (text_of t) (get_or c.args.leads.now first 0)) (read_at keys first k inside c.index-keys-first.is (key_of k))
+    (lead_at (map key_of keys) c.args.leads.now c.requires.leads first (key_of k) (omega (arith, length-map keys key_of)))
 
-pub loop-low-preserved-in-Less : goal.loop-low-preserved-in-Less
-loop-low-preserved-in-Less c =
+pub returns-in-Less : goal.returns-in-Less
+returns-in-Less c =
     let keys = c.args.keys.now in
-    let middle = c.loop-low.low + (c.loop-low.high - c.loop-low.low) / 2 in
-    let k = c.index-keys-middle.result in
-    let inside : middle < length keys = omega arith in
-    record {
-      from = omega arith;
-      upto = c.loop-low.invariant.upto;
-      below =
-          below_middle (map key_of keys) c.args.part.now.start c.args.part.now.end c.args.text.now c.requires.rise middle (key_of k) (read_at keys middle k inside c.index-keys-middle.is) (omega arith) (omega arith)
-          (sym c.in-Less.ensures);
-      above = c.loop-low.invariant.above;
-    }
+    let ts = map key_of keys in
+    let start = c.args.part.now.start in
+    let first = c.first_of_lead-first.result in
+    let k = c.index-keys-first.result in
+    let inside : first < length keys = omega (arith, c.if-first-part.false, c.requires.within) in
+    found_later ts start (first + 1) c.args.part.now.end c.args.text.now (omega (arith, c.first_of_lead-first.ensures.from))
+    (below_middle ts start c.args.part.now.end c.args.text.now c.requires.rise first (key_of k) (read_at keys first k inside c.index-keys-first.is) c.first_of_lead-first.ensures.from (omega (arith, c.if-first-part.false)) (sym c.in-Less.ensures))
+    c.place_among.result c.place_among.ensures
 
-pub loop-low-preserved : goal.loop-low-preserved
-loop-low-preserved c =
+pub returns-in-Greater : goal.returns-in-Greater
+returns-in-Greater c =
     let keys = c.args.keys.now in
-    let middle = c.loop-low.low + (c.loop-low.high - c.loop-low.low) / 2 in
-    let k = c.index-keys-middle.result in
-    let inside : middle < length keys = omega arith in
-    record {
-      from = c.loop-low.invariant.from;
-      upto = omega arith;
-      below = c.loop-low.invariant.below;
-      above =
-          above_middle (map key_of keys) c.args.part.now.start c.args.part.now.end c.args.text.now c.requires.rise middle (key_of k) (read_at keys middle k inside c.index-keys-middle.is) (omega arith) (omega arith)
-          (sym c.in-Greater.ensures);
-    }
+    let ts = map key_of keys in
+    let start = c.args.part.now.start in
+    let end = c.args.part.now.end in
+    let first = c.first_of_lead-first.result in
+    let k = c.index-keys-first.result in
+    let inside : first < length keys = omega (arith, c.if-first-part.false, c.requires.within) in
+    found_nowhere ts start end c.args.text.now first first (omega arith)
+    (all_below ts c.args.leads.now start first c.args.text.now c.lead_of-lead.result c.requires.leads c.lead_of-lead.ensures (omega (arith, length-map keys key_of)) c.first_of_lead-first.ensures.below)
+    (above_middle ts start end c.args.text.now c.requires.rise first (key_of k) (read_at keys first k inside c.index-keys-first.is) c.first_of_lead-first.ensures.from (omega (arith, c.if-first-part.false)) (sym c.in-Greater.ensures))
 
 pub returns-in-Equal : goal.returns-in-Equal
 returns-in-Equal c =
     let keys = c.args.keys.now in
-    let middle = c.loop-low.low + (c.loop-low.high - c.loop-low.low) / 2 in
-    let k = c.index-keys-middle.result in
-    let inside : middle < length keys = omega arith in
-    found_middle (map key_of keys) c.args.part.now.start c.args.part.now.end c.args.text.now c.requires.rise middle (key_of k) (read_at keys middle k inside c.index-keys-middle.is) (omega arith) (omega arith) (sym c.in-Equal.ensures)
-
-pub returns : goal.returns
-returns c =
-    found_nowhere (map key_of c.args.keys.now) c.args.part.now.start c.args.part.now.end c.args.text.now c.loop-low.low c.loop-low.high c.loop-low-test.false c.loop-low.invariant.below c.loop-low.invariant.above
+    let first = c.first_of_lead-first.result in
+    let k = c.index-keys-first.result in
+    let inside : first < length keys = omega (arith, c.if-first-part.false, c.requires.within) in
+    found_middle (map key_of keys) c.args.part.now.start c.args.part.now.end c.args.text.now c.requires.rise first (key_of k) (read_at keys first k inside c.index-keys-first.is) c.first_of_lead-first.ensures.from (omega (arith, c.if-first-part.false)) (sym c.in-Equal.ensures)

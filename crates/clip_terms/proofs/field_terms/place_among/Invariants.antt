@@ -1,7 +1,7 @@
 use Rattle.std.proofs.Common.{◌≡◌, ℕ, ◌<◌, ◌≤◌, ◌-◌, map, get_or, Less, Greater}
 use Rattle.clip_words.specs.Order.{bytes_cmp}
 use Rattle.clip_extract.specs.Keys.{KeyValue, key_of, text_of}
-use Rattle.clip_terms.proofs.field_terms.place_of.Given as goal
+use Rattle.clip_terms.proofs.field_terms.place_among.Given as goal
 
 abbrev pub invariant-loop-low : goal.invariant-loop-low
 invariant-loop-low l = record {
