@@ -62,6 +62,15 @@ impl<'a> IndexReading<'a> {
         marks.numbers_into(places)
     }
 
+    /// Whether the query of a place may hold of the article: `false` rules it out by its first clause, and `true` says
+    /// nothing. Takes no memory. Constant time.
+    pub fn may_hold(&self, place: u32) -> bool
+        ensures { (trees : List Tree) (tree : Tree) → IsIndexOf trees self.now.index → slice_get trees place ≡ Some tree
+            → result ≡ false → holds tree self.now.article.fields ≡ false }
+    {
+        self.plans.may_hold(place as usize, &self.reading)
+    }
+
     /// Whether the query of a place holds of the article. `stack` is room for the groups that are open.
     ///
     /// `NoMemory` where the room had to grow and an allocation failed. Cost: that of `Plans::judge`.

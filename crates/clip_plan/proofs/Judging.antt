@@ -10,11 +10,15 @@ use Rattle.clip_grammar.specs.declared.query.Occur.TheVariants.{Must, Should, Mu
 use Rattle.clip_meaning.specs.Article.{Fields}
 use Rattle.clip_meaning.specs.Meaning.{holds, verdicts, group_holds, meets_must, meets_must_not, meets_should, is_must}
 use Rattle.clip_extract.specs.Keys.{KeyValue}
-use Rattle.clip_plan.specs.Plan.{Mark, Leaf, Open, Close, clause_marks, group_marks, plan_of, decoded}
+use Rattle.clip_plan.specs.Plan.{Asks, Has, Run, Mark, Leaf, Open, Close, clause_marks, group_marks, plan_of, decoded}
 use Rattle.clip_plan.specs.Steps.Plans.{mark_of}
 use Rattle.clip_plan.specs.declared.step.Step.{Step}
+use Rattle.clip_plan.specs.declared.step.Step.TheVariants as step
 use Rattle.clip_plan.specs.Steps.Judging.{no_clauses, counted, tally_holds, leaf_holds, mark_holds, meant, Groups, marked, stepped_all}
 use Rattle.clip_plan.specs.declared.judge.Tally.{Tally}
+use Rattle.clip_terms.specs.Terms.{term_at}
+use Rattle.clip_terms.specs.Reading.{has_key, has_run}
+use Rattle.clip_terms.proofs.Runs.{lacks}
 use Rattle.clip_plan.proofs.AskedKeys.{has_word_key, has_word_run}
 
 -- ---- a group's clauses
@@ -164,6 +168,18 @@ judged_early fields tree marks left top at dead plan =
     let still : ends.0.may_hold ≡ false = sym (ap (λ (g : Groups). (outermost g.0 g.1).may_hold) at_end) ∙ still_dead fields left top [] dead in
     sym (ap (λ b. b && (ends.0.has_must || ends.0.has_should)) still) ∙ ends.2
 
+-- a first clause that must hold does not: neither does the query
+first_fails : (fields : Fields) (tree : Tree) (asks : Asks KeyValue) (left : List (Mark KeyValue)) → leaf_holds fields asks ≡ false → Leaf Must asks ∷ left ≡ plan_of tree → holds tree fields ≡ false
+first_fails fields tree asks left fails plan = sym (judged_early fields tree (Leaf Must asks ∷ left) left (counted no_clauses Must (leaf_holds fields asks)) refl fails plan)
+
+and_true : (b : Bool) → (b && true) ≡ b
+and_true true = refl
+and_true false = refl
+
+-- a pair of which a word is lacking
+pair_fails : (fields : Fields) (first second : KeyValue) → (has_key fields first && has_key fields second) ≡ false → has_run fields (first ∷ second ∷ []) ≡ false
+pair_fails fields first second fails = lacks fields (first ∷ second ∷ []) (ap (λ b. has_key fields first && b) (and_true (has_key fields second)) ∙ fails)
+
 -- ---- steps
 
 module _ (runs : List (List ℕ)) (asked : List Tree) (terms : List KeyValue) where
@@ -177,13 +193,36 @@ module _ (runs : List (List ℕ)) (asked : List Tree) (terms : List KeyValue) wh
   decoded_at (steps ∷ plans) zero = decoded_step steps
   decoded_at (steps ∷ plans) (suc place) = decoded_at plans place
 
+  pub plan_of_steps : (marks : List (List (Mark ℕ))) (plans : List (List Step)) (place : ℕ) (steps : List Step) (tree : Tree) → map (map (mark_of runs asked)) plans ≡ marks → steps ≡ unwrap_or (slice_get plans place) []
+      → decoded terms (unwrap_or (slice_get marks place) []) ≡ plan_of tree → map (meant runs asked terms) steps ≡ plan_of tree
+  plan_of_steps marks plans place steps tree seen at plan =
+      ap (map (meant runs asked terms)) at ∙ sym (decoded_at plans place) ∙ ap (λ ms. decoded terms (unwrap_or (slice_get ms place) [])) seen ∙ plan
+
   -- what is answered by its steps is answered by its marks
   pub judged_at : {E : Type 0} (fields : Fields) (marks : List (List (Mark ℕ))) (plans : List (List Step)) (place : ℕ) (steps : List Step) (r : Result Bool E) → map (map (mark_of runs asked)) plans ≡ marks → steps ≡ unwrap_or (slice_get plans place) []
       → IfOk r (λ held. (tree : Tree) → map (meant runs asked terms) steps ≡ plan_of tree → held ≡ holds tree fields)
       → IfOk r (λ held. (tree : Tree) → decoded terms (unwrap_or (slice_get marks place) []) ≡ plan_of tree → held ≡ holds tree fields)
   judged_at fields marks plans place steps (Err e) seen at h = tt
   judged_at fields marks plans place steps (Ok held) seen at h =
-      λ tree plan. h tree (ap (map (meant runs asked terms)) at ∙ sym (decoded_at plans place) ∙ ap (λ ms. decoded terms (unwrap_or (slice_get ms place) [])) seen ∙ plan)
+      λ tree plan. h tree (plan_of_steps marks plans place steps tree seen at plan)
+
+  first_ruled_out : (fields : Fields) (tree : Tree) (steps : List Step) (s : Step) (asks : Asks KeyValue) → 0 < length steps → s ≡ get_or steps 0 s → meant runs asked terms s ≡ Leaf Must asks → leaf_holds fields asks ≡ false
+      → map (meant runs asked terms) steps ≡ plan_of tree → holds tree fields ≡ false
+  first_ruled_out fields tree [] s asks inside is mark fails plan = absurd (omega arith)
+  first_ruled_out fields tree (x ∷ steps) s asks inside is mark fails plan =
+      first_fails fields tree asks (map (meant runs asked terms) steps) fails (ap (λ m. m ∷ map (meant runs asked terms) steps) (sym mark ∙ ap (meant runs asked terms) is) ∙ plan)
+
+  -- the first step is a word that must be there and is not
+  pub term_ruled_out : (fields : Fields) (tree : Tree) (steps : List Step) (s : Step) (occur : Occur) (n : ℕ) → 0 < length steps → s ≡ get_or steps 0 s → s ≡ step.Term occur n → occur ≡ Must
+      → has_key fields (term_at terms n) ≡ false → map (meant runs asked terms) steps ≡ plan_of tree → holds tree fields ≡ false
+  term_ruled_out fields tree steps s occur n inside is term must =
+      first_ruled_out fields tree steps s (Has (term_at terms n)) inside is (ap (meant runs asked terms) (term ∙ ap (λ o. step.Term o n) must))
+
+  -- it is a pair that must be there, of which a word is not
+  pub pair_ruled_out : (fields : Fields) (tree : Tree) (steps : List Step) (s : Step) (occur : Occur) (m n : ℕ) → 0 < length steps → s ≡ get_or steps 0 s → s ≡ step.Pair occur m n → occur ≡ Must
+      → (has_key fields (term_at terms m) && has_key fields (term_at terms n)) ≡ false → map (meant runs asked terms) steps ≡ plan_of tree → holds tree fields ≡ false
+  pair_ruled_out fields tree steps s occur m n inside is pair must fails =
+      first_ruled_out fields tree steps s (Run (term_at terms m ∷ term_at terms n ∷ [])) inside is (ap (meant runs asked terms) (pair ∙ ap (λ o. step.Pair o m n) must)) (pair_fails fields (term_at terms m) (term_at terms n) fails)
 
   -- one step of those that are left
   pub one_step : (fields : Fields) (steps : List Step) (i : ℕ) (d : Step) (top next : Tally) (around left : List Tally) (held : Bool) → i < length steps

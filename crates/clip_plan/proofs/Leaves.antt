@@ -1,5 +1,5 @@
 -- The marks of queries that are no groups.
-use Rattle.std.proofs.Common.{◌≡◌, ℕ, ◌<◌, List, [], ◌∷◌, ◌++◌, map, length, slice_get, unwrap_or, Vec, Global, Result, OnOk, sym, ap, ◌∙◌, subst}
+use Rattle.std.proofs.Common.{◌≡◌, ℕ, ◌<◌, ◌≤◌, List, [], ◌∷◌, ◌++◌, map, length, slice_get, get_or, unwrap_or, Vec, Global, Result, OnOk, sym, ap, ◌∙◌, subst, arith}
 use Rattle.std.specs.Arc.{arc_str_bytes}
 use Rattle.std.specs.declared.sync.ArcStr.{ArcStr}
 use Rattle.std.proofs.lemmas.Result.{on_ok_weaker}
@@ -12,12 +12,12 @@ use Rattle.clip_grammar.specs.declared.query.Query.TheVariants.{Term, Phrase, Pr
 use Rattle.clip_grammar.specs.declared.query.Query.TheFolds.{fold-roll-Query}
 use Rattle.clip_extract.specs.Keys.{KeyValue, Word}
 use Rattle.clip_terms.specs.Terms.{term_at}
-use Rattle.clip_plan.specs.Plan.{Leaf, Is, clause_marks}
+use Rattle.clip_plan.specs.Plan.{Leaf, Is, Run, clause_marks}
 use Rattle.clip_plan.specs.declared.step.Step.{Step}
 use Rattle.clip_plan.specs.declared.step.Step.TheVariants as step
 use Rattle.clip_plan.specs.Steps.Plans.{Grows, Adds}
 use Rattle.clip_plan.proofs.Words.{phrase_words}
-use Rattle.clip_plan.proofs.Standing.{adds_term, adds_phrase}
+use Rattle.clip_plan.proofs.Standing.{adds_term, adds_step, adds_phrase}
 
 -- ---- trees
 
@@ -45,12 +45,40 @@ term_added terms runs asked steps new occur number query field word term is e =
     subst (Adds terms runs asked steps runs asked new) (sym (ap (clause_marks occur) (ap tree_of term ∙ tree_of_term field word)))
     (adds_term terms runs asked steps new occur number (Word (arc_str_bytes field) (arc_str_bytes word)) e is)
 
-pub phrase_added : (terms : List KeyValue) (runs new_runs : List (List ℕ)) (asked : List Query) (steps new : List Step) (occur : Occur) (place : ℕ) (query : Query) (field : ArcStr Global) (words : Vec (ArcStr Global) Global) (items : List (ArcStr Global))
-    → query ≡ Phrase field words → items ≡ words.items → Grows runs new_runs → place < length new_runs → map (term_at terms) (unwrap_or (slice_get new_runs place) []) ≡ phrase_words (arc_str_bytes field) items → new ≡ steps ++ step.Phrase occur place ∷ []
-    → Adds terms runs asked steps new_runs asked new (clause_marks occur (tree_of query))
-phrase_added terms runs new_runs asked steps new occur place query field words items phrase same g inside is e =
-    subst (Adds terms runs asked steps new_runs asked new) (sym (ap (clause_marks occur) (ap tree_of phrase ∙ tree_of_phrase field words)))
-    (adds_phrase terms runs new_runs asked steps new occur place (phrase_words (arc_str_bytes field) words.items) g inside (is ∙ ap (phrase_words (arc_str_bytes field)) same) e)
+pair_keys : (terms : List KeyValue) (field : List ℕ) (words : List (ArcStr Global)) (first second : ArcStr Global) (m n : ℕ) → 2 ≤ length words → length words < 3 → first ≡ get_or words 0 first → second ≡ get_or words 1 second
+    → term_at terms m ≡ Word field (arc_str_bytes first) → term_at terms n ≡ Word field (arc_str_bytes second) → term_at terms m ∷ term_at terms n ∷ [] ≡ phrase_words field words
+pair_keys terms field [] first second m n long short f s is₁ is₂ = absurd (omega arith)
+pair_keys terms field (x ∷ []) first second m n long short f s is₁ is₂ = absurd (omega arith)
+pair_keys terms field (x ∷ y ∷ []) first second m n long short f s is₁ is₂ =
+    ap (λ k. k ∷ term_at terms n ∷ []) (is₁ ∙ ap (λ w. Word field (arc_str_bytes w)) f) ∙ ap (λ k. Word field (arc_str_bytes x) ∷ k ∷ []) (is₂ ∙ ap (λ w. Word field (arc_str_bytes w)) s)
+pair_keys terms field (x ∷ y ∷ z ∷ zs) first second m n long short f s is₁ is₂ = absurd (omega arith)
+
+-- a phrase of two words
+pub pair_added : (terms : List KeyValue) (runs new_runs : List (List ℕ)) (asked : List Query) (steps new : List Step) (occur : Occur) (field : List ℕ) (words : List (ArcStr Global)) (first second : ArcStr Global) (m n : ℕ) (s : Step)
+    → new_runs ≡ runs → s ≡ step.Pair occur m n → new ≡ steps ++ s ∷ [] → 2 ≤ length words → length words < 3 → first ≡ get_or words 0 first → second ≡ get_or words 1 second
+    → term_at terms m ≡ Word field (arc_str_bytes first) → term_at terms n ≡ Word field (arc_str_bytes second) → Adds terms runs asked steps new_runs asked new (Leaf occur (Run (phrase_words field words)) ∷ [])
+pair_added terms runs new_runs asked steps new occur field words first second m n s same is e long short f g is₁ is₂ =
+    subst (λ r. Adds terms runs asked steps r asked new (Leaf occur (Run (phrase_words field words)) ∷ [])) (sym same)
+    (adds_step terms runs asked steps new (step.Pair occur m n) (Leaf occur (Run (phrase_words field words))) (e ∙ ap (λ x. steps ++ x ∷ []) is) tt
+    (ap (λ ks. Leaf occur (Run ks)) (pair_keys terms field words first second m n long short f g is₁ is₂)))
+
+-- another phrase, by its run
+pub run_added : (terms : List KeyValue) (runs more new_runs : List (List ℕ)) (asked : List Query) (steps new : List Step) (occur : Occur) (place : ℕ) (keys : List KeyValue) (s : Step)
+    → new_runs ≡ more → s ≡ step.Phrase occur place → new ≡ steps ++ s ∷ [] → Grows runs more → place < length more → map (term_at terms) (unwrap_or (slice_get more place) []) ≡ keys
+    → Adds terms runs asked steps new_runs asked new (Leaf occur (Run keys) ∷ [])
+run_added terms runs more new_runs asked steps new occur place keys s same step e g inside is =
+    subst (λ r. Adds terms runs asked steps r asked new (Leaf occur (Run keys) ∷ [])) (sym same)
+    (adds_phrase terms runs more asked steps new occur place keys g inside is (e ∙ ap (λ x. steps ++ x ∷ []) step))
+
+pub phrase_added : {T E : Type 0} (r : Result T E) (terms : List KeyValue) (runs new_runs : List (List ℕ)) (asked : List Query) (steps new : List Step) (occur : Occur) (query : Query) (field : ArcStr Global) (words : Vec (ArcStr Global) Global) (items : List (ArcStr Global))
+    → query ≡ Phrase field words → items ≡ words.items
+    → OnOk r ((asked : List Query) → Adds terms runs asked steps new_runs asked new (Leaf occur (Run (phrase_words (arc_str_bytes field) items)) ∷ []))
+    → OnOk r (Adds terms runs asked steps new_runs asked new (clause_marks occur (tree_of query)))
+phrase_added r terms runs new_runs asked steps new occur query field words items phrase same =
+    on_ok_weaker r (λ added.
+    subst (Adds terms runs asked steps new_runs asked new)
+    (ap (λ l. Leaf occur (Run (phrase_words (arc_str_bytes field) l)) ∷ []) same ∙ sym (ap (clause_marks occur) (ap tree_of phrase ∙ tree_of_phrase field words)))
+    (added asked))
 
 -- a query that is asked as it is, of which a copy is added
 pub asked_added : {T E : Type 0} (r : Result T E) (terms : List KeyValue) (runs : List (List ℕ)) (asked new_asked : List Query) (steps new : List Step) (occur : Occur) (copy query : Query) (tree : Tree) → tree_of copy ≡ tree → tree_of query ≡ tree

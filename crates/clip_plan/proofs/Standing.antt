@@ -50,6 +50,7 @@ trees_grow {xs = xs} g = record { more = map tree_of g.more; is = ap (map tree_o
 
 place_kept : (m n k l : ℕ) (s : Step) → m ≤ k → n ≤ l → HasPlace m n s → HasPlace k l s
 place_kept m n k l (step.Term occur number) a b h = tt
+place_kept m n k l (step.Pair occur first second) a b h = tt
 place_kept m n k l (step.Phrase occur place) a b h = omega arith
 place_kept m n k l (step.Asked occur place) a b h = omega arith
 place_kept m n k l step.Open a b h = tt
@@ -61,6 +62,7 @@ places_kept m n k l steps a b h = All-weaker (HasPlace m n) (HasPlace k l) (λ s
 mark_kept : (runs new_runs : List (List ℕ)) (asked new_asked : List Query) (s : Step) → Grows runs new_runs → Grows asked new_asked → HasPlace (length runs) (length asked) s
     → mark_of new_runs (map tree_of new_asked) s ≡ mark_of runs (map tree_of asked) s
 mark_kept runs new_runs asked new_asked (step.Term occur number) g a h = refl
+mark_kept runs new_runs asked new_asked (step.Pair occur first second) g a h = refl
 mark_kept runs new_runs asked new_asked (step.Phrase occur place) g a h = ap (λ o. Leaf occur (Run (unwrap_or o []))) (get_kept runs new_runs place g h)
 mark_kept runs new_runs asked new_asked (step.Asked occur place) g a h =
     ap (λ o. Leaf occur (Is (unwrap_or o Tree.All))) (get_kept (map tree_of asked) (map tree_of new_asked) place (trees_grow a) (rw length-map h))

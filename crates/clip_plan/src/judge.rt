@@ -1,5 +1,5 @@
 //! Judging a plan.
-ghost use Rattle.std.specs.Prelude.{◌≡◌, ℕ, List, [], IfOk, map, reverse, unwrap_or, slice_get};
+ghost use Rattle.std.specs.Prelude.{◌≡◌, ℕ, false, List, [], IfOk, map, reverse, unwrap_or, slice_get};
 ghost use Rattle.clip_grammar.specs.Tree.{Tree, tree_of};
 ghost use Rattle.clip_meaning.specs.Meaning.{holds};
 ghost use Rattle.clip_extract.specs.Keys.{KeyValue};
@@ -81,6 +81,7 @@ fn step_holds(runs: &PackedLists<u32>, asked: &[Query], step: Step, reading: &Re
 {
     match step {
         Step::Term(_, number) => reading.has(number),
+        Step::Pair(_, first, second) => reading.has_run(&[first, second]),
         Step::Phrase(_, place) => reading.has_run(runs.get(place as usize)),
         Step::Asked(_, place) => asked_holds(asked, place as usize, reading),
         Step::Open | Step::Close(_) => true,
@@ -107,9 +108,10 @@ fn tally_after(
             Some(around) => Ok(around.counted(occur, top.holds())),
             None => Ok(top),
         },
-        Step::Term(occur, _) | Step::Phrase(occur, _) | Step::Asked(occur, _) => {
-            Ok(top.counted(occur, held))
-        }
+        Step::Term(occur, _)
+        | Step::Pair(occur, _, _)
+        | Step::Phrase(occur, _)
+        | Step::Asked(occur, _) => Ok(top.counted(occur, held)),
     }
 }
 
@@ -136,7 +138,30 @@ fn holds_by(
     Ok(top.holds())
 }
 
+/// Whether the query of these steps may hold of the article that is read, by the words of its first clause, if that is one
+/// that must hold.
+fn may_hold_by(steps: &[Step], reading: &Reading) -> bool
+    ensures { (runs : List (List ℕ)) (asked : List Tree) (tree : Tree) → map (meant runs asked reading.now.terms) steps.now ≡ plan_of tree
+        → result ≡ false → holds tree reading.now.article.fields ≡ false }
+{
+    match steps.first() {
+        Some(Step::Term(Occur::Must, number)) => reading.has(*number),
+        Some(Step::Pair(Occur::Must, first, second)) => reading.has(*first) && reading.has(*second),
+        _ => true,
+    }
+}
+
 impl Plans {
+    /// Whether the query of the plan at a place may hold of the article that is read, where the plan's numbers are those of
+    /// the reading's terms. `false` rules it out: its first clause must hold, and the article lacks a word of it. `true`
+    /// says nothing. Takes no memory. Constant time: it is for queries of which few hold, before `judge`.
+    pub fn may_hold(&self, place: usize, reading: &Reading) -> bool
+        ensures { (tree : Tree) → decoded reading.now.terms (unwrap_or (slice_get self.now place) []) ≡ plan_of tree
+            → result ≡ false → holds tree reading.now.article.fields ≡ false }
+    {
+        may_hold_by(self.steps.get(place), reading)
+    }
+
     /// Whether the query of the plan at a place holds of the article that is read, where the plan's numbers are those of
     /// the reading's terms. `stack` is room for the groups that are open.
     ///

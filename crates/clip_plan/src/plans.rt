@@ -2,9 +2,10 @@
 ghost use Rattle.std.specs.Prelude.{◌≡◌, ℕ, ◌<◌, ◌≤◌, ◌++◌, ◌∷◌, [], List, OnOk, IfOk, length, map, unwrap_or, slice_get, IsTrue};
 ghost use Rattle.std.specs.Arc.{arc_str_bytes};
 ghost use Rattle.clip_grammar.specs.Tree.{Tree, tree_of};
+ghost use Rattle.clip_grammar.specs.declared.query.Query.{Query};
 ghost use Rattle.clip_extract.specs.Keys.{KeyValue, Word};
 ghost use Rattle.clip_terms.specs.Terms.{term_at};
-ghost use Rattle.clip_plan.specs.Plan.{Mark, Leaf, Is, decoded, plan_of, clause_marks, are_terms, word_keys};
+ghost use Rattle.clip_plan.specs.Plan.{Mark, Leaf, Is, Run, decoded, plan_of, clause_marks, are_terms, word_keys};
 ghost use Rattle.clip_plan.specs.Steps.Plans.{Grows, Adds, IsNoGroup};
 
 use crate::copy::copied;
@@ -105,6 +106,33 @@ fn add_run(
     Ok(place)
 }
 
+/// Adds the step of a phrase, as a clause: of two words a pair, of another number of words a run.
+fn add_phrase(
+    alloc: Global,
+    terms: &Terms,
+    occur: Occur,
+    field: &ArcStr,
+    words: &[ArcStr],
+    runs: &mut PackedLists<u32>,
+    steps: &mut Vec<Step>,
+) -> Result<(), NoMemory>
+    requires { IsTrue (are_terms terms.now (map (Word (arc_str_bytes field.now)) (map arc_str_bytes words.now))) }
+    ensures long { length runs.old ≤ length runs.new }
+    ensures added { OnOk result ((asked : List Query) → Adds terms.now runs.old asked steps.old.items
+        runs.new asked steps.new.items (Leaf occur (Run (map (Word (arc_str_bytes field.now)) (map arc_str_bytes words.now))) ∷ [])) }
+{
+    let step = match words {
+        [first, second] => Step::Pair(
+            occur,
+            number_of(terms, field, first),
+            number_of(terms, field, second),
+        ),
+        _ => Step::Phrase(occur, add_run(alloc, terms, field, words, runs)?),
+    };
+    steps.push(step)?;
+    Ok(())
+}
+
 /// Adds a query that is asked as it is, as a clause.
 pub(crate) fn add_asked(
     occur: Occur,
@@ -145,8 +173,7 @@ fn add_leaf(
             Ok(())
         }
         Query::Phrase { field, words } => {
-            steps.push(Step::Phrase(occur, add_run(alloc, terms, field, words, runs)?))?;
-            Ok(())
+            add_phrase(alloc, terms, occur, field, words, runs, steps)
         }
         Query::Prefix { field: _, front: _ } => {
             add_asked(occur, copied(alloc, query)?, asked, steps)

@@ -22,6 +22,10 @@ fn add_named(runs: &PackedLists<u32>, step: Step, numbers: &mut Vec<u32>) -> Res
             numbers.push(number)?;
             Ok(())
         }
+        Step::Pair(_, first, second) => {
+            numbers.extend_from_slice(&[first, second])?;
+            Ok(())
+        }
         Step::Phrase(_, place) => {
             numbers.extend_from_slice(runs.get(place as usize))?;
             Ok(())
@@ -103,6 +107,12 @@ impl<'a> Source<'a> {
         match step {
             Step::Term(occur, number) => {
                 steps.push(Step::Term(occur, renumbered(self.numbers, number)))?;
+                Ok(())
+            }
+            Step::Pair(occur, first, second) => {
+                let first = renumbered(self.numbers, first);
+                let second = renumbered(self.numbers, second);
+                steps.push(Step::Pair(occur, first, second))?;
                 Ok(())
             }
             Step::Phrase(occur, place) => {

@@ -6,6 +6,8 @@ use clip_grammar::query::Occur;
 pub(crate) enum Step {
     /// The article has the term of this number.
     Term(Occur, u32),
+    /// The terms of these numbers stand next to each other in a field, in order.
+    Pair(Occur, u32, u32),
     /// The words of the run of this place stand next to each other in a field, in order.
     Phrase(Occur, u32),
     /// The query of this place holds.

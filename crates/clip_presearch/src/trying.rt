@@ -51,6 +51,26 @@ fn keep_live(
     Ok(())
 }
 
+/// Those of the positions at which the query of the segment's entry may hold of the article, in place of those that were
+/// in `possible`: each at which it holds is among them. Little is done for each, so they wait for memory side by side.
+fn keep_possible(
+    reading: &SegmentReading<'_>,
+    positions: &[u32],
+    possible: &mut Vec<u32>,
+) -> Result<(), NoMemory>
+    ensures { OnOk result (filter (λ r. holds r.standing.tree reading.now.article.fields) (entries_at reading.now.entries possible.new.items)
+        ≡ filter (λ r. holds r.standing.tree reading.now.article.fields) (entries_at reading.now.entries positions.now)) }
+{
+    possible.clear();
+    for position in positions {
+        if !reading.may_hold(*position) {
+            continue;
+        }
+        possible.push(*position)?;
+    }
+    Ok(())
+}
+
 /// Tries the entries of a segment at these positions, and adds those whose queries hold of the article. `stack` is room
 /// for the groups that are open.
 fn try_each<'a>(
@@ -78,8 +98,8 @@ fn try_each<'a>(
 /// article, in rising seq. Each registered query that holds of the article is among them.
 ///
 /// `NoMemory` where an allocation failed. Cost: a step for each word of the article; in each segment that of
-/// `SegmentReading::sharers`, and for each candidate that of `SegmentReading::holds`. An entry is looked at only where
-/// its query holds.
+/// `SegmentReading::sharers`, a step for each candidate, and for each that its first clause does not rule out that of
+/// `SegmentReading::holds`. An entry is looked at only where its query holds.
 pub fn holding<'a>(
     alloc: Global,
     view: &'a View,
@@ -96,6 +116,7 @@ pub fn holding<'a>(
     let asking = Asking::of(alloc, article)?;
     let mut positions = Vec::new(alloc);
     let mut live = Vec::new(alloc);
+    let mut possible = Vec::new(alloc);
     let mut stack = Vec::new(alloc);
     let mut asked = Vec::new(alloc);
     let mut held = Vec::new(alloc);
@@ -103,7 +124,8 @@ pub fn holding<'a>(
         let reading = segment.read(alloc, &asking)?;
         reading.sharers(&mut positions)?;
         keep_live(view, &reading, &positions, &mut live, &mut asked)?;
-        try_each(&reading, &live, &mut stack, &mut held)?;
+        keep_possible(&reading, &live, &mut possible)?;
+        try_each(&reading, &possible, &mut stack, &mut held)?;
     }
     Ok(Tried {
         asked: asked.len() as u64,

@@ -1,5 +1,5 @@
 //! Articles as a segment asks them.
-ghost use Rattle.std.specs.Prelude.{◌≡◌, IfOk, OnOk, Some, option_map};
+ghost use Rattle.std.specs.Prelude.{◌≡◌, false, IfOk, OnOk, Some, option_map};
 ghost use Rattle.std.specs.Arc.{arc_value};
 ghost use Rattle.std.specs.List.{slice_get};
 ghost use Rattle.std.specs.Option.{option_copied};
@@ -63,6 +63,15 @@ impl<'a> SegmentReading<'a> {
         ensures { option_map arc_value (option_copied result) ≡ slice_get self.now.entries position }
     {
         self.segment.entry(position)
+    }
+
+    /// Whether the query of the entry at a position may hold of the article: `false` rules it out by its first clause, and
+    /// `true` says nothing. Takes no memory. Constant time; the entry is not looked at.
+    pub fn may_hold(&self, position: u32) -> bool
+        ensures { (entry : Registered) → slice_get self.now.entries position ≡ Some entry
+            → result ≡ false → holds entry.standing.tree self.now.article.fields ≡ false }
+    {
+        self.reading.may_hold(position)
     }
 
     /// Whether the query of the entry at a position holds of the article. `stack` is room for the groups that are open.

@@ -1,5 +1,5 @@
 -- Terms and their leads, one after another.
-use Rattle.std.proofs.Common.{◌≡◌, ℕ, zero, suc, ◌<◌, ◌≤◌, List, [], ◌∷◌, ◌++◌, length, map, get_or, Less, is_gt, refl, sym, ap, ◌∙◌, arith, inl, inr}
+use Rattle.std.proofs.Common.{◌≡◌, ℕ, zero, suc, ◌<◌, ◌≤◌, List, [], ◌∷◌, ◌++◌, length, map, get_or, Less, Greater, is_gt, refl, sym, ap, subst, ◌∙◌, arith, inl, inr}
 use Rattle.std.specs.Ordering.{ordering_reverse}
 use Rattle.std.specs.Cmp.Lexicographic.{nat_list_cmp_total}
 use Rattle.std.proofs.lemmas.Bool.{cases_lt, false≢true}
@@ -49,3 +49,15 @@ pub all_below : (ts : List KeyValue) (leads : List ℕ) (start end : ℕ) (text 
     → (n : ℕ) (d : KeyValue) → start ≤ n → n < end → bytes_cmp (text_of (get_or ts n d)) text ≡ Less
 all_below ts leads start end text lead are is within lower n d a b =
     lead_below (text_of (get_or ts n d)) text (get_or leads n 0) lead (lead_at ts leads are n d (omega arith)) is (lower n a b)
+
+-- and texts from a place on, at which a greater lead stands, are above it
+pub all_above : (ts : List KeyValue) (leads : List ℕ) (start end : ℕ) (text : List ℕ) (lead first : ℕ) → AreLeads ts leads → IsLead text lead → end ≤ length ts → NeverFall leads start end → start ≤ first → lead < get_or leads first 0
+    → (n : ℕ) (d : KeyValue) → first ≤ n → n < end → bytes_cmp (text_of (get_or ts n d)) text ≡ Greater
+all_above ts leads start end text lead first are is within fall from high n d a b =
+    let more : lead < get_or leads n 0 =
+    elim (cases_lt first n) [
+      | inl lt ↦ omega (arith, fall first n from lt b, high)
+      | inr ge ↦ let same : first ≡ n = omega arith in subst (λ j. lead < get_or leads j 0) same high
+    ] in
+    nat_list_cmp_total.antisymm (text_of (get_or ts n d)) text
+    ∙ ap ordering_reverse (lead_below text (text_of (get_or ts n d)) lead (get_or leads n 0) is (lead_at ts leads are n d (omega arith)) more)

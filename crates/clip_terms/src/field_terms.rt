@@ -90,8 +90,8 @@ fn place_among(
     None
 }
 
-/// Where the key of a text stands among keys whose texts rise. Mostly this is the first key of the text's lead, or there
-/// is none: so that one is looked for by leads alone, and the others only where its text is below.
+/// Where the key of a text stands among keys whose texts rise. Mostly this is the first key of the text's lead, or no key
+/// has that lead: so the first is looked for by leads alone, and a key is looked at only where it has the lead.
 fn place_of(keys: &[Key], leads: &[u64], part: &Range<usize>, text: &str) -> Option<usize>
     requires within { part.now.end ≤ length keys.now }
     requires leads { AreLeads (map key_of keys.now) leads.now }
@@ -101,6 +101,9 @@ fn place_of(keys: &[Key], leads: &[u64], part: &Range<usize>, text: &str) -> Opt
     let lead = lead_of(text);
     let first = first_of_lead(leads, part, lead);
     if first >= part.end {
+        return None;
+    }
+    if leads[first] > lead {
         return None;
     }
     match text_order(&keys[first], leads[first], text, lead) {

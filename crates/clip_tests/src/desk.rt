@@ -7,4 +7,3 @@ mod memory;
 mod merging;
 mod plain;
 mod refusals;
-mod threads;

@@ -25,8 +25,6 @@ mod meaning;
 #[cfg(test)]
 mod merge;
 #[cfg(test)]
-mod merging;
-#[cfg(test)]
 mod pieces;
 #[cfg(test)]
 mod registry;

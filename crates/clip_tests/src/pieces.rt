@@ -84,7 +84,7 @@ fn sums<R: Threads + Abort + Sync>(
     let gate = Counts::new();
     let view = three_queries(alloc).expect(rt, "a view");
     let found = match_pieces(rt, alloc, &view, articles, BATCH, workers, &gate)?;
-    assert_eq!(rt; found.len(), articles.len());
+    assert!(rt; found.len() == articles.len());
     Ok(gate.sums())
 }
 
@@ -100,10 +100,10 @@ fn each_piece_is_entered_and_left_once(rt: HostRuntime) -> Result<(), Fail> {
         (4, 10101),
         (64, 10101),
     ] {
-        assert_eq!(rt; sums(&rt, alloc, &articles, workers)?, (wanted, wanted));
+        assert!(rt; sums(&rt, alloc, &articles, workers)? == (wanted, wanted));
     }
     for workers in [0u32, 1, 64] {
-        assert_eq!(rt; sums(&rt, alloc, &[], workers)?, (0, 0));
+        assert!(rt; sums(&rt, alloc, &[], workers)? == (0, 0));
     }
     Ok(())
 }
@@ -115,8 +115,8 @@ fn a_piece_matched_alone_is_entered_and_left(rt: HostRuntime) -> Result<(), Fail
     let view = three_queries(alloc).expect(&rt, "a view");
     let articles = three_articles(alloc).expect(&rt, "articles");
     let found = match_piece(alloc, &view, &articles, BATCH, 2, &gate)?;
-    assert_eq!(rt; told(alloc, &found)?.as_str(), ALERTS_OF_THREE);
-    assert_eq!(rt; gate.sums(), (10000, 10000));
+    assert!(rt; told(alloc, &found)?.as_str() == ALERTS_OF_THREE);
+    assert!(rt; gate.sums() == (10000, 10000));
     Ok(())
 }
 
@@ -130,10 +130,7 @@ fn two_pieces_are_matched_at_one_time(rt: HostRuntime) -> Result<(), Fail> {
         article_of(alloc, "a2", "coffee").expect(&rt, "an article"),
     ]?;
     let found = match_pieces(&rt, alloc, &view, &articles, 1, 2, &gate)?;
-    assert_eq!(rt;
-        told(alloc, &found)?.as_str(),
-        "a1 1 1 q1/a1/-. a2 1 1 q2/a2/-. "
-    );
+    assert!(rt; told(alloc, &found)?.as_str() == "a1 1 1 q1/a1/-. a2 1 1 q2/a2/-. ");
     assert!(rt; gate.is_met(), "one piece was held to the limit");
     Ok(())
 }

@@ -7,24 +7,21 @@ use std::process::Abort;
 use std::test::Fail;
 
 /// A query takes the place of the one with its id.
-static REPLACING: [(Step, &str); 14] = [
+static REPLACING: [(Step, &str); 11] = [
     (Step::Count, "0 0"),
     (Step::Segments, ""),
-    (Step::Text("q1"), "none"),
-    (Step::History, ""),
     (Step::Register(&[("q1", "tea")]), "Registered(1)"),
     (Step::Count, "1 1"),
     (Step::Segments, "1/1 "),
-    (Step::Text("q1"), "tea"),
     (
         Step::Register(&[("q2", "milk"), ("q1", "mat"), ("q1", "coffee")]),
         "Registered(2)",
     ),
     (Step::Count, "2 2"),
     (Step::Segments, "1/0 2/2 "),
-    (Step::Text("q1"), "coffee"),
-    (Step::Text("q2"), "milk"),
-    (Step::Text("q9"), "none"),
+    (Step::Candidates("tea"), ""),
+    (Step::Candidates("mat"), ""),
+    (Step::Candidates("coffee"), "q1 "),
 ];
 
 /// A delete counts the distinct ids that are there, and a clear all queries.
@@ -41,13 +38,13 @@ static DELETING: [(Step, &str); 10] = [
     (Step::Count, "6 0"),
 ];
 
-/// Commands are numbered by caller.
+/// Callers have the numbers 1 to 64.
 static NUMBERING: [(Step, &str); 5] = [
     (Step::Clear(1), "Cleared(0)"),
     (Step::Clear(64), "Cleared(0)"),
     (Step::Register(&[]), "Registered(0)"),
     (Step::Clear(65), "does not fit"),
-    (Step::History, "1/1 64/1 1/2 "),
+    (Step::Count, "3 0"),
 ];
 
 /// Just the live queries that share a key are candidates, by seq.
@@ -66,7 +63,7 @@ static SHARING: [(Step, &str); 8] = [
 ];
 
 /// The candidates are asked, and those that hold are alerted by id.
-static ALERTING: [(Step, &str); 6] = [
+static ALERTING: [(Step, &str); 4] = [
     (Step::Listen("q9", "tea", "desk"), "Registered(1)"),
     (
         Step::Register(&[
@@ -85,8 +82,6 @@ static ALERTING: [(Step, &str); 6] = [
         ]),
         "b 2 2 q10/b/- q9/b/desk. a 2 3 q3/a/- q9/a/desk. b 2 0. a 2 3 q10/a/- q2/a/- q9/a/desk. ",
     ),
-    (Step::Match("b", "tea"), "b 2 2 q10/b/- q9/b/desk. "),
-    (Step::Match("a", "Tea, milk"), "a 2 3 q3/a/- q9/a/desk. "),
     (Step::Batch(&[]), ""),
 ];
 
@@ -169,14 +164,13 @@ fn registers(
 }
 
 /// What a registry of 999,424 queries gives once 576 more are registered.
-static FULL: [(Step, &str); 7] = [
+static FULL: [(Step, &str); 6] = [
     (Step::Count, "977 1000000"),
     (Step::Register(&[("new", "tea")]), "Full"),
     (Step::Count, "977 1000000"),
-    (Step::Text("new"), "none"),
     (Step::Register(&[("7", "mat")]), "Registered(1)"),
     (Step::Count, "978 1000000"),
-    (Step::Text("7"), "mat"),
+    (Step::Candidates("mat"), "7 "),
 ];
 
 /// Registers a million queries.

@@ -1,7 +1,7 @@
 //! Scripts: steps with a registrar, and what each is to give.
 use crate::making::{article, owned, standing};
-use crate::showing::{add_alerts, told};
-use clip_match::{match_article, match_batch};
+use crate::showing::told;
+use clip_match::match_batch;
 use clip_meaning::Article;
 use clip_model::MOST_CALLERS;
 use clip_presearch::candidates;
@@ -26,14 +26,8 @@ pub enum Step {
     Count,
     /// Of each segment how many entries it has and how many of them are live.
     Segments,
-    /// The text of the query of an id.
-    Text(&'static str),
-    /// Of each history entry the caller and its number.
-    History,
     /// The ids of the candidates of the article of a text.
     Candidates(&'static str),
-    /// The alerts of one article: an id and a text.
-    Match(&'static str, &'static str),
     /// The alerts of articles, each an id and a text.
     Batch(&'static [(&'static str, &'static str)]),
 }
@@ -101,18 +95,6 @@ fn segments(alloc: Global, view: &View) -> Result<String, AllocError> {
     Ok(text)
 }
 
-/// Of each history entry the caller and its number.
-fn history(alloc: Global, registrar: &Registrar) -> Result<String, AllocError> {
-    let mut text = String::new(alloc);
-    let history = registrar.history();
-    for place in 0..history.len() {
-        if let Some(entry) = history.get(place) {
-            add_two(&mut text, u64::from(entry.caller), entry.number)?;
-        }
-    }
-    Ok(text)
-}
-
 /// The article of an id and of a text in its field `text`.
 fn article_of(alloc: Global, id: &str, text: &str) -> Result<Article, Fail> {
     Ok(article(alloc, id, &[("text", text)])?)
@@ -153,15 +135,6 @@ fn articles(alloc: Global, texts: &[(&str, &str)]) -> Result<Vec<Article>, Fail>
     Ok(articles)
 }
 
-/// The alerts of one article.
-fn matched(alloc: Global, view: &View, id: &str, text: &str) -> Result<String, Fail> {
-    let article = article_of(alloc, id, text)?;
-    let found = match_article(alloc, view, &article)?;
-    let mut told = String::new(alloc);
-    add_alerts(&mut told, &found)?;
-    Ok(told)
-}
-
 /// The alerts of articles.
 fn batch_matched(alloc: Global, view: &View, texts: &[(&str, &str)]) -> Result<String, Fail> {
     let articles = articles(alloc, texts)?;
@@ -172,9 +145,7 @@ fn batch_matched(alloc: Global, view: &View, texts: &[(&str, &str)]) -> Result<S
 fn viewed(alloc: Global, view: &View, step: &Step) -> Result<String, Fail> {
     match step {
         Step::Segments => Ok(segments(alloc, view)?),
-        Step::Text(id) => Ok(String::from_str(alloc, view.text_of(id).unwrap_or("none"))?),
         Step::Candidates(text) => candidate_ids(alloc, view, text),
-        Step::Match(id, text) => matched(alloc, view, id, text),
         Step::Batch(texts) => batch_matched(alloc, view, texts),
         _ => Ok(count(alloc, view)?),
     }
@@ -198,9 +169,6 @@ fn command(alloc: Global, step: &Step) -> Result<Option<(u32, Command)>, Fail> {
 fn played(alloc: Global, registrar: &mut Registrar, step: &Step) -> Result<String, Fail> {
     if let Some((caller, command)) = command(alloc, step)? {
         return Ok(answer(alloc, registrar, caller, command)?);
-    }
-    if let Step::History = step {
-        return Ok(history(alloc, registrar)?);
     }
     viewed(alloc, &registrar.view()?, step)
 }

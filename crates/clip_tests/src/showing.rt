@@ -96,7 +96,7 @@ pub fn tree(alloc: Global, query: &Query) -> Result<String, AllocError> {
 
 /// Adds alerts: the article, the place and how many were asked, of each alert the query, the article and the listener,
 /// and a full stop.
-pub fn add_alerts(text: &mut String, found: &Alerts) -> Result<(), AllocError> {
+fn add_alerts(text: &mut String, found: &Alerts) -> Result<(), AllocError> {
     let (article, place, asked) = (&found.article, found.place, found.asked);
     write!(text, "{article} {place} {asked}")?;
     for alert in &found.alerts {

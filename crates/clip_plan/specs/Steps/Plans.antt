@@ -1,5 +1,5 @@
 -- Plans as contracts see them, and what holds of each.
-use Rattle.std.specs.Prelude.{◌≡◌, ℕ, ◌<◌, List, [], ◌++◌, map, length, unwrap_or, slice_get}
+use Rattle.std.specs.Prelude.{◌≡◌, ℕ, ◌<◌, List, [], ◌∷◌, ◌++◌, map, length, unwrap_or, slice_get}
 use Rattle.std.specs.List.{All}
 use Rattle.std.specs.declared.vec.Vec.{Vec}
 use Rattle.std.specs.declared.alloc.Global.{Global}
@@ -16,6 +16,7 @@ use Rattle.clip_plan.specs.declared.plans.Plans.TheInside.{Inside}
 -- a step, with the run or the query of its place
 abbrev pub mark_of : (runs : List (List ℕ)) (asked : List Tree) → Step → Mark ℕ
 mark_of runs asked (step.Term occur n) = Leaf occur (Has n)
+mark_of runs asked (step.Pair occur m n) = Leaf occur (Run (m ∷ n ∷ []))
 mark_of runs asked (step.Phrase occur place) = Leaf occur (Run (unwrap_or (slice_get runs place) []))
 mark_of runs asked (step.Asked occur place) = Leaf occur (Is (unwrap_or (slice_get asked place) Tree.All))
 mark_of runs asked step.Open = Open
@@ -27,6 +28,7 @@ marks_of plans = map (map (mark_of plans.runs (map tree_of plans.asked.items))) 
 -- a step's run or query is there, of this many
 abbrev pub HasPlace : (runs asked : ℕ) → Step → Type 0
 HasPlace runs asked (step.Term occur n) = Unit {0}
+HasPlace runs asked (step.Pair occur m n) = Unit {0}
 HasPlace runs asked (step.Phrase occur place) = place < runs
 HasPlace runs asked (step.Asked occur place) = place < asked
 HasPlace runs asked step.Open = Unit {0}

@@ -41,8 +41,8 @@ fn take_turns<N: DeskName, R: Wait + Abort>(
     requires { IsSeatOf N.book N.callers first × IsSeatOf N.book N.callers second }
 {
     let receipt = commit(rt, desk, &mut first, register(rt, alloc, "q1", "tea"));
-    assert_eq!(rt; receipt.place(), 1);
-    assert_eq!(rt; receipt.applied(), Applied::Registered(1));
+    assert!(rt; receipt.place() == 1);
+    assert!(rt; receipt.applied() == Applied::Registered(1));
     second.learn(&receipt);
     second.learn(&receipt);
     sees(rt, &mut second, (1, 1));

@@ -109,22 +109,15 @@ pub fn purge<N: DeskName, R: Wait + Abort>(rt: &R, desk: &Desk<N, UpdateLog>, se
     requires { IsSeatOf N.book N.callers seat.old }
     ensures { IsSeatOf N.book N.callers seat.new }
 {
-    assert_eq!(rt; desk.purge(rt, seat), Ok(()));
+    assert!(rt; desk.purge(rt, seat) == Ok(()));
 }
 
 /// A look shows so many queries and so many commands.
 pub fn sees<R: Abort>(rt: &R, seat: &mut Seat, wanted: (u64, u64))
     ensures { (seat.new.book ≡ seat.old.book) × (seat.new.callers ≡ seat.old.callers) }
 {
-    assert_eq!(rt; look(rt, seat), wanted);
-}
-
-/// How many queries a look shows, and how many commands.
-pub fn look<R: Abort>(rt: &R, seat: &mut Seat) -> (u64, u64)
-    ensures { (seat.new.book ≡ seat.old.book) × (seat.new.callers ≡ seat.old.callers) }
-{
     match seat.look() {
-        Ok(view) => (view.count(), view.place()),
+        Ok(view) => assert!(rt; (view.count(), view.place()) == wanted),
         Err(_) => panic!(rt; "no look"),
     }
 }

@@ -30,7 +30,7 @@ fn run_again<N: DeskName, R: Wait + Abort>(rt: &R, alloc: Global, parts: DeskPar
             accepted = accepted.wrapping_add(commit_twice_at_most(rt, alloc, &desk, &mut seat));
         }
         if let Ok(view) = seat.look() {
-            assert_eq!(rt; view.place(), accepted);
+            assert!(rt; view.place() == accepted);
         }
     }
     desk.end(rt);

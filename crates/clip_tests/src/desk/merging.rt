@@ -34,11 +34,11 @@ fn look_inside<R: Abort>(rt: &R, seat: &mut Seat) -> (usize, usize)
 fn sees_inside<R: Abort>(rt: &R, seat: &mut Seat, wanted: (usize, usize))
     ensures { (seat.new.book ≡ seat.old.book) × (seat.new.callers ≡ seat.old.callers) }
 {
-    assert_eq!(rt; look_inside(rt, seat), wanted);
+    assert!(rt; look_inside(rt, seat) == wanted);
 }
 
 #[test]
-fn four_segments_become_one(rt: HostRuntime) -> Result<(), Fail> {
+fn four_segments_become_one_and_a_purge_leaves_no_dead_entry(rt: HostRuntime) -> Result<(), Fail> {
     let parts = parts_of(&rt, rt.alloc(), 1, 1)?;
     run_merge::<Brand, _>(&rt, rt.alloc(), parts);
     Ok(())
@@ -52,35 +52,13 @@ fn run_merge<N: DeskName, R: Wait + Abort>(rt: &R, alloc: Global, parts: DeskPar
         Some(mut seat) => {
             commit_four(rt, alloc, &desk, &mut seat);
             sees_inside(rt, &mut seat, (4, 4));
-            assert_eq!(rt; desk.merge_once(rt), Ok(MergeTurn::Installed));
+            assert!(rt; desk.merge_once(rt) == Ok(MergeTurn::Installed));
             sees_inside(rt, &mut seat, (1, 4));
-            assert_eq!(rt; desk.merge_once(rt), Ok(MergeTurn::Nothing));
-            purge(rt, &desk, &mut seat);
-            sees_inside(rt, &mut seat, (1, 4));
-        }
-        None => panic!(rt; "one seat"),
-    }
-    desk.end(rt);
-}
-
-#[test]
-fn a_purge_leaves_no_dead_entry(rt: HostRuntime) -> Result<(), Fail> {
-    let parts = parts_of(&rt, rt.alloc(), 1, 1)?;
-    run_purge::<Brand, _>(&rt, rt.alloc(), parts);
-    Ok(())
-}
-
-fn run_purge<N: DeskName, R: Wait + Abort>(rt: &R, alloc: Global, parts: DeskParts<UpdateLog>)
-    requires { (parts.book ≡ N.book) × (parts.callers ≡ N.callers) × (N.heard_before ≡ heard_at parts.updates) }
-{
-    let (desk, mut seats) = Desk::<N, UpdateLog>::open(parts);
-    match pop_seat::<N>(&mut seats) {
-        Some(mut seat) => {
-            commit(rt, &desk, &mut seat, register(rt, alloc, "q1", "tea"));
+            assert!(rt; desk.merge_once(rt) == Ok(MergeTurn::Nothing));
             commit(rt, &desk, &mut seat, register(rt, alloc, "q1", "coffee"));
-            sees_inside(rt, &mut seat, (2, 2));
+            sees_inside(rt, &mut seat, (2, 5));
             purge(rt, &desk, &mut seat);
-            sees_inside(rt, &mut seat, (1, 1));
+            sees_inside(rt, &mut seat, (2, 4));
         }
         None => panic!(rt; "one seat"),
     }
@@ -118,5 +96,5 @@ fn serve_two<N: DeskName, R: Wait + Abort>(rt: &R, alloc: Global, desk: &Desk<N,
     assert!(rt; sender.send(rt, Nudge::Merge).is_ok(), "sent");
     assert!(rt; sender.send(rt, Nudge::Stop).is_ok(), "sent");
     desk.serve_merges(rt, &nudges);
-    assert_eq!(rt; nudges.len(), 0);
+    assert!(rt; nudges.len() == 0);
 }

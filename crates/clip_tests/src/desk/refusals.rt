@@ -19,7 +19,7 @@ use std::test::Fail;
 fn a_desk_has_64_callers_at_most(rt: HostRuntime) -> Result<(), Fail> {
     match parts_of(&rt, rt.alloc(), 1, 65) {
         Ok(parts) => run_close::<Brand, _>(&rt, rt.alloc(), parts),
-        Err(refused) => assert_eq!(rt; refused, NewRefused::TooMany),
+        Err(refused) => assert!(rt; refused == NewRefused::TooMany),
     }
     Ok(())
 }
@@ -71,12 +71,12 @@ fn commit_around_a_clear<N: DeskName, R: Wait + Abort>(
 
 fn check_numbers<R: Abort>(rt: &R, closed: &Closed<UpdateLog>) {
     let history = closed.registrar.history();
-    assert_eq!(rt; history.len(), 4);
+    assert!(rt; history.len() == 4);
     for place in 0..4usize {
         match history.get(place) {
             Some(entry) => {
-                assert_eq!(rt; entry.caller, 1);
-                assert_eq!(rt; entry.number, place as u64 + 1);
+                assert!(rt; entry.caller == 1);
+                assert!(rt; entry.number == place as u64 + 1);
             }
             None => panic!(rt; "an entry"),
         }
@@ -124,7 +124,7 @@ fn hand_back<N: DeskName, R: Wait + Abort>(
 {
     assert!(rt; stranger.tag() != desk.tag(), "two tags");
     match desk.commit(rt, stranger, command) {
-        Err((Command::Register(standings), Refused::Foreign)) => assert_eq!(rt; standings.len(), 1),
+        Err((Command::Register(standings), Refused::Foreign)) => assert!(rt; standings.len() == 1),
         _ => panic!(rt; "the seat is of another desk"),
     }
 }

@@ -20,8 +20,8 @@ fn answers_in_pieces_with<H: Threads + Wait + Sync + Abort + AllocGlobal>(
         let mut source = script_of(input.as_bytes(), piece, MANY);
         let mut sink = blank_tape(rt.alloc(), piece, Failing::Write, MANY);
         let ended = run_unheard(rt, workers, &mut source, &mut sink)?;
-        assert_eq!(rt; ended.lines, 2);
-        assert!(rt; sink.taken.as_slice() == wanted.as_bytes(), "at {piece}");
+        assert!(rt; ended.lines == 2);
+        assert!(rt; sink.taken.as_slice() == wanted.as_bytes());
     }
     Ok(())
 }
@@ -46,8 +46,8 @@ fn fails_to_read<H: Threads + Wait + Sync + Abort + AllocGlobal>(
         let mut source = script_of(input.as_bytes(), 10, well);
         let mut sink = blank_tape(rt.alloc(), 10, Failing::Write, MANY);
         let outcome = run_unheard(rt, workers, &mut source, &mut sink);
-        assert_eq!(rt; outcome.err(), Some(RunFault::Read), "at {well}");
-        assert!(rt; sink.taken.as_slice() == taken.as_bytes(), "at {well}");
+        assert!(rt; outcome.err() == Some(RunFault::Read));
+        assert!(rt; sink.taken.as_slice() == taken.as_bytes());
     }
     Ok(())
 }
@@ -71,9 +71,9 @@ fn fails_to_write<H: Threads + Wait + Sync + Abort + AllocGlobal>(
             let mut source = script_of(input.as_bytes(), 1000, MANY);
             let mut sink = blank_tape(rt.alloc(), 10, failing, well);
             let outcome = run_unheard(rt, workers, &mut source, &mut sink);
-            assert_eq!(rt; outcome.err(), Some(RunFault::Write), "at {well}");
-            assert_eq!(rt; sink.taken.len(), written);
-            assert!(rt; wanted.as_bytes().starts_with(&sink.taken), "at {well}");
+            assert!(rt; outcome.err() == Some(RunFault::Write));
+            assert!(rt; sink.taken.len() == written);
+            assert!(rt; wanted.as_bytes().starts_with(&sink.taken));
         }
     }
     Ok(())
@@ -95,8 +95,8 @@ fn fails_to_flush<H: Threads + Wait + Sync + Abort + AllocGlobal>(
         let mut source = script_of(input.as_bytes(), 1000, MANY);
         let mut sink = blank_tape(rt.alloc(), 1000, Failing::Flush, well);
         let outcome = run_unheard(rt, workers, &mut source, &mut sink);
-        assert_eq!(rt; outcome.err(), Some(RunFault::Write), "at {well}");
-        assert_eq!(rt; sink.taken.len(), taken, "at {well}");
+        assert!(rt; outcome.err() == Some(RunFault::Write));
+        assert!(rt; sink.taken.len() == taken);
     }
     Ok(())
 }
@@ -157,7 +157,7 @@ fn an_interrupted_call_is_made_again(rt: HostRuntime) -> Result<(), Fail> {
     let mut taken = Interrupted::new(Vec::new(rt.alloc()));
     let mut source = StdSource::new(Interrupted::new(input.as_bytes()));
     let mut sink = StdSink::new(&mut taken);
-    assert_eq!(rt; run_unheard(&rt, 2, &mut source, &mut sink)?.lines, 2);
+    assert!(rt; run_unheard(&rt, 2, &mut source, &mut sink)?.lines == 2);
     assert!(rt; taken.inner.as_slice() == wanted.as_bytes());
     Ok(())
 }

@@ -102,8 +102,8 @@ fn two_batches_in_flight_cross_and_are_answered_in_line_order(rt: HostRuntime) -
         settings,
         &gate,
     )?;
-    assert_eq!(rt; ended.lines, 3);
-    assert_eq!(rt; sink.taken.as_slice(), text_of(alloc, &REPLIES)?.as_bytes());
+    assert!(rt; ended.lines == 3);
+    assert!(rt; sink.taken.as_slice() == text_of(alloc, &REPLIES)?.as_bytes());
     assert!(rt;
         !gate.told.given_up.load(SeqCst),
         "a batch waited to the limit"

@@ -80,15 +80,12 @@ fn is_heard<R: Threads + Wait + Sync + Abort + AllocGlobal>(
         settings,
         &OpenGate,
     )?;
-    assert_eq!(rt;
-        sink.taken.as_slice(),
-        text_of(rt.alloc(), &REPLIES)?.as_bytes()
-    );
-    assert_eq!(rt; ended.ledger.rows().len(), rows);
-    assert_eq!(rt; ended.ledger.total("mail"), (rows / 3) as u64);
+    assert!(rt; sink.taken.as_slice() == text_of(rt.alloc(), &REPLIES)?.as_bytes());
+    assert!(rt; ended.ledger.rows().len() == rows);
+    assert!(rt; ended.ledger.total("mail") == (rows / 3) as u64);
     let parts = listeners.into_parts();
     for (part, wanted) in parts.iter().zip(heard) {
-        assert_eq!(rt; queries_of(rt.alloc(), part.1.heard())?.as_str(), wanted);
+        assert!(rt; queries_of(rt.alloc(), part.1.heard())?.as_str() == wanted);
     }
     Ok(())
 }

@@ -14,8 +14,8 @@ fn a_trace_ends_with_the_fault_of_its_writer(rt: HostRuntime) -> Result<(), Fail
     let mut source = script_of(PURGE.as_bytes(), 1000, MANY);
     let mut sink = blank_tape(rt.alloc(), 10, Failing::Write, 1);
     let outcome = run_trace(rt.alloc(), &mut source, &mut sink);
-    assert_eq!(rt; outcome.err(), Some(RunFault::Write));
-    assert_eq!(rt; sink.taken.as_slice(), "{\"line\":1,".as_bytes());
+    assert!(rt; outcome.err() == Some(RunFault::Write));
+    assert!(rt; sink.taken.as_slice() == "{\"line\":1,".as_bytes());
     Ok(())
 }
 
@@ -26,8 +26,8 @@ fn a_trace_ends_with_the_fault_of_its_reader(rt: HostRuntime) -> Result<(), Fail
         let mut source = script_of(PURGE.as_bytes(), 1000, well);
         let mut sink = blank_tape(rt.alloc(), 1000, Failing::Write, MANY);
         let outcome = run_trace(rt.alloc(), &mut source, &mut sink);
-        assert_eq!(rt; outcome.err(), Some(RunFault::Read), "at {well}");
-        assert_eq!(rt; sink.taken.as_slice(), taken.as_bytes(), "at {well}");
+        assert!(rt; outcome.err() == Some(RunFault::Read));
+        assert!(rt; sink.taken.as_slice() == taken.as_bytes());
     }
     Ok(())
 }

@@ -9,10 +9,10 @@ returns-in_ok-push-in-Term-clause-added c =
     term_added c.args.terms.now c.args.runs.now c.args.asked.now.items c.args.steps.now.items c.push.new.self.items c.args.occur c.number_of.result c.args.query.now c.in-Term.field c.in-Term.word
     c.in-Term.is c.number_of.ensures c.in_ok-push-in-Term.ensures.items
 
-pub returns-in_ok-push-in-Phrase-clause-added : goal.returns-in_ok-push-in-Phrase-clause-added
-returns-in_ok-push-in-Phrase-clause-added c =
-    phrase_added c.args.terms.now c.args.runs.now c.add_run.new.runs c.args.asked.now.items c.args.steps.now.items c.push-in-Phrase.new.self.items c.args.occur c.in_ok-add_run-in-Phrase.field-0 c.args.query.now c.in-Phrase.field c.in-Phrase.words c.deref.result.now
-    c.in-Phrase.is c.deref.ensures.value c.in_ok-add_run-in-Phrase.ensures.grows c.in_ok-add_run-in-Phrase.ensures.inside c.in_ok-add_run-in-Phrase.ensures.run c.in_ok-push-in-Phrase.ensures.items
+pub returns-in-Phrase-clause-added : goal.returns-in-Phrase-clause-added
+returns-in-Phrase-clause-added c =
+    phrase_added c.add_phrase.result c.args.terms.now c.args.runs.now c.add_phrase.new.runs c.args.asked.now.items c.args.steps.now.items c.add_phrase.new.steps.items c.args.occur c.args.query.now c.in-Phrase.field c.in-Phrase.words c.deref.result.now
+    c.in-Phrase.is c.deref.ensures.value c.add_phrase.ensures.added
 
 pub returns-in_ok-copied-in-Prefix-clause-added : goal.returns-in_ok-copied-in-Prefix-clause-added
 returns-in_ok-copied-in-Prefix-clause-added c =

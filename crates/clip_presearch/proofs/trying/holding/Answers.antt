@@ -36,6 +36,11 @@ loop-segment-preserved c =
     ap (λ (r : AskedValue). entries_at r.entries (live_among h r.entries positions)) value ∙ ap (λ ps. entries_at segment (live_among h segment ps)) same ∙ live_entries h ks segment in
     let tried_live : entries_at segment c.deref-in-loop-segment-2.result.now ≡ live_with h ks segment =
     ap (entries_at segment) (c.deref-in-loop-segment-2.ensures.value ∙ c.in_ok-keep_live.ensures.live ∙ ap (λ (r : AskedValue). live_among h r.entries positions) value ∙ ap (live_among h segment) same) ∙ live_entries h ks segment in
+    let kept : filter (λ x. holds x.standing.tree c.in_ok-reading.reading.article.fields) (entries_at c.in_ok-reading.reading.entries c.deref-in-loop-segment-3.result.now) ≡ filter held (live_with h ks segment) =
+    ap (λ ps. filter (λ x. holds x.standing.tree c.in_ok-reading.reading.article.fields) (entries_at c.in_ok-reading.reading.entries ps)) c.deref-in-loop-segment-3.ensures.value
+    ∙ c.in_ok-keep_possible.ensures
+    ∙ ap (λ (r : AskedValue). filter (λ x. holds x.standing.tree r.article.fields) (entries_at r.entries c.deref-in-loop-segment-2.result.now)) value
+    ∙ ap (filter held) tried_live in
     let seqs = c.loop-segment.asked.items in
     let found = map (λ (e : Bor Registered). e.now) c.loop-segment.held.items in
     record {
@@ -46,7 +51,7 @@ loop-segment-preserved c =
           ∙ ap (λ es. seqs ++ seqs_of (live_with h ks es)) parts
           ∙ c.loop-segment.invariant.asked;
       held =
-          ap (λ xs. xs ++ filter held (live_with h ks others)) (c.in_ok-try_each.ensures ∙ ap (λ (r : AskedValue). found ++ filter (λ x. holds x.standing.tree r.article.fields) (entries_at r.entries c.deref-in-loop-segment-2.result.now)) value ∙ ap (λ es. found ++ filter held es) tried_live)
+          ap (λ xs. xs ++ filter held (live_with h ks others)) (c.in_ok-try_each.ensures ∙ ap (λ es. found ++ es) kept)
           ∙ append_assoc found (filter held (live_with h ks segment)) (filter held (live_with h ks others))
           ∙ ap (λ xs. found ++ xs) (held_split held h ks segment others)
           ∙ ap (λ es. found ++ filter held (live_with h ks es)) parts

@@ -3,7 +3,7 @@ use Rattle.std.proofs.lemmas.List.{length-map}
 use Rattle.clip_meaning.specs.Leads.{IsLead}
 use Rattle.clip_extract.specs.Keys.{KeyValue, key_of, text_of}
 use Rattle.clip_terms.proofs.Headings.{below_middle, above_middle, found_middle, found_nowhere, found_later}
-use Rattle.clip_terms.proofs.LeadsOfTerms.{leads_long, lead_at, read_at, never_fall, all_below}
+use Rattle.clip_terms.proofs.LeadsOfTerms.{leads_long, lead_at, read_at, never_fall, all_below, all_above}
 use Rattle.clip_terms.proofs.field_terms.place_of.Goals as goal
 
 pub first_of_lead-first-requires-clause-within : goal.first_of_lead-first-requires-clause-within
@@ -26,6 +26,21 @@ returns-then-first-part c =
 
 pub bounds-leads-first : goal.bounds-leads-first
 bounds-leads-first c = omega (arith, c.if-first-part.false, c.requires.within, leads_long (map key_of c.args.keys.now) c.args.leads.now c.requires.leads, length-map c.args.keys.now key_of)
+
+pub returns-then-leads-first : goal.returns-then-leads-first
+returns-then-leads-first c =
+    let ts = map key_of c.args.keys.now in
+    let start = c.args.part.now.start in
+    let end = c.args.part.now.end in
+    let first = c.first_of_lead-first.result in
+    let within : end ≤ length ts = omega (arith, c.requires.within, length-map c.args.keys.now key_of) in
+    found_nowhere ts start end c.args.text.now first first (omega arith)
+    (all_below ts c.args.leads.now start first c.args.text.now c.lead_of-lead.result c.requires.leads c.lead_of-lead.ensures (omega (arith, within, c.if-first-part.false)) c.first_of_lead-first.ensures.below)
+    (all_above ts c.args.leads.now start end c.args.text.now c.lead_of-lead.result first c.requires.leads c.lead_of-lead.ensures within
+    (never_fall ts c.args.leads.now start end c.requires.leads within c.requires.rise) c.first_of_lead-first.ensures.from c.if-leads-first.true)
+
+pub bounds-leads-first-2 : goal.bounds-leads-first-2
+bounds-leads-first-2 c = omega (arith, c.if-first-part.false, c.requires.within, leads_long (map key_of c.args.keys.now) c.args.leads.now c.requires.leads, length-map c.args.keys.now key_of)
 
 pub text_order-requires-clause-key : goal.text_order-requires-clause-key
 text_order-requires-clause-key c =

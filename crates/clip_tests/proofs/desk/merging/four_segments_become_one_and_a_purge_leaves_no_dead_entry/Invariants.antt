@@ -1,5 +1,5 @@
 use Rattle.clip_listen.specs.Updates.{heard_at}
-use Rattle.clip_tests.proofs.desk.merging.four_segments_become_one.Given as goal
+use Rattle.clip_tests.proofs.desk.merging.four_segments_become_one_and_a_purge_leaves_no_dead_entry.Given as goal
 
 -- the desk whose parts were just made
 abbrev pub ghosts-run_merge : goal.ghosts-run_merge
