@@ -10,9 +10,9 @@ use Rattle.std.proofs.alloc.Global.TheSendSync as global_sent
 use Rattle.std.below.std_heap.proofs.GlobalAllocator.TheSendSync as allocator_sent
 use Rattle.crossbeam_channel.proofs.channel.Sender.TheSendSync as sender_sent
 use Rattle.crossbeam_channel.proofs.channel.Receiver.TheSendSync as receiver_sent
-use Rattle.clip_listen.specs.contracts.update_listener.UpdateLog as log
-use Rattle.clip_listen.specs.contracts.update_listener.UpdateLogUpdateListener.TheImpl as log_impl
-use Rattle.clip_listen.proofs.update_listener.UpdateLog.TheSendSync as log_sent
+use Rattle.clip_desk.specs.contracts.update_listener.UpdateLog as log
+use Rattle.clip_desk.specs.contracts.update_listener.UpdateLogUpdateListener.TheImpl as log_impl
+use Rattle.clip_desk.proofs.update_listener.UpdateLog.TheSendSync as log_sent
 use Rattle.clip_desk.specs.declared.locked.DeskName.{Ghosts}
 use Rattle.clip_desk.proofs.Sent.{desk_sync}
 use Rattle.clip_desk.proofs.desk_merging.Nudge.TheSendSync as nudge_sent

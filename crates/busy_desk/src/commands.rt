@@ -1,7 +1,6 @@
 //! Commands on numbered queries.
 use anyhow::Result;
-use clip_registry::Command;
-use clip_segment::Standing;
+use clip_standing::{Command, Standing};
 use std::alloc::Global;
 use std::sync::Arc;
 
@@ -14,7 +13,7 @@ fn standing(alloc: Global, number: u64) -> Result<Standing> {
     let first = number % WORDS;
     let second = number / 7 % WORDS;
     let text = format!(in alloc; "+word{first} +word{second}")?;
-    Ok(Standing::read(alloc, id.as_str(), text.as_str(), None)?)
+    Ok(Standing::read(alloc, id, text, None)?)
 }
 
 /// A register of the queries from one number up to before another.

@@ -1,25 +1,25 @@
 //! A desk of two callers, in one of two forms.
 //!
-//! Of three numbers the first says how many queries are registered first, in lists, and the others how many are registered
-//! and deleted after that, one by one, by one caller while the other holds a look.
+//! Of three numbers the first says how many queries are registered first, in lists, and the others how many are
+//! registered and deleted after that, one by one, by one caller while the other holds a look.
 //!
-//! After `merging` or `unmerged` a number says how many commits one thread makes, of one query each, while another looks;
-//! a third merges, or does not. The times of the calls are printed.
+//! After `merging` or `unmerged` a number says how many commits one thread makes, of one query each, while another
+//! looks; a third merges, or does not. The times of the calls are printed.
 #![tactic(auto)]
 
 ghost use Rattle.std.specs.Prelude.{◌≡◌, IfSome, IsTrue};
-ghost use Rattle.clip_listen.specs.Updates.{heard_at};
+ghost use Rattle.clip_desk.specs.Updates.{heard_at};
 ghost use Rattle.clip_desk.specs.Locked.{IsSeatOf, AreSeatsOf};
 ghost use Rattle.clip_model.specs.History.{fits};
-ghost use Rattle.clip_registry.specs.Command.{command_of};
+ghost use Rattle.clip_standing.specs.Command.{command_of};
 
 mod commands;
 mod merging;
 
 use anyhow::{Result, bail};
-use clip_desk::{Desk, DeskName, DeskParts, Seat};
-use clip_listen::{UpdateListeners, UpdateLog};
-use clip_registry::{Command, View};
+use clip_desk::{Desk, DeskName, DeskParts, Seat, UpdateListeners, UpdateLog};
+use clip_registry::View;
+use clip_standing::Command;
 use commands::{Change, change_one, register_from};
 use merging::{Merger, Report, Times, measure};
 use std::alloc::Global;

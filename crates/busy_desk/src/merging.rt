@@ -1,13 +1,12 @@
 //! A desk at which one thread commits, a second merges, and a third takes looks, with the times that calls took.
 ghost use Rattle.std.specs.Prelude.{◌≡◌};
-ghost use Rattle.clip_listen.specs.Updates.{heard_at};
+ghost use Rattle.clip_desk.specs.Updates.{heard_at};
 ghost use Rattle.clip_desk.specs.Locked.{IsSeatOf};
 
 use crate::commands::{Change, change_one};
 use crate::{commit, seat_of};
 use anyhow::{Result, bail};
-use clip_desk::{Desk, DeskName, DeskParts, Nudge, Seat};
-use clip_listen::UpdateLog;
+use clip_desk::{Desk, DeskName, DeskParts, Nudge, Seat, UpdateLog};
 use clip_match::match_article;
 use clip_meaning::Article;
 use crossbeam_channel::{Receiver, Sender, unbounded};

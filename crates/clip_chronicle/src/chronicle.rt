@@ -4,9 +4,10 @@ ghost use mathlib.Core.List.{IsPrefix};
 ghost use Rattle.clip_chronicle.specs.Chronicle.{head_of};
 ghost use Rattle.clip_model.specs.History as model;
 ghost use Rattle.clip_model.specs.History.{IsLegal};
-ghost use Rattle.clip_registry.specs.Command.{entry_of};
+ghost use Rattle.clip_standing.specs.Command.{entry_of};
 
-use clip_registry::{HistoryEntry, Registrar};
+use clip_registry::Registrar;
+use clip_standing::HistoryEntry;
 use logbook::{Gain, Offer, Plain, Play, Rule, Seen, Start, Word};
 use std::marker::Model;
 
@@ -18,7 +19,7 @@ pub struct Line {
 
 impl Model for Line {
     ghost use Rattle.clip_model.specs.History.{HistoryEntry, entry_code};
-    ghost use Rattle.clip_registry.specs.Command.{entry_of};
+    ghost use Rattle.clip_standing.specs.Command.{entry_of};
 
     ghost Value = { HistoryEntry };
 
@@ -69,7 +70,7 @@ impl Play<Line, u64> for Add {
 /// What a step asks for: the entry.
 impl Plain<HistoryEntry, Line, u64> for Add {
     ghost use Rattle.std.specs.Prelude.{None};
-    ghost use Rattle.clip_registry.specs.Command.{entry_of};
+    ghost use Rattle.clip_standing.specs.Command.{entry_of};
 
     ghost ask = { λ e. entry_of e };
 
@@ -113,8 +114,10 @@ impl Front {
     /// Shows that of two beginnings of one history one begins the other. It does nothing at run time.
     pub fn meet(&self, other: &Front)
         requires { other.now.seen.book ≡ self.now.seen.book }
-        ensures shorter { length self.now.seen.log ≤ length other.now.seen.log → IsPrefix self.now.seen.log other.now.seen.log }
-        ensures longer { length other.now.seen.log ≤ length self.now.seen.log → IsPrefix other.now.seen.log self.now.seen.log }
+        ensures shorter { length self.now.seen.log ≤ length other.now.seen.log
+            → IsPrefix self.now.seen.log other.now.seen.log }
+        ensures longer { length other.now.seen.log ≤ length self.now.seen.log
+            → IsPrefix other.now.seen.log self.now.seen.log }
     {
         let mut both = self.seen.again();
         both.learn(&other.seen);
@@ -125,7 +128,8 @@ impl Front {
         requires head { head.now ≡ head_of self.old.seen.book }
         requires room { length self.old.seen.log < 2 ^ 62 }
         ensures book { self.new.seen.book ≡ self.old.seen.book }
-        ensures added { MatchBool result (self.new.seen.log ≡ self.old.seen.log ++ entry_of entry.now ∷ []) (IsPrefix self.old.seen.log self.new.seen.log) }
+        ensures added { MatchBool result (self.new.seen.log ≡ self.old.seen.log
+            ++ entry_of entry.now ∷ []) (IsPrefix self.old.seen.log self.new.seen.log) }
     {
         let mut offer: Offer<Line, u64, Law, Nothing> = self
             .seen
@@ -152,7 +156,8 @@ impl Front {
         requires head { head.now ≡ head_of self.old.seen.book }
         requires one_more { (e : model.HistoryEntry) × (registrar.now.history ≡ self.old.seen.log ++ e ∷ []) }
         ensures book { self.new.seen.book ≡ self.old.seen.book }
-        ensures added { MatchBool result (self.new.seen.log ≡ registrar.now.history) (IsPrefix self.old.seen.log self.new.seen.log) }
+        ensures added { MatchBool result (self.new.seen.log ≡ registrar.now.history)
+            (IsPrefix self.old.seen.log self.new.seen.log) }
         ensures legal { IsLegal registrar.now.history }
     {
         match registrar.history().last() {

@@ -43,7 +43,10 @@ pub fn publish<R: Wait>(
     next: Published,
 ) -> (WriterEnd, Result<(), AllocError>)
     requires { Continues writer.desk.shown.value next }
-    ensures { MatchResult result.1 (λ _. (result.0.desk.shown.value ≡ next) × (view result.0.desk.place ≡ Some next)) (λ _. (result.0.desk.shown.value ≡ writer.desk.shown.value) × (view result.0.desk.place ≡ view writer.desk.place)) }
+    ensures { MatchResult result.1 (λ _. (result.0.desk.shown.value ≡ next)
+        × (view result.0.desk.place ≡ Some next))
+        (λ _. (result.0.desk.shown.value ≡ writer.desk.shown.value)
+        × (view result.0.desk.place ≡ view writer.desk.place)) }
 {
     let mut writer = writer;
     let Ok(()) = writer.append(next) else {
@@ -64,7 +67,9 @@ pub fn show<R: Wait>(
     requires book { front.seen.book ≡ writer.old.desk.shown.value.front.seen.book }
     requires later { IsPrefix writer.old.desk.shown.value.view.history view.history }
     requires callers { IsBy writer.old.desk.shown.value.callers view.history }
-    ensures { MatchResult result (λ _. Shows writer.old.desk.shown.value view writer.new.desk.shown.value) (λ _. writer.new.desk.shown.value ≡ writer.old.desk.shown.value) }
+    ensures { MatchResult result (λ _. Shows writer.old.desk.shown.value view
+        writer.new.desk.shown.value) (λ _. writer.new.desk.shown.value
+        ≡ writer.old.desk.shown.value) }
 {
     let callers = writer.published().callers;
     let next = Published {
@@ -78,7 +83,8 @@ pub fn show<R: Wait>(
 /// The same for any value that goes on from the one before.
 fn publish_here<R: Wait>(rt: &R, writer: &mut WriterEnd, next: Published) -> Result<(), AllocError>
     requires { Continues writer.old.desk.shown.value next }
-    ensures { MatchResult result (λ _. writer.new.desk.shown.value ≡ next) (λ _. writer.new.desk.shown.value ≡ writer.old.desk.shown.value) }
+    ensures { MatchResult result (λ _. writer.new.desk.shown.value ≡ next)
+        (λ _. writer.new.desk.shown.value ≡ writer.old.desk.shown.value) }
 {
     replace_with(
         writer,

@@ -1,6 +1,7 @@
 //! The words that the program is given, and how it ends.
 ghost use Rattle.std.specs.Prelude.{◌≡◌, ◌≤◌, IfSome};
-ghost use Rattle.clip_command_line.specs.CommandLine.{HasFewWorkers, digit_of, workers_of, plain_mode, mode_of, ending_of};
+ghost use Rattle.clip_command_line.specs.CommandLine.{HasFewWorkers, digit_of, workers_of};
+ghost use Rattle.clip_command_line.specs.CommandLine.{plain_mode, mode_of, ending_of};
 
 use crate::mode::Mode;
 use clip_stream::{MOST_WORKERS, RunFault};
@@ -50,8 +51,8 @@ fn plain_mode(word: &str) -> Option<Mode>
     }
 }
 
-/// What the words after the program's name ask for: `run`, `run` and a number of workers of one or two digits and at most
-/// 64, or `trace`; all else is None. Linear in the words' first bytes.
+/// What the words after the program's name ask for: `run`, `run` and a number of workers of one or two digits and at
+/// most 64, or `trace`; all else is None. Linear in the words' first bytes.
 pub fn mode(words: &[String]) -> Option<Mode>
     ensures named { result ≡ mode_of words.now }
     ensures few { IfSome result HasFewWorkers }

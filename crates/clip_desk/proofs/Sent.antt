@@ -16,9 +16,9 @@ use Rattle.logbook.proofs.Word.TheSendSync as word_sent
 use Rattle.clip_registry.proofs.Sent.{registrar_send}
 use Rattle.clip_chronicle.proofs.chronicle.Front.TheSendSync as front_sent
 use Rattle.clip_chronicle.proofs.Sent.{published_send, published_sync}
-use Rattle.clip_listen.specs.declared.update_listener.UpdateListener as heard
-use Rattle.clip_listen.specs.contracts.update_listeners.UpdateListeners as updates
-use Rattle.clip_listen.specs.contracts.update_listeners.UpdateListeners.TheInside as updates_inside
+use Rattle.clip_desk.specs.declared.update_listener.UpdateListener as heard
+use Rattle.clip_desk.specs.contracts.update_listeners.UpdateListeners as updates
+use Rattle.clip_desk.specs.contracts.update_listeners.UpdateListeners.TheInside as updates_inside
 use Rattle.clip_desk.specs.declared.locked.DeskName.{Ghosts}
 use Rattle.clip_desk.specs.contracts.seat.Seat as seat
 use Rattle.clip_desk.specs.contracts.seat.Seat.TheInside as seat_inside

@@ -1,2 +1,5 @@
-pub mod Seats
 pub mod Locked
+pub mod Seats
+pub mod Steps
+pub mod Told
+pub mod Updates

@@ -5,9 +5,9 @@ use Rattle.std.proofs.Common.{inl, inr}
 use mathlib.Core.List.{IsPrefix}
 use Rattle.logbook.specs.Pages.{Book, book_coded}
 use Rattle.clip_model.specs.History.{History, Command, own, command_code, history_code}
-use Rattle.clip_registry.specs.declared.command.Applied.{Applied}
-use Rattle.clip_listen.specs.Updates.{Heard}
-use Rattle.clip_registry.specs.declared.command.Applied.TheVariants as answer
+use Rattle.clip_standing.specs.declared.command.Applied.{Applied}
+use Rattle.clip_desk.specs.Updates.{Heard}
+use Rattle.clip_standing.specs.declared.command.Applied.TheVariants as answer
 
 -- seen: the longest history that the seat got; mine: the commands committed with it, in order
 pub record SeatIs : Type 0 where

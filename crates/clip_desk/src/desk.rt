@@ -3,9 +3,9 @@ ghost use Rattle.std.specs.Prelude.{◌≡◌, ◌≢◌, ◌↔◌, ℕ, ◌+�
 ghost use mathlib.Core.List.{IsPrefix};
 ghost use Rattle.clip_model.specs.History.{own, fits, has_room, applied, with_command, IsLegal};
 ghost use Rattle.clip_model.specs.History as model;
-ghost use Rattle.clip_registry.specs.Command.{command_of, answer_of};
+ghost use Rattle.clip_standing.specs.Command.{command_of, answer_of};
 ghost use Rattle.clip_chronicle.specs.Callers.{IsBy};
-ghost use Rattle.clip_listen.specs.Updates.{AllFollow, heard_at, heard_by};
+ghost use Rattle.clip_desk.specs.Updates.{AllFollow, heard_at, heard_by};
 ghost use Rattle.clip_desk.specs.Seats.{SeatIs, AreSeated, IsAccounted, AreAll};
 ghost use Rattle.clip_desk.specs.Locked.{IsSeatOf, AreSeatsOf};
 
@@ -13,8 +13,9 @@ use crate::locked::{DeskName, Locked};
 use crate::parts::DeskParts;
 use crate::refused::Refused;
 use crate::seat::{Receipt, Seat};
-use clip_listen::UpdateListener;
-use clip_registry::{Command, Registrar};
+use crate::update_listener::UpdateListener;
+use clip_registry::Registrar;
+use clip_standing::Command;
 use std::marker::Model;
 use std::sync::{Mutex, MutexGuard, Wait};
 
@@ -58,7 +59,8 @@ impl<N: DeskName, L: UpdateListener> Desk<N, L> {
     pub fn open(parts: DeskParts<L>) -> (Desk<N, L>, Vec<Seat>)
         requires { (parts.book ≡ N.book) × (parts.callers ≡ N.callers) × (N.heard_before ≡ heard_at parts.updates) }
         ensures desk { (result.0.tag ≡ parts.tag) × (result.0.callers ≡ parts.callers) }
-        ensures seats { AreSeated parts.tag parts.callers parts.book result.1.items × (vec_len result.1 ≡ parts.callers) }
+        ensures seats { AreSeated parts.tag parts.callers parts.book result.1.items
+            × (vec_len result.1 ≡ parts.callers) }
         ensures all { AreSeatsOf N.book N.callers result.1.items }
     {
         let DeskParts {
@@ -100,10 +102,13 @@ impl<N: DeskName, L: UpdateListener> Desk<N, L> {
     ) -> Result<Receipt, (Command, Refused)>
         requires desk { seat.old.tag ≡ self.now.tag → IsSeatOf N.book N.callers seat.old }
         requires fits { IsTrue (fits (command_of command)) }
-        ensures last { IfOk result (λ r. (before : model.History) × (r.history ≡ with_command before seat.old.caller (command_of command)) × (r.applied ≡ answer_of (command_of command) (applied before (command_of command)))) }
+        ensures last { IfOk result (λ r. (before : model.History)
+            × (r.history ≡ with_command before seat.old.caller (command_of command))
+            × (r.applied ≡ answer_of (command_of command) (applied before (command_of command)))) }
         ensures legal { IfOk result (λ r. IsLegal r.history × IsBy self.now.callers r.history) }
         ensures seen { IfOk result (λ r. IsPrefix seat.old.seen r.history × (seat.new.seen ≡ r.history)) }
-        ensures mine { IfOk result (λ r. (own r.history seat.old.caller ≡ seat.new.mine) × (seat.new.mine ≡ seat.old.mine ++ command_of command ∷ [])) }
+        ensures mine { IfOk result (λ r. (own r.history seat.old.caller ≡ seat.new.mine)
+            × (seat.new.mine ≡ seat.old.mine ++ command_of command ∷ [])) }
         ensures receipt { IfOk result (λ r. (r.tag ≡ self.now.tag) × (r.book ≡ N.book)) }
 
         ensures back { IfErr result (λ e. e.0 ≡ command) }
@@ -111,7 +116,10 @@ impl<N: DeskName, L: UpdateListener> Desk<N, L> {
         ensures foreign_leaves { seat.old.tag ≢ self.now.tag → seat.new ≡ seat.old }
         ensures stays { OnErr result (seat.new.mine ≡ seat.old.mine) }
         ensures later { IsPrefix seat.old.seen seat.new.seen }
-        ensures full { IfErr result (λ e. e.1 ≡ Refused.Full → IsFalse (has_room seat.new.seen (command_of command)) × IsLegal seat.new.seen × IsBy self.now.callers seat.new.seen × (own seat.new.seen seat.old.caller ≡ seat.old.mine)) }
+        ensures full { IfErr result (λ e. e.1 ≡ Refused.Full
+            → IsFalse (has_room seat.new.seen (command_of command)) × IsLegal seat.new.seen
+            × IsBy self.now.callers seat.new.seen
+            × (own seat.new.seen seat.old.caller ≡ seat.old.mine)) }
         ensures seat { seat.new ≡ record seat.old { seen = seat.new.seen; mine = seat.new.mine } }
     {
         if seat.tag() != self.tag {
@@ -129,10 +137,12 @@ impl<N: DeskName, L: UpdateListener> Desk<N, L> {
     /// seats come back. It may wait for readers that look. It costs a search among the seats for each caller, and
     /// that of `Registrar::number_of` for each seat.
     pub fn close<R: Wait>(self, rt: &R, seats: Vec<Seat>) -> Result<Closed<L>, SeatMissing<N, L>>
-        requires { (k : ℕ) (s : SeatIs) → slice_get seats.items k ≡ Some s → s.tag ≡ self.tag → IsSeatOf N.book N.callers s }
+        requires { (k : ℕ) (s : SeatIs) → slice_get seats.items k ≡ Some s → s.tag ≡ self.tag
+            → IsSeatOf N.book N.callers s }
         ensures legal { IfOk result (λ c. IsLegal c.registrar.history × IsBy self.callers c.registrar.history) }
         ensures seats { IfOk result (λ c. AreAll self.tag self.callers c.registrar.history seats.items) }
-        ensures told { IfOk result (λ c. AllFollow N.heard_before c.registrar.history (map (heard_by L.heard) c.updates.items)) }
+        ensures told { IfOk result (λ c. AllFollow N.heard_before c.registrar.history
+            (map (heard_by L.heard) c.updates.items)) }
         ensures back { IfErr result (λ e. (e.desk ≡ self) × (e.seats.items ≡ seats.items)) }
     {
         let Self {
@@ -171,7 +181,8 @@ fn all_agree<N: DeskName, L: UpdateListener>(
     tag: u64,
 ) -> bool
     requires { (k : ℕ) (s : SeatIs) → slice_get seats.now k ≡ Some s → s.tag ≡ tag → IsSeatOf N.book N.callers s }
-    ensures { IsTrue result → (k : ℕ) (s : SeatIs) → slice_get seats.now k ≡ Some s → IsAccounted tag locked.now.history s }
+    ensures { IsTrue result → (k : ℕ) (s : SeatIs) → slice_get seats.now k ≡ Some s
+        → IsAccounted tag locked.now.history s }
 {
     for seat in seats {
         if !locked.agrees(seat, tag) {
@@ -183,7 +194,8 @@ fn all_agree<N: DeskName, L: UpdateListener>(
 
 /// Whether each caller has a seat among these.
 fn has_all(seats: &[Seat], callers: u32) -> bool
-    ensures { IsTrue result → (caller : ℕ) → 0 < caller → caller ≤ callers → (k : ℕ) × (s : SeatIs) × (slice_get seats.now k ≡ Some s) × (s.caller ≡ caller) }
+    ensures { IsTrue result → (caller : ℕ) → 0 < caller → caller ≤ callers → (k : ℕ) × (s : SeatIs)
+        × (slice_get seats.now k ≡ Some s) × (s.caller ≡ caller) }
 {
     for number in 0..callers {
         if !has_one(seats, number + 1) {

@@ -5,7 +5,7 @@ use crate::desk::Desk;
 use crate::locked::DeskName;
 use crate::refused::Refused;
 use crate::seat::Seat;
-use clip_listen::UpdateListener;
+use crate::update_listener::UpdateListener;
 use clip_registry::{Installed, MergeJob, MergeTurn, Merged};
 use clip_words::NoMemory;
 use crossbeam_channel::Receiver;

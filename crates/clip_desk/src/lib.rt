@@ -3,16 +3,22 @@
 
 mod desk;
 mod desk_merging;
+mod events;
 mod growing;
 mod locked;
 mod locked_merging;
 mod parts;
 mod refused;
 mod seat;
+mod update_listener;
+mod update_listeners;
 
 pub use desk::{Closed, Desk, SeatMissing};
 pub use desk_merging::Nudge;
+pub use events::{Update, UpdateEvent};
 pub use locked::{DeskName, Locked};
 pub use parts::DeskParts;
 pub use refused::{NewRefused, Refused};
 pub use seat::{Receipt, Seat};
+pub use update_listener::{UpdateListener, UpdateLog};
+pub use update_listeners::UpdateListeners;

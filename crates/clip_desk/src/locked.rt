@@ -2,18 +2,21 @@
 ghost use Rattle.std.specs.Prelude.{◌≡◌, ◌≢◌, ◌<◌, ◌≤◌, [], ◌∷◌, ◌++◌, IfOk, IfErr, OnOk, OnErr, IsTrue, IsFalse, map};
 ghost use mathlib.Core.List.{IsPrefix};
 ghost use Rattle.clip_model.specs.History.{History, HistoryEntry, own, fits, has_room, applied, with_command, IsLegal};
-ghost use Rattle.clip_registry.specs.Command.{command_of, answer_of};
+ghost use Rattle.clip_standing.specs.Command.{command_of, answer_of};
 ghost use Rattle.clip_registry.specs.RegistryState.{state_after};
 ghost use Rattle.clip_chronicle.specs.Callers.{IsBy};
-ghost use Rattle.clip_listen.specs.Updates.{AllFollow, AreTold, event_of, heard_by};
+ghost use Rattle.clip_desk.specs.Updates.{AllFollow, AreTold, event_of, heard_by};
 ghost use Rattle.clip_desk.specs.Locked.{IsSettled, IsSeatOf};
 
+use crate::events::Update;
 use crate::growing::{Grown, grow};
 use crate::refused::Refused;
 use crate::seat::{Receipt, Seat};
+use crate::update_listener::UpdateListener;
+use crate::update_listeners::UpdateListeners;
 use clip_chronicle::{Front, Head, WriterEnd, show};
-use clip_listen::{Update, UpdateListener, UpdateListeners};
-use clip_registry::{Command, Registrar};
+use clip_registry::Registrar;
+use clip_standing::Command;
 use std::alloc::Global;
 use std::marker::{Brand, Model, PhantomData};
 use std::sync::Wait;
@@ -23,7 +26,7 @@ use std::sync::Wait;
 pub trait DeskName {
     ghost use Rattle.std.specs.Prelude.{ℕ, List};
     ghost use Rattle.logbook.specs.Pages.{Book};
-    ghost use Rattle.clip_listen.specs.Updates.{Event};
+    ghost use Rattle.clip_desk.specs.Updates.{Event};
 
     ghost book: { Book };
 
@@ -57,7 +60,7 @@ pub struct Locked<N: DeskName, L: UpdateListener> {
 
 impl<N: DeskName, L: UpdateListener> Model for Locked<N, L> {
     ghost use Rattle.clip_registry.specs.RegistryState.{RegistryState, state_code};
-    ghost use Rattle.clip_listen.specs.Updates.{AllFollow};
+    ghost use Rattle.clip_desk.specs.Updates.{AllFollow};
     ghost use Rattle.clip_desk.specs.Locked.{IsSettled};
 
     ghost Value = { RegistryState };
@@ -66,7 +69,8 @@ impl<N: DeskName, L: UpdateListener> Model for Locked<N, L> {
 
     ghost view = { λ s. s.registrar };
 
-    ghost invariant = { λ s. IsSettled N.book N.callers s.registrar s.head s.front s.writer.desk.shown.value × AllFollow N.heard_before s.registrar.history s.updates };
+    ghost invariant = { λ s. IsSettled N.book N.callers s.registrar s.head s.front
+        s.writer.desk.shown.value × AllFollow N.heard_before s.registrar.history s.updates };
 }
 
 /// Tells the listeners of the last entry of a registry, where there is one.
@@ -75,7 +79,8 @@ fn tell_last<L: UpdateListener>(
     registrar: &Registrar,
     updates: &mut UpdateListeners<L>,
 )
-    ensures { (before : History) (e : HistoryEntry) → registrar.now.history ≡ before ++ e ∷ [] → AreTold (event_of e.command) updates.old updates.new }
+    ensures { (before : History) (e : HistoryEntry) → registrar.now.history ≡ before ++ e ∷ []
+        → AreTold (event_of e.command) updates.old updates.new }
 {
     if let Some(entry) = registrar.history().last() {
         updates.tell(alloc, Update::of(&entry.command));
@@ -119,18 +124,23 @@ impl<N: DeskName, L: UpdateListener> Locked<N, L> {
     ) -> Result<Receipt, (Command, Refused)>
         requires desk { IsSeatOf N.book N.callers seat.old }
         requires fits { IsTrue (fits (command_of command)) }
-        ensures entry { IfOk result (λ r. r.history ≡ with_command self.old.history seat.old.caller (command_of command)) }
+        ensures entry { IfOk result (λ r. r.history
+            ≡ with_command self.old.history seat.old.caller (command_of command)) }
         ensures locked { OnOk result (self.new ≡ state_after self.old seat.old.caller (command_of command)) }
-        ensures applied { IfOk result (λ r. r.applied ≡ answer_of (command_of command) (applied self.old.history (command_of command))) }
+        ensures applied { IfOk result (λ r. r.applied
+            ≡ answer_of (command_of command) (applied self.old.history (command_of command))) }
         ensures legal { IfOk result (λ r. IsLegal r.history × IsBy N.callers r.history) }
         ensures seen { IfOk result (λ r. IsPrefix seat.old.seen r.history × (seat.new.seen ≡ r.history)) }
-        ensures mine { IfOk result (λ r. (own r.history seat.old.caller ≡ seat.new.mine) × (seat.new.mine ≡ seat.old.mine ++ command_of command ∷ [])) }
+        ensures mine { IfOk result (λ r. (own r.history seat.old.caller ≡ seat.new.mine)
+            × (seat.new.mine ≡ seat.old.mine ++ command_of command ∷ [])) }
         ensures receipt { IfOk result (λ r. (r.tag ≡ seat.old.tag) × (r.book ≡ N.book)) }
 
         ensures back { IfErr result (λ e. e.0 ≡ command) }
         ensures stays { OnErr result ((self.new ≡ self.old) × (seat.new.mine ≡ seat.old.mine)) }
         ensures later { IsPrefix seat.old.seen seat.new.seen }
-        ensures full { IfErr result (λ e. e.1 ≡ Refused.Full → (seat.new.seen ≡ self.old.history) × IsFalse (has_room seat.new.seen (command_of command)) × IsLegal seat.new.seen × IsBy N.callers seat.new.seen × (own seat.new.seen seat.old.caller ≡ seat.old.mine)) }
+        ensures full { IfErr result (λ e. e.1 ≡ Refused.Full → (seat.new.seen ≡ self.old.history)
+            × IsFalse (has_room seat.new.seen (command_of command)) × IsLegal seat.new.seen
+            × IsBy N.callers seat.new.seen × (own seat.new.seen seat.old.caller ≡ seat.old.mine)) }
         ensures seat { seat.new ≡ record seat.old { seen = seat.new.seen; mine = seat.new.mine } }
         ensures never_foreign { IfErr result (λ e. e.1 ≢ Refused.Foreign) }
     {
@@ -169,7 +179,8 @@ impl<N: DeskName, L: UpdateListener> Locked<N, L> {
     /// Whether two numbers agree at a seat, and it is of this tag. It costs that of `Registrar::number_of`.
     pub(crate) fn agrees(&self, seat: &Seat, tag: u64) -> bool
         requires { seat.now.tag ≡ tag → IsSeatOf N.book N.callers seat.now }
-        ensures { IsTrue result → (seat.now.tag ≡ tag) × IsPrefix seat.now.seen self.now.history × (own self.now.history seat.now.caller ≡ seat.now.mine) }
+        ensures { IsTrue result → (seat.now.tag ≡ tag) × IsPrefix seat.now.seen self.now.history
+            × (own self.now.history seat.now.caller ≡ seat.now.mine) }
     {
         if seat.tag() != tag {
             return false;

@@ -3,9 +3,10 @@ ghost use Rattle.std.specs.Prelude.{◌≡◌, ℕ, Ok, None, IfOk, IfSome, OnOk
 ghost use Rattle.clip_merge.specs.Plan.{IsRun};
 ghost use Rattle.clip_registry.specs.Merging.{IsBegun, IsInstalled, IsStale, purged};
 
+use crate::events::Update;
 use crate::locked::{DeskName, Locked};
+use crate::update_listener::UpdateListener;
 use clip_chronicle::show;
-use clip_listen::{Update, UpdateListener};
 use clip_registry::{Installed, MergeJob, Merged, Registrar};
 use clip_words::NoMemory;
 use std::sync::Wait;

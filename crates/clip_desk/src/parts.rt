@@ -7,8 +7,9 @@ ghost use Rattle.clip_desk.specs.Locked.{IsSettled};
 
 use crate::refused::NewRefused;
 use crate::seat::Seat;
+use crate::update_listener::UpdateListener;
+use crate::update_listeners::UpdateListeners;
 use clip_chronicle::{Front, Head, Notes, Published, WriterEnd, open_chronicle, publish};
-use clip_listen::{UpdateListener, UpdateListeners};
 use clip_model::MOST_CALLERS;
 use clip_registry::Registrar;
 use clip_words::NoMemory;
@@ -39,7 +40,10 @@ impl<L: UpdateListener> Model for DeskParts<L> {
 
     ghost view = { λ p. record { tag = p.tag; callers = p.callers; book = p.front.seen.book; updates = p.updates } };
 
-    ghost invariant = { λ p. IsSettled p.front.seen.book p.callers p.registrar p.head p.front p.writer.desk.shown.value × (p.registrar.history ≡ []) × AreSeated p.tag p.callers p.front.seen.book p.seats.items × (vec_len p.seats ≡ p.callers) };
+    ghost invariant = { λ p. IsSettled p.front.seen.book p.callers p.registrar p.head p.front
+        p.writer.desk.shown.value × (p.registrar.history ≡ [])
+        × AreSeated p.tag p.callers p.front.seen.book p.seats.items
+        × (vec_len p.seats ≡ p.callers) };
 }
 
 /// The seat of a caller, whose end knows what the writer has shown.
@@ -54,7 +58,8 @@ fn seat_one(
     requires caller { (0 < caller) × (caller ≤ callers) × (callers ≤ MOST_CALLERS) }
     requires empty { front.now.seen.log ≡ [] }
     ensures seat { IfOk result (λ s. s ≡ new_seat tag callers front.now.seen.book caller) }
-    ensures kept { (view writer.new.desk.place ≡ view writer.old.desk.place) × (writer.new.desk.shown ≡ writer.old.desk.shown) }
+    ensures kept { (view writer.new.desk.place ≡ view writer.old.desk.place)
+        × (writer.new.desk.shown ≡ writer.old.desk.shown) }
 {
     let mut end = writer.factory().reader()?;
     end.learn::<Notes>(writer.tell::<Notes>());
@@ -112,7 +117,8 @@ fn open_ends<R: Wait>(
     callers: u32,
 ) -> Result<WriterEnd, NoMemory>
     requires { (front.now.seen.log ≡ []) × (registrar.now.history ≡ []) × (0 < callers) × (callers ≤ MOST_CALLERS) }
-    ensures shown { IfOk result (λ w. (w.desk.shown.value.view ≡ registrar.now) × (w.desk.shown.value.front ≡ front.now) × (w.desk.shown.value.callers ≡ callers)) }
+    ensures shown { IfOk result (λ w. (w.desk.shown.value.view ≡ registrar.now)
+        × (w.desk.shown.value.front ≡ front.now) × (w.desk.shown.value.callers ≡ callers)) }
     ensures told { IfOk result (λ w. IsOf front.now.seen.book callers (view w.desk.place)) }
 {
     let (first, second, third) = first_values(registrar, front, callers)?;

@@ -9,7 +9,8 @@ ghost use Rattle.clip_desk.specs.Seats.{longer};
 
 use clip_chronicle::{Front, Published, ReaderEnd, read_here};
 use clip_model::{MOST_CALLERS, MOST_ENTRIES};
-use clip_registry::{Applied, View};
+use clip_registry::View;
+use clip_standing::Applied;
 use clip_words::NoMemory;
 use std::marker::Model;
 
@@ -36,9 +37,20 @@ impl Model for Seat {
 
     ghost coded = { seat_code };
 
-    ghost view = { λ s. record { tag = s.tag; caller = s.caller; callers = s.callers; book = s.front.seen.book; seen = s.front.seen.log; mine = mine_of s.front.seen.log s.caller s.made } };
+    ghost view = { λ s. record {
+      tag = s.tag;
+      caller = s.caller;
+      callers = s.callers;
+      book =
+          s.front.seen.book;
+      seen = s.front.seen.log;
+      mine = mine_of s.front.seen.log s.caller
+          s.made;
+    } };
 
-    ghost invariant = { λ s. IsOf s.front.seen.book s.callers (known_at s.end.place) × (s.made ≤ length (own s.front.seen.log s.caller)) × (0 < s.caller) × (s.caller ≤ s.callers) × (s.callers ≤ MOST_CALLERS) };
+    ghost invariant = { λ s. IsOf s.front.seen.book s.callers (known_at s.end.place)
+        × (s.made ≤ length (own s.front.seen.log s.caller)) × (0 < s.caller)
+        × (s.caller ≤ s.callers) × (s.callers ≤ MOST_CALLERS) };
 }
 
 /// What a commit answers, seen as the history that ends with its command, and the answer.
@@ -56,7 +68,12 @@ impl Model for Receipt {
 
     ghost coded = { receipt_code };
 
-    ghost view = { λ r. record { tag = r.tag; book = r.front.seen.book; history = r.front.seen.log; applied = r.applied } };
+    ghost view = { λ r. record {
+      tag = r.tag;
+      book = r.front.seen.book;
+      history = r.front.seen.log;
+      applied = r.applied;
+    } };
 }
 
 impl Receipt {
@@ -92,7 +109,15 @@ impl Seat {
         requires end { IsOf front.seen.book callers (view end.place) }
         requires caller { (0 < caller) × (caller ≤ callers) × (callers ≤ MOST_CALLERS) }
         requires empty { front.seen.log ≡ [] }
-        ensures { result ≡ record { tag = tag; caller = caller; callers = callers; book = front.seen.book; seen = []; mine = [] } }
+        ensures { result ≡ record {
+          tag = tag;
+          caller = caller;
+          callers = callers;
+          book =
+              front.seen.book;
+          seen = [];
+          mine = [];
+        } }
     {
         Seat {
             end,
@@ -164,7 +189,8 @@ impl Seat {
     pub(crate) fn agrees(&self, front: &Front, there: u32) -> bool
         requires desk { front.now.seen.book ≡ self.now.book }
         requires there { there ≡ length (own front.now.seen.log self.now.caller) }
-        ensures { IsTrue result → IsPrefix self.now.seen front.now.seen.log × (own front.now.seen.log self.now.caller ≡ self.now.mine) }
+        ensures { IsTrue result → IsPrefix self.now.seen front.now.seen.log
+            × (own front.now.seen.log self.now.caller ≡ self.now.mine) }
     {
         self.front.meet(front);
         self.front.count <= front.count && self.made == there
@@ -182,7 +208,8 @@ impl Seat {
     /// Sees a history that goes on from what was seen, in which the caller's next command is its own. Constant time.
     pub(crate) fn add(&mut self, front: &Front)
         requires desk { front.now.seen.book ≡ self.old.book }
-        requires own { IsPrefix self.old.mine (own front.now.seen.log self.old.caller) × (length self.old.mine + 1 ≤ length (own front.now.seen.log self.old.caller)) }
+        requires own { IsPrefix self.old.mine (own front.now.seen.log self.old.caller)
+            × (length self.old.mine + 1 ≤ length (own front.now.seen.log self.old.caller)) }
         requires short { length front.now.seen.log ≤ MOST_ENTRIES }
         ensures seen { self.new ≡ record self.old { seen = front.now.seen.log; mine = self.new.mine } }
         ensures mine { self.new.mine ≡ take (length self.old.mine + 1) (own front.now.seen.log self.old.caller) }

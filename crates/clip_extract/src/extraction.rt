@@ -213,7 +213,8 @@ fn push_front(
     text: &ArcStr,
     keys: &mut Vec<Key>,
 ) -> Result<u64, NoMemory>
-    ensures added { IfOk result (λ _. Adds (front_extract (arc_str_bytes field.now) (key_front (arc_str_bytes text.now)))
+    ensures added { IfOk result (λ _. Adds (front_extract (arc_str_bytes field.now)
+        (key_front (arc_str_bytes text.now)))
         keys.old.items keys.new.items) }
     ensures weight { IfOk result (λ weight. weight
         ≡ (front_extract (arc_str_bytes field.now) (key_front (arc_str_bytes text.now))).weight) }

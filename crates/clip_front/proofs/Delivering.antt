@@ -2,7 +2,7 @@
 use Rattle.std.proofs.Common.{◌≡◌, ℕ, ◌+◌, ◌<◌, List, [], ◌∷◌, ◌++◌, length, get_or, take, drop, Bool, true, false, refl, sym, ap, ap₂, ◌∙◌, subst, append_assoc, append-nil}
 use Rattle.std.proofs.lemmas.List.{take_more, take-append-drop}
 use Rattle.std.proofs.lemmas.List.Elements.{filter_map-append}
-use Rattle.clip_match.specs.Alerts.{AlertsValue}
+use Rattle.clip_standing.specs.Alerts.{AlertsValue}
 use Rattle.clip_listen.specs.Heard.{Hearer, NoteValue, told_all, note_of, notes_of, HearsFront}
 use Rattle.clip_listen.proofs.Hearing.{told_more, all_notes_kept, front_after, front_of_more}
 use Rattle.clip_ledger.specs.Rows.{RowValue, rows_of}

@@ -9,14 +9,14 @@ use Rattle.clip_grammar.specs.Laws.{IsRead, IsRefused}
 use Rattle.clip_grammar.specs.Tree.{Tree}
 use Rattle.clip_model.specs.Standing.{Standing}
 use Rattle.clip_model.specs.History.{History, Register, Delete, Clear}
-use Rattle.clip_front.specs.declared.refusal.Refusal.{Refusal}
-use Rattle.clip_front.specs.declared.refusal.Refusal.TheVariants.{Long, Json, Shape, Limit, Query, Listener, Full}
-use Rattle.clip_front.specs.Request.{Listing, register}
-use Rattle.clip_front.specs.LineMeaning.{Meaning, nothing, refusal, refusal_at, purging, counting, showing, matching, IsQuery, IsAQuery, is_here, IsReadAs, IsTakenAs, IsRefusedFor, AreTakenAs, FirstRefused, judged, MeansRequest, after}
+use Rattle.clip_protocol.specs.declared.refusal.Refusal.{Refusal}
+use Rattle.clip_protocol.specs.declared.refusal.Refusal.TheVariants.{Long, Json, Shape, Limit, Query, Listener, Full}
+use Rattle.clip_protocol.specs.Request.{Listing, register}
+use Rattle.clip_protocol.specs.LineMeaning.{Meaning, nothing, refusal, refusal_at, purging, counting, showing, matching, IsQuery, IsAQuery, is_here, IsReadAs, IsTakenAs, IsRefusedFor, AreTakenAs, FirstRefused, judged, MeansRequest, after}
 use Rattle.clip_listen.specs.Heard.{Hearer}
 use Rattle.clip_front.specs.Outcome.{Outcome, nothing_given, followed_by, given, names_in, Gives}
-use Rattle.clip_front.specs.Steps.Outline.{Outline, blank, refused, registers, deletes, clears, purges, counts, shows, matches, outline, MeansOutline}
-use Rattle.clip_front.proofs.Meanings.{means_from, means_to}
+use Rattle.clip_protocol.specs.Steps.Outline.{Outline, blank, refused, registers, deletes, clears, purges, counts, shows, matches, outline, MeansOutline}
+use Rattle.clip_protocol.proofs.Meanings.{means_from, means_to}
 use Rattle.clip_front.proofs.Readings.{no_query}
 
 -- ---- a text is a query or none

@@ -7,8 +7,8 @@ use Rattle.clip_model.specs.History.{History}
 use Rattle.clip_listen.specs.Heard.{Hearer, told_all}
 use Rattle.clip_listen.proofs.Hearing.{all_notes_kept}
 use Rattle.clip_ledger.specs.Rows.{RowValue, rows_of}
-use Rattle.clip_front.specs.LineMeaning.{Meaning, nothing, refusal, refusal_at, command, purging, counting, showing, matching}
-use Rattle.clip_front.specs.Reply.{matched, alerts_shown, alerts_of_all, reply_text, texts_said}
+use Rattle.clip_protocol.specs.LineMeaning.{Meaning, nothing, refusal, refusal_at, command, purging, counting, showing, matching}
+use Rattle.clip_protocol.specs.Reply.{matched, alerts_shown, alerts_of_all, reply_text, texts_said}
 use Rattle.clip_front.specs.Outcome.{Outcome, nothing_given, followed_by, given, rows_of_article, kept_rows}
 
 -- ---- one after the other

@@ -5,8 +5,8 @@ use Rattle.clip_grammar.specs.Tree.{Tree}
 use Rattle.clip_grammar.specs.declared.fault.QueryFault.{QueryFault}
 use Rattle.clip_grammar.specs.declared.fault.QueryFault.TheVariants.{NoMemory}
 use Rattle.clip_model.specs.Standing.{Standing}
-use Rattle.clip_front.specs.Request.{Listing}
-use Rattle.clip_front.specs.LineMeaning.{IsQuery, AreTakenAs}
+use Rattle.clip_protocol.specs.Request.{Listing}
+use Rattle.clip_protocol.specs.LineMeaning.{IsQuery, AreTakenAs}
 
 pub length-AreTakenAs : (names : List (List ℕ)) (ls : List Listing) (ss : List Standing) → AreTakenAs names ls ss → length ss ≡ length ls
 length-AreTakenAs names [] [] r = refl

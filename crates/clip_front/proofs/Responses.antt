@@ -5,24 +5,20 @@ use Rattle.clip_model.specs.History.{History, Command, Register, Delete, Clear, 
 use Rattle.clip_listen.specs.Heard.{Hearer, told_all, HearsFront}
 use Rattle.clip_listen.proofs.Hearing.{told_none, no_front}
 use Rattle.clip_ledger.specs.Rows.{RowValue}
-use Rattle.clip_match.specs.Alerts.{AlertsValue, alerts_due}
 use Rattle.clip_meaning.specs.Article.{ArticleValue}
-use Rattle.clip_registry.specs.Command.{answer_of}
-use Rattle.clip_registry.specs.RegistryState.{RegistryState}
-use Rattle.clip_registry.specs.declared.command.Applied.{Applied}
+use Rattle.clip_standing.specs.Command.{answer_of}
+use Rattle.clip_standing.specs.declared.command.Applied.{Applied}
 use Rattle.clip_front.specs.declared.books.Books.{Books}
-use Rattle.clip_front.specs.declared.refusal.Refusal.TheVariants.{Full}
-use Rattle.clip_front.specs.LineMeaning.{Meaning, Means, nothing, refusal, refusal_at, command, purging, counting, showing, matching, judged, after}
+use Rattle.clip_protocol.specs.declared.refusal.Refusal.TheVariants.{Full}
+use Rattle.clip_protocol.specs.LineMeaning.{Meaning, Means, nothing, refusal, refusal_at, command, purging, counting, showing, matching, judged, after}
 use Rattle.clip_front.specs.Outcome.{alerts_told, rows_posted, kept_rows, given, names_in}
-use Rattle.clip_front.specs.Reply.{Reply, accepted, alerts_of_all, refused, reply_text}
+use Rattle.clip_protocol.specs.Reply.{Reply, accepted, alerts_of_all, refused, reply_text}
 use Rattle.clip_front.specs.Steps.Answers.{Held, held, Replies, Settles, GoesOn, Answers, Breaks}
-use Rattle.clip_front.specs.Steps.Found.{told_in, rows_in, found_text, found_outcome}
-use Rattle.clip_front.specs.Steps.Outline.{Outline, outline, matches, MeansOutline}
+use Rattle.clip_protocol.specs.Steps.Outline.{Outline, outline, matches, MeansOutline}
 use Rattle.clip_front.specs.Steps.Registry.{IsJudged}
 use Rattle.clip_front.specs.Steps.Taking.{IsQuiet, TakesQuietly}
-use Rattle.clip_front.specs.Steps.Views.{applied_view}
-use Rattle.clip_front.proofs.Found.{found_given}
-use Rattle.clip_front.proofs.Meanings.{means_from}
+use Rattle.clip_protocol.specs.Steps.Views.{applied_view}
+use Rattle.clip_protocol.proofs.Meanings.{means_from}
 use Rattle.clip_front.proofs.OneOutcome.{outline_some}
 
 -- ---- commands
@@ -86,7 +82,7 @@ none_kept : (keeps : Bool) → kept_rows keeps [] ≡ []
 none_kept true = refl
 none_kept false = refl
 
-abbrev held_by : Bool → History → List Hearer → List RowValue → Held
+abbrev pub held_by : Bool → History → List Hearer → List RowValue → Held
 held_by keeps h hearers rows = record { history = h; hearers = hearers; rows = rows; keeps = keeps }
 
 -- a line that tells no alert leaves the listeners and the rows as they are
@@ -105,18 +101,6 @@ answers_quiet hearers books old new n line text t =
     }
 
 -- ---- matches
-
-pub goes_on_matched : (view : RegistryState) (hearers heard : List Hearer) (books new_books : Books) (n : ℕ) (articles : List ArticleValue) (found : List AlertsValue) (text : List ℕ) → found ≡ map (alerts_due view) articles → text ≡ found_text hearers n found
-    → heard ≡ told_all (told_in found) hearers → new_books.ledger ≡ books.ledger ++ kept_rows books.keeps_rows (rows_in hearers n found) → new_books.keeps_rows ≡ books.keeps_rows
-    → GoesOn (held view.history hearers books) (held view.history heard new_books) n (matching articles) text
-goes_on_matched view hearers heard books new_books n articles found text is printed told rows keeps =
-    let gives : found_outcome hearers n found ≡ given hearers n view.history (matching articles) = found_given view hearers n articles found is in
-    record {
-      leaves =
-          ap (λ k. held_by k view.history heard new_books.ledger) keeps
-          ∙ ap₂ (held_by books.keeps_rows view.history) (told ∙ ap (λ o. told_all o.alerts hearers) gives) (rows ∙ ap (λ o. books.ledger ++ kept_rows books.keeps_rows o.rows) gives);
-      replies = printed ∙ ap (λ o. o.text) gives;
-    }
 
 -- where the registry stood still, so do the lines that it is looked at for
 pub answers_matched : (hearers heard : List Hearer) (books new_books : Books) (old taken seen new : History) (n : ℕ) (line text : List ℕ) (articles : List ArticleValue) → Means (names_in hearers) old line (matching articles) → taken ≡ old → seen ≡ taken → new ≡ taken

@@ -13,14 +13,13 @@ use Rattle.clip_model.specs.Alerts.{Alert}
 use Rattle.clip_model.specs.History.{History}
 use Rattle.clip_listen.specs.Heard.{Hearer, told_all, HearsFront}
 use Rattle.clip_listen.proofs.Hearing.{told_none, told_more, names_told, front_after}
-use Rattle.clip_front.specs.LineMeaning.{Meaning, is_long, is_blank, json_of, Means, after}
+use Rattle.clip_protocol.specs.LineMeaning.{Meaning, is_long, is_blank, json_of, Means, after}
 use Rattle.clip_front.specs.Outcome.{Outcome, nothing_given, followed_by, given, names_in, kept_rows, Gives, GivesAll, GivesFront}
-use Rattle.clip_front.specs.Steps.Answers.{Held, Answers, Breaks}
-use Rattle.clip_front.specs.Steps.RunServer.{AnswersIn, BreaksIn}
-use Rattle.clip_front.specs.Steps.Outline.{outline, blank, outline_of_value, MeansOutline}
+use Rattle.clip_front.specs.Steps.Answers.{Held, Answers, AnswersIn, Breaks, BreaksIn}
+use Rattle.clip_protocol.specs.Steps.Outline.{outline, blank, outline_of_value, MeansOutline}
 use Rattle.clip_front.specs.Steps.Serving.{Serves, StopsAt, ServesAll, ServesFront}
 use Rattle.clip_front.proofs.Delivering.{none_posted}
-use Rattle.clip_front.proofs.Meanings.{means_from, means_to}
+use Rattle.clip_protocol.proofs.Meanings.{means_from, means_to}
 use Rattle.clip_front.proofs.Outcomes.{followed_nothing, kept_append, given_kept}
 
 -- ---- a line that is cut says no other thing

@@ -1,9 +1,2 @@
-pub mod Refusal
-pub mod Request
-pub mod LineMeaning
-pub mod Reply
 pub mod Outcome
-pub mod TraceRequest
-pub mod TraceLine
-pub mod TraceOutcome
 pub mod Steps

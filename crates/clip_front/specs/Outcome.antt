@@ -7,9 +7,9 @@ use Rattle.clip_listen.specs.Heard.{Hearer, notes_of, told_all, HearsFront}
 use Rattle.clip_ledger.specs.Rows.{RowValue, rows_of}
 use Rattle.clip_stream.specs.Device.{AppendsFront}
 use Rattle.clip_stream.specs.Lines.{lines_of}
-use Rattle.clip_front.specs.LineMeaning as line
-use Rattle.clip_front.specs.LineMeaning.{Meaning, Means, after}
-use Rattle.clip_front.specs.Reply.{reply, alerts_of_all}
+use Rattle.clip_protocol.specs.LineMeaning as line
+use Rattle.clip_protocol.specs.LineMeaning.{Meaning, Means, after}
+use Rattle.clip_protocol.specs.Reply.{reply, alerts_of_all}
 
 -- the text of the replies, the alerts in the order of lines, articles and ids, and a row for each
 pub record Outcome : Type 0 where

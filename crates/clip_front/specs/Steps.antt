@@ -1,11 +1,6 @@
+-- Stepping stones: what a line comes to, what one line leaves, and the loop over lines.
 pub mod Answers
 pub mod Found
-pub mod Outline
 pub mod Registry
-pub mod RunServer
 pub mod Serving
 pub mod Taking
-pub mod TraceServer
-pub mod TraceOutline
-pub mod Turns
-pub mod Views

@@ -3,57 +3,24 @@ ghost use Rattle.std.specs.Prelude.{◌≡◌, IfOk, IsTrue, List, map, string_b
 ghost use Rattle.std.specs.List.{list_all};
 ghost use Rattle.clip_listen.specs.Heard.{Hearer};
 ghost use Rattle.clip_model.specs.History.{fits};
-ghost use Rattle.clip_registry.specs.Command.{command_of};
+ghost use Rattle.clip_standing.specs.Command.{command_of};
 ghost use Rattle.clip_words.specs.Ids.{is_id};
-ghost use Rattle.clip_front.specs.LineMeaning.{is_here, showing, judged};
+ghost use Rattle.clip_protocol.specs.LineMeaning.{is_here, showing, judged};
 ghost use Rattle.clip_front.specs.Outcome.{names_in};
-ghost use Rattle.clip_front.specs.Reply.{answer_to};
-ghost use Rattle.clip_front.specs.Steps.Answers.{ReadsListing, TakesListing, TakesList, Replies, Settles, Comes};
-ghost use Rattle.clip_front.specs.Steps.Outline.{is_within, registers};
+ghost use Rattle.clip_protocol.specs.Reply.{answer_to};
+ghost use Rattle.clip_front.specs.Steps.Answers.{TakesListing, TakesList, Replies, Settles, Comes};
+ghost use Rattle.clip_protocol.specs.Steps.Outline.{is_within, registers};
 ghost use Rattle.clip_front.specs.Steps.Taking.{Takes};
-ghost use Rattle.clip_front.specs.Steps.Views.{applied_view, line_view, listing_view, reply_view};
+ghost use Rattle.clip_protocol.specs.Steps.Views.{line_view, listing_view, reply_view};
 
-use crate::line::Line;
-use crate::refusal::{Refusal, Unread};
 use crate::registry::Registry;
-use crate::reply::Reply;
-use crate::request::Listing;
 use clip_listen::Audience;
 use clip_meaning::Article;
-use clip_registry::{Applied, Command, View};
-use clip_segment::{Standing, StandingFault};
+use clip_protocol::{Line, ListFault, Listing, Refusal, Reply, Unread, accepted, read_listing};
+use clip_standing::{Command, Standing};
 use clip_words::NoMemory;
-use std::alloc::{AllocError, AllocFailed, Global};
+use std::alloc::Global;
 use std::sync::Arc;
-
-/// Why a list of queries is not registered.
-#[derive(Clone, Copy)]
-pub enum ListFault {
-    /// The query at this place, from 0, is the first that is refused, for this reason.
-    Refused(Refusal, u64),
-    /// An allocation failed.
-    NoMemory,
-}
-
-impl From<AllocError> for ListFault {
-    ghost use Rattle.clip_front.specs.declared.answer.ListFault.TheVariants as faults;
-
-    ghost from_gives = { λ _ e. e ≡ faults.NoMemory };
-
-    fn from(_error: AllocError) -> ListFault {
-        ListFault::NoMemory
-    }
-}
-
-impl<T: Drop> From<AllocFailed<T>> for ListFault {
-    ghost use Rattle.clip_front.specs.declared.answer.ListFault.TheVariants as faults;
-
-    ghost from_gives = { λ _ e. e ≡ faults.NoMemory };
-
-    fn from(_error: AllocFailed<T>) -> ListFault {
-        ListFault::NoMemory
-    }
-}
 
 /// Whether the listener of this name is here, or there is none to hear.
 fn is_here<A: Audience>(audience: &A, listener: &Option<String>) -> bool
@@ -62,24 +29,6 @@ fn is_here<A: Audience>(audience: &A, listener: &Option<String>) -> bool
     match listener {
         Some(name) => audience.has(name.as_str()),
         None => true,
-    }
-}
-
-/// Reads a listed query.
-pub fn read_listing(alloc: Global, listing: Listing) -> Result<Arc<Standing>, Unread>
-    requires { is_id (listing_view listing).id ≡ true }
-    ensures { ReadsListing (listing_view listing) result }
-{
-    let Listing {
-        id,
-        query,
-        listener,
-    } = listing;
-    match Standing::read(alloc, id.as_str(), query.as_str(), listener) {
-        Ok(standing) => Ok(Arc::new(alloc, standing)?),
-        Err(StandingFault::Query(_)) => Err(Unread::Refused(Refusal::Query)),
-        Err(StandingFault::NoMemory) => Err(Unread::NoMemory),
-        Err(StandingFault::Id) => unreachable!(),
     }
 }
 
@@ -122,17 +71,6 @@ fn take_all<A: Audience>(
     Ok(all)
 }
 
-/// The reply to a command that was accepted.
-pub fn accepted(applied: Applied) -> Reply
-    ensures { reply_view result ≡ applied_view applied }
-{
-    match applied {
-        Applied::Registered(count) => Reply::Registered(count),
-        Applied::Deleted(count) => Reply::Deleted(count),
-        Applied::Cleared(count) => Reply::Cleared(count),
-    }
-}
-
 /// Accepts a command, where there is room for it.
 fn apply<H: Registry>(registry: &mut H, command: Command) -> Result<Reply, NoMemory>
     requires { IsTrue (fits (command_of command)) }
@@ -163,17 +101,6 @@ fn register<A: Audience, H: Registry>(
     }
 }
 
-/// The text of the query under an id, if one is registered under it.
-fn show(alloc: Global, view: &View, id: &str) -> Result<Reply, NoMemory>
-    ensures { IfOk result (λ reply. (hearers : List Hearer) → reply_view reply
-        ≡ answer_to hearers view.now.history (showing id.now)) }
-{
-    match view.text_of(id) {
-        Some(text) => Ok(Reply::Shown(Some(String::from_str(alloc, text)?))),
-        None => Ok(Reply::Shown(None)),
-    }
-}
-
 /// What is done about a line.
 #[derive(Drop)]
 enum Response {
@@ -183,7 +110,7 @@ enum Response {
     Match(Vec<Article>),
 }
 
-/// Does what a line says, but for the matching: changes apply to the registry, all else is answered by its view.
+/// Does what a line says, but for the matching: changes apply to the registry, and all else is answered by it.
 fn respond<A: Audience, H: Registry>(
     alloc: Global,
     registry: &mut H,
@@ -206,8 +133,8 @@ fn respond<A: Audience, H: Registry>(
             registry.purge_dead()?;
             Ok(Response::Reply(Reply::Purged))
         }
-        Line::Count => Ok(Response::Reply(Reply::Counted(registry.look()?.count()))),
-        Line::Show(id) => Ok(Response::Reply(show(alloc, &registry.look()?, id.as_str())?)),
+        Line::Count => Ok(Response::Reply(Reply::Counted(registry.count()?))),
+        Line::Show(id) => Ok(Response::Reply(Reply::Shown(registry.show(alloc, id.as_str())?))),
         Line::Match(articles) => Ok(Response::Match(articles)),
     }
 }
@@ -217,16 +144,16 @@ fn respond<A: Audience, H: Registry>(
 pub enum Taken {
     /// The text of its reply, with its line feed, or nothing for a blank line.
     Text(Vec<u8>),
-    /// Articles that are to be matched at the registry's view.
+    /// Articles that are to be matched at the registry as it stands.
     Articles(Vec<Article>),
 }
 
-/// Takes the line of this number: a change applies to the registry, and all else but a match is answered by its view.
+/// Takes the line of this number: a change applies to the registry, and all else but a match is answered by it.
 /// No alert is told.
 ///
 /// `NoMemory` where an allocation failed. A change costs that of `Registry::accept` after the reading of its queries; a
-/// purge costs that of `Registry::purge_dead`; a count takes that of `Registry::look`, and a show one look-up by id
-/// more; a match costs the reading of its articles.
+/// purge costs that of `Registry::purge_dead`; a count takes that of `Registry::count`, and a show that of
+/// `Registry::show`; a match costs the reading of its articles.
 pub fn take_line<A: Audience, H: Registry>(
     alloc: Global,
     registry: &mut H,

@@ -7,7 +7,7 @@ ghost use Rattle.clip_front.specs.Outcome.{kept_rows};
 use crate::settings::Settings;
 use clip_ledger::Ledger;
 use clip_listen::Note;
-use clip_match::Alerts;
+use clip_standing::Alerts;
 use clip_words::NoMemory;
 use std::alloc::Global;
 

@@ -1,14 +1,14 @@
 //! The delivery of a line's alerts.
 ghost use Rattle.std.specs.Prelude.{◌≡◌, ◌++◌, map, IfOk, OnOk, OnErr};
-ghost use Rattle.clip_match.specs.Alerts.{alerts_value};
+ghost use Rattle.clip_standing.specs.Alerts.{alerts_value};
 ghost use Rattle.clip_listen.specs.Heard.{told_all, note_value, notes_of, alerts_of, HearsFront};
 ghost use Rattle.clip_front.specs.Outcome.{kept_rows, rows_of_article};
 ghost use Rattle.clip_front.specs.Steps.Found.{told_in, rows_in, found_text};
 
 use crate::books::Books;
-use crate::reply::Reply;
 use clip_listen::{Audience, Note, deliver_to};
-use clip_match::Alerts;
+use clip_protocol::Reply;
+use clip_standing::Alerts;
 use clip_words::NoMemory;
 use std::alloc::Global;
 

@@ -31,7 +31,8 @@ pub trait Server<L> {
         bytes: &[u8],
         has_more: bool,
     ) -> Result<Vec<u8>, NoMemory>
-        ensures ok { IfOk result (λ text. answers (self.old, lent.old) (self.new, lent.new) number bytes.now text.items) }
+        ensures ok { IfOk result (λ text. answers (self.old, lent.old)
+            (self.new, lent.new) number bytes.now text.items) }
         ensures settled { OnOk result (has_more ≡ false → is_settled (self.new, lent.new)) }
         ensures err { OnErr result (breaks_off (self.old, lent.old) (self.new, lent.new) number bytes.now) };
 }

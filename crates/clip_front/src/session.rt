@@ -1,26 +1,9 @@
-//! The run: lines in, replies out.
-ghost use Rattle.std.specs.Prelude.{◌≡◌, ◌≤◌, ◌⊎◌, List, ℕ, length, true, false, IfOk, OnOk, OnErr, IfSome, Err};
-ghost use Rattle.clip_listen.specs.Heard.{Hearer, HearsFront};
-ghost use Rattle.clip_stream.specs.Lines.{lines_of};
-ghost use Rattle.clip_front.specs.LineMeaning.{matching};
-ghost use Rattle.clip_front.specs.Outcome.{Outcome, IsOutcome, GivesAll, GivesFront};
-ghost use Rattle.clip_front.specs.Reply.{alerts_of_all};
-ghost use Rattle.clip_front.specs.Steps.Answers.{GoesOn, held};
+//! What a run did, and that each input has one outcome.
+ghost use Rattle.std.specs.Prelude.{◌≡◌, List, ℕ};
+ghost use Rattle.clip_listen.specs.Heard.{Hearer};
+ghost use Rattle.clip_front.specs.Outcome.{Outcome, IsOutcome};
 
-use crate::answer::{Taken, take_line};
-use crate::books::Books;
-use crate::deliver::deliver_found;
-use crate::registry::Registry;
-use crate::server::{Server, serve};
-use crate::settings::Settings;
 use clip_ledger::Ledger;
-use clip_listen::Audience;
-use clip_match::match_batch;
-use clip_meaning::Article;
-use clip_registry::{Registrar, View};
-use clip_stream::{MOST_READS, RunFault, Sink, Source};
-use clip_words::NoMemory;
-use std::alloc::Global;
 
 /// What a run did.
 #[derive(Debug, Drop)]
@@ -31,127 +14,7 @@ pub struct Ended {
     pub ledger: Ledger,
 }
 
-/// The registry of a run and its books. They answer requests, with an audience to which alerts are told.
-#[derive(Drop)]
-struct RunServer {
-    registrar: Registrar,
-    books: Books,
-}
-
-/// Matches articles at a view, and delivers their alerts: the text of the reply to the line of this number.
-fn answer_match<A: Audience>(
-    alloc: Global,
-    view: &View,
-    audience: &mut A,
-    books: &mut Books,
-    number: u64,
-    articles: &[Article],
-) -> Result<Vec<u8>, NoMemory>
-    ensures ok { IfOk result (λ text. GoesOn (held view.now.history (A.hearers audience.old) books.old)
-        (held view.now.history (A.hearers audience.new) books.new) number (matching articles.now) text.items) }
-    ensures err { OnErr result (HearsFront (alerts_of_all view.now.history articles.now)
-        (A.hearers audience.old) (A.hearers audience.new)) }
-{
-    let found = match_batch(alloc, view, articles)?;
-    deliver_found(alloc, audience, books, number, found)
-}
-
-impl<A: Audience> Server<A> for RunServer {
-    ghost use Rattle.std.specs.Prelude.{⊤};
-    ghost use Rattle.clip_front.specs.Steps.RunServer.{held_at, AnswersIn, BreaksIn};
-
-    ghost answers = { AnswersIn (held_at A.hearers) };
-
-    ghost breaks_off = { BreaksIn (held_at A.hearers) };
-
-    ghost is_settled = { λ s. ⊤ };
-
-    fn answer(
-        &mut self,
-        alloc: Global,
-        audience: &mut A,
-        number: u64,
-        bytes: &[u8],
-        _has_more: bool,
-    ) -> Result<Vec<u8>, NoMemory> {
-        match take_line(alloc, &mut self.registrar, audience, number, bytes)? {
-            Taken::Text(text) => Ok(text),
-            Taken::Articles(articles) => {
-                let view = self.registrar.look()?;
-                answer_match(alloc, &view, audience, &mut self.books, number, &articles)
-            }
-        }
-    }
-}
-
-/// Reads requests, a JSON object a line, and writes the replies in the order of the lines, all on the thread that calls
-/// it. Each alert of a match is told to the listener of its query, whose note stands in the reply. `Listeners` are an
-/// audience.
-///
-/// Before it asks the reader for more bytes, each reply to a line that was read whole is written and flushed; between
-/// two reads the replies are gathered, so that the writer gets few writes. Each line is answered by the registry that
-/// the lines before it leave, and its alerts are delivered before its reply is written.
-///
-/// After each accepted change one merge turn is taken: the oldest four neighbouring segments of one level become one. A
-/// turn that is refused memory is dropped, and a later one may take them. What is registered stays as it is.
-///
-/// `Read` where a read failed, or 1,099,511,627,776 reads met no end; `Write` where a write or a flush failed, or a
-/// write took nothing; `NoMemory` where an allocation failed outside of a merge turn, or a listener answers it. After a
-/// fault nothing more is written, and no more is delivered.
-///
-/// Cost: a register reads each query that it lists, looks its listener's name up, extracts its keys and searches the ids
-/// for its own; a delete searches the ids for each that it lists. A merge turn takes a step for each segment and, where
-/// there are four to merge, a look-up for each key of each of their entries. While no query is replaced or taken out, an
-/// entry is rewritten at most once per level, so at most about log4 n times where n queries are registered one by one; a
-/// merge that leaves dead entries out may stay at its level. A purge takes a step for each entry, and rewrites the
-/// segments that have a dead one. A match costs for each article its words, a look-up of its keys in each segment, and
-/// its candidates, and not the registry, and for each alert with a listener a look-up of the name and what that listener
-/// takes. Memory: one line and what it asks for, up to 64 KiB of gathered replies and one reply more, the registered
-/// queries, and those that no merge or purge has left out yet, with their index, the history of the accepted changes, and
-/// a row for each alert where rows are kept.
-pub fn run_alone<R: Source, W: Sink, A: Audience>(
-    alloc: Global,
-    reader: &mut R,
-    writer: &mut W,
-    audience: &mut A,
-    settings: Settings,
-) -> Result<Ended, RunFault>
-    requires unread { R.reads reader.old ≡ 0 }
-    requires reader_well { R.has_failed reader.old ≡ false }
-    requires writer_well { W.has_failed writer.old ≡ false }
-
-    // Where the bytes are known, what was written and flushed is their reply text, each listener has heard just its own
-    // alerts, in order, and the ledger has a row for each alert, or none where none are kept.
-    ensures outcome { IfOk result (λ ended. IfSome (R.left reader.old)
-        (GivesAll (A.hearers audience.old) (A.hearers audience.new) settings.keeps_rows
-        (W.taken writer.old) (W.taken writer.new) ended.ledger)) }
-    ensures flushed { OnOk result (W.is_flushed writer.new ≡ true) }
-    ensures lines { IfOk result (λ ended. IfSome (R.left reader.old) (λ input.
-        ended.lines ≡ length (lines_of input))) }
-
-    // No device has failed, where the run ended well, and each fault has its reason.
-    ensures ok { OnOk result ((R.has_failed reader.new ≡ false) × (W.has_failed writer.new ≡ false)) }
-    ensures read { result ≡ Err RunFault.Read → (R.has_failed reader.new ≡ true)
-        ⊎ ((R.reads reader.new ≡ MOST_READS) × (R.met_end reader.new ≡ R.met_end reader.old)) }
-    ensures write { result ≡ Err RunFault.Write → W.has_failed writer.new ≡ true }
-    ensures reads { R.reads reader.new ≤ MOST_READS }
-
-    // After a fault, what was written and heard is a front of what some of the first lines give.
-    ensures front { OnErr result (IfSome (R.left reader.old)
-        (GivesFront (A.hearers audience.old) (A.hearers audience.new) (W.taken writer.old) (W.taken writer.new))) }
-{
-    let mut server = RunServer {
-        registrar: Registrar::new(alloc),
-        books: Books::new(alloc, settings),
-    };
-    let lines = serve(alloc, reader, writer, audience, &mut server)?;
-    Ok(Ended {
-        lines,
-        ledger: server.books.ledger,
-    })
-}
-
-/// Each input has exactly one outcome, so there is one for `run_alone` to give, and it gives no other.
+/// Each input has exactly one outcome, so there is one for a run to give, and it gives no other.
 pub fn one_outcome()
     ensures some { (hearers : List Hearer) (input : List ℕ) → (outcome : Outcome) × IsOutcome hearers input outcome }
     ensures one { (hearers : List Hearer) (input : List ℕ) (outcome other : Outcome)

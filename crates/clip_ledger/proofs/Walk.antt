@@ -7,8 +7,8 @@ use Rattle.std.proofs.lemmas.Map.Text.{is_eq-slice_cmp}
 use Rattle.std.proofs.lemmas.List.{map-append, take_more}
 use Rattle.clip_words.specs.Order.{bytes_cmp}
 use Rattle.clip_listen.specs.Heard.{NoteValue}
-use Rattle.clip_match.specs.Alerts.{alert_value}
-use Rattle.clip_match.specs.declared.alert.Alert.{Alert}
+use Rattle.clip_standing.specs.Alerts.{alert_value}
+use Rattle.clip_standing.specs.declared.alert.Alert.{Alert}
 use Rattle.clip_ledger.specs.declared.row.Row.{Row}
 use Rattle.clip_ledger.specs.Rows.{note_for, row_of, rows_of, row_value}
 use Rattle.clip_ledger.specs.Steps.Walk.{before_first, rise, from_query, first_of}

@@ -7,7 +7,7 @@ ghost use Rattle.clip_ledger.specs.Steps.Walk.{rise};
 use crate::row::Row;
 use crate::said::{first_text, next_notes, queries_rise, text_for};
 use clip_listen::Note;
-use clip_match::Alerts;
+use clip_standing::Alerts;
 use clip_words::NoMemory;
 use std::alloc::Global;
 use std::marker::Model;

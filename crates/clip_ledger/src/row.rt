@@ -2,10 +2,10 @@
 ghost use Rattle.std.specs.Prelude.{◌≡◌, IfOk, option_map};
 ghost use Rattle.std.specs.Option.{option_copied};
 ghost use Rattle.std.specs.Arc.{arc_str_bytes};
-ghost use Rattle.clip_match.specs.Alerts.{alert_value};
+ghost use Rattle.clip_standing.specs.Alerts.{alert_value};
 ghost use Rattle.clip_ledger.specs.Rows.{row_with, row_value, is_of};
 
-use clip_match::Alert;
+use clip_standing::Alert;
 use clip_words::NoMemory;
 use std::sync::ArcStr;
 

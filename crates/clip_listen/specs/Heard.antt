@@ -4,8 +4,8 @@ use Rattle.std.specs.List.{list_any}
 use Rattle.std.specs.Arc.{arc_str_bytes}
 use Rattle.std.specs.declared.alloc.Global.{Global}
 use Rattle.clip_model.specs.Alerts.{Alert}
-use Rattle.clip_match.specs.Alerts.{alert_value}
-use Rattle.clip_match.specs.declared.alert.Alerts.{Alerts}
+use Rattle.clip_standing.specs.Alerts.{alert_value}
+use Rattle.clip_standing.specs.declared.alert.Alerts.{Alerts}
 use Rattle.clip_listen.specs.declared.style.Style.{Style}
 use Rattle.clip_listen.specs.declared.note.Note.{Note}
 

@@ -3,7 +3,7 @@ ghost use Rattle.std.specs.Prelude.{◌≡◌, [], Some, None};
 ghost use Rattle.clip_listen.specs.Heard.{style_value};
 
 use crate::render::{Render, Wording};
-use clip_match::Alert;
+use clip_standing::Alert;
 use clip_words::NoMemory;
 use std::alloc::Global;
 
@@ -11,7 +11,7 @@ use std::alloc::Global;
 pub trait Listener: Drop {
     ghost use Rattle.std.specs.Prelude.{◌≡◌, List, [], ◌∷◌, Option, option_map, map, IfOk, OnOk, OnErr, string_bytes};
     ghost use Rattle.clip_model.specs.Alerts.{Alert};
-    ghost use Rattle.clip_match.specs.Alerts.{alert_value};
+    ghost use Rattle.clip_standing.specs.Alerts.{alert_value};
     ghost use Rattle.clip_listen.specs.Heard.{StyleValue, text_of, heard_then};
 
     /// How it says an alert.
@@ -57,7 +57,7 @@ impl<W: Wording> Folder<W> {
 
 impl<W: Wording> Listener for Folder<W> {
     ghost use Rattle.std.specs.Prelude.{Some, map};
-    ghost use Rattle.clip_match.specs.Alerts.{alert_value};
+    ghost use Rattle.clip_standing.specs.Alerts.{alert_value};
     ghost use Rattle.clip_listen.specs.Heard.{style_value};
 
     ghost style = { λ f. style_value f.render.style };

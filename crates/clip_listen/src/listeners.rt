@@ -3,14 +3,14 @@ ghost use Rattle.std.specs.Prelude.{◌≡◌, [], ◌∷◌, ◌++◌, map, opt
 ghost use Rattle.std.specs.Arc.{arc_str_bytes};
 ghost use Rattle.std.specs.List.{position_from, cons_option};
 ghost use Rattle.std.specs.Option.{ForSome};
-ghost use Rattle.clip_match.specs.Alerts.{alert_value};
+ghost use Rattle.clip_standing.specs.Alerts.{alert_value};
 ghost use Rattle.clip_listen.specs.Heard.{hearer, text_of, told_all, note_of, notes_of, note_value, alerts_of, HearsFront, distinct, names_of, heard_then};
 ghost use Rattle.clip_listen.specs.Steps.Index.{Indexes};
 
 use crate::listener::Listener;
 use crate::note::Note;
 use crate::places::{Index, index_of, place_by_walk, repeats};
-use clip_match::{Alert, Alerts};
+use clip_standing::{Alert, Alerts};
 use clip_words::NoMemory;
 use std::alloc::Global;
 use std::sync::ArcStr;
@@ -21,7 +21,7 @@ pub type Named = (String, Box<dyn Listener + Send>);
 /// What alerts are told to, seen as its listeners in order: each with its name, its style and what it has heard.
 pub trait Audience {
     ghost use Rattle.std.specs.Prelude.{◌≡◌, ◌⊎◌, List, [], ◌∷◌, option_map, IfOk, OnOk, OnErr};
-    ghost use Rattle.clip_match.specs.Alerts.{alert_value};
+    ghost use Rattle.clip_standing.specs.Alerts.{alert_value};
     ghost use Rattle.clip_listen.specs.Heard.{Hearer, told_all, note_of, note_value, has_name};
 
     /// The listeners, in order.
@@ -91,7 +91,13 @@ pub struct Listeners {
 impl Audience for Listeners {
     ghost use Rattle.std.specs.Prelude.{map, string_bytes};
 
-    ghost hearers = { λ l. map (λ p. record { name = string_bytes p.0; style = (Listener-box p.1).style p.1.value; heard = (Listener-box p.1).heard p.1.value }) l.parts.items };
+    ghost hearers = { λ l. map (λ p. record {
+      name = string_bytes p.0;
+      style =
+          (Listener-box p.1).style p.1.value;
+      heard = (Listener-box p.1).heard p.1.value;
+    })
+        l.parts.items };
 
     /// Whether a listener has the name. Cost: one search among the names; a walk over them where there is no index.
     fn has(&self, name: &str) -> bool {

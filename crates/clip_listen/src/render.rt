@@ -1,17 +1,17 @@
 //! What words alerts in a style.
 ghost use Rattle.std.specs.Prelude.{◌≡◌, IfOk, string_bytes};
-ghost use Rattle.clip_match.specs.Alerts.{alert_value};
+ghost use Rattle.clip_standing.specs.Alerts.{alert_value};
 ghost use Rattle.clip_listen.specs.Heard.{style_value, text_of};
 
 use crate::style::Style;
-use clip_match::Alert;
+use clip_standing::Alert;
 use clip_words::NoMemory;
 use std::alloc::Global;
 
 /// Words every alert in one style.
 pub trait Wording: Drop {
     ghost use Rattle.std.specs.Prelude.{◌≡◌, IfOk, string_bytes};
-    ghost use Rattle.clip_match.specs.Alerts.{alert_value};
+    ghost use Rattle.clip_standing.specs.Alerts.{alert_value};
     ghost use Rattle.clip_listen.specs.Heard.{StyleValue, text_of};
 
     /// The style.

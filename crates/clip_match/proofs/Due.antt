@@ -28,7 +28,7 @@ use Rattle.clip_segment.specs.Segment.{IsRising}
 use Rattle.clip_registry.specs.RegistryState.{RegistryState}
 use Rattle.clip_registry.proofs.Rising.{contains_filter}
 use Rattle.clip_model.proofs.Numbering.{replay_numbered}
-use Rattle.clip_presearch.specs.Candidates.{AreRegistered, MissesNone}
+use Rattle.clip_match.specs.Candidates.{AreRegistered, MissesNone}
 use Rattle.clip_terms.proofs.Strict.{sorted_mapped, sorted_keys, entries_in_order, keys_in_order}
 use Rattle.clip_match.specs.Alerts.{alert_due}
 use Rattle.clip_match.proofs.Sorted.{strict_from_distinct, find_lookup, sorted_filter}

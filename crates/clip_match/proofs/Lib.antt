@@ -1,2 +1,4 @@
 pub mod Due
+pub mod Positions
 pub mod Sorted
+pub mod Whole

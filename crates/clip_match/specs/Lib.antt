@@ -1,1 +1,3 @@
 pub mod Alerts
+pub mod Candidates
+pub mod Steps

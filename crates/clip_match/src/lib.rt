@@ -1,14 +1,15 @@
-//! Matching: the alerts that are due to articles at a view of the registry.
+//! Matching: the alerts that are due to articles at a view of the registry. Only an article's candidates are tried, the
+//! live entries that share a key with it.
 #![tactic(auto)]
 
 ghost use Rattle.std.specs.Prelude.{◌≡◌};
 
-mod alert;
 mod gate;
 mod matching;
 mod pieces;
+mod trying;
 
-pub use alert::{Alert, Alerts};
 pub use gate::{Gate, OpenGate};
 pub use matching::{match_article, match_batch};
 pub use pieces::{match_piece, match_pieces};
+pub use trying::{Tried, holding};

@@ -2,13 +2,13 @@
 ghost use Rattle.std.specs.Prelude.{◌≡◌, map, IfOk, IsPermutation};
 ghost use Rattle.std.specs.List.Sorted.{IsSortedByKey};
 ghost use Rattle.clip_words.specs.Order.{bytes_cmp};
-ghost use Rattle.clip_match.specs.Alerts.{alert_value, alerts_value, alert_due, alerts_due};
+ghost use Rattle.clip_standing.specs.Alerts.{alert_value, alerts_value};
+ghost use Rattle.clip_match.specs.Alerts.{alert_due, alerts_due};
 
-use crate::alert::{Alert, Alerts};
+use crate::trying::holding;
 use clip_meaning::Article;
-use clip_presearch::holding;
 use clip_registry::View;
-use clip_segment::Entry;
+use clip_standing::{Alert, Alerts, Entry};
 use clip_words::NoMemory;
 use std::alloc::Global;
 use std::cmp::Ordering;
@@ -59,8 +59,8 @@ fn alerts(alloc: Global, entries: &[&Entry], article: &Article) -> Result<Vec<Al
 /// Just the article's candidates are tried.
 ///
 /// `NoMemory` where an allocation failed. Cost: that of `holding`, so a step for each word of the article, a look-up in
-/// each segment for each of its keys and the judging of each candidate's plan; and a sort of those that hold. No text is
-/// copied, and a query without a key of the article costs nothing.
+/// each segment for each of its keys and the judging of each candidate's plan; and a sort of those that hold. No text
+/// is copied, and a query without a key of the article costs nothing.
 pub fn match_article(alloc: Global, view: &View, article: &Article) -> Result<Alerts, NoMemory>
     ensures { IfOk result (λ found. alerts_value found ≡ alerts_due view.now article.now) }
 {

@@ -1,13 +1,14 @@
 //! The alerts of a batch, matched in pieces by threads.
 ghost use Rattle.std.specs.Prelude.{◌≡◌, ◌+◌, ◌^◌, ◌<◌, ◌≤◌, map, min, max, length, IfOk};
 ghost use Rattle.std.specs.Thread.{IsSync};
-ghost use Rattle.clip_match.specs.Alerts.{alerts_value, alerts_due};
+ghost use Rattle.clip_standing.specs.Alerts.{alerts_value};
+ghost use Rattle.clip_match.specs.Alerts.{alerts_due};
 
-use crate::alert::Alerts;
 use crate::gate::Gate;
 use crate::matching::match_batch;
 use clip_meaning::Article;
 use clip_registry::View;
+use clip_standing::Alerts;
 use clip_words::NoMemory;
 use std::alloc::Global;
 use std::thread::{Threads, join};
@@ -107,11 +108,13 @@ fn match_from<R: Threads + Sync, G: Gate>(
         rt,
         move || -> Result<Vec<Alerts>, NoMemory>
             requires { IsSync R.row × IsSync G.row × (0 < low) × (number + low < 2 ^ 32) }
-            ensures { IfOk result (λ found. map alerts_value found.items ≡ map (alerts_due view.entry.now) front.entry.now) }
+            ensures { IfOk result (λ found.
+                map alerts_value found.items ≡ map (alerts_due view.entry.now) front.entry.now) }
         { match_from(rt, alloc, view, front, batch, number, low, gate) },
         move || -> Result<Vec<Alerts>, NoMemory>
             requires { IsSync R.row × IsSync G.row × (0 < high) × (up + high < 2 ^ 32) }
-            ensures { IfOk result (λ found. map alerts_value found.items ≡ map (alerts_due view.entry.now) back.entry.now) }
+            ensures { IfOk result (λ found.
+                map alerts_value found.items ≡ map (alerts_due view.entry.now) back.entry.now) }
         { match_from(rt, alloc, view, back, batch, up, high, gate) },
     );
     let mut all = first?;

@@ -45,7 +45,8 @@ fn has_front(article: &Article, field: &str, front: &str) -> bool
 
 /// Whether a word of an article's field lies between the bounds.
 fn has_between(article: &Article, field: &str, low: &Bound, high: &Bound) -> bool
-    ensures { result ≡ list_any (is_between (end_of low.now) (end_of high.now)) (words_in article.now.fields field.now) }
+    ensures { result ≡ list_any (is_between (end_of low.now) (end_of high.now))
+        (words_in article.now.fields field.now) }
 {
     match article.named(field) {
         Some(field) => field.has_between(low, high),
@@ -65,7 +66,8 @@ struct Tally {
 fn counted(tally: Tally, occur: Occur, held: bool) -> Option<Tally>
     ensures { (others : List (Occur × Bool)) → MatchOption result
         (group_with tally.has_must tally.has_should ((occur, held) ∷ others) ≡ false)
-        (λ next. group_with tally.has_must tally.has_should ((occur, held) ∷ others) ≡ group_with next.has_must next.has_should others) }
+        (λ next. group_with tally.has_must tally.has_should ((occur, held) ∷ others)
+        ≡ group_with next.has_must next.has_should others) }
 {
     match occur {
         Occur::Must if !held => None,

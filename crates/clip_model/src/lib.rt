@@ -6,7 +6,7 @@ ghost use Rattle.clip_model.specs.Laws.{ReplaysOn, FrontsAreLegal, GoesOn, Liste
 
 mod limits;
 
-pub use limits::{MOST_CALLERS, MOST_ENTRIES, MOST_LISTED, MOST_LIVE};
+pub use limits::{MOST_ARTICLES, MOST_CALLERS, MOST_ENTRIES, MOST_LISTED, MOST_LIVE};
 
 /// What holds of histories.
 pub fn laws_of_histories()

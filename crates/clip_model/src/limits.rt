@@ -11,3 +11,6 @@ pub const MOST_ENTRIES: u64 = 4_294_967_295;
 
 /// Callers are numbered from 1 to this.
 pub const MOST_CALLERS: u32 = 64;
+
+/// The most articles of a match line, and of a batch of a trace.
+pub const MOST_ARTICLES: usize = 256;

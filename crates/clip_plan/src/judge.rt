@@ -77,7 +77,8 @@ fn asked_holds(asked: &[Query], place: usize, reading: &Reading) -> bool
 
 /// Whether what a leaf asks is so; of a step that is no leaf it is.
 fn step_holds(runs: &PackedLists<u32>, asked: &[Query], step: Step, reading: &Reading) -> bool
-    ensures { result ≡ mark_holds reading.now.article.fields (meant runs.now (map tree_of asked.now) reading.now.terms step) }
+    ensures { result ≡ mark_holds reading.now.article.fields
+        (meant runs.now (map tree_of asked.now) reading.now.terms step) }
 {
     match step {
         Step::Term(_, number) => reading.has(number),
@@ -123,7 +124,8 @@ fn holds_by(
     reading: &Reading,
     stack: &mut Vec<Tally>,
 ) -> Result<bool, NoMemory>
-    ensures { IfOk result (λ held. (tree : Tree) → map (meant runs.now (map tree_of asked.now) reading.now.terms) steps.now ≡ plan_of tree
+    ensures { IfOk result (λ held. (tree : Tree)
+        → map (meant runs.now (map tree_of asked.now) reading.now.terms) steps.now ≡ plan_of tree
         → held ≡ holds tree reading.now.article.fields) }
 {
     let mut top = Tally::new();
@@ -141,7 +143,8 @@ fn holds_by(
 /// Whether the query of these steps may hold of the article that is read, by the words of its first clause, if that is one
 /// that must hold.
 fn may_hold_by(steps: &[Step], reading: &Reading) -> bool
-    ensures { (runs : List (List ℕ)) (asked : List Tree) (tree : Tree) → map (meant runs asked reading.now.terms) steps.now ≡ plan_of tree
+    ensures { (runs : List (List ℕ)) (asked : List Tree) (tree : Tree)
+        → map (meant runs asked reading.now.terms) steps.now ≡ plan_of tree
         → result ≡ false → holds tree reading.now.article.fields ≡ false }
 {
     match steps.first() {
@@ -174,7 +177,8 @@ impl Plans {
         reading: &Reading,
         stack: &mut Vec<Tally>,
     ) -> Result<bool, NoMemory>
-        ensures { IfOk result (λ held. (tree : Tree) → decoded reading.now.terms (unwrap_or (slice_get self.now place) []) ≡ plan_of tree
+        ensures { IfOk result (λ held. (tree : Tree)
+            → decoded reading.now.terms (unwrap_or (slice_get self.now place) []) ≡ plan_of tree
             → held ≡ holds tree reading.now.article.fields) }
     {
         holds_by(

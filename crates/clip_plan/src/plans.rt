@@ -66,7 +66,8 @@ fn numbers_of(
     words: &[ArcStr],
 ) -> Result<Vec<u32>, NoMemory>
     requires { IsTrue (are_terms terms.now (map (Word (arc_str_bytes field.now)) (map arc_str_bytes words.now))) }
-    ensures { IfOk result (λ run. map (term_at terms.now) run.items ≡ map (Word (arc_str_bytes field.now)) (map arc_str_bytes words.now)) }
+    ensures { IfOk result (λ run. map (term_at terms.now) run.items
+        ≡ map (Word (arc_str_bytes field.now)) (map arc_str_bytes words.now)) }
 {
     let mut run = Vec::new(alloc);
     for word in words {
@@ -119,7 +120,8 @@ fn add_phrase(
     requires { IsTrue (are_terms terms.now (map (Word (arc_str_bytes field.now)) (map arc_str_bytes words.now))) }
     ensures long { length runs.old ≤ length runs.new }
     ensures added { OnOk result ((asked : List Query) → Adds terms.now runs.old asked steps.old.items
-        runs.new asked steps.new.items (Leaf occur (Run (map (Word (arc_str_bytes field.now)) (map arc_str_bytes words.now))) ∷ [])) }
+        runs.new asked steps.new.items (Leaf occur
+        (Run (map (Word (arc_str_bytes field.now)) (map arc_str_bytes words.now))) ∷ [])) }
 {
     let step = match words {
         [first, second] => Step::Pair(
@@ -142,7 +144,8 @@ pub(crate) fn add_asked(
 ) -> Result<(), NoMemory>
     ensures long { length asked.old.items ≤ length asked.new.items }
     ensures added { OnOk result ((terms : List KeyValue) (runs : List (List ℕ))
-        → Adds terms runs asked.old.items steps.old.items runs asked.new.items steps.new.items (Leaf occur (Is (tree_of query)) ∷ [])) }
+        → Adds terms runs asked.old.items steps.old.items runs asked.new.items steps.new.items
+        (Leaf occur (Is (tree_of query)) ∷ [])) }
 {
     let place = kept_place(asked.len())?;
     asked.push(query)?;
@@ -269,7 +272,8 @@ impl Plans {
     /// are copied.
     pub fn push(&mut self, alloc: Global, terms: &Terms, query: &Query) -> Result<(), NoMemory>
         requires { IsTrue (are_terms terms.now (word_keys (tree_of query.now))) }
-        ensures { OnOk result (map (decoded terms.now) self.new ≡ map (decoded terms.now) self.old ++ plan_of (tree_of query.now) ∷ []) }
+        ensures { OnOk result (map (decoded terms.now) self.new ≡ map (decoded terms.now) self.old
+            ++ plan_of (tree_of query.now) ∷ []) }
     {
         let mut steps = Vec::new(alloc);
         add_plan(

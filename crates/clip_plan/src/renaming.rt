@@ -15,7 +15,8 @@ use std::alloc::Global;
 
 /// Adds the numbers that a step names, in order.
 fn add_named(runs: &PackedLists<u32>, step: Step, numbers: &mut Vec<u32>) -> Result<(), NoMemory>
-    ensures { OnOk result ((asked : List Tree) → numbers.new.items ≡ numbers.old.items ++ mark_names (mark_of runs.now asked step)) }
+    ensures { OnOk result ((asked : List Tree) → numbers.new.items ≡ numbers.old.items
+        ++ mark_names (mark_of runs.now asked step)) }
 {
     match step {
         Step::Term(_, number) => {
@@ -40,7 +41,8 @@ fn add_all_named(
     steps: &[Step],
     numbers: &mut Vec<u32>,
 ) -> Result<(), NoMemory>
-    ensures { OnOk result ((asked : List Tree) → numbers.new.items ≡ numbers.old.items ++ names (map (mark_of runs.now asked) steps.now)) }
+    ensures { OnOk result ((asked : List Tree) → numbers.new.items ≡ numbers.old.items
+        ++ names (map (mark_of runs.now asked) steps.now)) }
 {
     for step in steps {
         add_named(runs, *step, numbers)?;
@@ -102,7 +104,8 @@ impl<'a> Source<'a> {
         ensures asked { length asked.old.items ≤ length asked.new.items }
         ensures added { OnOk result ((terms : List KeyValue)
             → Adds terms runs.old asked.old.items steps.old.items runs.new asked.new.items steps.new.items
-            (decoded terms (renamed self.now.numbers.now (mark_of self.now.runs.now (map tree_of self.now.asked.now) step ∷ [])))) }
+            (decoded terms (renamed self.now.numbers.now
+            (mark_of self.now.runs.now (map tree_of self.now.asked.now) step ∷ [])))) }
     {
         match step {
             Step::Term(occur, number) => {
@@ -150,7 +153,8 @@ impl<'a> Source<'a> {
         ensures asked { length asked.old.items ≤ length asked.new.items }
         ensures added { OnOk result ((terms : List KeyValue)
             → Adds terms runs.old asked.old.items steps.old.items runs.new asked.new.items steps.new.items
-            (decoded terms (renamed self.now.numbers.now (map (mark_of self.now.runs.now (map tree_of self.now.asked.now)) from.now)))) }
+            (decoded terms (renamed self.now.numbers.now
+            (map (mark_of self.now.runs.now (map tree_of self.now.asked.now)) from.now)))) }
     {
         for step in from {
             self.add_step(alloc, *step, runs, asked, steps)?;
@@ -164,7 +168,8 @@ impl Plans {
     ///
     /// `NoMemory` where an allocation failed. Cost: a step for each step of the plan and each word of its phrases.
     pub fn add_numbers(&self, place: usize, numbers: &mut Vec<u32>) -> Result<(), NoMemory>
-        ensures { OnOk result (numbers.new.items ≡ numbers.old.items ++ names (unwrap_or (slice_get self.now place) [])) }
+        ensures { OnOk result (numbers.new.items ≡ numbers.old.items
+            ++ names (unwrap_or (slice_get self.now place) [])) }
     {
         add_all_named(&self.runs, self.steps.get(place), numbers)
     }
@@ -183,7 +188,8 @@ impl Plans {
         numbers: &[Option<u32>],
     ) -> Result<(), NoMemory>
         ensures { OnOk result ((terms : List KeyValue) → map (decoded terms) self.new
-            ≡ map (decoded terms) self.old ++ decoded terms (renamed numbers.now (unwrap_or (slice_get other.now place) [])) ∷ []) }
+            ≡ map (decoded terms) self.old ++ decoded terms
+            (renamed numbers.now (unwrap_or (slice_get other.now place) [])) ∷ []) }
     {
         let source = Source {
             runs: &other.runs,

@@ -12,7 +12,8 @@ use std::sync::ArcStr;
 
 /// Adds a word of a field as a key.
 fn add_word(field: &ArcStr, word: &ArcStr, keys: &mut Vec<Key>) -> Result<(), NoMemory>
-    ensures { OnOk result (map key_of keys.new.items ≡ map key_of keys.old.items ++ Word (arc_str_bytes field.now) (arc_str_bytes word.now) ∷ []) }
+    ensures { OnOk result (map key_of keys.new.items ≡ map key_of keys.old.items
+        ++ Word (arc_str_bytes field.now) (arc_str_bytes word.now) ∷ []) }
 {
     keys.push(Key::Word(field.clone()?, word.clone()?))?;
     Ok(())
@@ -20,7 +21,8 @@ fn add_word(field: &ArcStr, word: &ArcStr, keys: &mut Vec<Key>) -> Result<(), No
 
 /// Adds the words of a phrase as keys, in order.
 fn add_phrase(field: &ArcStr, words: &[ArcStr], keys: &mut Vec<Key>) -> Result<(), NoMemory>
-    ensures { OnOk result (map key_of keys.new.items ≡ map key_of keys.old.items ++ map (Word (arc_str_bytes field.now)) (map arc_str_bytes words.now)) }
+    ensures { OnOk result (map key_of keys.new.items ≡ map key_of keys.old.items
+        ++ map (Word (arc_str_bytes field.now)) (map arc_str_bytes words.now)) }
 {
     for word in words {
         add_word(field, word, keys)?;

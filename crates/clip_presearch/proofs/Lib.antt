@@ -1,3 +1,1 @@
 pub mod ArticleKeys
-pub mod Places
-pub mod Whole

@@ -2,13 +2,14 @@
 ghost use Rattle.std.specs.Prelude.{◌≡◌, ◌++◌, map, IfOk, OnOk};
 ghost use Rattle.clip_extract.specs.Covering.{article_keys};
 ghost use Rattle.clip_segment.specs.Segment.{IsRising, positions_sharing};
-ghost use Rattle.clip_presearch.specs.Candidates.{candidates_of, MissesNone, AreRegistered};
-ghost use Rattle.clip_presearch.specs.Steps.Places.{live_with};
+ghost use Rattle.clip_match.specs.Candidates.{candidates_of, MissesNone, AreRegistered};
+ghost use Rattle.clip_match.specs.Steps.Positions.{live_with};
 
 use clip_extract::covering_law;
 use clip_meaning::Article;
 use clip_registry::View;
-use clip_segment::{Entry, Segment};
+use clip_segment::Segment;
+use clip_standing::Entry;
 use clip_terms::Asking;
 use clip_words::NoMemory;
 use std::alloc::Global;
@@ -26,7 +27,7 @@ fn find_positions<'a>(
     reading.sharers(positions)
 }
 
-/// Adds the live ones of a segment's entries that share a key with an article, in order, which stand at these positions.
+/// Adds the live ones of a segment's entries that share a key with an article, in order. They stand at these positions.
 fn add_candidates<'a>(
     view: &View,
     segment: &'a Segment,
@@ -35,8 +36,8 @@ fn add_candidates<'a>(
     found: &mut Vec<&'a Entry>,
 ) -> Result<(), NoMemory>
     requires { positions.now ≡ positions_sharing (article_keys article.now.fields) segment.now }
-    ensures { OnOk result (map (λ e. e.now) found.new.items
-        ≡ map (λ e. e.now) found.old.items ++ live_with view.now.history (article_keys article.now.fields) segment.now) }
+    ensures { OnOk result (map (λ e. e.now) found.new.items ≡ map (λ e. e.now) found.old.items
+        ++ live_with view.now.history (article_keys article.now.fields) segment.now) }
 {
     for position in positions {
         let Some(entry) = segment.entry(*position) else {
@@ -51,8 +52,8 @@ fn add_candidates<'a>(
 }
 
 /// The entries that could hold of an article: exactly the live ones whose query has a key in common with it, each once,
-/// in rising seq. Entries that were replaced or deleted are left out. Each registered query that holds of the article is
-/// among them, by the covering law.
+/// in rising seq. Entries that were replaced or deleted are left out. Each registered query that holds of the article
+/// is among them, by the covering law.
 ///
 /// `NoMemory` where an allocation failed. Cost: a step for each word of the article; in each segment that of
 /// `SegmentReading::sharers` and a step for each position found; an entry without such a key is not looked at.

@@ -9,7 +9,7 @@ use Rattle.clip_model.specs.History.{Registered, Registry, Register, register_al
 use Rattle.clip_registry.specs.Steps.Roster.{Roster, insert_all, roster_with_all}
 use Rattle.clip_model.specs.declared.limits.TheConstants.{MOST_LIVE}
 use Rattle.clip_registry.specs.Steps.Change.{Content, IsChanged}
-use Rattle.clip_registry.specs.declared.command.Applied.TheVariants as applied
+use Rattle.clip_standing.specs.declared.command.Applied.TheVariants as applied
 use Rattle.clip_registry.specs.RegistryState.{numbered, standing_after, segments_after}
 use Rattle.clip_registry.proofs.Registering.{insert_all-numbered}
 

@@ -5,7 +5,7 @@ use Rattle.std.proofs.lemmas.Bool.{false≢true}
 use Rattle.std.proofs.lemmas.Option.{none-some, same_Some}
 use Rattle.std.specs.Bool.{Decides}
 use Rattle.std.specs.Option.{option_eq, option_copied}
-use Rattle.clip_segment.specs.Standing.{IsStanding}
+use Rattle.clip_standing.specs.Standing.{IsStanding}
 use Rattle.clip_model.specs.Standing.{Standing}
 use Rattle.clip_grammar.specs.Reading.{Reads}
 use Rattle.clip_grammar.proofs.Uniqueness.{one_tree}

@@ -8,9 +8,9 @@ use Rattle.clip_model.specs.declared.limits.TheConstants.{MOST_CALLERS, MOST_ENT
 use Rattle.clip_model.specs.History.{History, Command, replay, listed, lists, own, fits, applied_to, with_command, next_entry, after_command}
 use Rattle.clip_model.proofs.Replay.{replays_on, listed_on}
 use Rattle.clip_model.proofs.Legal.{goes_on, legal_beginning, room_from}
-use Rattle.clip_registry.specs.Command.{answer_of}
+use Rattle.clip_standing.specs.Command.{answer_of}
 use Rattle.clip_registry.specs.Steps.Change.{Content, IsChanged, IsAccepted}
-use Rattle.clip_registry.specs.declared.command.Applied.{Applied}
+use Rattle.clip_standing.specs.declared.command.Applied.{Applied}
 use Rattle.clip_registry.specs.Steps.State.{IsConsistent}
 use Rattle.clip_registry.specs.Steps.Roster.{Roster}
 use Rattle.clip_registry.specs.RegistryState.{RegistryState, segments_after, beginning}

@@ -3,7 +3,6 @@ pub mod Rising
 pub mod Registering
 pub mod Whole
 pub mod Marks
-pub mod Clones
 pub mod Entering
 pub mod Entries
 pub mod Entered

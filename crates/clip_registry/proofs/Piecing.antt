@@ -18,7 +18,7 @@ use Rattle.clip_words.specs.Order.{bytes_cmp}
 use Rattle.clip_grammar.proofs.Orderings.{equal}
 use Rattle.clip_model.specs.History.{Registered, Registry}
 use Rattle.clip_registry.specs.Steps.Pieces.{AreHalves, ends_below, keyed, rank}
-use Rattle.clip_registry.proofs.Clones.{map_clones}
+use Rattle.clip_standing.proofs.Clones.{map_clones}
 use Rattle.clip_registry.proofs.Ranking.{all_lower_by_last, count, found, found_within, free_rank, none_from, others, put_between, put_over, rising, sorted_back, sorted_front, taken_out, tied_found, tied_rank}
 
 -- an entry under its id, and the entries of a piece

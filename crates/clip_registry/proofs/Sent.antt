@@ -9,9 +9,8 @@ use Rattle.std.proofs.sync.Arc.TheSendSync as arc_sent
 use Rattle.std.proofs.vec.Vec.TheSendSync as vec_sent
 use Rattle.clip_pieces.proofs.list.SharedList.TheSendSync as list_sent
 use Rattle.clip_pieces.proofs.shared.Shared.TheSendSync as shared_sent
-use Rattle.clip_segment.proofs.Sent.{standing_send, standing_sync, entry_send, entry_sync, segment_send, segment_sync}
-use Rattle.clip_registry.specs.contracts.command.Command as command
-use Rattle.clip_registry.specs.contracts.command.HistoryEntry as history_entry
+use Rattle.clip_segment.proofs.Sent.{segment_send, segment_sync}
+use Rattle.clip_standing.proofs.Sent.{entry_send, entry_sync, history_entry_send, history_entry_sync}
 use Rattle.clip_registry.specs.contracts.by_id.piece.Piece as piece
 use Rattle.clip_registry.specs.contracts.by_id.piece.Piece.TheInside as piece_inside
 use Rattle.clip_registry.specs.contracts.by_id.ById as by_id
@@ -30,18 +29,6 @@ ruleset global = (sendable, global_sent.the_send, global_sent.the_sync, allocato
 ruleset parts = (global, vec_sent.the_send, vec_sent.the_sync, arc_sent.the_send, arc_sent.the_sync, string_sent.the_send, string_sent.the_sync, option_sent.the_send, option_sent.the_sync)
 
 ruleset lists = (parts, list_sent.the_send, list_sent.the_sync, shared_sent.the_send, shared_sent.the_sync)
-
-command_send : IsSend command.the_row
-command_send = variants_send command.enum ((search (parts, standing_send, standing_sync), tt), ((search parts, tt), (tt, tt)))
-
-command_sync : IsSync command.the_row
-command_sync = variants_sync command.enum ((search (parts, standing_send, standing_sync), tt), ((search parts, tt), (tt, tt)))
-
-pub history_entry_send : IsSend history_entry.the_row
-history_entry_send = declared_send history_entry.the_type (search global, (search global, (command_send, tt)))
-
-pub history_entry_sync : IsSync history_entry.the_row
-history_entry_sync = declared_sync history_entry.the_type (search global, (search global, (command_sync, tt)))
 
 piece_send : IsSend piece.the_row
 piece_send = view_send piece_inside.the_row _ _ _ _ (declared_send piece_inside.the_type (search (parts, entry_send, entry_sync), tt))

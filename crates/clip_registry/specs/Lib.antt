@@ -1,4 +1,3 @@
 pub mod Merging
-pub mod Command
 pub mod Steps
 pub mod RegistryState

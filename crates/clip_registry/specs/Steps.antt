@@ -6,3 +6,4 @@ pub mod Roster
 pub mod RosterInside
 pub mod State
 pub mod Pieces
+pub mod Turns

@@ -8,7 +8,7 @@ mod piece;
 mod pieces;
 
 use crate::by_id::piece::Piece;
-use clip_segment::Entry;
+use clip_standing::Entry;
 use clip_words::NoMemory;
 use std::alloc::{AllocError, Global};
 use std::marker::Model;
@@ -37,7 +37,8 @@ impl Model for ById {
 
     ghost view = { λ m. map_of (map arc_value m.pieces.items) };
 
-    ghost invariant = { λ m. AreInOrder (map arc_value m.pieces.items) × (m.len ≡ finite.len (map_of (map arc_value m.pieces.items))) };
+    ghost invariant = { λ m. AreInOrder (map arc_value m.pieces.items)
+        × (m.len ≡ finite.len (map_of (map arc_value m.pieces.items))) };
 }
 
 impl Clone for ById {

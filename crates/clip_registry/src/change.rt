@@ -4,17 +4,17 @@ ghost use Rattle.std.specs.Arc.{arc_value};
 ghost use Rattle.std.specs.FinMap as finite;
 ghost use Rattle.clip_model.specs.History as model;
 ghost use Rattle.clip_model.specs.History.{fits, register_all, after_command};
-ghost use Rattle.clip_registry.specs.Command.{command_of};
+ghost use Rattle.clip_standing.specs.Command.{command_of};
 ghost use Rattle.clip_registry.specs.Steps.Change.{content, IsChanged};
 ghost use Rattle.clip_registry.specs.Steps.Roster.{live_in};
 ghost use Rattle.clip_model.specs.Steps.Numbered.{IsNumbered};
 ghost use Rattle.clip_registry.specs.RegistryState.{numbered, standing_after};
-ghost use Rattle.clip_registry.specs.declared.command.Refused.TheVariants as refused;
+ghost use Rattle.clip_standing.specs.declared.command.Refused.TheVariants as refused;
 
-use crate::command::{Applied, Command, Refused};
 use crate::roster::Roster;
 use clip_model::{MOST_LISTED, MOST_LIVE};
-use clip_segment::{Entry, Segment, Standing};
+use clip_segment::Segment;
+use clip_standing::{Applied, Command, Entry, Refused, Standing};
 use clip_words::NoMemory;
 use std::alloc::Global;
 use std::sync::Arc;
@@ -71,9 +71,11 @@ fn enter(
     standings: &[Arc<Standing>],
 ) -> Result<(Roster, Vec<Arc<Entry>>), NoMemory>
     requires { roster.listed + length standings.now < 2 ^ 64 }
-    ensures registry { IfOk result (λ after. after.0.registry ≡ register_all roster.listed (map arc_value standings.now) roster.registry) }
+    ensures registry { IfOk result (λ after. after.0.registry
+        ≡ register_all roster.listed (map arc_value standings.now) roster.registry) }
     ensures listed { IfOk result (λ after. after.0.listed ≡ roster.listed + length standings.now) }
-    ensures live { IfOk result (λ after. map arc_value after.1.items ≡ standing_after roster.listed (map arc_value standings.now) roster.registry) }
+    ensures live { IfOk result (λ after. map arc_value after.1.items
+        ≡ standing_after roster.listed (map arc_value standings.now) roster.registry) }
     ensures numbered { IfOk result (λ _. IsNumbered roster.listed roster.registry) }
 {
     let entries = numbered_entries(alloc, roster.listed(), standings)?;
@@ -93,8 +95,10 @@ fn register(
     requires listed { roster.listed + MOST_LISTED < 2 ^ 64 }
     requires fits { length standings.now ≤ MOST_LISTED }
     requires small { finite.len roster.registry ≤ MOST_LIVE }
-    ensures changed { IfOk result (λ after. IsChanged (model.Register (map arc_value standings.now)) (content segments.items roster) (content after.segments.items after.roster) after.applied) }
-    ensures full { IfErr result (λ why. why ≡ refused.Full → MOST_LIVE < finite.len (register_all roster.listed (map arc_value standings.now) roster.registry)) }
+    ensures changed { IfOk result (λ after. IsChanged (model.Register (map arc_value standings.now))
+        (content segments.items roster) (content after.segments.items after.roster) after.applied) }
+    ensures full { IfErr result (λ why. why ≡ refused.Full → MOST_LIVE
+        < finite.len (register_all roster.listed (map arc_value standings.now) roster.registry)) }
 {
     if standings.is_empty() {
         return Ok(Changed {
@@ -129,8 +133,10 @@ pub fn change(
     requires listed { roster.listed + MOST_LISTED < 2 ^ 64 }
     requires fits { IsTrue (fits (command_of command.now)) }
     requires small { finite.len roster.registry ≤ MOST_LIVE }
-    ensures changed { IfOk result (λ after. IsChanged (command_of command.now) (content segments.items roster) (content after.segments.items after.roster) after.applied) }
-    ensures full { IfErr result (λ why. why ≡ refused.Full → MOST_LIVE < finite.len (after_command roster.listed (command_of command.now) roster.registry)) }
+    ensures changed { IfOk result (λ after. IsChanged (command_of command.now)
+        (content segments.items roster) (content after.segments.items after.roster) after.applied) }
+    ensures full { IfErr result (λ why. why ≡ refused.Full → MOST_LIVE
+        < finite.len (after_command roster.listed (command_of command.now) roster.registry)) }
 {
     match command {
         Command::Register(standings) => register(alloc, segments, roster, standings),

@@ -1,9 +1,9 @@
 //! Histories, as a registrar or a view lends them.
 ghost use Rattle.std.specs.Prelude.{◌≡◌, ◌-◌, length, slice_get, option_map, option_copied};
-ghost use Rattle.clip_registry.specs.Command.{shared_entry};
+ghost use Rattle.clip_standing.specs.Command.{shared_entry};
 
-use crate::command::HistoryEntry;
 use clip_pieces::{Shared, SharedList};
+use clip_standing::HistoryEntry;
 use std::marker::Model;
 use std::sync::Arc;
 

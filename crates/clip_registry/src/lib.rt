@@ -5,7 +5,6 @@ ghost use Rattle.std.specs.Prelude.{◌≡◌};
 
 mod by_id;
 mod change;
-mod command;
 mod held;
 mod history;
 mod merging;
@@ -14,10 +13,11 @@ mod registrar;
 mod roster;
 mod same;
 mod state;
+mod turn;
 mod view;
 
-pub use command::{Applied, Command, HistoryEntry, Refused};
 pub use history::History;
 pub use merging::{Installed, MergeJob, MergeTurn, Merged, late_merges_miss_nothing};
 pub use registrar::Registrar;
+pub use turn::merge_turn;
 pub use view::View;

@@ -13,7 +13,8 @@ use crate::roster::Roster;
 use crate::same::place_of;
 use crate::state::State;
 use clip_merge::{Live, merge};
-use clip_segment::{Entry, Segment};
+use clip_segment::Segment;
+use clip_standing::Entry;
 use clip_words::NoMemory;
 use std::alloc::Global;
 use std::marker::Model;
@@ -104,7 +105,8 @@ fn misses_none_of(entries: &[Arc<Entry>], roster: &Roster, live: &Live) -> bool
 
 /// Whether each live entry of the segments is named.
 fn misses_none(segments: &[Arc<Segment>], roster: &Roster, live: &Live) -> bool
-    ensures { result ≡ list_all (has_seq_if_live roster.now.registry live.now) (all_entries (map arc_value segments.now)) }
+    ensures { result ≡ list_all (has_seq_if_live roster.now.registry live.now)
+        (all_entries (map arc_value segments.now)) }
 {
     for segment in segments {
         if !misses_none_of(segment.entries(), roster, live) {
@@ -182,7 +184,8 @@ impl Merged {
         first: usize,
     ) -> Result<Vec<Arc<Segment>>, NoMemory>
         requires { first + 4 ≤ length segments.now }
-        ensures { IfOk result (λ list. map arc_value list.items ≡ replaced (map arc_value segments.now) first self.entries) }
+        ensures { IfOk result (λ list. map arc_value list.items
+            ≡ replaced (map arc_value segments.now) first self.entries) }
     {
         let (before, rest) = segments.split_at(first);
         let (_, after) = rest.split_at(4);

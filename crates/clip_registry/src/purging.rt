@@ -6,7 +6,8 @@ ghost use Rattle.clip_registry.specs.Steps.Roster.{live_in};
 
 use crate::roster::Roster;
 use clip_merge::{Live, purge};
-use clip_segment::{Entry, Segment};
+use clip_segment::Segment;
+use clip_standing::Entry;
 use clip_words::NoMemory;
 use std::alloc::Global;
 use std::sync::Arc;
@@ -17,7 +18,8 @@ pub fn add_live_seqs(
     entries: &[Arc<Entry>],
     seqs: &mut Vec<u64>,
 ) -> Result<(), NoMemory>
-    ensures { OnOk result (seqs.new.items ≡ seqs.old.items ++ map (λ r. r.seq) (live_in roster.now.registry (map arc_value entries.now))) }
+    ensures { OnOk result (seqs.new.items ≡ seqs.old.items
+        ++ map (λ r. r.seq) (live_in roster.now.registry (map arc_value entries.now))) }
 {
     for entry in entries {
         if roster.is_live(entry.seq()) {
@@ -50,7 +52,8 @@ pub fn live_segments(
     roster: &Roster,
     segments: &[Arc<Segment>],
 ) -> Result<Vec<Arc<Segment>>, NoMemory>
-    ensures { IfOk result (λ kept. map arc_value kept.items ≡ filter has_entries (map (live_in roster.now.registry) (map arc_value segments.now))) }
+    ensures { IfOk result (λ kept. map arc_value kept.items
+        ≡ filter has_entries (map (live_in roster.now.registry) (map arc_value segments.now))) }
 {
     let mut kept = Vec::new(alloc);
     for segment in segments {

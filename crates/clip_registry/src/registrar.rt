@@ -2,13 +2,12 @@
 ghost use Rattle.std.specs.Prelude.{◌≡◌, ◌<◌, ◌≤◌, ℕ, Ok, None, length, IfOk, IfErr, IfSome, OnOk, OnErr, IsTrue, IsFalse};
 ghost use Rattle.clip_merge.specs.Plan.{IsRun};
 ghost use Rattle.clip_model.specs.History.{fits, has_room, applied, own, IsLegal};
-ghost use Rattle.clip_registry.specs.Command.{command_of, answer_of};
+ghost use Rattle.clip_standing.specs.Command.{command_of, answer_of};
 ghost use Rattle.clip_registry.specs.Merging.{IsBegun, IsInstalled, IsStale, purged};
 ghost use Rattle.clip_registry.specs.RegistryState.{IsWhole, beginning, state_after};
 ghost use Rattle.clip_registry.specs.Steps.Change.{IsAccepted};
-ghost use Rattle.clip_registry.specs.declared.command.Refused.TheVariants as refused;
+ghost use Rattle.clip_standing.specs.declared.command.Refused.TheVariants as refused;
 
-use crate::command::{Applied, Command, Refused};
 use crate::held::{copy_of, history_of, number_of, own_copy};
 use crate::history::History;
 use crate::merging::{Installed, MergeJob, Merged};
@@ -17,6 +16,7 @@ use crate::state::State;
 use crate::view::View;
 use clip_merge::plan;
 use clip_model::MOST_CALLERS;
+use clip_standing::{Applied, Command, Refused};
 use clip_words::NoMemory;
 use std::alloc::Global;
 use std::marker::Model;
@@ -55,8 +55,10 @@ impl Registrar {
         requires fits { IsTrue (fits (command_of command.now)) }
         requires caller_from { 0 < caller }
         requires caller_to { caller ≤ MOST_CALLERS }
-        ensures accepted { IfOk result (λ next. IsAccepted caller (command_of command.now) self.now next.0.value next.1) }
-        ensures full { IfErr result (λ why. why ≡ refused.Full → IsFalse (has_room self.now.history (command_of command.now))) }
+        ensures accepted { IfOk result (λ next.
+            IsAccepted caller (command_of command.now) self.now next.0.value next.1) }
+        ensures full { IfErr result (λ why. why ≡ refused.Full
+            → IsFalse (has_room self.now.history (command_of command.now))) }
     {
         let copy = own_copy(self.alloc, &self.state)?;
         let (next, applied) = copy.after(self.alloc, caller, command)?;
@@ -81,10 +83,12 @@ impl Registrar {
         requires caller_from { 0 < caller }
         requires caller_to { caller ≤ MOST_CALLERS }
         ensures accepted { OnOk result (self.new ≡ state_after self.old caller (command_of command)) }
-        ensures answer { IfOk result (λ answer. answer ≡ answer_of (command_of command) (applied self.old.history (command_of command))) }
+        ensures answer { IfOk result (λ answer. answer
+            ≡ answer_of (command_of command) (applied self.old.history (command_of command))) }
         ensures room { OnOk result (IsTrue (has_room self.old.history (command_of command))) }
 
-        ensures full { IfErr result (λ back. back.1 ≡ refused.Full → IsFalse (has_room self.old.history (command_of command))) }
+        ensures full { IfErr result (λ back. back.1 ≡ refused.Full
+            → IsFalse (has_room self.old.history (command_of command))) }
         ensures handed_back { IfErr result (λ back. back.0 ≡ command) }
         ensures unchanged { OnErr result (self.new ≡ self.old) }
     {

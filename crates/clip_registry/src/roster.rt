@@ -9,7 +9,7 @@ ghost use Rattle.clip_registry.specs.Steps.Roster.{SeqsFollow, roster_with, rost
 
 use crate::by_id::ById;
 use clip_pieces::SharedList;
-use clip_segment::Entry;
+use clip_standing::Entry;
 use clip_words::NoMemory;
 use std::alloc::{AllocError, Global};
 use std::marker::Model;

@@ -3,7 +3,8 @@ ghost use Rattle.std.specs.Prelude.{◌≡◌, ◌↔◌, ℕ, ◌≤◌, None, 
 ghost use Rattle.std.specs.Arc.{arc_value};
 ghost use Rattle.clip_registry.specs.Merging.{StandsAt};
 
-use clip_segment::{Entry, Segment, Standing};
+use clip_segment::Segment;
+use clip_standing::{Entry, Standing};
 use std::sync::Arc;
 
 /// Whether the two have the same id, text and listener. Then they have the same tree, since a text has just one.
@@ -59,7 +60,8 @@ fn are_same_segments(a: &[Arc<Segment>], b: &[Arc<Segment>]) -> bool
 pub fn place_of(segments: &[Arc<Segment>], sources: &[Arc<Segment>]) -> Option<usize>
     requires { length sources.now ≡ 4 }
     ensures stands { IfSome result (λ first. StandsAt (map arc_value segments.now) (map arc_value sources.now) first) }
-    ensures nowhere { result ≡ None → (first : ℕ) → StandsAt (map arc_value segments.now) (map arc_value sources.now) first → ⊥ }
+    ensures nowhere { result ≡ None → (first : ℕ)
+        → StandsAt (map arc_value segments.now) (map arc_value sources.now) first → ⊥ }
 {
     for first in 0..segments.len() {
         let (_, rest) = segments.split_at(first);

@@ -2,18 +2,18 @@
 ghost use Rattle.std.specs.Prelude.{◌≡◌, ◌<◌, ◌≤◌, length, map, IfOk, IfErr, IsTrue, IsFalse};
 ghost use Rattle.std.specs.Arc.{arc_value};
 ghost use Rattle.clip_model.specs.History.{IsLegal, fits, has_room, next_entry, own};
-ghost use Rattle.clip_registry.specs.Command.{command_of, entry_of};
+ghost use Rattle.clip_standing.specs.Command.{command_of, entry_of};
 ghost use Rattle.clip_registry.specs.Steps.Change.{IsAccepted};
 ghost use Rattle.clip_registry.specs.Steps.Merging.{AreKept};
 ghost use Rattle.clip_registry.specs.RegistryState.{beginning};
-ghost use Rattle.clip_registry.specs.declared.command.Refused.TheVariants as refused;
+ghost use Rattle.clip_standing.specs.declared.command.Refused.TheVariants as refused;
 
 use crate::change::change;
-use crate::command::{Applied, Command, HistoryEntry, Refused};
 use crate::roster::Roster;
 use clip_model::{MOST_CALLERS, MOST_ENTRIES};
 use clip_pieces::{Shared, SharedList};
 use clip_segment::Segment;
+use clip_standing::{Applied, Command, HistoryEntry, Refused};
 use clip_words::NoMemory;
 use std::alloc::{AllocError, Global};
 use std::marker::Model;
@@ -116,7 +116,8 @@ impl State {
         requires caller_from { 0 < caller }
         requires caller_to { caller ≤ MOST_CALLERS }
         ensures accepted { IfOk result (λ next. IsAccepted caller (command_of command.now) self next.0 next.1) }
-        ensures full { IfErr result (λ why. why ≡ refused.Full → IsFalse (has_room self.history (command_of command.now))) }
+        ensures full { IfErr result (λ why. why ≡ refused.Full
+            → IsFalse (has_room self.history (command_of command.now))) }
     {
         if self.history.len() as u64 >= MOST_ENTRIES {
             return Err(Refused::Full);
@@ -148,7 +149,8 @@ impl State {
         segments: Vec<Arc<Segment>>,
     ) -> Result<Arc<State>, NoMemory>
         requires { AreKept self.now (map arc_value segments.items) }
-        ensures { IfOk result (λ state. state.value ≡ record { segments = map arc_value segments.items; history = self.now.history }) }
+        ensures { IfOk result (λ state. state.value
+            ≡ record { segments = map arc_value segments.items; history = self.now.history }) }
     {
         let next = State {
             segments,

@@ -1,5 +1,5 @@
 //! Views: the registry as it was at one place of its history.
-ghost use Rattle.std.specs.Prelude.{◌≡◌, IfOk, map, length, option_map, option_copied};
+ghost use Rattle.std.specs.Prelude.{◌≡◌, IfOk, map, length, option_map, option_copied, string_bytes};
 ghost use Rattle.std.specs.Arc.{arc_value};
 ghost use Rattle.std.specs.FinMap as finite;
 ghost use Rattle.clip_model.specs.History.{IsLegal, own, replay, is_live};
@@ -8,8 +8,10 @@ ghost use Rattle.clip_registry.specs.RegistryState.{IsWhole};
 use crate::held::{copy_of, history_of, number_of};
 use crate::history::History;
 use crate::state::State;
-use clip_segment::{Entry, Segment};
+use clip_segment::Segment;
+use clip_standing::Entry;
 use clip_words::NoMemory;
+use std::alloc::Global;
 use std::marker::Model;
 use std::sync::Arc;
 
@@ -53,7 +55,8 @@ impl View {
 
     /// The text of the query that is registered under the id, if one is. It costs one search among the ids.
     pub fn text_of(&self, id: &str) -> Option<&str>
-        ensures { option_copied result ≡ option_map (λ r. r.standing.text) (finite.get (replay self.now.history) id.now) }
+        ensures { option_copied result ≡ option_map (λ r. r.standing.text)
+            (finite.get (replay self.now.history) id.now) }
     {
         match &self.state {
             Some(state) => match state.roster.get(id) {
@@ -61,6 +64,19 @@ impl View {
                 None => None,
             },
             None => None,
+        }
+    }
+
+    /// A copy of the text of the query that is registered under the id, if one is.
+    ///
+    /// `NoMemory` where an allocation failed. Cost: one search among the ids, and the copy.
+    pub fn copied_text(&self, alloc: Global, id: &str) -> Result<Option<String>, NoMemory>
+        ensures { IfOk result (λ text. option_map string_bytes text
+            ≡ option_map (λ r. r.standing.text) (finite.get (replay self.now.history) id.now)) }
+    {
+        match self.text_of(id) {
+            Some(text) => Ok(Some(String::from_str(alloc, text)?)),
+            None => Ok(None),
         }
     }
 

@@ -1,4 +1,16 @@
+pub mod Answering
+pub mod AnyOf
+pub mod Asked
+pub mod EntryPositions
+pub mod Flagged
 pub mod Holding
-pub mod Places
+pub mod IndexPositions
+pub mod KeptLists
+pub mod KeptTerms
+pub mod Keys
+pub mod Lists
+pub mod Numbers
 pub mod Selected
 pub mod Sent
+pub mod SeveralIndexes
+pub mod Sharing

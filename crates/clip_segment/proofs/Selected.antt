@@ -2,8 +2,8 @@
 use Rattle.std.proofs.Common.{◌≡◌, Bool, true, false, List, [], ◌∷◌, ◌++◌, map, length, refl, sym, ap, ◌∙◌}
 use Rattle.std.proofs.lemmas.List.{length-map, map-append}
 use Rattle.clip_grammar.specs.Tree.{Tree}
-use Rattle.clip_index.specs.Index.{IndexValue, IsIndexOf}
-use Rattle.clip_index.specs.Selecting.{AreFlagsOf, AreIndexesOf, flagged, kept_of}
+use Rattle.clip_segment.specs.Index.{IndexValue, IsIndexOf}
+use Rattle.clip_segment.specs.Selecting.{AreFlagsOf, AreIndexesOf, flagged, kept_of}
 use Rattle.clip_model.specs.History.{Registered}
 use Rattle.clip_segment.specs.Segment.{trees_of}
 

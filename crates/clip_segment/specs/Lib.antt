@@ -1,3 +1,4 @@
+pub mod Index
 pub mod Segment
-pub mod Standing
+pub mod Selecting
 pub mod Steps

@@ -1,6 +1,5 @@
--- Private fields, as they are kept and as contracts see them; no public clause cites it.
-pub mod EntryView
-pub mod KeptReading
+-- Private fields as contracts see them, and steps of the work; no public clause cites it.
+pub mod IndexView
+pub mod Parts
 pub mod ReadingView
 pub mod SegmentView
-pub mod StandingView

@@ -1,15 +1,16 @@
-//! Standing queries, entries and segments.
+//! Segments: entries in the order of their seqs, with an index over their queries: which of them share a key with an
+//! article, and which of them hold of it.
 #![tactic(auto)]
 
 ghost use Rattle.std.specs.Prelude.{◌≡◌};
 
-mod entry;
+mod building;
+mod index;
+mod index_selecting;
+mod kept_terms;
 mod reading;
 mod segment;
 mod selecting;
-mod standing;
 
-pub use entry::Entry;
 pub use reading::SegmentReading;
 pub use segment::{MOST_POSITIONS, Segment};
-pub use standing::{Standing, StandingFault};

@@ -1,26 +1,31 @@
 //! Articles as a segment asks them.
-ghost use Rattle.std.specs.Prelude.{◌≡◌, false, IfOk, OnOk, Some, option_map};
+ghost use Rattle.std.specs.Prelude.{◌≡◌, ◌<◌, ◌||◌, ◌==◌, ℕ, false, IfOk, OnOk, Some};
+ghost use Rattle.std.specs.Prelude.{length, option_map, slice_index_or};
 ghost use Rattle.std.specs.Arc.{arc_value};
-ghost use Rattle.std.specs.List.{slice_get};
+ghost use Rattle.std.specs.List.{list_any, slice_get};
 ghost use Rattle.std.specs.Option.{option_copied};
 ghost use Rattle.clip_extract.specs.Covering.{article_keys};
 ghost use Rattle.clip_meaning.specs.Meaning.{holds};
 ghost use Rattle.clip_model.specs.History.{Registered};
 ghost use Rattle.clip_segment.specs.Segment.{positions_sharing};
 
-use crate::entry::Entry;
 use crate::segment::Segment;
-use clip_index::IndexReading;
-use clip_plan::Tally;
+use clip_pieces::{Marks, PackedLists};
+use clip_plan::{Plans, Tally};
+use clip_standing::Entry;
+use clip_terms::Reading;
 use clip_words::NoMemory;
 use std::marker::Model;
 use std::sync::Arc;
 
-/// An article as a segment asks it. Contracts see the segment's entries and the article.
+/// An article as a segment asks it: by the numbers of the terms of the segment's index. Contracts see the segment's
+/// entries and the article.
 #[derive(Drop)]
 pub struct SegmentReading<'a> {
     pub(crate) segment: &'a Segment,
-    pub(crate) reading: IndexReading<'a>,
+    pub(crate) positions: &'a PackedLists<u32>,
+    pub(crate) plans: &'a Plans,
+    pub(crate) reading: Reading<'a>,
 }
 
 impl<'a> Model for SegmentReading<'a> {
@@ -39,15 +44,32 @@ impl<'a> Model for SegmentReading<'a> {
     ghost invariant = { IsOfItsIndex };
 }
 
+/// Marks these positions, of which those from the bound of the marks on mark nothing.
+fn mark_positions(positions: &[u32], marks: &mut Marks)
+    ensures long { length marks.new ≡ length marks.old }
+    ensures marked { (position : ℕ) → position < length marks.old → slice_index_or marks.new position false
+        ≡ (slice_index_or marks.old position false || list_any (λ marked. position == marked) positions.now) }
+{
+    for position in positions {
+        marks.mark(*position as usize);
+    }
+}
+
 impl<'a> SegmentReading<'a> {
-    /// The positions, from 0 and rising, of just the entries whose queries share a key with the article, in place of those
-    /// that were in the list.
+    /// The positions, from 0 and rising, of just the entries whose queries share a key with the article, in place of
+    /// those that were in the list.
     ///
-    /// `NoMemory` where an allocation failed. Cost: that of `IndexReading::sharers`; no entry is looked at.
+    /// `NoMemory` where an allocation failed. Cost: a step for each position under a key of the article, and one for
+    /// each 64 entries of the segment; no entry is looked at.
     pub fn sharers(&self, positions: &mut Vec<u32>) -> Result<(), NoMemory>
-        ensures { OnOk result (positions.new.items ≡ positions_sharing (article_keys self.now.article.fields) self.now.entries) }
+        ensures { OnOk result (positions.new.items
+            ≡ positions_sharing (article_keys self.now.article.fields) self.now.entries) }
     {
-        self.reading.sharers(positions)
+        let mut marks = Marks::new(*positions.allocator(), self.plans.len())?;
+        for number in self.reading.numbers() {
+            mark_positions(self.positions.get(*number as usize), &mut marks);
+        }
+        marks.numbers_into(positions)
     }
 
     /// The seq of the entry at a position from 0, or `None` past the end; the entry is not looked at. Takes no memory.
@@ -65,13 +87,13 @@ impl<'a> SegmentReading<'a> {
         self.segment.entry(position)
     }
 
-    /// Whether the query of the entry at a position may hold of the article: `false` rules it out by its first clause, and
-    /// `true` says nothing. Takes no memory. Constant time; the entry is not looked at.
+    /// Whether the query of the entry at a position may hold of the article: `false` rules it out by its first clause,
+    /// and `true` says nothing. Takes no memory. Constant time; the entry is not looked at.
     pub fn may_hold(&self, position: u32) -> bool
         ensures { (entry : Registered) → slice_get self.now.entries position ≡ Some entry
             → result ≡ false → holds entry.standing.tree self.now.article.fields ≡ false }
     {
-        self.reading.may_hold(position)
+        self.plans.may_hold(position as usize, &self.reading)
     }
 
     /// Whether the query of the entry at a position holds of the article. `stack` is room for the groups that are open.
@@ -82,6 +104,6 @@ impl<'a> SegmentReading<'a> {
         ensures { IfOk result (λ held. (entry : Registered) → slice_get self.now.entries position ≡ Some entry
             → held ≡ holds entry.standing.tree self.now.article.fields) }
     {
-        self.reading.holds(position, stack)
+        self.plans.judge(position as usize, &self.reading, stack)
     }
 }

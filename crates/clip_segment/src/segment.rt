@@ -5,25 +5,25 @@ ghost use Rattle.std.specs.List.{All, AllPairs, slice_get};
 ghost use Rattle.std.specs.Option.{option_copied};
 ghost use Rattle.clip_extract.specs.Keys.{key_of};
 ghost use Rattle.clip_grammar.specs.Tree.{tree_of};
-ghost use Rattle.clip_index.specs.Index.{IsIndexOf};
-ghost use Rattle.clip_index.specs.Selecting.{AreFlagsOf, count_set, kept_of};
+ghost use Rattle.clip_segment.specs.Index.{IsIndexOf};
+ghost use Rattle.clip_segment.specs.Selecting.{AreFlagsOf, count_set, kept_of};
 ghost use Rattle.clip_segment.specs.Segment.{IsRising, positions_with, trees_of, seqs_of};
 ghost use Rattle.clip_segment.specs.declared.segment.TheConstants.{MOST_POSITIONS};
 
-use crate::entry::Entry;
+use crate::index::Index;
 use crate::reading::SegmentReading;
 use crate::selecting::{kept_entries, kept_index};
 use clip_extract::Key;
 use clip_grammar::query::Query;
-use clip_index::{Index, MOST_QUERIES};
-use clip_terms::Asking;
+use clip_standing::Entry;
+use clip_terms::{Asking, Reading};
 use clip_words::NoMemory;
 use std::alloc::Global;
 use std::marker::Model;
 use std::sync::Arc;
 
 /// The most entries of a segment, so that each position fits in 32 bits.
-pub const MOST_POSITIONS: usize = MOST_QUERIES;
+pub const MOST_POSITIONS: usize = 4_294_967_295;
 
 /// Entries in the order of their seqs, with an index over their queries.
 #[derive(Debug, Drop)]
@@ -83,8 +83,9 @@ fn seqs_of(alloc: Global, entries: &[Arc<Entry>]) -> Result<Vec<u64>, NoMemory>
 impl Segment {
     /// The segment of these entries, which it shares. Their seqs rise, and there are at most `MOST_POSITIONS`.
     ///
-    /// `NoMemory` where an allocation failed. Cost: the reading of their texts, and that of `Index::of` over their queries,
-    /// which aren't kept.
+    /// `NoMemory` where an allocation failed, and where their queries have more than 4,294,967,295 terms. Cost: the
+    /// reading of their texts, an extraction of each query's keys, a sort of the keys and words of all, and a search by
+    /// halves for each of them. The queries aren't kept.
     pub fn build(alloc: Global, entries: Vec<Arc<Entry>>) -> Result<Segment, NoMemory>
         requires short { length entries.items ≤ MOST_POSITIONS }
         requires rising { IsRising (map arc_value entries.items) }
@@ -99,11 +100,14 @@ impl Segment {
         })
     }
 
-    /// The segment of the kept entries of these segments, in order, which it shares: `kept` has a list for each segment,
-    /// with a flag for each of its entries. The seqs of the kept entries rise, and there are at most `MOST_POSITIONS`.
+    /// The segment of the kept entries of these segments, in order, which it shares: `kept` has a list for each
+    /// segment, with a flag for each of its entries. The seqs of the kept entries rise, and there are at most
+    /// `MOST_POSITIONS`.
     ///
-    /// `NoMemory` where an allocation failed. Cost: that of `Index::select`, and a step for each flag; no query is looked
-    /// at and no text is copied.
+    /// `NoMemory` where an allocation failed, and where the kept queries have more than 4,294,967,295 terms. Cost: a
+    /// sort of the terms that kept queries ask for, each once for each segment; a search by halves for each term; a
+    /// step for each flag and each position under a term; and for each kept query a step for each word and each leaf.
+    /// No query is looked at and no text is copied but ends of ranges.
     pub fn select(
         alloc: Global,
         segments: &[Arc<Segment>],
@@ -112,7 +116,8 @@ impl Segment {
         requires flags { AreFlagsOf (map arc_value segments.now) (map vec_items kept.now) }
         requires short { count_set (map vec_items kept.now) ≤ MOST_POSITIONS }
         requires rising { IsRising (kept_of (map arc_value segments.now) (map vec_items kept.now)) }
-        ensures { IfOk result (λ segment. segment ≡ kept_of (map arc_value segments.now) (map vec_items kept.now)) }
+        ensures { IfOk result (λ segment.
+            segment ≡ kept_of (map arc_value segments.now) (map vec_items kept.now)) }
     {
         let entries = kept_entries(alloc, segments, kept)?;
         let seqs = seqs_of(alloc, &entries)?;
@@ -131,8 +136,8 @@ impl Segment {
         &self.index
     }
 
-    /// The positions, from 0 and rising, of just the entries that hold the key. Takes no memory. Cost: a search by halves
-    /// among the index's terms.
+    /// The positions, from 0 and rising, of just the entries that hold the key. Takes no memory. Cost: a search by
+    /// halves among the index's terms.
     pub fn with_key(&self, key: &Key) -> &[u32]
         ensures holders { result.now ≡ positions_with (key_of key.now) self.now }
         ensures within { All (λ position. position < length self.now) result.now }
@@ -143,7 +148,7 @@ impl Segment {
 
     /// An article as this segment asks it.
     ///
-    /// `NoMemory` where an allocation failed. Cost: that of `Index::read`.
+    /// `NoMemory` where an allocation failed. Cost: that of `Reading::of` over the terms of its index.
     pub fn read<'a>(
         &'a self,
         alloc: Global,
@@ -153,7 +158,9 @@ impl Segment {
     {
         Ok(SegmentReading {
             segment: self,
-            reading: self.index.read(alloc, asking)?,
+            positions: &self.index.positions,
+            plans: &self.index.plans,
+            reading: Reading::of(alloc, &self.index.terms, asking)?,
         })
     }
 

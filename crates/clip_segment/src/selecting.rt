@@ -1,14 +1,14 @@
 //! Segments of the kept entries of others.
 ghost use Rattle.std.specs.Prelude.{◌≡◌, ◌≤◌, ◌++◌, IfOk, OnOk, length, map, vec_items};
 ghost use Rattle.std.specs.Arc.{arc_value};
-ghost use Rattle.clip_index.specs.Index.{IsIndexOf};
-ghost use Rattle.clip_index.specs.Selecting.{AreFlagsOf, AreIndexesOf, count_set, flagged, kept_of};
+ghost use Rattle.clip_segment.specs.Index.{IsIndexOf};
+ghost use Rattle.clip_segment.specs.Selecting.{AreFlagsOf, AreIndexesOf, count_set, flagged, kept_of};
 ghost use Rattle.clip_segment.specs.Segment.{IsRising, trees_of};
 ghost use Rattle.clip_segment.specs.declared.segment.TheConstants.{MOST_POSITIONS};
 
-use crate::entry::Entry;
+use crate::index::Index;
 use crate::segment::Segment;
-use clip_index::Index;
+use clip_standing::Entry;
 use clip_words::NoMemory;
 use std::alloc::Global;
 use std::sync::Arc;
@@ -43,7 +43,8 @@ pub(crate) fn kept_entries(
     segments: &[Arc<Segment>],
     kept: &[Vec<bool>],
 ) -> Result<Vec<Arc<Entry>>, NoMemory>
-    ensures { IfOk result (λ entries. map arc_value entries.items ≡ kept_of (map arc_value segments.now) (map vec_items kept.now)) }
+    ensures { IfOk result (λ entries. map arc_value entries.items
+        ≡ kept_of (map arc_value segments.now) (map vec_items kept.now)) }
 {
     let mut entries = Vec::new(alloc);
     let mut segments = segments;
@@ -61,7 +62,8 @@ pub(crate) fn kept_entries(
 
 /// The indexes of these segments.
 fn indexes_of<'a>(alloc: Global, segments: &'a [Arc<Segment>]) -> Result<Vec<&'a Index>, NoMemory>
-    ensures { IfOk result (λ indexes. AreIndexesOf (map trees_of (map arc_value segments.now)) (map (λ i. i.now) indexes.items)) }
+    ensures { IfOk result (λ indexes.
+        AreIndexesOf (map trees_of (map arc_value segments.now)) (map (λ i. i.now) indexes.items)) }
 {
     let mut indexes = Vec::with_capacity(alloc, segments.len())?;
     for segment in segments {
@@ -78,7 +80,8 @@ pub(crate) fn kept_index(
 ) -> Result<Index, NoMemory>
     requires flags { AreFlagsOf (map arc_value segments.now) (map vec_items kept.now) }
     requires short { count_set (map vec_items kept.now) ≤ MOST_POSITIONS }
-    ensures { IfOk result (λ index. IsIndexOf (trees_of (kept_of (map arc_value segments.now) (map vec_items kept.now))) index) }
+    ensures { IfOk result (λ index.
+        IsIndexOf (trees_of (kept_of (map arc_value segments.now) (map vec_items kept.now))) index) }
 {
     Index::select(alloc, &indexes_of(alloc, segments)?, kept)
 }

@@ -122,7 +122,8 @@ impl LineReader {
         ensures bytes { OnOk result (IsStill (R.left reader.old)
             (prepend_known self.new.pending (R.left reader.new))) }
         ensures fuel { IfOk result (λ more. MatchBool more
-            ((self.new.reads_left + 1 ≡ self.old.reads_left) × (length self.new.pending ≤ 65536) × (self.new.is_at_end ≡ false) × (self.old.is_at_end ≡ false))
+            ((self.new.reads_left + 1 ≡ self.old.reads_left) × (length self.new.pending ≤ 65536)
+            × (self.new.is_at_end ≡ false) × (self.old.is_at_end ≡ false))
             ((self.new.pending ≡ []) × (self.new.is_at_end ≡ true) × (self.new.reads_left ≤ self.old.reads_left))) }
         ensures failed { OnOk result (R.has_failed reader.new ≡ R.has_failed reader.old) }
         ensures fault { OnErr result (result ≡ Err RunFault.Read) }

@@ -73,7 +73,8 @@ impl OpenGroup {
 
     /// Adds a range, its ends folded.
     fn add_span(&mut self, alloc: Global, low: &Bound, high: &Bound) -> Result<(), NoMemory>
-        ensures { IfOk result (λ _. group_of self.new ≡ add_span (group_of self.old) (end_of low.now) (end_of high.now)) }
+        ensures { IfOk result (λ _. group_of self.new
+            ≡ add_span (group_of self.old) (end_of low.now) (end_of high.now)) }
     {
         let field = self.item_field()?;
         let low = fold_bound(alloc, low)?;

@@ -160,7 +160,8 @@ fn pieces(
     text: &[char],
     place: Place,
 ) -> Result<(Vec<Mark>, &[char]), NoMemory>
-    ensures { IfOk result (λ found. marks_and_rest found ≡ marks_after marks.items (pieces_at (class_test place) text.now)) }
+    ensures { IfOk result (λ found. marks_and_rest found
+        ≡ marks_after marks.items (pieces_at (class_test place) text.now)) }
 {
     let mut rest = text;
     while let Some((mark, after)) = piece(rest, place) {
@@ -410,7 +411,8 @@ fn bare_end(alloc: Global, text: &[char]) -> Result<Option<(Option<String>, &[ch
 /// An end of a range: its text, or none for a star alone.
 #[tactic(auto, using(crate::proofs::Ranging::ending_quoted, crate::proofs::Ranging::ending_bare, crate::proofs::Ranging::ending_nil))]
 fn ending(alloc: Global, text: &[char]) -> Result<Option<(Option<String>, &[char])>, NoMemory>
-    ensures { IfOk result (λ found. option_map text_and_rest found ≡ option_map end_text_and_rest (ending_at text.now)) }
+    ensures { IfOk result (λ found. option_map text_and_rest found
+        ≡ option_map end_text_and_rest (ending_at text.now)) }
 {
     let Some((first, rest)) = text.split_first() else {
         return Ok(None);

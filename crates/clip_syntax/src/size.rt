@@ -37,7 +37,8 @@ fn is_colon(token: &Token) -> bool
 ///
 /// A field is a word and a colon, and `*:*` two stars and a colon, so the colons are taken off.
 fn node_count(tokens: &[Token]) -> usize
-    ensures { result ≡ count_by (λ t. is_node (token_of t)) tokens.now + 1 - count_by (λ t. is_colon (token_of t)) tokens.now }
+    ensures { result ≡ count_by (λ t. is_node (token_of t)) tokens.now
+        + 1 - count_by (λ t. is_colon (token_of t)) tokens.now }
 {
     let nodes = tokens.iter().filter(|token| is_node(token)).count();
     let colons = tokens.iter().filter(|token| is_colon(token)).count();

@@ -30,8 +30,10 @@ fn item_text(token: &Token, before_colon: bool) -> Option<&str>
 /// A plain word before a colon is a field, and no item. Each word is cut and folded once, and is then shared.
 /// `NoMemory` where a growth is refused. The cost is linear in the bytes of the tokens.
 pub fn item_words(alloc: Global, tokens: &[Token]) -> Result<Option<Vec<Vec<ArcStr>>>, NoMemory>
-    ensures words { IfOk result (λ found. IfSome found (λ items. words_of_items items.items ≡ items_words (map token_of tokens.now))) }
-    ensures lacking { IfOk result (λ found. IfWritten tokens.now (λ written. is_some found ≡ not (lacks_words written))) }
+    ensures words { IfOk result (λ found. IfSome found
+        (λ items. words_of_items items.items ≡ items_words (map token_of tokens.now))) }
+    ensures lacking { IfOk result (λ found. IfWritten tokens.now
+        (λ written. is_some found ≡ not (lacks_words written))) }
 {
     let mut items = Vec::new(alloc);
     let mut rest = tokens;

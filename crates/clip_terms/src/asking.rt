@@ -85,7 +85,8 @@ fn place_words(
 /// of the text, the place of its key.
 fn add_field(alloc: Global, field: &Field, keys: &mut Vec<Key>) -> Result<Vec<usize>, NoMemory>
     ensures keys { OnOk result (map key_of keys.new.items ≡ map key_of keys.old.items ++ ordered_keys field.now) }
-    ensures places { IfOk result (λ places. map (term_at (map key_of keys.new.items)) places.items ≡ field_keys field.now) }
+    ensures places { IfOk result (λ places. map (term_at (map key_of keys.new.items)) places.items
+        ≡ field_keys field.now) }
 {
     let mut places = vec![in alloc; 0; field.words().len()]?;
     place_words(field.name(), field.postings(), keys, &mut places)?;
@@ -131,7 +132,8 @@ impl<'a> Asking<'a> {
     /// the word's, from 0. Constant time.
     pub fn places(&self) -> &[Vec<usize>]
         ensures { (keys : List Key) → map key_of keys ≡ word_part_keys self.now.fields
-            → map (λ places. map (term_at (map key_of keys)) places.items) result.now ≡ map field_keys (finite.entries self.now.fields) }
+            → map (λ places. map (term_at (map key_of keys)) places.items) result.now
+            ≡ map field_keys (finite.entries self.now.fields) }
     {
         &self.places
     }

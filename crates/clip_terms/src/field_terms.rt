@@ -171,7 +171,8 @@ impl<'a> FieldTerms<'a> {
         numbers: &mut Vec<u32>,
     ) -> Result<(), NoMemory>
         requires { self.now.field ≡ field.now.0 }
-        ensures { OnOk result (AddsNumbersOf self.now.terms (front_keys field.now) numbers.old.items numbers.new.items) }
+        ensures { OnOk result (AddsNumbersOf self.now.terms
+            (front_keys field.now) numbers.old.items numbers.new.items) }
     {
         for number in self.fronts.start..self.fronts.end {
             let text = self.keys[number].text();

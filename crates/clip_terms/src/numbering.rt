@@ -83,7 +83,8 @@ fn add_word_fronts(
     numbers: &mut Vec<u32>,
 ) -> Result<(), NoMemory>
     ensures { OnOk result (numbers.new.items ≡ numbers.old.items
-        ++ known (map (number_of of_field.now.terms) (map (Front of_field.now.field) (other_fronts (fronts last.now) (fronts word.now))))) }
+        ++ known (map (number_of of_field.now.terms)
+        (map (Front of_field.now.field) (other_fronts (fronts last.now) (fronts word.now))))) }
 {
     let mut lasts = Fronts::of(last);
     let mut fronts = Fronts::of(word);
@@ -103,7 +104,8 @@ fn add_posting_fronts(
     numbers: &mut Vec<u32>,
 ) -> Result<(), NoMemory>
     ensures { OnOk result (numbers.new.items ≡ numbers.old.items
-        ++ known (map (number_of of_field.now.terms) (map (Front of_field.now.field) (asked_fronts [] (map (λ p. p.0) postings.now))))) }
+        ++ known (map (number_of of_field.now.terms)
+        (map (Front of_field.now.field) (asked_fronts [] (map (λ p. p.0) postings.now))))) }
 {
     let mut last = "";
     for posting in postings {
@@ -137,7 +139,8 @@ pub(crate) fn add_front_numbers(
     fields: &[Field],
     numbers: &mut Vec<u32>,
 ) -> Result<(), NoMemory>
-    ensures { OnOk result (AddsNumbersOf terms.now (flat_map front_keys fields.now) numbers.old.items numbers.new.items) }
+    ensures { OnOk result (AddsNumbersOf terms.now
+        (flat_map front_keys fields.now) numbers.old.items numbers.new.items) }
 {
     for field in fields {
         add_field_fronts(terms, field, numbers)?;

@@ -82,7 +82,8 @@ pub(crate) fn parts_of(alloc: Global, keys: &[Key]) -> Result<Vec<FieldPart>, No
 
 /// The part of a field among those in the order of their names, if it is there.
 fn find<'a>(parts: &'a [FieldPart], field: &str) -> Option<&'a FieldPart>
-    ensures part { (terms : List KeyValue) → All (IsFieldPart terms) parts.now → IfSome result (λ part. IsFieldPart terms part.now) }
+    ensures part { (terms : List KeyValue) → All (IsFieldPart terms) parts.now
+        → IfSome result (λ part. IsFieldPart terms part.now) }
     ensures field { IfSome result (λ part. arc_str_bytes part.now.field ≡ field.now) }
 {
     let place = parts.partition_point(|part: &FieldPart| -> bool { part.field.as_str() < field });

@@ -43,7 +43,8 @@ impl Model for Terms {
     ghost view = { λ t. map key_of t.keys.items };
 
     ghost invariant = { λ t. IsStrictlySortedBy key_cmp (map key_of t.keys.items) × (length t.keys.items ≤ MOST_TERMS)
-        × AreLeads (map key_of t.keys.items) t.leads.items × All (IsFieldPart (map key_of t.keys.items)) t.parts.items };
+        × AreLeads (map key_of t.keys.items) t.leads.items
+        × All (IsFieldPart (map key_of t.keys.items)) t.parts.items };
 }
 
 impl Terms {

@@ -3,9 +3,9 @@ use Rattle.std.specs.Prelude.{ℕ, List, map, length}
 use Rattle.clip_meaning.specs.Article.{ArticleValue}
 use Rattle.clip_model.specs.Alerts.{Alert, alerts}
 use Rattle.clip_model.specs.History.{History, Command}
-use Rattle.clip_registry.specs.Command.{command_of}
-use Rattle.clip_registry.specs.declared.command.Applied.{Applied}
-use Rattle.clip_match.specs.Alerts.{AlertsValue, alerts_value}
+use Rattle.clip_standing.specs.Command.{command_of}
+use Rattle.clip_standing.specs.declared.command.Applied.{Applied}
+use Rattle.clip_standing.specs.Alerts.{AlertsValue, alerts_value}
 use Rattle.clip_trace.specs.declared.event.Event as code
 use Rattle.clip_trace.specs.declared.event.Event.TheVariants as event
 use Rattle.clip_trace.specs.declared.event.TraceAnswer.{TraceAnswer}

@@ -5,10 +5,10 @@ use Rattle.std.specs.Map.{lookup}
 use Rattle.std.specs.Coded.{Coded, code_by, coded×, coded_ℕ, coded_list}
 use Rattle.clip_meaning.specs.Article.{ArticleValue, article_code}
 use Rattle.clip_model.specs.History.{History, fits, has_room, applied, with_command, history_code}
-use Rattle.clip_model.specs.declared.limits.TheConstants.{MOST_CALLERS}
-use Rattle.clip_registry.specs.Command as command
+use Rattle.clip_model.specs.declared.limits.TheConstants.{MOST_ARTICLES, MOST_CALLERS}
+use Rattle.clip_standing.specs.Command as command
 use Rattle.clip_trace.specs.Event.{Event, Accept, Begin, Install, Purge, Look, Piece, Finish, Answer, Unknown, Used, TooMany, Full, Accepted, Begun, Nothing, Installed, Stale, Purged, Looked, Matched, Finished, found_after}
-use Rattle.clip_trace.specs.declared.limits.TheConstants.{MOST_MERGES, MOST_BATCHES, MOST_ARTICLES}
+use Rattle.clip_trace.specs.declared.limits.TheConstants.{MOST_MERGES, MOST_BATCHES}
 
 -- ---- how things stand between two events
 

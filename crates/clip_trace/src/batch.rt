@@ -1,12 +1,13 @@
 //! Open batches.
 ghost use Rattle.std.specs.Prelude.{◌≡◌, ◌+◌, ◌<◌, map, take, length, nat_lt, OnOk, OnErr};
-ghost use Rattle.clip_match.specs.Alerts.{alerts_value};
+ghost use Rattle.clip_standing.specs.Alerts.{alerts_value};
 ghost use Rattle.clip_trace.specs.Event.{found_of, found_after};
 ghost use Rattle.clip_trace.specs.Schedule.{fresh_batch, with_matched};
 
-use clip_match::{Alerts, match_article, match_batch};
+use clip_match::{match_article, match_batch};
 use clip_meaning::Article;
 use clip_registry::View;
+use clip_standing::Alerts;
 use clip_words::NoMemory;
 use std::alloc::Global;
 use std::marker::Model;

@@ -1,7 +1,6 @@
 //! Events, and their answers.
-use clip_match::Alerts;
 use clip_meaning::Article;
-use clip_registry::{Applied, Command};
+use clip_standing::{Alerts, Applied, Command};
 
 /// A step of the engine. Merges and batches go by numbers that the trace chooses.
 ///
@@ -13,8 +12,8 @@ pub enum Event {
     /// the keys of each listed query, or a search for each listed id.
     Accept(u32, Command),
     /// A merge is begun under this number: `Begun`, or `Used` for a number of an open merge, `TooMany` where
-    /// `MOST_MERGES` are open, and `Nothing` where there is nothing to merge. Cost: that of `Registrar::begin`, so a step
-    /// for each segment and each entry of four.
+    /// `MOST_MERGES` are open, and `Nothing` where there is nothing to merge. Cost: that of `Registrar::begin`, so a
+    /// step for each segment and each entry of four.
     Begin(u64),
     /// The merge of this number is run and installed: `Installed` or `Stale`, or `Unknown` where none is open under the
     /// number. Cost: that of `MergeJob::run` and `Registrar::install`, so a look-up for each key of each entry of four
@@ -23,15 +22,15 @@ pub enum Event {
     /// Dead entries are purged: `Purged`. Cost: that of `Registrar::purge`, so a step for each entry, and a look-up for
     /// each key in segments with dead entries.
     Purge,
-    /// A view is taken for a batch of articles, under this number: `Looked`, or `Used` for a number of an open batch, and
-    /// `TooMany` where `MOST_BATCHES` are open or there are more than `MOST_ARTICLES` articles. No article is read.
+    /// A view is taken for a batch of articles, under this number: `Looked`, or `Used` for a number of an open batch,
+    /// and `TooMany` where `MOST_BATCHES` are open or there are more than `MOST_ARTICLES` articles. No article is read.
     Look(u64, Vec<Article>),
-    /// The first article of the batch that is not matched yet is matched, on its view: `Matched`, or `Unknown` where none
-    /// is open under the number or none of its articles is left. Cost: that of `match_article`, so a step for each word
-    /// of the article, and a look-up in each segment for each of its keys.
+    /// The first article of the batch that is not matched yet is matched, on its view: `Matched`, or `Unknown` where
+    /// none is open under the number or none of its articles is left. Cost: that of `match_article`, so a step for each
+    /// word of the article, and a look-up in each segment for each of its keys.
     Piece(u64),
-    /// The rest of the batch is matched, and its alerts are given: `Finished`, or `Unknown` where none is open under the
-    /// number. Cost: that of `match_article` for each article that is left.
+    /// The rest of the batch is matched, and its alerts are given: `Finished`, or `Unknown` where none is open under
+    /// the number. Cost: that of `match_article` for each article that is left.
     Finish(u64),
 }
 

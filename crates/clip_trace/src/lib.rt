@@ -7,5 +7,5 @@ mod limits;
 mod tracer;
 
 pub use event::{Event, TraceAnswer};
-pub use limits::{MOST_ARTICLES, MOST_BATCHES, MOST_MERGES};
+pub use limits::{MOST_BATCHES, MOST_MERGES};
 pub use tracer::{Tracer, trace};

@@ -5,6 +5,3 @@ pub const MOST_MERGES: usize = 16;
 
 /// The most batches that are open at once.
 pub const MOST_BATCHES: usize = 32;
-
-/// The most articles of a batch.
-pub const MOST_ARTICLES: usize = 256;

@@ -1,17 +1,18 @@
 //! The tracer: it plays events one by one.
 ghost use Rattle.std.specs.Prelude.{◌≡◌, ◌++◌, ◌∷◌, ◌==◌, [], List, map, length, IfOk, OnErr};
 ghost use Rattle.std.specs.List.{zip, position};
-ghost use Rattle.clip_registry.specs.Command.{command_of};
+ghost use Rattle.clip_standing.specs.Command.{command_of};
 ghost use Rattle.clip_trace.specs.Event.{event_of, answer_of};
 ghost use Rattle.clip_trace.specs.Event as event;
 ghost use Rattle.clip_trace.specs.Schedule.{Step, IsDue, IsDueTo, after, nothing_open, stand};
 
 use crate::batch::Batch;
 use crate::event::{Event, TraceAnswer};
-use crate::limits::{MOST_ARTICLES, MOST_BATCHES, MOST_MERGES};
+use crate::limits::{MOST_BATCHES, MOST_MERGES};
 use clip_meaning::Article;
-use clip_model::MOST_CALLERS;
-use clip_registry::{Command, Installed, MergeJob, Refused, Registrar};
+use clip_model::{MOST_ARTICLES, MOST_CALLERS};
+use clip_registry::{Installed, MergeJob, Registrar};
+use clip_standing::{Command, Refused};
 use clip_words::NoMemory;
 use std::alloc::Global;
 use std::marker::Model;
@@ -60,8 +61,8 @@ impl Tracer {
     }
 
     /// Plays an event, and gives the answer that is due to it, which may be a refusal: the first that holds of
-    /// `Unknown`, `Used`, `TooMany` and `Full`, with nothing changed. `NoMemory` where an allocation failed, with nothing
-    /// changed. Cost: that of the event.
+    /// `Unknown`, `Used`, `TooMany` and `Full`, with nothing changed. `NoMemory` where an allocation failed, with
+    /// nothing changed. Cost: that of the event.
     pub fn step(&mut self, event: Event) -> Result<TraceAnswer, NoMemory>
         ensures due { IfOk result (λ answer. IsDueTo self.old (event_of event) (answer_of answer)) }
         ensures stand { IfOk result (λ answer. self.new ≡ after self.old (event_of event) (answer_of answer)) }
@@ -92,8 +93,10 @@ impl Tracer {
 
     /// Plays a command of a caller.
     fn accept(&mut self, caller: u32, command: Command) -> Result<TraceAnswer, NoMemory>
-        ensures due { IfOk result (λ answer. IsDueTo self.old (event.Accept caller (command_of command)) (answer_of answer)) }
-        ensures stand { IfOk result (λ answer. self.new ≡ after self.old (event.Accept caller (command_of command)) (answer_of answer)) }
+        ensures due { IfOk result (λ answer.
+            IsDueTo self.old (event.Accept caller (command_of command)) (answer_of answer)) }
+        ensures stand { IfOk result (λ answer.
+            self.new ≡ after self.old (event.Accept caller (command_of command)) (answer_of answer)) }
         ensures unchanged { OnErr result (self.new ≡ self.old) }
     {
         if caller == 0 || caller > MOST_CALLERS {
@@ -159,7 +162,8 @@ impl Tracer {
     /// Opens a batch on the registry as it stands.
     fn look(&mut self, batch: u64, articles: Vec<Article>) -> Result<TraceAnswer, NoMemory>
         ensures due { IfOk result (λ answer. IsDueTo self.old (event.Look batch articles.items) (answer_of answer)) }
-        ensures stand { IfOk result (λ answer. self.new ≡ after self.old (event.Look batch articles.items) (answer_of answer)) }
+        ensures stand { IfOk result (λ answer.
+            self.new ≡ after self.old (event.Look batch articles.items) (answer_of answer)) }
         ensures unchanged { OnErr result (self.new ≡ self.old) }
     {
         if place_of(&self.batches, batch).is_some() {
@@ -204,8 +208,8 @@ impl Tracer {
     }
 }
 
-/// Plays events from the beginning, and gives their answers, in order. `NoMemory` where an allocation failed. Cost: that
-/// of each event.
+/// Plays events from the beginning, and gives their answers, in order. `NoMemory` where an allocation failed. Cost:
+/// that of each event.
 pub fn trace(alloc: Global, events: Vec<Event>) -> Result<Vec<TraceAnswer>, NoMemory>
     ensures each { IfOk result (λ answers. length answers.items ≡ length events.items) }
     ensures due { IfOk result (λ answers. IsDue (zip (map event_of events.items) (map answer_of answers.items))) }

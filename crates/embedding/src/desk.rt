@@ -3,7 +3,7 @@ ghost use Rattle.std.specs.Prelude.{◌≡◌, [], Some, IfOk};
 ghost use Rattle.clip_listen.specs.Heard.{style_value};
 
 use clip_listen::{Listener, Render, Style};
-use clip_match::Alert;
+use clip_standing::Alert;
 use clip_words::NoMemory;
 use std::alloc::Global;
 
@@ -27,7 +27,7 @@ impl Desk {
 
 impl Listener for Desk {
     ghost use Rattle.std.specs.Prelude.{Some, map};
-    ghost use Rattle.clip_match.specs.Alerts.{alert_value};
+    ghost use Rattle.clip_standing.specs.Alerts.{alert_value};
     ghost use Rattle.clip_listen.specs.Heard.{style_value};
 
     ghost style = { λ desk. style_value desk.render.style };

@@ -9,8 +9,8 @@ use anyhow::{Result, bail};
 use clip_ledger::Ledger;
 use clip_listen::{Folder, Listener, Listeners, Named, Render, Style, Teller};
 use clip_meaning::{Article, ArticleFault};
-use clip_registry::{Command, Registrar, View};
-use clip_segment::{Standing, StandingFault};
+use clip_registry::{Registrar, View};
+use clip_standing::{Command, Standing, StandingFault};
 use clip_words::NoMemory;
 use desk::Desk;
 use morning::morning;
@@ -42,6 +42,8 @@ fn standing(
     text: &str,
     listener: &str,
 ) -> Result<Standing, StandingFault> {
+    let id = String::from_str(alloc, id)?;
+    let text = String::from_str(alloc, text)?;
     let listener = String::from_str(alloc, listener)?;
     Standing::read(alloc, id, text, Some(listener))
 }

@@ -4,11 +4,12 @@
 
 use anyhow::{Result, bail};
 use clip_command_line::{feed, mail, named};
-use clip_front::{Settings, run_trace};
+use clip_front::Settings;
 use clip_listen::Listeners;
 use clip_match::OpenGate;
+use clip_run::run;
 use clip_stream::{MOST_WORKERS, StdSink, StdSource};
-use clip_workers::run;
+use clip_trace_lines::run_trace;
 use std::alloc::Global;
 use std::fs::Files;
 use std::io::Read;

@@ -1,4 +1,4 @@
-use Rattle.clip_listen.specs.Updates.{heard_at}
+use Rattle.clip_desk.specs.Updates.{heard_at}
 use Rattle.busy_desk.proofs.main.Given as goal
 
 -- the desk whose parts were just made

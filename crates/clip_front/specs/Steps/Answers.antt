@@ -9,29 +9,24 @@ use Rattle.clip_model.specs.Standing.{Standing}
 use Rattle.clip_grammar.specs.Tree.{Tree}
 use Rattle.clip_listen.specs.Heard.{Hearer, told_all, HearsFront}
 use Rattle.clip_ledger.specs.Rows.{RowValue}
-use Rattle.clip_front.specs.Request.{Listing}
-use Rattle.clip_front.specs.LineMeaning.{Meaning, Means, IsQuery, IsReadAs, IsTakenAs, AreTakenAs, IsRefusedFor, FirstRefused, after}
-use Rattle.clip_front.specs.Reply.{Reply, answer_to, reply}
+use Rattle.clip_protocol.specs.Request.{Listing}
+use Rattle.clip_protocol.specs.LineMeaning.{Meaning, Means, IsQuery, IsReadAs, IsTakenAs, AreTakenAs, IsRefusedFor, FirstRefused, after}
+use Rattle.clip_protocol.specs.Reply.{Reply, answer_to, reply}
 use Rattle.clip_front.specs.Outcome.{alerts_told, rows_posted, kept_rows, names_in}
-use Rattle.clip_front.specs.Steps.Outline.{Outline, MeansOutline, matches}
+use Rattle.clip_protocol.specs.Steps.Outline.{Outline, MeansOutline, matches}
+use Rattle.clip_front.specs.Steps.Serving.{Answering, Breaking}
 use Rattle.clip_front.specs.Steps.Taking.{IsQuiet}
-use Rattle.clip_front.specs.Steps.Views.{reply_view}
-use Rattle.clip_front.specs.declared.answer.ListFault.{ListFault}
-use Rattle.clip_front.specs.declared.answer.ListFault.TheVariants as fault
+use Rattle.clip_protocol.specs.Steps.Views.{reply_view}
+use Rattle.clip_protocol.specs.declared.listing.ListFault.{ListFault}
+use Rattle.clip_protocol.specs.declared.listing.ListFault.TheVariants as fault
 use Rattle.clip_front.specs.declared.answer.Response.{Response}
 use Rattle.clip_front.specs.declared.answer.Response.TheVariants as response
 use Rattle.clip_front.specs.declared.books.Books.{Books}
-use Rattle.clip_front.specs.declared.refusal.Refusal.TheVariants as reason
-use Rattle.clip_front.specs.declared.refusal.Unread.{Unread}
-use Rattle.clip_front.specs.declared.refusal.Unread.TheVariants as unread
+use Rattle.clip_protocol.specs.declared.refusal.Refusal.TheVariants as reason
+use Rattle.clip_protocol.specs.declared.refusal.Unread.{Unread}
+use Rattle.clip_protocol.specs.declared.refusal.Unread.TheVariants as unread
 
 -- ---- lists of queries
-
--- The listed query is read as this standing one, or its text is no query.
-abbrev pub ReadsListing : Listing → Result (Arc Standing Global) Unread → Type 0
-ReadsListing l (Ok s) = IsReadAs l (arc_value s)
-ReadsListing l (Err (unread.Refused r)) = (r ≡ reason.Query) × ((tree : Tree) → ¬ (IsQuery l.query tree))
-ReadsListing l (Err unread.NoMemory) = ⊤
 
 -- The listed query is taken as this standing one, or it is refused for this reason.
 abbrev pub TakesListing : List (List ℕ) → Listing → Result (Arc Standing Global) Unread → Type 0
@@ -99,3 +94,13 @@ pub record Breaks (old new : Held) (line : List ℕ) : Type 0 where
   pub meaning : Meaning
   pub means : Means (names_in old.hearers) old.history line meaning
   pub heard : HearsFront (alerts_told old.history meaning) old.hearers new.hearers
+
+-- ---- by a server
+
+-- each line is answered by what is held
+abbrev pub AnswersIn : {S : Type 0} → (S → Held) → Answering S
+AnswersIn view s t n line text = Answers (view s) (view t) n line text
+
+-- nothing but a front of the line's alerts was told
+abbrev pub BreaksIn : {S : Type 0} → (S → Held) → Breaking S
+BreaksIn view s t n line = Breaks (view s) (view t) line

@@ -1,12 +1,12 @@
 -- What is given for the alerts that were found for a line.
 use Rattle.std.specs.Prelude.{ℕ, List, map, flat_map}
 use Rattle.clip_model.specs.Alerts.{Alert}
-use Rattle.clip_match.specs.Alerts.{AlertsValue}
+use Rattle.clip_standing.specs.Alerts.{AlertsValue}
 use Rattle.clip_listen.specs.Heard.{Hearer}
 use Rattle.clip_ledger.specs.Rows.{RowValue}
 use Rattle.clip_front.specs.Outcome.{Outcome, rows_of_article}
-use Rattle.clip_front.specs.Reply.{matched, reply_text, texts_said}
-use Rattle.clip_front.specs.Steps.Views.{alerts_ids}
+use Rattle.clip_protocol.specs.Reply.{matched, reply_text, texts_said}
+use Rattle.clip_protocol.specs.Steps.Views.{alerts_ids}
 
 -- the alerts that are found of articles, in order
 abbrev pub told_in : List AlertsValue → List Alert

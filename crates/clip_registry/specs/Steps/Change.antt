@@ -6,10 +6,10 @@ use Rattle.std.specs.declared.sync.Arc.{Arc}
 use Rattle.std.specs.declared.alloc.Global.{Global}
 use Rattle.clip_model.specs.declared.limits.TheConstants.{MOST_LIVE}
 use Rattle.clip_model.specs.History.{Command, Registered, after_command, applied, applied_to, has_room, lists}
-use Rattle.clip_registry.specs.Command.{answer_of}
+use Rattle.clip_standing.specs.Command.{answer_of}
 use Rattle.clip_registry.specs.RegistryState.{RegistryState, segments_after, state_after}
 use Rattle.clip_registry.specs.Steps.Roster.{Roster}
-use Rattle.clip_registry.specs.declared.command.Applied.{Applied}
+use Rattle.clip_standing.specs.declared.command.Applied.{Applied}
 
 -- what a command changes: the segments, each as its list of entries, and the roster
 pub record Content : Type 0 where

@@ -6,7 +6,7 @@ ghost use Rattle.clip_words.specs.Order.{bytes_cmp};
 ghost use Rattle.clip_registry.specs.Steps.Pieces.{AreHalves, ends_below, keyed, rank};
 ghost use Rattle.clip_registry.specs.Steps.Roster.{insert_one};
 
-use clip_segment::Entry;
+use clip_standing::Entry;
 use clip_words::NoMemory;
 use std::alloc::{AllocError, Global};
 use std::cmp::Ordering;
@@ -87,8 +87,10 @@ impl Piece {
 
     /// Where the entry of an id stands, or else would stand.
     fn search(&self, id: &str) -> Result<usize, usize>
-        ensures found { IfOk result (λ place. (place ≡ rank id.now self.now) × (finite.contains_key self.now id.now ≡ true)) }
-        ensures missing { IfErr result (λ place. (place ≡ rank id.now self.now) × (finite.contains_key self.now id.now ≡ false)) }
+        ensures found { IfOk result (λ place. (place ≡ rank id.now self.now)
+            × (finite.contains_key self.now id.now ≡ true)) }
+        ensures missing { IfErr result (λ place. (place ≡ rank id.now self.now)
+            × (finite.contains_key self.now id.now ≡ false)) }
     {
         self.entries.binary_search_by(
             |entry: &Arc<Entry>| -> Ordering

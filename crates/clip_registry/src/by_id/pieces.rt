@@ -7,7 +7,7 @@ ghost use Rattle.clip_registry.specs.Steps.Pieces.{AreInOrder, HasRoomFor, IsPla
 ghost use Rattle.clip_registry.specs.Steps.Roster.{insert_one};
 
 use crate::by_id::piece::{MOST_IN_PIECE, Piece, id_of};
-use clip_segment::Entry;
+use clip_standing::Entry;
 use clip_words::NoMemory;
 use std::alloc::Global;
 use std::sync::Arc;
@@ -31,7 +31,8 @@ pub fn place_of(pieces: &[Arc<Piece>], id: &str) -> Option<usize>
 /// first. `NoMemory` where an allocation failed, with nothing changed.
 fn insert_in(piece: &mut Arc<Piece>, entry: Arc<Entry>) -> Result<Option<Arc<Entry>>, NoMemory>
     ensures inserted { OnOk result (piece.new.value ≡ insert_one piece.old.value entry.value) }
-    ensures replaced { IfOk result (λ old. option_map arc_value old ≡ finite.get piece.old.value entry.value.standing.id) }
+    ensures replaced { IfOk result (λ old. option_map arc_value old
+        ≡ finite.get piece.old.value entry.value.standing.id) }
     ensures unchanged { OnErr result (piece.new.value ≡ piece.old.value) }
 {
     Arc::make_mut(piece)?.insert(entry)
@@ -60,7 +61,8 @@ fn split(
 ) -> Result<usize, NoMemory>
     requires in_order { AreInOrder (map arc_value pieces.old.items) }
     requires place { IsPlaceFor id.now (map arc_value pieces.old.items) place }
-    requires full { (d : Registry) → finite.len (slice_index_or (map arc_value pieces.old.items) place d) ≡ MOST_IN_PIECE }
+    requires full { (d : Registry) → finite.len
+        (slice_index_or (map arc_value pieces.old.items) place d) ≡ MOST_IN_PIECE }
     ensures in_order { AreInOrder (map arc_value pieces.new.items) }
     ensures same { joined (map arc_value pieces.new.items) ≡ joined (map arc_value pieces.old.items) }
     ensures room { IfOk result (HasRoomFor id.now (map arc_value pieces.new.items)) }
@@ -109,9 +111,12 @@ pub fn insert(
 ) -> Result<Option<Arc<Entry>>, NoMemory>
     requires { AreInOrder (map arc_value pieces.old.items) }
     ensures in_order { AreInOrder (map arc_value pieces.new.items) }
-    ensures inserted { OnOk result (map_of (map arc_value pieces.new.items) ≡ insert_one (map_of (map arc_value pieces.old.items)) entry.value) }
-    ensures replaced { IfOk result (λ old. option_map arc_value old ≡ finite.get (map_of (map arc_value pieces.old.items)) entry.value.standing.id) }
-    ensures unchanged { OnErr result (map_of (map arc_value pieces.new.items) ≡ map_of (map arc_value pieces.old.items)) }
+    ensures inserted { OnOk result (map_of (map arc_value pieces.new.items)
+        ≡ insert_one (map_of (map arc_value pieces.old.items)) entry.value) }
+    ensures replaced { IfOk result (λ old. option_map arc_value old
+        ≡ finite.get (map_of (map arc_value pieces.old.items)) entry.value.standing.id) }
+    ensures unchanged { OnErr result (map_of (map arc_value pieces.new.items)
+        ≡ map_of (map arc_value pieces.old.items)) }
 {
     match room_for(alloc, pieces, id_of(&entry))? {
         Some(place) => insert_in(&mut pieces[place], entry),
@@ -127,9 +132,12 @@ pub fn insert(
 pub fn remove(pieces: &mut Vec<Arc<Piece>>, id: &str) -> Result<Option<Arc<Entry>>, NoMemory>
     requires { AreInOrder (map arc_value pieces.old.items) }
     ensures in_order { AreInOrder (map arc_value pieces.new.items) }
-    ensures removed { OnOk result (map_of (map arc_value pieces.new.items) ≡ finite.remove (map_of (map arc_value pieces.old.items)) id.now) }
-    ensures gone { IfOk result (λ gone. option_map arc_value gone ≡ finite.get (map_of (map arc_value pieces.old.items)) id.now) }
-    ensures unchanged { OnErr result (map_of (map arc_value pieces.new.items) ≡ map_of (map arc_value pieces.old.items)) }
+    ensures removed { OnOk result (map_of (map arc_value pieces.new.items)
+        ≡ finite.remove (map_of (map arc_value pieces.old.items)) id.now) }
+    ensures gone { IfOk result (λ gone. option_map arc_value gone
+        ≡ finite.get (map_of (map arc_value pieces.old.items)) id.now) }
+    ensures unchanged { OnErr result (map_of (map arc_value pieces.new.items)
+        ≡ map_of (map arc_value pieces.old.items)) }
 {
     let Some(place) = place_of(pieces, id) else {
         return Ok(None);

@@ -1,7 +1,7 @@
 -- A segment as contracts see it, and what holds of each.
 use Rattle.std.specs.Prelude.{◌≡◌, ◌≤◌, List, map, length}
 use Rattle.std.specs.Arc.{arc_value}
-use Rattle.clip_index.specs.Index.{IsIndexOf}
+use Rattle.clip_segment.specs.Index.{IsIndexOf}
 use Rattle.clip_model.specs.History.{Registered}
 use Rattle.clip_segment.specs.Segment.{IsRising, trees_of, seqs_of}
 use Rattle.clip_segment.specs.declared.segment.TheConstants.{MOST_POSITIONS}

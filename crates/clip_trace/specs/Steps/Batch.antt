@@ -1,6 +1,7 @@
 -- Batches as their fields hold them.
 use Rattle.std.specs.Prelude.{◌≡◌, map, take, length}
-use Rattle.clip_match.specs.Alerts.{alerts_value, alerts_due}
+use Rattle.clip_match.specs.Alerts.{alerts_due}
+use Rattle.clip_standing.specs.Alerts.{alerts_value}
 use Rattle.clip_trace.specs.Schedule.{Batch}
 use Rattle.clip_trace.specs.declared.batch.Batch.TheInside.{Inside}
 

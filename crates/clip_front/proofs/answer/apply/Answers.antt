@@ -1,4 +1,4 @@
-use Rattle.clip_registry.specs.Command.{command_of}
+use Rattle.clip_standing.specs.Command.{command_of}
 use Rattle.clip_front.proofs.Responses.{replies_accepted, replies_full}
 use Rattle.clip_front.proofs.answer.apply.Goals as goal
 

@@ -5,9 +5,9 @@ use Rattle.std.specs.Arc.{arc_value}
 use Rattle.std.specs.List.{list_all}
 use Rattle.std.specs.Vec.Iter.{into_iter_items}
 use Rattle.clip_words.specs.Ids.{is_id}
-use Rattle.clip_front.specs.LineMeaning.{AreTakenAs, FirstRefused}
+use Rattle.clip_protocol.specs.LineMeaning.{AreTakenAs, FirstRefused}
 use Rattle.clip_front.specs.Outcome.{names_in}
-use Rattle.clip_front.specs.Steps.Views.{listing_view}
+use Rattle.clip_protocol.specs.Steps.Views.{listing_view}
 use Rattle.clip_front.proofs.Readings.{second_of, none_left}
 use Rattle.clip_front.proofs.answer.take_all.Goals as goal
 

@@ -4,10 +4,10 @@ use Rattle.std.specs.List.{list_all}
 use Rattle.std.specs.Vec.Iter.{into_iter_items}
 use Rattle.clip_model.specs.Standing.{Standing}
 use Rattle.clip_words.specs.Ids.{is_id}
-use Rattle.clip_front.specs.LineMeaning.{AreTakenAs, FirstRefused}
+use Rattle.clip_protocol.specs.LineMeaning.{AreTakenAs, FirstRefused}
 use Rattle.clip_front.specs.Outcome.{names_in}
-use Rattle.clip_front.specs.Steps.Views.{listing_view}
-use Rattle.clip_front.specs.declared.refusal.Refusal.{Refusal}
+use Rattle.clip_protocol.specs.Steps.Views.{listing_view}
+use Rattle.clip_protocol.specs.declared.refusal.Refusal.{Refusal}
 use Rattle.clip_front.proofs.answer.take_all.Given as goal
 
 -- whatever takes the rest takes all of it, and the first that is refused of the rest is the first of the whole

@@ -1,6 +1,6 @@
 use Rattle.std.proofs.Common.{◌++◌, ◌+◌, map, refl, sym, ap, ◌∙◌}
 use Rattle.std.proofs.lemmas.List.{map-append}
-use Rattle.clip_match.specs.Alerts.{alerts_value}
+use Rattle.clip_standing.specs.Alerts.{alerts_value}
 use Rattle.clip_listen.specs.Heard.{note_value}
 use Rattle.clip_listen.proofs.Hearing.{told_none, element}
 use Rattle.clip_front.proofs.Delivering.{heard_next, notes_next, posted_next, front_here, heard_front, none_posted}

@@ -1,5 +1,5 @@
 use Rattle.std.proofs.Common.{◌≡◌, ◌++◌, map, take}
-use Rattle.clip_match.specs.Alerts.{alerts_value}
+use Rattle.clip_standing.specs.Alerts.{alerts_value}
 use Rattle.clip_listen.specs.Heard.{told_all, notes_of, note_value}
 use Rattle.clip_front.specs.Outcome.{kept_rows}
 use Rattle.clip_front.specs.Steps.Found.{told_in, rows_in}

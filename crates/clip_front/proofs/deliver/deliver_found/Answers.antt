@@ -1,8 +1,8 @@
 use Rattle.std.proofs.Common.{map, ap, ◌∙◌}
 use Rattle.std.proofs.lemmas.Result.{IfOk-weaker}
-use Rattle.clip_match.specs.Alerts.{alerts_value}
-use Rattle.clip_front.specs.Reply.{matched, reply_text}
-use Rattle.clip_front.specs.Steps.Views.{alerts_ids}
+use Rattle.clip_standing.specs.Alerts.{alerts_value}
+use Rattle.clip_protocol.specs.Reply.{matched, reply_text}
+use Rattle.clip_protocol.specs.Steps.Views.{alerts_ids}
 use Rattle.clip_front.proofs.Found.{texts_of_notes}
 use Rattle.clip_front.proofs.deliver.deliver_found.Goals as goal
 

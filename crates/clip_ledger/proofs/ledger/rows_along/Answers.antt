@@ -1,6 +1,6 @@
 use Rattle.std.proofs.Common.{map, option_map, ap, sym, ◌∙◌}
 use Rattle.std.proofs.lemmas.Str.{IsUtf8-nil}
-use Rattle.clip_match.specs.Alerts.{alert_value}
+use Rattle.clip_standing.specs.Alerts.{alert_value}
 use Rattle.clip_listen.specs.Heard.{note_value}
 use Rattle.clip_ledger.specs.Rows.{row_value, row_with, note_for}
 use Rattle.clip_ledger.specs.Steps.Walk.{first_of}

@@ -1,6 +1,6 @@
 use Rattle.std.proofs.Common.{◌≡◌, map, take}
 use Rattle.std.specs.Str.{IsUtf8}
-use Rattle.clip_match.specs.Alerts.{alert_value}
+use Rattle.clip_standing.specs.Alerts.{alert_value}
 use Rattle.clip_listen.specs.Heard.{note_value}
 use Rattle.clip_ledger.specs.Rows.{rows_of, row_value}
 use Rattle.clip_ledger.specs.Steps.Walk.{from_query}

@@ -1,5 +1,5 @@
 use Rattle.std.proofs.Common.{◌≡◌, map, take}
-use Rattle.clip_match.specs.Alerts.{alert_value}
+use Rattle.clip_standing.specs.Alerts.{alert_value}
 use Rattle.clip_listen.specs.Heard.{note_value}
 use Rattle.clip_ledger.specs.Rows.{rows_of, row_value}
 use Rattle.clip_ledger.proofs.ledger.rows_by_search.Given as goal

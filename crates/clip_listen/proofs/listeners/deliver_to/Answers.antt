@@ -1,6 +1,6 @@
 use Rattle.std.proofs.Common.{◌+◌, ◌++◌, [], map, ap, sym, ◌∙◌}
 use Rattle.std.specs.List.{cons_option}
-use Rattle.clip_match.specs.Alerts.{alert_value}
+use Rattle.clip_standing.specs.Alerts.{alert_value}
 use Rattle.clip_listen.specs.Heard.{note_value}
 use Rattle.clip_listen.proofs.Hearing.{told_none, told_next, notes_next, heard_front, refused_front, element}
 use Rattle.clip_listen.proofs.Parts.{on_err}

@@ -1,5 +1,5 @@
 use Rattle.std.proofs.Common.{◌≡◌, map, take}
-use Rattle.clip_match.specs.Alerts.{alert_value}
+use Rattle.clip_standing.specs.Alerts.{alert_value}
 use Rattle.clip_listen.specs.Heard.{told_all, notes_of, note_value}
 use Rattle.clip_listen.proofs.listeners.deliver_to.Given as goal
 

@@ -1,6 +1,6 @@
 use Rattle.std.proofs.Common.{arith}
 use Rattle.std.proofs.lemmas.Result.{IfOk-weaker}
-use Rattle.clip_match.specs.Alerts.{alert_value}
+use Rattle.clip_standing.specs.Alerts.{alert_value}
 use Rattle.clip_listen.proofs.Names.{found-here}
 use Rattle.clip_listen.proofs.Parts.{names_stay, hears_nothing, hears_one, notes_one, on_ok_then, on_err_then}
 use Rattle.clip_listen.proofs.listeners.hear_at.Goals as goal

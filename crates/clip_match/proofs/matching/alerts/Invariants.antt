@@ -1,5 +1,6 @@
 use Rattle.std.proofs.Common.{◌≡◌, map, take}
-use Rattle.clip_match.specs.Alerts.{alert_value, alert_due}
+use Rattle.clip_match.specs.Alerts.{alert_due}
+use Rattle.clip_standing.specs.Alerts.{alert_value}
 use Rattle.clip_match.proofs.matching.alerts.Given as goal
 
 abbrev pub invariant-loop-entry : goal.invariant-loop-entry

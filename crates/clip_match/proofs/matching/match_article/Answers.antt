@@ -2,8 +2,9 @@ use Rattle.std.proofs.Common.{◌≡◌, map, filter, IsPermutation, ap, subst, 
 use Rattle.clip_meaning.specs.Meaning.{holds}
 use Rattle.clip_model.specs.History.{Registered}
 use Rattle.clip_model.specs.Alerts.{alerts}
-use Rattle.clip_presearch.specs.Candidates.{candidates_of}
-use Rattle.clip_match.specs.Alerts.{alert_value, alert_due}
+use Rattle.clip_match.specs.Candidates.{candidates_of}
+use Rattle.clip_match.specs.Alerts.{alert_due}
+use Rattle.clip_standing.specs.Alerts.{alert_value}
 use Rattle.clip_match.proofs.Due.{alerts_are_due}
 use Rattle.clip_match.proofs.matching.match_article.Goals as goal
 

@@ -1,5 +1,6 @@
 use Rattle.std.proofs.Common.{◌≡◌, map, take}
-use Rattle.clip_match.specs.Alerts.{alerts_value, alerts_due}
+use Rattle.clip_match.specs.Alerts.{alerts_due}
+use Rattle.clip_standing.specs.Alerts.{alerts_value}
 use Rattle.clip_match.proofs.matching.match_batch.Given as goal
 
 abbrev pub invariant-loop-article : goal.invariant-loop-article

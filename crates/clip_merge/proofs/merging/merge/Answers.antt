@@ -2,7 +2,7 @@ use Rattle.std.proofs.Common.{◌≡◌, ◌≤◌, map, vec_items, sym, ap, sub
 use Rattle.std.proofs.lemmas.List.{take_all}
 use Rattle.std.proofs.lemmas.Result.{IfOk-weaker}
 use Rattle.std.specs.Arc.{arc_value}
-use Rattle.clip_index.specs.Selecting.{AreFlagsOf, count_set, kept_of}
+use Rattle.clip_segment.specs.Selecting.{AreFlagsOf, count_set, kept_of}
 use Rattle.clip_segment.specs.Segment.{IsRising, all_entries}
 use Rattle.clip_segment.specs.declared.segment.TheConstants.{MOST_POSITIONS}
 use Rattle.clip_merge.specs.Live.{named}

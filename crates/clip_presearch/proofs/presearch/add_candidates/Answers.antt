@@ -5,8 +5,8 @@ use Rattle.std.proofs.lemmas.List.{map-append, append_assoc, take_all, length-ma
 use Rattle.clip_extract.specs.Covering.{article_keys}
 use Rattle.clip_model.specs.History.{Registered, is_live}
 use Rattle.clip_segment.specs.Segment.{positions_sharing}
-use Rattle.clip_presearch.specs.Steps.Places.{placed_with}
-use Rattle.clip_presearch.proofs.Places.{entry_there, live_front, dead_next, live_next, live_places}
+use Rattle.clip_match.specs.Steps.Positions.{placed_with}
+use Rattle.clip_match.proofs.Positions.{entry_there, live_front, dead_next, live_next, live_positions}
 use Rattle.clip_presearch.proofs.presearch.add_candidates.Goals as goal
 
 pub unreachable-requires : goal.unreachable-requires
@@ -56,4 +56,4 @@ returns c =
     let all : length (placed_with ks es) ≤ i = omega (arith, ap length same, c.loop-position-test.false, length-map (placed_with ks es) (λ (e : ℕ × Registered). e.0)) in
     c.loop-position.invariant
     ∙ ap (λ ps. old ++ filter (λ r. is_live h r.seq) (map (λ (e : ℕ × Registered). e.1) ps)) (take_all i (placed_with ks es) all)
-    ∙ ap (λ xs. old ++ xs) (live_places h ks es)
+    ∙ ap (λ xs. old ++ xs) (live_positions h ks es)

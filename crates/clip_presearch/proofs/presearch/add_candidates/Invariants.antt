@@ -1,7 +1,7 @@
 use Rattle.std.proofs.Common.{◌≡◌, ◌++◌, map, filter, take}
 use Rattle.clip_extract.specs.Covering.{article_keys}
 use Rattle.clip_model.specs.History.{is_live}
-use Rattle.clip_presearch.specs.Steps.Places.{placed_with}
+use Rattle.clip_match.specs.Steps.Positions.{placed_with}
 use Rattle.clip_presearch.proofs.presearch.add_candidates.Given as goal
 
 abbrev pub invariant-loop-position : goal.invariant-loop-position

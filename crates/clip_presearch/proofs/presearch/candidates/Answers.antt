@@ -5,10 +5,10 @@ use Rattle.clip_extract.specs.Covering.{article_keys}
 use Rattle.clip_model.specs.History.{Registered}
 use Rattle.clip_segment.specs.Segment.{IsRising}
 use Rattle.clip_segment.specs.Segment.{all_entries}
-use Rattle.clip_presearch.specs.Candidates.{candidates_of, MissesNone, AreRegistered}
-use Rattle.clip_presearch.specs.Steps.Places.{live_with}
-use Rattle.clip_presearch.proofs.Places.{live_split}
-use Rattle.clip_presearch.proofs.Whole.{misses_none, candidates_registered, candidates_rise}
+use Rattle.clip_match.specs.Candidates.{candidates_of, MissesNone, AreRegistered}
+use Rattle.clip_match.specs.Steps.Positions.{live_with}
+use Rattle.clip_match.proofs.Positions.{live_split}
+use Rattle.clip_match.proofs.Whole.{misses_none, candidates_registered, candidates_rise}
 use Rattle.clip_presearch.proofs.presearch.candidates.Goals as goal
 
 pub loop-segment-preserved : goal.loop-segment-preserved

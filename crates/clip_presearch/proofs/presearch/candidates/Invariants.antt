@@ -2,7 +2,7 @@ use Rattle.std.proofs.Common.{◌≡◌, ◌++◌, map, drop}
 use Rattle.std.specs.Arc.{arc_value}
 use Rattle.clip_extract.specs.Covering.{article_keys}
 use Rattle.clip_segment.specs.Segment.{all_entries}
-use Rattle.clip_presearch.specs.Steps.Places.{live_with}
+use Rattle.clip_match.specs.Steps.Positions.{live_with}
 use Rattle.clip_presearch.proofs.presearch.candidates.Given as goal
 
 abbrev pub invariant-loop-segment : goal.invariant-loop-segment

@@ -6,7 +6,7 @@ use Rattle.std.specs.FinMap as finite
 use Rattle.clip_segment.specs.Segment.{IsRising}
 use Rattle.clip_model.specs.declared.limits.TheConstants.{MOST_LIVE}
 use Rattle.clip_model.specs.History.{Register, Registered, register_all, is_live_in}
-use Rattle.clip_registry.specs.declared.command.Applied.TheVariants as applied
+use Rattle.clip_standing.specs.declared.command.Applied.TheVariants as applied
 use Rattle.clip_registry.specs.Steps.Change.{content, IsChanged}
 use Rattle.clip_registry.specs.RegistryState.{numbered}
 use Rattle.clip_registry.proofs.Entered.{filter_fewer, segments_register, nothing_registered}

@@ -1,6 +1,6 @@
 use Rattle.std.proofs.Common.{map, take}
 use Rattle.std.specs.Arc.{arc_value}
-use Rattle.clip_index.specs.Selecting.{AreIndexesOf}
+use Rattle.clip_segment.specs.Selecting.{AreIndexesOf}
 use Rattle.clip_segment.specs.Segment.{trees_of}
 use Rattle.clip_segment.proofs.selecting.indexes_of.Given as goal
 

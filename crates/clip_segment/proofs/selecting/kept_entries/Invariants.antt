@@ -1,6 +1,6 @@
 use Rattle.std.proofs.Common.{◌≡◌, ◌++◌, length, map, vec_items}
 use Rattle.std.specs.Arc.{arc_value}
-use Rattle.clip_index.specs.Selecting.{kept_of}
+use Rattle.clip_segment.specs.Selecting.{kept_of}
 use Rattle.clip_segment.proofs.selecting.kept_entries.Given as goal
 
 abbrev pub invariant-loop-segment : goal.invariant-loop-segment

@@ -1,8 +1,8 @@
 use Rattle.std.proofs.Common.{map, vec_items, sym, subst, Bor}
 use Rattle.std.proofs.lemmas.Result.{IfOk-weaker}
 use Rattle.std.specs.Arc.{arc_value}
-use Rattle.clip_index.specs.Index.{IndexValue, IsIndexOf}
-use Rattle.clip_index.specs.Selecting.{AreIndexesOf, kept_of}
+use Rattle.clip_segment.specs.Index.{IndexValue, IsIndexOf}
+use Rattle.clip_segment.specs.Selecting.{AreIndexesOf, kept_of}
 use Rattle.clip_segment.specs.Segment.{trees_of}
 use Rattle.clip_segment.proofs.Selected.{kept_trees, flags_of_trees}
 use Rattle.clip_segment.proofs.selecting.kept_index.Goals as goal

@@ -1,5 +1,5 @@
 use Rattle.std.proofs.Common.{sym, ◌∙◌, ap}
-use Rattle.clip_registry.specs.Command.{entry_of}
+use Rattle.clip_standing.specs.Command.{entry_of}
 use Rattle.clip_chronicle.proofs.Adding.{adds_moves}
 use Rattle.clip_chronicle.proofs.chronicle.Front.add.Goals as goal
 

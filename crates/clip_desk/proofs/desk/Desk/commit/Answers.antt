@@ -1,7 +1,7 @@
 use Rattle.std.proofs.Common.{rules, ◌≡◌}
 use Rattle.clip_model.specs.History.{applied, with_command}
 use Rattle.clip_model.specs.History as model
-use Rattle.clip_registry.specs.Command.{command_of, answer_of}
+use Rattle.clip_standing.specs.Command.{command_of, answer_of}
 use Rattle.clip_desk.specs.Seats.{ReceiptIs}
 use Rattle.clip_desk.proofs.Commits.{both_ok}
 use Rattle.clip_desk.proofs.desk.Desk.commit.Goals as goal

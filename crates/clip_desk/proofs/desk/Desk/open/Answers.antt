@@ -1,7 +1,7 @@
 use Rattle.std.proofs.Common.{◌∙◌, ℕ, List, ap, sym, subst}
 use Rattle.clip_model.specs.History.{History}
-use Rattle.clip_listen.specs.Updates.{Event, AllFollow, heard_at}
-use Rattle.clip_listen.proofs.Following.{all_follow_first}
+use Rattle.clip_desk.specs.Updates.{Event, AllFollow, heard_at}
+use Rattle.clip_desk.proofs.Following.{all_follow_first}
 use Rattle.clip_desk.proofs.Seating.{seated_of}
 use Rattle.clip_desk.proofs.desk.Desk.open.Goals as goal
 

@@ -1,9 +1,9 @@
 use Rattle.std.proofs.Common.{◌≡◌, ◌<◌, ◌≤◌, ◌∙◌, ℕ, [], ◌∷◌, ◌++◌, ap, sym, refl, subst, arith, rules}
 use Rattle.clip_model.specs.History.{History, next_entry, own, with_command, IsLegal}
-use Rattle.clip_registry.specs.Command.{command_of}
+use Rattle.clip_standing.specs.Command.{command_of}
 use Rattle.clip_chronicle.specs.Callers.{IsBy}
-use Rattle.clip_listen.specs.Updates.{AllFollow}
-use Rattle.clip_listen.proofs.Following.{all_follow_entry}
+use Rattle.clip_desk.specs.Updates.{AllFollow}
+use Rattle.clip_desk.proofs.Following.{all_follow_entry}
 use Rattle.clip_desk.proofs.Commits.{followed, own_grown, mine_grown, own_fits, seen_grown, by_grown}
 use Rattle.clip_desk.proofs.locked.Locked.commit.Goals as goal
 

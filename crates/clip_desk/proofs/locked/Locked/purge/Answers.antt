@@ -1,5 +1,5 @@
 use Rattle.std.proofs.Common.{rules}
-use Rattle.clip_listen.proofs.Following.{all_follow_purge}
+use Rattle.clip_desk.proofs.Following.{all_follow_purge}
 use Rattle.clip_desk.proofs.locked.Locked.purge.Goals as goal
 
 pub invariant_of-self : goal.invariant_of-self

@@ -1,6 +1,6 @@
 use Rattle.std.proofs.Common.{sym, refl, ap, option_map, arith}
 use Rattle.std.proofs.lemmas.Grind.{common_steps}
-use Rattle.clip_match.specs.Alerts.{alert_value}
+use Rattle.clip_standing.specs.Alerts.{alert_value}
 use Rattle.clip_listen.proofs.Hearing.{unnamed}
 use Rattle.std.specs.Arc.{arc_str_bytes}
 use Rattle.clip_listen.proofs.Parts.{not_here}

@@ -2,7 +2,7 @@ use Rattle.std.proofs.Common.{◌≡◌, ◌∙◌, List, sym, subst, ap}
 use Rattle.std.specs.FinMap as finite
 use Rattle.clip_model.specs.History.{Registry}
 use Rattle.clip_registry.specs.Steps.Pieces.{AreInOrder, map_of}
-use Rattle.clip_registry.proofs.Clones.{map_shared}
+use Rattle.clip_standing.proofs.Clones.{map_shared}
 use Rattle.clip_registry.proofs.by_id.ByIdClone.clone.Goals as goal
 
 pub invariant_of-result : goal.invariant_of-result

@@ -7,7 +7,7 @@ use Rattle.clip_segment.specs.declared.segment.TheConstants.{MOST_POSITIONS}
 use Rattle.clip_merge.specs.Live.{AreRising, named}
 use Rattle.clip_model.specs.History.{Registered, is_live_in}
 use Rattle.clip_registry.specs.Steps.Roster.{live_in}
-use Rattle.clip_registry.proofs.Clones.{map_shared}
+use Rattle.clip_standing.proofs.Clones.{map_shared}
 use Rattle.clip_registry.proofs.Naming.{seqs_more, seqs_rise, named_picked}
 use Rattle.clip_registry.proofs.Rising.{rising_filter}
 use Rattle.clip_registry.proofs.merging.MergeJob.over.Goals as goal

@@ -4,7 +4,7 @@ use Rattle.clip_merge.specs.Live.{named}
 use Rattle.clip_segment.specs.Segment.{IsRising, all_entries}
 use Rattle.clip_model.specs.History.{Registered}
 use Rattle.clip_registry.specs.Merging.{merge_of}
-use Rattle.clip_registry.proofs.Clones.{map_shared}
+use Rattle.clip_standing.proofs.Clones.{map_shared}
 use Rattle.clip_registry.proofs.merging.MergeJob.run.Goals as goal
 
 sources : (c : goal.In_ok-clone-2) → map arc_value c.in_ok-clone.field-0.items ≡ map arc_value c.self.inside.sources.items

@@ -7,7 +7,7 @@ use Rattle.std.specs.declared.alloc.Global.{Global}
 use Rattle.std.specs.declared.sync.Arc.{Arc}
 use Rattle.clip_model.specs.History.{Registered}
 use Rattle.clip_registry.specs.Merging.{Merge, shelf}
-use Rattle.clip_registry.proofs.Clones.{map_shared}
+use Rattle.clip_standing.proofs.Clones.{map_shared}
 use Rattle.clip_registry.proofs.merging.Merged.put_in.Goals as goal
 use Rattle.clip_registry.proofs.merging.Merged.put_in.Goals.{then-not-is_empty+in_ok-push, else-not-is_empty}
 

@@ -6,7 +6,7 @@ use Rattle.clip_model.specs.declared.limits.TheConstants.{MOST_ENTRIES, MOST_LIV
 use Rattle.clip_model.specs.History as model
 use Rattle.clip_model.specs.History.{History, own, next_entry, with_command}
 use Rattle.clip_model.proofs.Counting.{listed_bound, own_length}
-use Rattle.clip_registry.specs.Command.{command_of, entry_of}
+use Rattle.clip_standing.specs.Command.{command_of, entry_of}
 use Rattle.clip_registry.specs.Steps.Change.{content, IsAccepted}
 use Rattle.clip_registry.specs.Steps.State.{state_of}
 use Rattle.clip_registry.specs.RegistryState.{RegistryState}

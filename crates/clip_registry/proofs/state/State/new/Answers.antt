@@ -2,7 +2,7 @@ use Rattle.std.proofs.Common.{◌≡◌, ℕ, sym, ap, subst, ◌∙◌, map, Li
 use Rattle.std.proofs.lemmas.List.{get_or-replicate, length-replicate}
 use Rattle.std.specs.Arc.{arc_value}
 use Rattle.clip_model.specs.declared.limits.TheConstants.{MOST_CALLERS}
-use Rattle.clip_registry.specs.Command.{entry_of}
+use Rattle.clip_standing.specs.Command.{entry_of}
 use Rattle.clip_registry.specs.Steps.State.{IsConsistent}
 use Rattle.clip_registry.specs.Steps.Roster.{Roster}
 use Rattle.clip_registry.specs.RegistryState.{beginning}

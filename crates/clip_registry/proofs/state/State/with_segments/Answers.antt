@@ -2,7 +2,7 @@ use Rattle.std.proofs.Common.{◌≡◌, ℕ, subst, sym, map}
 use Rattle.std.proofs.lemmas.List.Elements.{same_from_all_zip}
 use Rattle.std.specs.Arc.{arc_value}
 use Rattle.clip_registry.specs.RegistryState.{RegistryState}
-use Rattle.clip_registry.specs.Command.{entry_of}
+use Rattle.clip_standing.specs.Command.{entry_of}
 use Rattle.clip_registry.specs.Steps.Merging.{AreKept}
 use Rattle.clip_registry.specs.Steps.Roster.{Roster}
 use Rattle.clip_registry.specs.Steps.State.{IsConsistent, state_of}

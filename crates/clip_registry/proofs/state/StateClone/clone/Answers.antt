@@ -1,10 +1,10 @@
 use Rattle.std.proofs.Common.{◌≡◌, ℕ, sym, subst, ◌∙◌, map}
 use Rattle.std.proofs.lemmas.List.Elements.{same_from_all_zip}
 use Rattle.std.specs.Arc.{arc_value}
-use Rattle.clip_registry.specs.Command.{entry_of}
+use Rattle.clip_standing.specs.Command.{entry_of}
 use Rattle.clip_registry.specs.Steps.State.{IsConsistent, state_of}
 use Rattle.clip_registry.specs.Steps.Roster.{Roster}
-use Rattle.clip_registry.proofs.Clones.{map_shared}
+use Rattle.clip_standing.proofs.Clones.{map_shared}
 use Rattle.clip_registry.proofs.state.StateClone.clone.Goals as goal
 
 same_state : (c : goal.In_ok-clone-4) → record { segments = map arc_value c.in_ok-clone.field-0.items; history = map entry_of c.in_ok-clone-2.field-0 } ≡ state_of c.self.inside

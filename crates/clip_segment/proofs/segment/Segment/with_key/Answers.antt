@@ -4,13 +4,13 @@ use Rattle.clip_extract.specs.Keys.{key_of}
 use Rattle.clip_segment.specs.Segment.{positions_with}
 use Rattle.clip_segment.specs.Steps.SegmentView.{entries_of}
 use Rattle.clip_segment.proofs.Holding.{positions_within, positions_rise}
-use Rattle.clip_segment.proofs.Places.{places_are_positions}
+use Rattle.clip_segment.proofs.EntryPositions.{positions_of_key}
 use Rattle.clip_segment.proofs.segment.Segment.with_key.Goals as goal
 
 pub returns-clause-holders : goal.returns-clause-holders
 returns-clause-holders c =
     c.with_key.ensures _ c.self.invariant.index
-    ∙ places_are_positions (key_of c.args.key.now) (entries_of c.self.inside)
+    ∙ positions_of_key (key_of c.args.key.now) (entries_of c.self.inside)
     ∙ ap (positions_with (key_of c.args.key.now)) c.self.view_is
 
 pub returns-clause-within : goal.returns-clause-within

@@ -1,6 +1,7 @@
 use Rattle.std.proofs.Common.{sym, ap, ◌∙◌, map, take}
 use Rattle.std.proofs.lemmas.Simd.{map-map}
-use Rattle.clip_match.specs.Alerts.{alerts_value, alerts_due}
+use Rattle.clip_match.specs.Alerts.{alerts_due}
+use Rattle.clip_standing.specs.Alerts.{alerts_value}
 use Rattle.clip_trace.specs.Event.{found_of, found_after}
 use Rattle.clip_trace.specs.Schedule.{Batch}
 use Rattle.clip_trace.proofs.batch.Batch.into_found.Goals as goal

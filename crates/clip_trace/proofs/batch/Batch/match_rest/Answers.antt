@@ -1,6 +1,7 @@
 use Rattle.std.proofs.Common.{◌≡◌, List, sym, ap, subst, ◌∙◌, map, take, drop, length}
-use Rattle.clip_match.specs.Alerts.{alerts_value, alerts_due}
-use Rattle.clip_match.specs.declared.alert.Alerts.{Alerts}
+use Rattle.clip_match.specs.Alerts.{alerts_due}
+use Rattle.clip_standing.specs.Alerts.{alerts_value}
+use Rattle.clip_standing.specs.declared.alert.Alerts.{Alerts}
 use Rattle.clip_trace.proofs.Found.{from_place, with_rest}
 use Rattle.clip_trace.proofs.batch.Batch.match_rest.Goals as goal
 

@@ -2,7 +2,7 @@ use Rattle.std.proofs.Common.{◌≡◌, ◌==◌, not, eqb, is_some, refl, sym,
 use Rattle.std.specs.List.{IsDistinct, filter, remove}
 use Rattle.std.proofs.Math.Nat.{le_refl}
 use Rattle.std.proofs.lemmas.List.{take_all}
-use Rattle.clip_match.specs.Alerts.{alerts_value}
+use Rattle.clip_standing.specs.Alerts.{alerts_value}
 use Rattle.clip_trace.specs.Event as event
 use Rattle.clip_trace.specs.Event.{found_of, found_after}
 use Rattle.clip_trace.specs.Schedule.{Batch, Stand, IsDueTo, with_matched}

@@ -1,0 +1,2 @@
+-- Walks over update listeners; no public clause cites it.
+pub mod Telling

@@ -1,8 +1,0 @@
--- Answered here, so that a wrong body is refused at once.
-use Rattle.std.proofs.Common.{ap, ◌∙◌}
-use Rattle.clip_front.proofs.registry.RegistrarRegistry.accept.Goals as goal
-
-pub returns-in-Ok : goal.returns-in-Ok
-returns-in-Ok c =
-    let e = c.in-Ok.ensures in
-    record { judged = (e.room, c.merge_turn.ensures.history ∙ ap (λ s. s.history) e.accepted, e.answer) }

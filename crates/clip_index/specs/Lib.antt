@@ -1,3 +1,0 @@
-pub mod Index
-pub mod Selecting
-pub mod Steps

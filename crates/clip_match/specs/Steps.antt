@@ -1,0 +1,2 @@
+-- Stepping stones of the proofs.
+pub mod Positions

@@ -1,0 +1,26 @@
+-- The entries of a segment that share a key.
+use Rattle.std.specs.Prelude.{ℕ, Bool, false, ◌&&◌, List, filter, flat_map, option_map, option_to_list, unwrap_or}
+use Rattle.std.specs.List.{enumerate_from, slice_get}
+use Rattle.clip_model.specs.History.{History, Registered, is_live}
+use Rattle.clip_extract.specs.Keys.{KeyValue, share}
+use Rattle.clip_extract.specs.Extraction.{query_keys}
+
+-- the entry's query has one of the keys
+abbrev pub has_one : List KeyValue → Registered → Bool
+has_one keys r = share (query_keys r.standing.tree) keys
+
+-- the entries that have one of the keys, each with its position
+abbrev pub placed_with : List KeyValue → List Registered → List (ℕ × Registered)
+placed_with keys entries = filter (λ e. has_one keys e.1) (enumerate_from 0 entries)
+
+-- of a segment's entries, those that are live and have one of the keys
+abbrev pub live_with : History → List KeyValue → List Registered → List Registered
+live_with history keys entries = filter (λ r. is_live history r.seq && has_one keys r) entries
+
+-- the entries at these positions
+abbrev pub entries_at : List Registered → List ℕ → List Registered
+entries_at entries positions = flat_map (λ p. option_to_list (slice_get entries p)) positions
+
+-- those of the positions at which a live entry stands
+abbrev pub live_among : History → List Registered → List ℕ → List ℕ
+live_among history entries positions = filter (λ p. unwrap_or (option_map (λ r. is_live history r.seq) (slice_get entries p)) false) positions

@@ -1,9 +1,0 @@
-use Rattle.std.proofs.Common.{◌≡◌, filter, take}
-use Rattle.clip_meaning.specs.Meaning.{holds}
-use Rattle.clip_presearch.specs.Steps.Places.{entries_at}
-use Rattle.clip_presearch.proofs.trying.keep_possible.Given as goal
-
-abbrev pub invariant-loop-position : goal.invariant-loop-position
-invariant-loop-position l =
-    filter (λ r. holds r.standing.tree l.reading.article.fields) (entries_at l.reading.entries l.possible.items)
-    ≡ filter (λ r. holds r.standing.tree l.reading.article.fields) (entries_at l.reading.entries (take l.position-index l.positions))

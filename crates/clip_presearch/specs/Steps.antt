@@ -1,2 +1,0 @@
--- Stepping stones of the proofs.
-pub mod Places

@@ -1,0 +1,9 @@
+//! The program but for its `main`: it does what its words ask for over the standard streams, and ends with a status.
+#![tactic(auto)]
+
+mod ending;
+mod playing;
+mod streams;
+mod words;
+
+pub use playing::play;

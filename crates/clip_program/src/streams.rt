@@ -1,0 +1,52 @@
+//! Runs and traces over the standard streams.
+ghost use Rattle.std.specs.Prelude.{◌≤◌};
+
+use clip_command_line::{feed, mail, named};
+use clip_front::{Ended, Settings};
+use clip_listen::Listeners;
+use clip_match::OpenGate;
+use clip_run::run;
+use clip_stream::{MOST_WORKERS, RunFault, StdSink, StdSource};
+use clip_trace_lines::run_trace;
+use std::io;
+use std::sync::Wait;
+use std::thread::Threads;
+
+/// Runs over the standard streams, with so many workers and the program's listeners. No rows are kept.
+///
+/// The faults and the cost are those of `run`, and `NoMemory` where the listeners get none.
+pub fn run_heard<R: Input + Print + Threads + Wait + Sync + AllocGlobal>(
+    rt: &R,
+    workers: u32,
+) -> Result<Ended, RunFault>
+    requires { workers ≤ MOST_WORKERS }
+{
+    let alloc = rt.alloc();
+    let mail = Box::new(alloc, mail(alloc)?)?;
+    let feed = Box::new(alloc, feed(alloc)?)?;
+    let Ok(mut listeners) = Listeners::new(named(alloc, mail, feed)?) else {
+        unreachable!()
+    };
+    let mut source = StdSource::new(rt.reader());
+    let mut sink = StdSink::new(io::writer(rt));
+    let settings = Settings {
+        keeps_rows: false,
+        workers,
+    };
+    run(
+        rt,
+        alloc,
+        &mut source,
+        &mut sink,
+        &mut listeners,
+        settings,
+        &OpenGate,
+    )
+}
+
+/// Plays a trace over the standard streams. The faults and the cost are those of `run_trace`.
+pub fn run_traced<R: Input + Print + AllocGlobal>(rt: &R) -> Result<Ended, RunFault> {
+    let mut source = StdSource::new(rt.reader());
+    let mut sink = StdSink::new(io::writer(rt));
+    run_trace(rt.alloc(), &mut source, &mut sink)
+}

@@ -1,0 +1,4 @@
+pub mod Floats
+pub mod Meanings
+pub mod ObjectMembers
+pub mod RequestLaw

@@ -1,0 +1,5 @@
+pub mod LineMeaning
+pub mod Refusal
+pub mod Reply
+pub mod Request
+pub mod Steps

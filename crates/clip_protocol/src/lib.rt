@@ -1,0 +1,18 @@
+//! The protocol: what a JSON line asks for, what it means after a history, and the text of its reply.
+#![tactic(auto)]
+
+mod line;
+mod listing;
+mod members;
+mod refusal;
+mod reply;
+mod request;
+
+pub use line::{Line, articles_of, have_ids, is_blank, json_of};
+pub use listing::{ListFault, read_listing};
+pub use members::{
+    has_members, items_of, members_of, take_member, three_members, two_members, two_of,
+};
+pub use refusal::{Refusal, UNSHAPED, Unread};
+pub use reply::{Reply, accepted};
+pub use request::{Draft, Listing, Request, drafts_of, listings_of, texts_of};

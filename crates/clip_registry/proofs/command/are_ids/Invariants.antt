@@ -1,7 +1,0 @@
-use Rattle.std.proofs.Common.{◌≡◌, true, map, take, string_bytes}
-use Rattle.std.specs.List.{list_all}
-use Rattle.clip_words.specs.Ids.{is_id}
-use Rattle.clip_registry.proofs.command.are_ids.Given as goal
-
-abbrev pub invariant-loop-id : goal.invariant-loop-id
-invariant-loop-id l = list_all is_id (map string_bytes (take l.id-index l.ids)) ≡ true

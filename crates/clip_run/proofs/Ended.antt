@@ -1,0 +1,88 @@
+-- What a run leaves at its end, and after a fault.
+use Rattle.std.proofs.Common.{◌≡◌, ℕ, List, [], ◌++◌, length, Bool, Option, Some, None, refl, sym, ap, subst, ◌∙◌, arith, append-nil}
+use Rattle.std.specs.Prelude.{IfSome, Result, Ok, Err, IfOk, OnOk, OnErr}
+use Rattle.core.specs.Result.{IsErrAnd}
+use Rattle.std.specs.Io.KnownBytes.{Appends}
+use Rattle.clip_stream.specs.Lines.{lines_of}
+use Rattle.clip_stream.specs.declared.fault.RunFault.{RunFault}
+use Rattle.clip_stream.specs.declared.fault.RunFault.TheVariants as fault
+use Rattle.clip_listen.specs.Heard.{Hearer}
+use Rattle.clip_listen.proofs.Hearing.{no_front}
+use Rattle.clip_ledger.specs.Rows.{RowValue}
+use Rattle.clip_front.specs.Outcome.{nothing_given, GivesAll, GivesFront}
+use Rattle.clip_front.specs.Steps.Serving.{ServesAll, ServesFront}
+use Rattle.clip_run.specs.Crews.{CrewIs, course_at}
+use Rattle.clip_run.specs.Owed.{TurnsIn, BreaksIn}
+use Rattle.clip_run.specs.Ran.{Told, Ran}
+use Rattle.clip_run.proofs.Headline.{run_gives, run_gives_front}
+use Rattle.clip_run.proofs.Owing.{on_err_more}
+
+module _ {A : Type 0} (hearers : A → List Hearer) (c d : CrewIs) (a b : A) (input taken_old taken : Option (List ℕ)) (result : Result ℕ RunFault) (start : c.history ≡ []) (none_owed : c.owed ≡ []) where
+  pub ended_err : OnErr result (IfSome input (ServesFront (TurnsIn (course_at hearers)) (BreaksIn (course_at hearers)) (c, a) (d, b) taken_old taken)) → OnErr result (IfSome input (GivesFront (hearers a) (hearers b) taken_old taken))
+  ended_err front = on_err_more result front (run_gives_front (course_at hearers) (c, a) (d, b) input taken_old taken start none_owed)
+
+pub ended_ok : {A : Type 0} (hearers : A → List Hearer) (c d : CrewIs) (rows : List RowValue) (a b : A) (input taken_old taken : Option (List ℕ)) (result : Result ℕ RunFault) → c.history ≡ [] → c.rows ≡ [] → c.owed ≡ [] → rows ≡ d.rows → OnOk result (d.owed ≡ [])
+    → OnOk result (IfSome input (ServesAll (TurnsIn (course_at hearers)) (c, a) (d, b) taken_old taken)) → IfOk result (λ n. IfSome input (GivesAll (hearers a) (hearers b) c.keeps taken_old taken rows))
+ended_ok hearers c d rows a b input taken_old taken (Ok n) start no_rows none_owed same settled served =
+    subst (λ rs. IfSome input (GivesAll (hearers a) (hearers b) c.keeps taken_old taken rs)) (sym same) (run_gives (course_at hearers) (c, a) (d, b) c.keeps input taken_old taken start no_rows refl none_owed settled served)
+ended_ok hearers c d rows a b input taken_old taken (Err e) start no_rows none_owed same settled served = tt
+
+-- ---- a run that was refused memory before it began
+
+appends_none : (old : Option (List ℕ)) → Appends old old []
+appends_none None = tt
+appends_none (Some xs) = sym (append-nil xs)
+
+pub gives_none : (hearers : List Hearer) (input taken : Option (List ℕ)) → IfSome input (GivesFront hearers hearers taken taken)
+gives_none hearers None taken = tt
+gives_none hearers (Some input) taken =
+    record { lines = []; later = lines_of input; outcome = nothing_given; cut = refl; gives = refl; replies = (0, appends_none taken); told = no_front [] hearers }
+
+ran_refused : {T : Type 0} (lines : T → ℕ) (rows : T → List RowValue) (keeps : Bool) (told : Told) → told.reads ≡ 0 → Ran lines rows keeps told told (Err fault.NoMemory)
+ran_refused lines rows keeps told unread = record {
+  outcome = tt;
+  flushed = tt;
+  counted = tt;
+  ok = tt;
+  read = λ e. absurd (cc e);
+  write = λ e. absurd (cc e);
+  reads = omega (arith, unread);
+  front = gives_none told.hearers told.left told.taken;
+}
+
+pub ran_none : {T : Type 0} (lines : T → ℕ) (rows : T → List RowValue) (keeps : Bool) (told : Told) (result : Result T RunFault) → result ≡ Err fault.NoMemory → told.reads ≡ 0 → Ran lines rows keeps told told result
+ran_none lines rows keeps told result is unread = subst (Ran lines rows keeps told told) (sym is) (ran_refused lines rows keeps told unread)
+
+-- ---- what a run gives, by what its lines gave
+
+pub ran_ended : {T : Type 0} (lines : T → ℕ) (rows : T → List RowValue) (t : T) (n : ℕ) (given : List RowValue) (keeps : Bool) (old new : Told) → Ran (λ n. n) (λ n. given) keeps old new (Ok n) → n ≡ lines t → given ≡ rows t → Ran lines rows keeps old new (Ok t)
+ran_ended lines rows t n given keeps old new ran counted kept = record {
+  outcome = subst (λ rs. IfSome old.left (GivesAll old.hearers new.hearers keeps old.taken new.taken rs)) kept ran.outcome;
+  flushed = ran.flushed;
+  counted = subst (λ k. IfSome old.left (λ input. k ≡ length (lines_of input))) counted ran.counted;
+  ok = ran.ok;
+  read = λ e. absurd (cc e);
+  write = λ e. absurd (cc e);
+  reads = ran.reads;
+  front = tt;
+}
+
+failed_as : {T : Type 0} (lines : T → ℕ) (rows : T → List RowValue) (given : List RowValue) (keeps : Bool) (old new : Told) (e : RunFault) → Ran (λ n. n) (λ n. given) keeps old new (Err e) → Ran lines rows keeps old new (Err e)
+failed_as lines rows given keeps old new e ran = record {
+  outcome = tt;
+  flushed = tt;
+  counted = tt;
+  ok = tt;
+  read = λ is. ran.read (cc is);
+  write = λ is. ran.write (cc is);
+  reads = ran.reads;
+  front = ran.front;
+}
+
+pub ran_failed : {T : Type 0} (lines : T → ℕ) (rows : T → List RowValue) (given : List RowValue) (keeps : Bool) (old new : Told) (e : RunFault) (result : Result T RunFault) → result ≡ Err e → Ran (λ n. n) (λ n. given) keeps old new (Err e) → Ran lines rows keeps old new result
+ran_failed lines rows given keeps old new e result is ran = subst (Ran lines rows keeps old new) (sym is) (failed_as lines rows given keeps old new e ran)
+
+-- the fault of a conversion that gives just this one
+pub refused_is : {T : Type 0} (result : Result T RunFault) → IsErrAnd result (λ e. e ≡ fault.NoMemory) → result ≡ Err fault.NoMemory
+refused_is (Ok t) e = absurd e
+refused_is (Err f) e = ap Err e

@@ -1,0 +1,52 @@
+-- What was found of a line's articles is all that the line gives.
+use Rattle.std.proofs.Common.{◌≡◌, ℕ, List, [], ◌∷◌, ◌++◌, map, refl, ap, ap₂, ◌∙◌}
+use Rattle.std.specs.Prelude.{flat_map}
+use Rattle.clip_meaning.specs.Article.{ArticleValue}
+use Rattle.clip_model.specs.Alerts.{alerts}
+use Rattle.clip_match.specs.Alerts.{alerts_due}
+use Rattle.clip_standing.specs.Alerts.{AlertsValue}
+use Rattle.clip_listen.specs.Heard.{Hearer, told_all}
+use Rattle.clip_registry.specs.RegistryState.{RegistryState}
+use Rattle.clip_protocol.specs.LineMeaning.{matching}
+use Rattle.clip_protocol.specs.Reply.{alerts_shown, alerts_of_all, matched, reply_text, texts_said}
+use Rattle.clip_protocol.specs.Steps.Views.{alerts_ids}
+use Rattle.clip_front.specs.declared.books.Books.{Books}
+use Rattle.clip_front.specs.Outcome.{given, kept_rows, rows_of_article}
+use Rattle.clip_front.specs.Steps.Answers.{GoesOn, held}
+use Rattle.clip_front.specs.Steps.Found.{told_in, rows_in, found_text, found_outcome}
+use Rattle.clip_front.proofs.Responses.{held_by}
+
+shown-alerts_due : (s : RegistryState) (articles : List ArticleValue) → map alerts_ids (map (alerts_due s) articles) ≡ map (alerts_shown s.history) articles
+shown-alerts_due s [] = refl
+shown-alerts_due s (a ∷ articles) = ap (λ rest. alerts_shown s.history a ∷ rest) (shown-alerts_due s articles)
+
+pub told-alerts_due : (s : RegistryState) (articles : List ArticleValue) → told_in (map (alerts_due s) articles) ≡ alerts_of_all s.history articles
+told-alerts_due s [] = refl
+told-alerts_due s (a ∷ articles) = ap (λ rest. alerts s.history a ++ rest) (told-alerts_due s articles)
+
+rows-alerts_due : (hearers : List Hearer) (n : ℕ) (s : RegistryState) (articles : List ArticleValue) → rows_in hearers n (map (alerts_due s) articles) ≡ flat_map (λ a. rows_of_article hearers n (alerts s.history a)) articles
+rows-alerts_due hearers n s [] = refl
+rows-alerts_due hearers n s (a ∷ articles) = ap (λ rest. rows_of_article hearers n (alerts s.history a) ++ rest) (rows-alerts_due hearers n s articles)
+
+-- the text of what is due, with the texts of the notes
+text-alerts_due : (hearers : List Hearer) (n : ℕ) (s : RegistryState) (articles : List ArticleValue) → found_text hearers n (map (alerts_due s) articles) ≡ (given hearers n s.history (matching articles)).text
+text-alerts_due hearers n s articles = ap₂ (λ ids told. reply_text n (matched ids (texts_said hearers told))) (shown-alerts_due s articles) (told-alerts_due s articles)
+
+-- a line that matches articles gives just what is found of them at a view with its history
+pub found_given : (view : RegistryState) (hearers : List Hearer) (n : ℕ) (articles : List ArticleValue) (found : List AlertsValue) → found ≡ map (alerts_due view) articles → found_outcome hearers n found ≡ given hearers n view.history (matching articles)
+found_given view hearers n articles found is =
+    ap (found_outcome hearers n) is
+    ∙ ap₂ (λ text rows. record { text = text; alerts = told_in (map (alerts_due view) articles); rows = rows }) (text-alerts_due hearers n view articles) (rows-alerts_due hearers n view articles)
+    ∙ ap (λ told. record { text = (given hearers n view.history (matching articles)).text; alerts = told; rows = (given hearers n view.history (matching articles)).rows }) (told-alerts_due view articles)
+
+pub goes_on_matched : (view : RegistryState) (hearers heard : List Hearer) (books new_books : Books) (n : ℕ) (articles : List ArticleValue) (found : List AlertsValue) (text : List ℕ) → found ≡ map (alerts_due view) articles → text ≡ found_text hearers n found
+    → heard ≡ told_all (told_in found) hearers → new_books.ledger ≡ books.ledger ++ kept_rows books.keeps_rows (rows_in hearers n found) → new_books.keeps_rows ≡ books.keeps_rows
+    → GoesOn (held view.history hearers books) (held view.history heard new_books) n (matching articles) text
+goes_on_matched view hearers heard books new_books n articles found text is printed told rows keeps =
+    let gives : found_outcome hearers n found ≡ given hearers n view.history (matching articles) = found_given view hearers n articles found is in
+    record {
+      leaves =
+          ap (λ k. held_by k view.history heard new_books.ledger) keeps
+          ∙ ap₂ (held_by books.keeps_rows view.history) (told ∙ ap (λ o. told_all o.alerts hearers) gives) (rows ∙ ap (λ o. books.ledger ++ kept_rows books.keeps_rows o.rows) gives);
+      replies = printed ∙ ap (λ o. o.text) gives;
+    }

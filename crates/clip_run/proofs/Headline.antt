@@ -1,0 +1,201 @@
+-- What a run gives that may owe answers meanwhile: just what its lines give.
+use Rattle.std.proofs.Common.{◌≡◌, ℕ, suc, List, [], ◌∷◌, ◌++◌, length, take, drop, Bool, false, Option, Some, None, refl, sym, ap, ap₂, ◌∙◌, subst, append_assoc, append-nil, inl, inr, if◌then◌else◌}
+use Rattle.std.specs.Prelude.{IfSome}
+use Rattle.std.specs.Io.KnownBytes.{Appends}
+use Rattle.std.proofs.Math.Seq.{take-append_seam}
+use Rattle.std.proofs.lemmas.List.{take-append-drop}
+use Rattle.clip_stream.specs.Device.{AppendsFront}
+use Rattle.clip_stream.specs.Lines.{lines_of}
+use Rattle.clip_stream.specs.Steps.Reading.{cut}
+use Rattle.clip_model.specs.Alerts.{Alert}
+use Rattle.clip_model.specs.History.{History}
+use Rattle.clip_listen.specs.Heard.{Hearer, told_all, HearsFront}
+use Rattle.clip_listen.proofs.Hearing.{no_front, front_after, names_told}
+use Rattle.clip_protocol.specs.LineMeaning.{Meaning, Means, after, is_blank, json_of}
+use Rattle.clip_front.specs.Outcome.{Outcome, nothing_given, followed_by, given, names_in, kept_rows, Gives, GivesAll, GivesFront}
+use Rattle.clip_protocol.specs.Steps.Outline.{outline, blank, outline_of_value, MeansOutline}
+use Rattle.clip_front.specs.Steps.Serving.{Serves, StopsAt, ServesAll, ServesFront}
+use Rattle.clip_protocol.proofs.Meanings.{means_from, means_to}
+use Rattle.clip_front.proofs.Outcomes.{followed_assoc, followed_nothing, given_kept}
+use Rattle.clip_front.proofs.Served.{choose, cut_is_long, cut_is_whole}
+use Rattle.clip_run.specs.Owed.{Owed, owes, Course, Gave, Turns, BreaksOff, TurnsIn, BreaksIn}
+use Rattle.clip_run.proofs.Owing.{owes_told, gave_nothing, gave_more}
+
+-- ---- a line that is cut means no other thing
+
+outline_cut : (line : List ℕ) → outline (cut line) ≡ outline line
+unfolding outline
+outline_cut line = choose _ _ _ _ _ (cut_is_long line) (λ e. ap (λ l. if is_blank l then blank else outline_of_value (json_of l)) (cut_is_whole line e))
+
+means_whole : (names : List (List ℕ)) (h : History) (line : List ℕ) (m : Meaning) → Means names h (cut line) m → Means names h line m
+means_whole names h line m means = means_from names h line m (subst (λ o. MeansOutline names h o m) (outline_cut line) (means_to names h (cut line) m means))
+
+-- what was heard before changes nothing that is given
+gives_kept : (front : List Alert) (hearers : List Hearer) (n : ℕ) (h : History) (lines : List (List ℕ)) (o : Outcome) → Gives (told_all front hearers) n h lines o → Gives hearers n h lines o
+gives_kept front hearers n h [] o g = g
+gives_kept front hearers n h (line ∷ lines) o g =
+    (g.0, g.1, subst (λ ns. Means ns h line g.0) (names_told front hearers) g.2, g.3 ∙ ap (λ x. followed_by x g.1) (given_kept front hearers n h g.0), gives_kept front hearers (suc n) (after h g.0) lines g.1 g.4)
+
+-- ---- one line and those after it
+
+gives_first : (s t : Course) (n : ℕ) (line text : List ℕ) (lines : List (List ℕ)) (rest : Outcome) (a : Turns s t n (cut line) text) → Gives t.hearers (suc n) t.history lines rest
+    → Gives s.hearers n s.history (line ∷ lines) (followed_by (given s.hearers n s.history a.meaning) rest)
+gives_first s t n line text lines rest a gives =
+    let m = a.meaning in
+    let later : Gives (told_all a.out.alerts s.hearers) (suc n) (after s.history m) lines rest =
+    subst (λ h. Gives (told_all a.out.alerts s.hearers) (suc n) h lines rest) a.history (subst (λ hs. Gives hs (suc n) t.history lines rest) a.gave.heard gives) in
+    (m, rest, means_whole (names_in s.hearers) s.history line m a.means, refl, gives_kept a.out.alerts s.hearers (suc n) (after s.history m) lines rest later)
+
+-- what was owed and what all lines give, by what the line gave and what is owed then
+rest_first : (s t : Course) (n : ℕ) (line text : List ℕ) (a : Turns s t n line text) (rest : Outcome)
+    → followed_by (owes s.hearers s.owed) (followed_by (given s.hearers n s.history a.meaning) rest) ≡ followed_by a.out (followed_by (owes t.hearers t.owed) rest)
+rest_first s t n line text a rest =
+    sym (followed_assoc (owes s.hearers s.owed) (given s.hearers n s.history a.meaning) rest)
+    ∙ ap (λ x. followed_by x rest) a.rest
+    ∙ followed_assoc a.out (owes s.hearers t.owed) rest
+    ∙ ap (λ x. followed_by a.out (followed_by x rest)) (sym (owes_told a.out.alerts s.hearers t.hearers t.owed a.gave.heard))
+
+-- ---- all lines were taken
+
+-- the lines give this outcome, of which, after what was owed, so much was given
+record TakenBy (s t : Course) (n : ℕ) (lines : List (List ℕ)) (text : List ℕ) : Type 0 where
+  outcome : Outcome
+  gives : Gives s.hearers n s.history lines outcome
+  out : Outcome
+  gave : Gave s t out
+  printed : out.text ≡ text
+  rest : followed_by (owes s.hearers s.owed) outcome ≡ followed_by out (owes t.hearers t.owed)
+
+taken_first : (s t u : Course) (n : ℕ) (line first more text : List ℕ) (lines : List (List ℕ)) → Turns s t n (cut line) first → text ≡ first ++ more → TakenBy t u (suc n) lines more → TakenBy s u n (line ∷ lines) text
+taken_first s t u n line first more text lines a e later = record {
+  outcome = followed_by (given s.hearers n s.history a.meaning) later.outcome;
+  gives = gives_first s t n line first lines later.outcome a later.gives;
+  out = followed_by a.out later.out;
+  gave = gave_more s t u a.out later.out a.gave later.gave;
+  printed = ap₂ (λ x y. x ++ y) a.printed later.printed ∙ sym e;
+  rest = rest_first s t n (cut line) first a later.outcome ∙ ap (followed_by a.out) later.rest ∙ sym (followed_assoc a.out later.out (owes u.hearers u.owed));
+}
+
+taken_by : {S : Type 0} (view : S → Course) (s t : S) (n : ℕ) (lines : List (List ℕ)) (text : List ℕ) → Serves (TurnsIn view) s t n lines text → TakenBy (view s) (view t) n lines text
+taken_by view s t n [] text p =
+    let same : view s ≡ view t = sym (ap view p.0) in
+    record {
+      outcome = nothing_given;
+      gives = refl;
+      out = nothing_given;
+      gave = subst (λ x. Gave (view s) x nothing_given) same (gave_nothing (view s));
+      printed = sym p.1;
+      rest = followed_nothing (owes (view s).hearers (view s).owed) ∙ ap (λ x. owes x.hearers x.owed) same;
+    }
+taken_by view s t n (line ∷ lines) text p = taken_first (view s) (view p.0) (view t) n line p.1 p.2 text lines p.3 p.4 (taken_by view p.0 t (suc n) lines p.2 p.5)
+
+-- where nothing was owed, and nothing is, what was given is what the lines give
+settled : (s t : Course) (out outcome : Outcome) → s.owed ≡ [] → t.owed ≡ [] → followed_by (owes s.hearers s.owed) outcome ≡ followed_by out (owes t.hearers t.owed) → out ≡ outcome
+settled s t out outcome none_before none e =
+    sym (followed_nothing out) ∙ ap (λ os. followed_by out (owes t.hearers os)) (sym none) ∙ sym e ∙ ap (λ os. followed_by (owes s.hearers os) outcome) none_before
+
+pub run_gives : {S : Type 0} (view : S → Course) (s t : S) (keeps : Bool) (input taken_old taken : Option (List ℕ)) → (view s).history ≡ [] → (view s).rows ≡ [] → (view s).keeps ≡ keeps → (view s).owed ≡ [] → (view t).owed ≡ []
+    → IfSome input (ServesAll (TurnsIn view) s t taken_old taken) → IfSome input (GivesAll (view s).hearers (view t).hearers keeps taken_old taken (view t).rows)
+run_gives view s t keeps None taken_old taken start no_rows same none_before none p = tt
+run_gives view s t keeps (Some input) taken_old taken start no_rows same none_before none p =
+    let g = taken_by view s t 1 (lines_of input) p.text p.served in
+    let whole = settled (view s) (view t) g.out g.outcome none_before none g.rest in
+    record {
+      outcome = g.outcome;
+      is = subst (λ h. Gives (view s).hearers 1 h (lines_of input) g.outcome) start g.gives;
+      replies = subst (Appends taken_old taken) (sym g.printed ∙ ap (λ o. o.text) whole) p.written;
+      told = g.gave.heard ∙ ap (λ o. told_all o.alerts (view s).hearers) whole;
+      rows = g.gave.rows ∙ ap₂ (λ xs k. xs ++ kept_rows k g.out.rows) no_rows same ∙ ap (λ o. kept_rows keeps o.rows) whole;
+    }
+
+-- ---- some first lines were taken, and the next was begun at most
+
+-- the outcome of these lines, of whose text, after what was owed, the front was given
+record BegunBy (s t : Course) (n : ℕ) (lines : List (List ℕ)) (text : List ℕ) : Type 0 where
+  outcome : Outcome
+  gives : Gives s.hearers n s.history lines outcome
+  more : List ℕ
+  printed : (followed_by (owes s.hearers s.owed) outcome).text ≡ text ++ more
+  heard : HearsFront (followed_by (owes s.hearers s.owed) outcome).alerts s.hearers t.hearers
+
+begun_none : (s : Course) (n : ℕ) → BegunBy s s n [] []
+begun_none s n = record {
+  outcome = nothing_given;
+  gives = refl;
+  more = (followed_by (owes s.hearers s.owed) nothing_given).text;
+  printed = refl;
+  heard = no_front (followed_by (owes s.hearers s.owed) nothing_given).alerts s.hearers;
+}
+
+begun_here : (s t : Course) (n : ℕ) (line : List ℕ) → BreaksOff s t n (cut line) → BegunBy s t n (line ∷ []) []
+begun_here s t n line b =
+    let now = given s.hearers n s.history b.meaning in
+    record {
+      outcome = now;
+      gives = (b.meaning, nothing_given, means_whole (names_in s.hearers) s.history line b.meaning b.means, sym (followed_nothing now), refl);
+      more = (followed_by (owes s.hearers s.owed) now).text;
+      printed = refl;
+      heard = b.heard;
+    }
+
+begun_first : (s t u : Course) (n : ℕ) (line first rest text : List ℕ) (lines : List (List ℕ)) → Turns s t n (cut line) first → text ≡ first ++ rest → BegunBy t u (suc n) lines rest → BegunBy s u n (line ∷ lines) text
+begun_first s t u n line first rest text lines a e later =
+    let now = given s.hearers n s.history a.meaning in
+    let all = rest_first s t n (cut line) first a later.outcome in
+    record {
+      outcome = followed_by now later.outcome;
+      gives = gives_first s t n line first lines later.outcome a later.gives;
+      more = later.more;
+      printed = ap (λ o. o.text) all ∙ ap₂ (λ x y. x ++ y) a.printed later.printed ∙ sym (append_assoc first rest later.more) ∙ ap (λ x. x ++ later.more) (sym e);
+      heard = subst (λ o. HearsFront o.alerts s.hearers u.hearers) (sym all)
+          (front_after a.out.alerts (followed_by (owes t.hearers t.owed) later.outcome).alerts s.hearers t.hearers u.hearers a.gave.heard later.heard);
+    }
+
+begun_by : {S : Type 0} (view : S → Course) (s t u : S) (n : ℕ) (lines last : List (List ℕ)) (text : List ℕ) → Serves (TurnsIn view) s t n lines text → ((k : ℕ) → BegunBy (view t) (view u) k last []) → BegunBy (view s) (view u) n (lines ++ last) text
+begun_by view s t u n [] last text p here =
+    subst (BegunBy (view s) (view u) n last) (sym p.1) (subst (λ x. BegunBy (view x) (view u) n last []) p.0 (here n))
+begun_by view s t u n (line ∷ lines) last text p here = begun_first (view s) (view p.0) (view u) n line p.1 p.2 text (lines ++ last) p.3 p.4 (begun_by view p.0 t u (suc n) lines last p.2 p.5 here)
+
+-- the number of the line changes no alert
+renumbered : (s t : Course) (n k : ℕ) (line : List ℕ) → BreaksOff s t n line → BreaksOff s t k line
+renumbered s t n k line b = record { meaning = b.meaning; means = b.means; heard = b.heard }
+
+-- a front of a text is one of a longer text
+front_longer : (old new : Option (List ℕ)) (text more : List ℕ) → AppendsFront old new text → AppendsFront old new (text ++ more)
+front_longer old new text more f =
+    let there : take f.0 text ++ (drop f.0 text ++ more) ≡ text ++ more = sym (append_assoc (take f.0 text) (drop f.0 text) more) ∙ ap (λ x. x ++ more) (take-append-drop f.0 text) in
+    (length (take f.0 text), subst (Appends old new) (sym (take-append_seam (take f.0 text) (drop f.0 text ++ more)) ∙ ap (take (length (take f.0 text))) there) f.1)
+
+front_given : (s t : Course) (taken_old taken : Option (List ℕ)) (input text : List ℕ) (lines later : List (List ℕ)) → s.history ≡ [] → s.owed ≡ [] → lines_of input ≡ lines ++ later → BegunBy s t 1 lines text → AppendsFront taken_old taken text
+    → GivesFront s.hearers t.hearers taken_old taken input
+front_given s t taken_old taken input text lines later start none parts b written =
+    let whole : followed_by (owes s.hearers s.owed) b.outcome ≡ b.outcome = ap (λ os. followed_by (owes s.hearers os) b.outcome) none in
+    record {
+      lines = lines;
+      later = later;
+      outcome = b.outcome;
+      cut = parts;
+      gives = subst (λ h. Gives s.hearers 1 h lines b.outcome) start b.gives;
+      replies = subst (AppendsFront taken_old taken) (sym b.printed ∙ ap (λ o. o.text) whole) (front_longer taken_old taken text b.more written);
+      told = subst (λ o. HearsFront o.alerts s.hearers t.hearers) whole b.heard;
+    }
+
+-- nothing more was begun
+stopped : {S : Type 0} (view : S → Course) (s t u : S) (lines : List (List ℕ)) (text : List ℕ) → Serves (TurnsIn view) s t 1 lines text → u ≡ t → BegunBy (view s) (view u) 1 lines text
+stopped view s t u lines text p same =
+    subst (λ ls. BegunBy (view s) (view u) 1 ls text) (append-nil lines) (begun_by view s t u 1 lines [] text p (λ k. subst (λ x. BegunBy (view t) (view x) k [] []) (sym same) (begun_none (view t) k)))
+
+front_at : {S : Type 0} (view : S → Course) (s t u : S) (taken_old taken : Option (List ℕ)) (input text : List ℕ) (lines later : List (List ℕ)) → (view s).history ≡ [] → (view s).owed ≡ [] → lines_of input ≡ lines ++ later → Serves (TurnsIn view) s t 1 lines text
+    → StopsAt (BreaksIn view) t u (suc (length lines)) later → AppendsFront taken_old taken text → GivesFront (view s).hearers (view u).hearers taken_old taken input
+front_at view s t u taken_old taken input text lines [] start none parts p same written =
+    front_given (view s) (view u) taken_old taken input text lines [] start none parts (stopped view s t u lines text p same) written
+front_at view s t u taken_old taken input text lines (line ∷ later) start none parts p (inl same) written =
+    front_given (view s) (view u) taken_old taken input text lines (line ∷ later) start none parts (stopped view s t u lines text p same) written
+front_at view s t u taken_old taken input text lines (line ∷ later) start none parts p (inr broken) written =
+    front_given (view s) (view u) taken_old taken input text (lines ++ line ∷ []) later start none (parts ∙ sym (append_assoc lines (line ∷ []) later))
+    (begun_by view s t u 1 lines (line ∷ []) text p (λ k. begun_here (view t) (view u) k line (renumbered (view t) (view u) (suc (length lines)) k (cut line) broken))) written
+
+pub run_gives_front : {S : Type 0} (view : S → Course) (s t : S) (input taken_old taken : Option (List ℕ)) → (view s).history ≡ [] → (view s).owed ≡ [] → IfSome input (ServesFront (TurnsIn view) (BreaksIn view) s t taken_old taken)
+    → IfSome input (GivesFront (view s).hearers (view t).hearers taken_old taken)
+run_gives_front view s t None taken_old taken start none p = tt
+run_gives_front view s t (Some input) taken_old taken start none p = front_at view s p.between t taken_old taken input p.text p.lines p.later start none p.parts p.served p.stops p.written

@@ -1,0 +1,281 @@
+-- What is owed, and what was given.
+use Rattle.std.proofs.Common.{◌≡◌, ℕ, List, [], ◌∷◌, ◌++◌, map, Bool, true, false, refl, sym, ap, ap₂, ◌∙◌, subst, append_assoc, append-nil}
+use Rattle.std.specs.Prelude.{Result, Ok, Err, OnOk, OnErr}
+use Rattle.std.proofs.lemmas.List.{map-append}
+use Rattle.clip_model.specs.Alerts.{Alert}
+use Rattle.clip_model.specs.History.{History}
+use Rattle.clip_listen.specs.Heard.{Hearer, told_all, HearsFront}
+use Rattle.clip_listen.proofs.Hearing.{told_none, told_more, names_told, no_front, front_after, front_of_more}
+use Rattle.clip_meaning.specs.Article.{ArticleValue}
+use Rattle.clip_match.specs.Alerts.{alerts_due}
+use Rattle.clip_standing.specs.Alerts.{AlertsValue}
+use Rattle.clip_registry.specs.RegistryState.{RegistryState}
+use Rattle.clip_ledger.specs.Rows.{RowValue}
+use Rattle.clip_protocol.specs.LineMeaning.{Meaning, Means, after, nothing, refusal, refusal_at, command, purging, counting, showing, matching}
+use Rattle.clip_protocol.specs.Reply.{reply}
+use Rattle.clip_front.specs.Steps.Taking.{IsQuiet, TakesQuietly}
+use Rattle.clip_front.specs.Outcome.{Outcome, nothing_given, followed_by, given, names_in, kept_rows}
+use Rattle.clip_protocol.specs.Steps.Outline.{outline}
+use Rattle.clip_front.proofs.Delivering.{none_posted}
+use Rattle.clip_front.specs.Steps.Found.{found_outcome}
+use Rattle.clip_run.proofs.Found.{found_given}
+use Rattle.clip_protocol.proofs.Meanings.{means_from}
+use Rattle.clip_front.proofs.OneOutcome.{outline_some}
+use Rattle.clip_front.proofs.Outcomes.{followed_assoc, followed_nothing, kept_append, given_kept}
+use Rattle.clip_run.specs.Pending.{owed_by}
+use Rattle.clip_run.specs.declared.batch.Pending.{Pending}
+use Rattle.clip_run.specs.Owed.{Owed, ready, matched, owed_of, owes, Course, Gave, Pays, Turns, BreaksOff, HearsOwed, PaysInto, TakesBatch, TurnsInto, owing}
+
+-- ---- what was heard changes nothing that is owed
+
+owed_kept : (front : List Alert) (hearers : List Hearer) (o : Owed) → owed_of (told_all front hearers) o ≡ owed_of hearers o
+owed_kept front hearers (ready text) = refl
+owed_kept front hearers (matched n h articles) = given_kept front hearers n h (matching articles)
+
+pub owes_kept : (front : List Alert) (hearers : List Hearer) (owed : List Owed) → owes (told_all front hearers) owed ≡ owes hearers owed
+owes_kept front hearers [] = refl
+owes_kept front hearers (o ∷ owed) = ap₂ followed_by (owed_kept front hearers o) (owes_kept front hearers owed)
+
+-- what is owed by the listeners before, and by those that heard this
+pub owes_told : (front : List Alert) (old new : List Hearer) (owed : List Owed) → new ≡ told_all front old → owes new owed ≡ owes old owed
+owes_told front old new owed e = ap (λ hs. owes hs owed) e ∙ owes_kept front old owed
+
+given_told : (front : List Alert) (old new : List Hearer) (n : ℕ) (h : History) (m : Meaning) → new ≡ told_all front old → given new n h m ≡ given old n h m
+given_told front old new n h m e = ap (λ hs. given hs n h m) e ∙ given_kept front old n h m
+
+names_after : (front : List Alert) (old new : List Hearer) → new ≡ told_all front old → names_in new ≡ names_in old
+names_after front old new e = ap names_in e ∙ names_told front old
+
+-- ---- lists
+
+pub owes_append : (hearers : List Hearer) (xs ys : List Owed) → owes hearers (xs ++ ys) ≡ followed_by (owes hearers xs) (owes hearers ys)
+owes_append hearers [] ys = refl
+owes_append hearers (x ∷ xs) ys = ap (followed_by (owed_of hearers x)) (owes_append hearers xs ys) ∙ sym (followed_assoc (owed_of hearers x) (owes hearers xs) (owes hearers ys))
+
+pub owes_last : (hearers : List Hearer) (xs : List Owed) (o : Owed) → owes hearers (xs ++ o ∷ []) ≡ followed_by (owes hearers xs) (owed_of hearers o)
+owes_last hearers xs o = owes_append hearers xs (o ∷ []) ∙ ap (followed_by (owes hearers xs)) (followed_nothing (owed_of hearers o))
+
+-- ---- what was given
+
+pub gave_nothing : (s : Course) → Gave s s nothing_given
+gave_nothing s = record { heard = sym (told_none s.hearers); rows = none_posted s.keeps s.rows; keeps = refl }
+
+pub gave_more : (s t u : Course) (a b : Outcome) → Gave s t a → Gave t u b → Gave s u (followed_by a b)
+gave_more s t u a b first more = record {
+  heard = more.heard ∙ ap (told_all b.alerts) first.heard ∙ told_more a.alerts b.alerts s.hearers;
+  rows =
+      more.rows ∙ ap₂ (λ xs k. xs ++ kept_rows k b.rows) first.rows first.keeps
+      ∙ append_assoc s.rows (kept_rows s.keeps a.rows) (kept_rows s.keeps b.rows) ∙ ap (λ xs. s.rows ++ xs) (kept_append s.keeps a.rows b.rows);
+  keeps = more.keeps ∙ first.keeps;
+}
+
+-- ---- payments
+
+pub pays_nothing : (s : Course) → Pays s s []
+pays_nothing s = record { out = nothing_given; gave = gave_nothing s; printed = refl; history = refl; rest = refl }
+
+pub pays_more : (s t u : Course) (a b : List ℕ) → Pays s t a → Pays t u b → Pays s u (a ++ b)
+pays_more s t u a b p q = record {
+  out = followed_by p.out q.out;
+  gave = gave_more s t u p.out q.out p.gave q.gave;
+  printed = ap₂ (λ x y. x ++ y) p.printed q.printed;
+  history = q.history ∙ p.history;
+  rest =
+      let there : owes s.hearers t.owed ≡ followed_by q.out (owes s.hearers u.owed) =
+      sym (owes_told p.out.alerts s.hearers t.hearers t.owed p.gave.heard) ∙ q.rest ∙ ap (followed_by q.out) (owes_told p.out.alerts s.hearers t.hearers u.owed p.gave.heard) in
+      p.rest ∙ ap (followed_by p.out) there ∙ sym (followed_assoc p.out q.out (owes s.hearers u.owed));
+}
+
+-- the oldest was given
+pub pays_first : (s t : Course) (o : Owed) → s.owed ≡ o ∷ t.owed → Gave s t (owed_of s.hearers o) → t.history ≡ s.history → Pays s t (owed_of s.hearers o).text
+pays_first s t o first gave same = record { out = owed_of s.hearers o; gave = gave; printed = refl; history = same; rest = ap (owes s.hearers) first }
+
+-- ---- lines
+
+-- a line was taken, and what it gives is owed
+pub turns_taken : (s t : Course) (n : ℕ) (line : List ℕ) (m : Meaning) (o : Owed) → Means (names_in s.hearers) s.history line m → owed_of s.hearers o ≡ given s.hearers n s.history m
+    → t ≡ record { history = after s.history m; hearers = s.hearers; rows = s.rows; keeps = s.keeps; owed = s.owed ++ o ∷ [] } → Turns s t n line []
+turns_taken s t n line m o means is e = record {
+  meaning = m;
+  means = means;
+  history = ap (λ x. x.history) e;
+  out = nothing_given;
+  gave = record { heard = ap (λ x. x.hearers) e ∙ sym (told_none s.hearers); rows = ap (λ x. x.rows) e ∙ none_posted s.keeps s.rows; keeps = ap (λ x. x.keeps) e };
+  printed = refl;
+  rest = ap (followed_by (owes s.hearers s.owed)) (sym is) ∙ sym (owes_last s.hearers s.owed o) ∙ ap (λ x. owes s.hearers x.owed) (sym e);
+}
+
+pub turns_then : (s t u : Course) (n : ℕ) (line a b : List ℕ) → Turns s t n line a → Pays t u b → Turns s u n line (a ++ b)
+turns_then s t u n line a b p q = record {
+  meaning = p.meaning;
+  means = p.means;
+  history = q.history ∙ p.history;
+  out = followed_by p.out q.out;
+  gave = gave_more s t u p.out q.out p.gave q.gave;
+  printed = ap₂ (λ x y. x ++ y) p.printed q.printed;
+  rest =
+      let there : owes s.hearers t.owed ≡ followed_by q.out (owes s.hearers u.owed) =
+      sym (owes_told p.out.alerts s.hearers t.hearers t.owed p.gave.heard) ∙ q.rest ∙ ap (followed_by q.out) (owes_told p.out.alerts s.hearers t.hearers u.owed p.gave.heard) in
+      p.rest ∙ ap (followed_by p.out) there ∙ sym (followed_assoc p.out q.out (owes s.hearers u.owed));
+}
+
+pub turns_after : (s t u : Course) (n : ℕ) (line a b : List ℕ) → Pays s t a → Turns t u n line b → Turns s u n line (a ++ b)
+turns_after s t u n line a b p q =
+    let heard = p.gave.heard in
+    let same : owes t.hearers t.owed ≡ owes s.hearers t.owed = owes_told p.out.alerts s.hearers t.hearers t.owed heard in
+    let now : given t.hearers n t.history q.meaning ≡ given s.hearers n s.history q.meaning =
+    ap (λ h. given t.hearers n h q.meaning) p.history ∙ given_told p.out.alerts s.hearers t.hearers n s.history q.meaning heard in
+    record {
+      meaning = q.meaning;
+      means = subst (λ h. Means (names_in s.hearers) h line q.meaning) p.history (subst (λ ns. Means ns t.history line q.meaning) (names_after p.out.alerts s.hearers t.hearers heard) q.means);
+      history = q.history ∙ ap (λ h. after h q.meaning) p.history;
+      out = followed_by p.out q.out;
+      gave = gave_more s t u p.out q.out p.gave q.gave;
+      printed = ap₂ (λ x y. x ++ y) p.printed q.printed;
+      rest =
+          ap (λ x. followed_by x (given s.hearers n s.history q.meaning)) p.rest
+          ∙ followed_assoc p.out (owes s.hearers t.owed) (given s.hearers n s.history q.meaning)
+          ∙ ap (followed_by p.out) (ap₂ followed_by (sym same) (sym now) ∙ q.rest ∙ ap (followed_by q.out) (owes_told p.out.alerts s.hearers t.hearers u.owed heard))
+          ∙ sym (followed_assoc p.out q.out (owes s.hearers u.owed));
+    }
+
+-- ---- where a run is broken off
+
+pub hears_none : (s t : Course) → t.hearers ≡ s.hearers → HearsOwed s t
+hears_none s t e = subst (λ hs. HearsFront (owes s.hearers s.owed).alerts s.hearers hs) (sym e) (no_front (owes s.hearers s.owed).alerts s.hearers)
+
+-- whatever is owed now, of what was owed a front was heard
+pub hears_after : (s t u : Course) (a : List ℕ) → Pays s t a → HearsOwed t u → HearsOwed s u
+hears_after s t u a p front =
+    let same : owes t.hearers t.owed ≡ owes s.hearers t.owed = owes_told p.out.alerts s.hearers t.hearers t.owed p.gave.heard in
+    subst (λ o. HearsFront o.alerts s.hearers u.hearers) (sym p.rest)
+    (front_after p.out.alerts (owes s.hearers t.owed).alerts s.hearers t.hearers u.hearers p.gave.heard (subst (λ o. HearsFront o.alerts t.hearers u.hearers) same front))
+
+pub hears_paid : (s t : Course) (a : List ℕ) → Pays s t a → HearsOwed s t
+hears_paid s t a p = hears_after s t t a p (hears_none t t refl)
+
+-- of the oldest a front was heard
+pub hears_first : (s t : Course) (o : Owed) (more : List Owed) → s.owed ≡ o ∷ more → HearsFront (owed_of s.hearers o).alerts s.hearers t.hearers → HearsOwed s t
+hears_first s t o more first front =
+    subst (λ os. HearsFront (owes s.hearers os).alerts s.hearers t.hearers) (sym first) (front_of_more (owed_of s.hearers o).alerts (owes s.hearers more).alerts s.hearers t.hearers front)
+
+-- the line means something, whatever it is
+pub breaks_owed : (s t : Course) (n : ℕ) (line : List ℕ) → HearsOwed s t → BreaksOff s t n line
+breaks_owed s t n line front =
+    let m = outline_some (names_in s.hearers) s.history (outline line) in
+    record {
+      meaning = m.0;
+      means = means_from (names_in s.hearers) s.history line m.0 m.1;
+      heard = front_of_more (owes s.hearers s.owed).alerts (given s.hearers n s.history m.0).alerts s.hearers t.hearers front;
+    }
+
+-- the line was taken before
+pub breaks_turned : (s t u : Course) (n : ℕ) (line text : List ℕ) → Turns s t n line text → HearsOwed t u → BreaksOff s u n line
+breaks_turned s t u n line text p front =
+    let same : owes t.hearers t.owed ≡ owes s.hearers t.owed = owes_told p.out.alerts s.hearers t.hearers t.owed p.gave.heard in
+    record {
+      meaning = p.meaning;
+      means = p.means;
+      heard = subst (λ o. HearsFront o.alerts s.hearers u.hearers) (sym p.rest)
+          (front_after p.out.alerts (owes s.hearers t.owed).alerts s.hearers t.hearers u.hearers p.gave.heard (subst (λ o. HearsFront o.alerts t.hearers u.hearers) same front));
+    }
+
+-- ---- what was found of a batch
+
+-- is what is owed to its line
+pub found_owed : (hearers : List Hearer) (item : Pending) (n : ℕ) (view : RegistryState) (articles : List ArticleValue) (found : List AlertsValue) → owed_by item ≡ matched n view.history articles → found ≡ map (alerts_due view) articles
+    → found_outcome hearers n found ≡ owed_of hearers (owed_by item)
+found_owed hearers item n view articles found is right = found_given view hearers n articles found right ∙ ap (owed_of hearers) (sym is)
+
+-- ---- texts that grow
+
+pub pays_into_none : (s : Course) (a : List ℕ) → PaysInto s s a a
+pays_into_none s a = ([], pays_nothing s, sym (append-nil a))
+
+pub pays_into_more : (s t u : Course) (a b c : List ℕ) → PaysInto s t a b → PaysInto t u b c → PaysInto s u a c
+pays_into_more s t u a b c p q = (p.0 ++ q.0, pays_more s t u p.0 q.0 p.1 q.1, q.2 ∙ ap (λ x. x ++ q.0) p.2 ∙ append_assoc a p.0 q.0)
+
+pub pays_into_first : (s t : Course) (o : Owed) (a b text : List ℕ) → s.owed ≡ o ∷ t.owed → Gave s t (owed_of s.hearers o) → t.history ≡ s.history → text ≡ (owed_of s.hearers o).text → b ≡ a ++ text → PaysInto s t a b
+pays_into_first s t o a b text first gave same is grown = ((owed_of s.hearers o).text, pays_first s t o first gave same, grown ∙ ap (λ x. a ++ x) is)
+
+pub hears_into : (s t u : Course) (a b : List ℕ) → PaysInto s t a b → HearsOwed t u → HearsOwed s u
+hears_into s t u a b p front = hears_after s t u p.0 p.1 front
+
+-- ---- a line
+
+quiet_told : (text : List ℕ) (hearers : List Hearer) (n : ℕ) (h : History) (m : Meaning) → IsQuiet m → text ≡ reply hearers n h m → owed_of hearers (ready text) ≡ given hearers n h m
+quiet_told text hearers n h nothing q e = ap (λ t. record { text = t; alerts = []; rows = [] }) e
+quiet_told text hearers n h (refusal r) q e = ap (λ t. record { text = t; alerts = []; rows = [] }) e
+quiet_told text hearers n h (refusal_at r k) q e = ap (λ t. record { text = t; alerts = []; rows = [] }) e
+quiet_told text hearers n h (command c) q e = ap (λ t. record { text = t; alerts = []; rows = [] }) e
+quiet_told text hearers n h purging q e = ap (λ t. record { text = t; alerts = []; rows = [] }) e
+quiet_told text hearers n h counting q e = ap (λ t. record { text = t; alerts = []; rows = [] }) e
+quiet_told text hearers n h (showing id) q e = ap (λ t. record { text = t; alerts = []; rows = [] }) e
+quiet_told text hearers n h (matching articles) q e = absurd q
+
+-- a line that tells no alert
+pub turns_quiet : (s t : Course) (n : ℕ) (line text a : List ℕ) → TakesQuietly (names_in s.hearers) s.history t.history n line text → t ≡ record { history = t.history; hearers = s.hearers; rows = s.rows; keeps = s.keeps; owed = s.owed ++ ready text ∷ [] } → TurnsInto s t n line a a
+turns_quiet s t n line text a takes is = (
+  [],
+  turns_taken s t n line takes.meaning (ready text) takes.means (quiet_told text s.hearers n s.history takes.meaning takes.quiet (takes.replies s.hearers))
+      (is ∙ ap (λ h. record { history = h; hearers = s.hearers; rows = s.rows; keeps = s.keeps; owed = s.owed ++ ready text ∷ [] }) takes.history),
+  sym (append-nil a),
+)
+
+-- a line whose articles are matched
+pub turns_batch : (s t : Course) (n : ℕ) (line : List ℕ) (articles : List ArticleValue) (a b : List ℕ) → Means (names_in s.hearers) s.history line (matching articles) → TakesBatch s t n articles a b → TurnsInto s t n line a b
+turns_batch s t n line articles a b means takes =
+    let u = takes.between in
+    let p = takes.pays.1 in
+    let named = subst (λ ns. Means ns s.history line (matching articles)) (sym (names_after p.out.alerts s.hearers u.hearers p.gave.heard)) means in
+    let here = subst (λ h. Means (names_in u.hearers) h line (matching articles)) (sym p.history) named in
+    let turns = turns_taken u t n line (matching articles) (matched n u.history articles) here refl takes.takes in
+    (takes.pays.0 ++ [], turns_after s u t n line takes.pays.0 [] p turns, takes.pays.2 ∙ ap (λ x. a ++ x) (sym (append-nil takes.pays.0)))
+
+-- the line was taken, and more was paid
+pub turns_paid : (s t u : Course) (n : ℕ) (line a b c : List ℕ) → a ≡ [] → TurnsInto s t n line a b → PaysInto t u b c → Turns s u n line c
+turns_paid s t u n line a b c none p q =
+    subst (Turns s u n line) (sym (q.2 ∙ ap (λ x. x ++ q.0) (p.2 ∙ ap (λ x. x ++ p.0) none))) (turns_then s t u n line p.0 q.0 p.1 q.1)
+
+pub breaks_paid : (s t u : Course) (n : ℕ) (line a b : List ℕ) → TurnsInto s t n line a b → HearsOwed t u → BreaksOff s u n line
+breaks_paid s t u n line a b p front = breaks_turned s t u n line p.0 p.1 front
+
+-- ---- what is pending
+
+-- a course by what is pending
+abbrev pub course_by : History → List Hearer → List RowValue → Bool → List Pending → Course
+course_by h hearers rows keeps items = record { history = h; hearers = hearers; rows = rows; keeps = keeps; owed = map owed_by items }
+
+pub pays_same : (h : History) (hearers : List Hearer) (rows : List RowValue) (keeps : Bool) (xs ys : List Pending) (a : List ℕ) → xs ≡ ys → PaysInto (course_by h hearers rows keeps xs) (course_by h hearers rows keeps ys) a a
+pays_same h hearers rows keeps xs ys a e = subst (λ zs. PaysInto (course_by h hearers rows keeps xs) (course_by h hearers rows keeps zs) a a) e (pays_into_none (course_by h hearers rows keeps xs) a)
+
+pub hears_item : (hearers now : List Hearer) (xs ys : List Pending) (item : Pending) → xs ≡ item ∷ ys → HearsFront (owed_of hearers (owed_by item)).alerts hearers now → HearsFront (owes hearers (map owed_by xs)).alerts hearers now
+hears_item hearers now xs ys item e front =
+    subst (λ zs. HearsFront (owes hearers (map owed_by zs)).alerts hearers now) (sym e) (front_of_more (owed_of hearers (owed_by item)).alerts (owes hearers (map owed_by ys)).alerts hearers now front)
+
+pub owed_last : (xs ys : List Pending) (item : Pending) → ys ≡ xs ++ item ∷ [] → map owed_by ys ≡ map owed_by xs ++ owed_by item ∷ []
+owed_last xs ys item e = ap (map owed_by) e ∙ map-append owed_by xs (item ∷ [])
+
+-- the line's text is pending
+pub turns_ready : (h new : History) (hearers : List Hearer) (rows : List RowValue) (keeps : Bool) (xs ys : List Pending) (item : Pending) (n : ℕ) (line text a : List ℕ) → TakesQuietly (names_in hearers) h new n line text → ys ≡ xs ++ item ∷ [] → owed_by item ≡ ready text
+    → TurnsInto (course_by h hearers rows keeps xs) (course_by new hearers rows keeps ys) n line a a
+turns_ready h new hearers rows keeps xs ys item n line text a takes e is =
+    turns_quiet (course_by h hearers rows keeps xs) (course_by new hearers rows keeps ys) n line text a takes
+    (ap (λ os. record { history = new; hearers = hearers; rows = rows; keeps = keeps; owed = os }) (owed_last xs ys item e ∙ ap (λ o. map owed_by xs ++ o ∷ []) is))
+
+-- the line's batch was begun
+pub turns_begun : (h new : History) (hearers : List Hearer) (rows : List RowValue) (keeps : Bool) (owed : List Owed) (t : Course) (n : ℕ) (line : List ℕ) (articles : List ArticleValue) (a b : List ℕ) → Means (names_in hearers) h line (matching articles) → new ≡ h
+    → TakesBatch (record { history = new; hearers = hearers; rows = rows; keeps = keeps; owed = owed }) t n articles a b → TurnsInto (record { history = h; hearers = hearers; rows = rows; keeps = keeps; owed = owed }) t n line a b
+turns_begun h new hearers rows keeps owed t n line articles a b means same takes =
+    turns_batch (record { history = h; hearers = hearers; rows = rows; keeps = keeps; owed = owed }) t n line articles a b means
+    (subst (λ g. TakesBatch (record { history = g; hearers = hearers; rows = rows; keeps = keeps; owed = owed }) t n articles a b) same takes)
+
+-- ---- results
+
+pub on_ok_more : {A E : Type 0} {P Q : Type 0} (r : Result A E) → OnOk r P → (P → Q) → OnOk r Q
+on_ok_more (Ok a) p f = f p
+on_ok_more (Err e) p f = tt
+
+pub on_err_more : {A E : Type 0} {P Q : Type 0} (r : Result A E) → OnErr r P → (P → Q) → OnErr r Q
+on_err_more (Ok a) p f = tt
+on_err_more (Err e) p f = f p

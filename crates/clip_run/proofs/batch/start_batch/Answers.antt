@@ -1,0 +1,32 @@
+use mathlib.Core.List.{[], ◌∷◌}
+use mir.Syntax.{Sym}
+use denote.RattleType.{RattleType}
+use denote.Exit.{no}
+use denote.Param.Send.{IsSend, param_send, arg_send, sendable}
+use denote.Param.SendFields.{declared_send, as_row_send}
+use denote.Param.{param}
+use denote.Struct.Field.{row_field, u64-field}
+use denote.Struct.Tuple.{TupleAt, type_at}
+use Rattle.std.proofs.alloc.Global.TheSendSync as global_sent
+use Rattle.std.below.std_heap.proofs.GlobalAllocator.TheSendSync as allocator_sent
+use Rattle.std.proofs.vec.Vec.TheSendSync as vec_sent
+use Rattle.clip_meaning.proofs.article.Article.TheSendSync as article_sent
+use Rattle.clip_meaning.specs.contracts.article.Article as article
+use Rattle.clip_registry.proofs.Sent.{view_is_send}
+use Rattle.clip_registry.specs.contracts.view.View as view
+use Rattle.std.specs.contracts.alloc.Global as global
+use Rattle.std.specs.contracts.impls.GlobalAllocator.TheImpl as global_allocator
+use Rattle.std.specs.contracts.vec.Vec as vec
+use Rattle.clip_run.proofs.batch.start_batch.Goals as goal
+
+ruleset lists = (sendable, global_sent.the_send, global_sent.the_sync, allocator_sent.the_frees, vec_sent.the_send, article_sent.the_send)
+
+-- a closure of five captures
+captures_send : (name : Sym) (A B C D E : RattleType) → IsSend A → IsSend B → IsSend C → IsSend D → IsSend E → IsSend (TupleAt name (A ∷ B ∷ C ∷ D ∷ E ∷ []))
+captures_send name A B C D E a b c d e =
+    declared_send (type_at name (A ∷ B ∷ C ∷ D ∷ E ∷ [])) (as_row_send (row_field A) a, (as_row_send (row_field B) b, (as_row_send (row_field C) c, (as_row_send (row_field D) d, (as_row_send (row_field E) e, tt)))))
+
+pub spawn_with-requires-send-F : goal.spawn_with-requires-send-F
+spawn_with-requires-send-F g c κs within =
+    let articles = vec.the_row article.the_row global.the_row global_allocator.ghosts in
+    param_send 2 _ (arg_send _ no _ (captures_send _ global.the_row view.the_row articles (u64-field).row (param 1 g.row.G) (search lists) view_is_send (search lists) (search sendable) (search (sendable, c.type_bounds.send-G))))

@@ -1,0 +1,27 @@
+use Rattle.std.proofs.Common.{◌∙◌, rules}
+use Rattle.clip_standing.specs.Command.{command_of}
+use Rattle.clip_run.proofs.OnlyCaller.{accepted, refused}
+use Rattle.clip_run.proofs.caller.CallerRegistry.accept.Goals as goal
+
+pub returns-in-Ok : goal.returns-in-Ok
+returns-in-Ok g c =
+    let e = c.in-Ok.ensures in
+    let i = c.self.invariant in
+    record {
+      judged = rw (← c.self.view_is)
+          (accepted e.last.0 c.in-Ok.receipt.history c.self.inside.desk.now.callers c.self.inside.seat.caller c.self.inside.seat.mine c.commit.new.seat.mine (command_of c.args.command) c.applied.result e.last.1 (c.applied.ensures ∙ e.last.2) e.legal.0 e.legal.1 i.desk_alone i.first e.mine.0 e.mine.1);
+    }
+
+pub returns-in-Err-default-Full : goal.returns-in-Err-default-Full
+returns-in-Err-default-Full g c =
+    let e = c.in-Err-default-Full.ensures in
+    let i = c.self.invariant in
+    let full = e.full c.in-Err-default-Full.field-0-1-is in
+    record {
+      judged = rw (← c.self.view_is)
+          (refused c.commit.new.seat.seen c.self.inside.desk.now.callers c.self.inside.seat.caller c.self.inside.seat.mine c.commit.new.seat.mine (command_of c.args.command) full.0 full.1 full.2 i.desk_alone i.first full.3 e.stays);
+    }
+
+-- proved by search alone: it stands here so that a wrong body is refused at once
+pub returns-in-Err-default-NoMemory : goal.returns-in-Err-default-NoMemory
+returns-in-Err-default-NoMemory g c = search rules

@@ -1,0 +1,7 @@
+pub mod Alone
+pub mod Crews
+pub mod Owed
+pub mod Pending
+pub mod Ran
+pub mod Seated
+pub mod RunServer

@@ -1,0 +1,90 @@
+-- What a run owes to lines that it has taken, and what it gives meanwhile.
+use Rattle.std.specs.Prelude.{◌≡◌, ℕ, List, [], ◌∷◌, ◌++◌, Bool}
+use Rattle.clip_meaning.specs.Article.{ArticleValue}
+use Rattle.clip_model.specs.History.{History}
+use Rattle.clip_listen.specs.Heard.{Hearer, told_all, HearsFront}
+use Rattle.clip_ledger.specs.Rows.{RowValue}
+use Rattle.clip_protocol.specs.LineMeaning.{Meaning, Means, after, matching}
+use Rattle.clip_front.specs.Outcome.{Outcome, nothing_given, followed_by, given, names_in, kept_rows}
+use Rattle.clip_front.specs.Steps.Serving.{Answering, Breaking}
+
+-- the text of a reply, or what line n gives that asks for these articles after the history
+pub data Owed : Type 0 where
+  ready : List ℕ → Owed
+  matched : ℕ → History → List ArticleValue → Owed
+
+abbrev pub owed_of : List Hearer → Owed → Outcome
+owed_of hearers (ready text) = record { text = text; alerts = []; rows = [] }
+owed_of hearers (matched n h articles) = given hearers n h (matching articles)
+
+-- what is owed, one after the other
+abbrev pub owes : List Hearer → List Owed → Outcome
+owes hearers [] = nothing_given
+owes hearers (o ∷ owed) = followed_by (owed_of hearers o) (owes hearers owed)
+
+-- what a run holds between two lines: what was accepted, what the listeners have heard, the rows, where they are kept, and what it owes
+pub record Course : Type 0 where
+  pub history : History
+  pub hearers : List Hearer
+  pub rows : List RowValue
+  pub keeps : Bool
+  pub owed : List Owed
+
+-- This much was given: its alerts are told, and its rows kept.
+pub record Gave (old new : Course) (out : Outcome) : Type 0 where
+  pub heard : new.hearers ≡ told_all out.alerts old.hearers
+  pub rows : new.rows ≡ old.rows ++ kept_rows old.keeps out.rows
+  pub keeps : new.keeps ≡ old.keeps
+
+-- Of what was owed, a front was given, with this text. The rest is still owed.
+pub record Pays (old new : Course) (text : List ℕ) : Type 0 where
+  pub out : Outcome
+  pub gave : Gave old new out
+  pub printed : out.text ≡ text
+  pub history : new.history ≡ old.history
+  pub rest : owes old.hearers old.owed ≡ followed_by out (owes old.hearers new.owed)
+
+-- Line n was taken. Of what was owed and what the line gives, a front was given, with this text. The rest is still owed.
+pub record Turns (old new : Course) (n : ℕ) (line text : List ℕ) : Type 0 where
+  pub meaning : Meaning
+  pub means : Means (names_in old.hearers) old.history line meaning
+  pub history : new.history ≡ after old.history meaning
+  pub out : Outcome
+  pub gave : Gave old new out
+  pub printed : out.text ≡ text
+  pub rest : followed_by (owes old.hearers old.owed) (given old.hearers n old.history meaning) ≡ followed_by out (owes old.hearers new.owed)
+
+-- The run was broken off at line n: the listeners have heard a front of the alerts of what was owed and of what the line gives.
+pub record BreaksOff (old new : Course) (n : ℕ) (line : List ℕ) : Type 0 where
+  pub meaning : Meaning
+  pub means : Means (names_in old.hearers) old.history line meaning
+  pub heard : HearsFront (followed_by (owes old.hearers old.owed) (given old.hearers n old.history meaning)).alerts old.hearers new.hearers
+
+-- how a server answers that holds this
+abbrev pub TurnsIn : {S : Type 0} → (S → Course) → Answering S
+TurnsIn view s t n line text = Turns (view s) (view t) n line text
+
+abbrev pub BreaksIn : {S : Type 0} → (S → Course) → Breaking S
+BreaksIn view s t n line = BreaksOff (view s) (view t) n line
+
+-- of what is owed, a front of the alerts was heard
+abbrev pub HearsOwed : Course → Course → Type 0
+HearsOwed old new = HearsFront (owes old.hearers old.owed).alerts old.hearers new.hearers
+
+-- a front of what was owed was given, and its text stands at the end
+abbrev pub PaysInto : Course → Course → List ℕ → List ℕ → Type 0
+PaysInto old new before now = (text : List ℕ) × Pays old new text × (now ≡ before ++ text)
+
+-- the course that owes one thing more
+abbrev pub owing : Course → Owed → Course
+owing s o = record { history = s.history; hearers = s.hearers; rows = s.rows; keeps = s.keeps; owed = s.owed ++ o ∷ [] }
+
+-- A front of what was owed was given, its text stands at the end, and a batch is owed to line n.
+pub record TakesBatch (old new : Course) (n : ℕ) (articles : List ArticleValue) (before now : List ℕ) : Type 0 where
+  pub between : Course
+  pub pays : PaysInto old between before now
+  pub takes : new ≡ owing between (matched n between.history articles)
+
+-- line n was taken, and the text of what was given stands at the end
+abbrev pub TurnsInto : Course → Course → ℕ → List ℕ → List ℕ → List ℕ → Type 0
+TurnsInto old new n line before now = (text : List ℕ) × Turns old new n line text × (now ≡ before ++ text)

@@ -1,0 +1,9 @@
+-- What is owed, by what a run has pending.
+use Rattle.clip_run.specs.Owed.{Owed, ready, matched}
+use Rattle.clip_run.specs.declared.batch.Pending.{Pending}
+use Rattle.clip_run.specs.declared.batch.Pending.TheVariants as pending
+
+abbrev pub owed_by : Pending → Owed
+owed_by (pending.Ready text) = ready text.items
+owed_by (pending.Matched f) = matched f.number f.due.view.value.history f.due.articles.value.items
+owed_by (pending.InFlight f) = matched f.number f.thread.promise.view.value.history f.thread.promise.articles.value.items

@@ -1,0 +1,115 @@
+//! Batches that are matched while the run goes on.
+ghost use Rattle.std.specs.Prelude.{◌≡◌, map, IfOk};
+ghost use Rattle.clip_match.specs.Alerts.{alerts_due};
+ghost use Rattle.clip_standing.specs.Alerts.{alerts_value};
+ghost use Rattle.clip_run.specs.Owed.{matched};
+ghost use Rattle.clip_run.specs.Pending.{owed_by};
+
+use crate::due::{Due, Matched};
+use clip_match::{Gate, match_piece, match_pieces};
+use clip_meaning::Article;
+use clip_registry::View;
+use clip_standing::Alerts;
+use clip_words::NoMemory;
+use std::alloc::Global;
+use std::thread;
+use std::thread::{PromisedHandle, Threads};
+
+/// How many articles a piece has at least, where a batch is cut.
+const LEAST_PIECE: usize = 2;
+
+/// A batch that a thread matches.
+#[derive(Drop)]
+pub struct Flight {
+    /// The number of its line.
+    pub number: u64,
+    /// The thread.
+    pub thread: PromisedHandle<Result<Vec<Alerts>, NoMemory>, Due>,
+}
+
+/// What a run owes to a line.
+#[derive(Drop)]
+pub enum Pending {
+    /// The text of its reply.
+    Ready(Vec<u8>),
+    /// Its batch was matched.
+    Matched(Matched),
+    /// Its batch is being matched.
+    InFlight(Flight),
+}
+
+/// Starts the matching of a batch in a thread, or matches it here where none can be made.
+pub fn start_batch<R: Threads, G: Gate + Clone + Send + 'static>(
+    rt: &R,
+    alloc: Global,
+    number: u64,
+    view: View,
+    articles: Vec<Article>,
+    batch: u64,
+    gate: &G,
+) -> Result<Pending, NoMemory>
+    ensures { IfOk result (λ p. owed_by p ≡ matched number view.history articles.items) }
+{
+    let gate = gate.clone()?;
+    let due = Due::to(&view, &articles);
+    let promise = Due::to(&view, &articles);
+    let work = move || match_piece(alloc, &view, &articles, batch, 0, &gate);
+    match thread::spawn_with(rt, promise, work) {
+        Ok(thread) => Ok(Pending::InFlight(Flight { number, thread })),
+        Err(refused) => {
+            let alerts = (refused.value)()?;
+            Ok(Pending::Matched(Matched {
+                number,
+                due,
+                alerts,
+            }))
+        }
+    }
+}
+
+/// Matches a batch in so many pieces, while the caller waits.
+pub fn match_here<R: Threads + Sync, G: Gate>(
+    rt: &R,
+    alloc: Global,
+    number: u64,
+    view: View,
+    articles: Vec<Article>,
+    batch: u64,
+    pieces: u32,
+    gate: &G,
+) -> Result<Pending, NoMemory>
+    ensures { IfOk result (λ p. owed_by p ≡ matched number view.history articles.items) }
+{
+    let due = Due::to(&view, &articles);
+    let alerts = match_pieces(rt, alloc, &view, &articles, batch, pieces, gate)?;
+    Ok(Pending::Matched(Matched {
+        number,
+        due,
+        alerts,
+    }))
+}
+
+/// Into how many pieces a batch is cut: as many as there are workers, but so few that each has `LEAST_PIECE` articles.
+pub fn pieces_that_pay(articles: usize, workers: u32) -> u32 {
+    match u32::try_from(articles / LEAST_PIECE) {
+        Ok(most) => most.min(workers),
+        Err(_) => workers,
+    }
+}
+
+impl Pending {
+    /// Whether a thread is at work for it. Constant time.
+    pub fn is_in_flight(&self) -> bool {
+        matches!(self, Pending::InFlight(_))
+    }
+}
+
+impl Flight {
+    /// The alerts that its thread found. It waits for the thread.
+    pub fn join<R: Threads>(self, rt: &R) -> Result<Vec<Alerts>, NoMemory>
+        ensures { IfOk result (λ found. map alerts_value found.items
+            ≡ map (alerts_due self.thread.promise.view.value) self.thread.promise.articles.value.items) }
+    {
+        self.thread.join(rt)
+    }
+}

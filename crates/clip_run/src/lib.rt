@@ -1,0 +1,14 @@
+//! Runs: lines in, replies out, on one thread or with workers. With workers batches are matched in threads and segments
+//! merged in another, and the replies are those of a run alone.
+#![tactic(auto)]
+
+mod alone;
+mod batch;
+mod caller;
+mod crew;
+mod due;
+mod serving;
+mod session;
+
+pub use alone::run_alone;
+pub use session::run;

@@ -1,0 +1,83 @@
+//! The lines of a run with workers, one after the other.
+ghost use Rattle.std.specs.Prelude.{◌≡◌, ◌≤◌, ◌⊎◌, [], length, true, false, IfOk, OnOk, OnErr, IfSome, Err};
+ghost use Rattle.clip_stream.specs.Lines.{lines_of};
+ghost use Rattle.clip_front.specs.Steps.Serving.{ServesAll, ServesFront};
+ghost use Rattle.clip_run.specs.Crews.{course_at};
+ghost use Rattle.clip_run.specs.Owed.{TurnsIn, BreaksIn};
+
+use crate::crew::Crew;
+use clip_desk::DeskName;
+use clip_listen::Audience;
+use clip_match::Gate;
+use clip_stream::{LineReader, MOST_READS, Outbox, RunFault, Sink, Source};
+use std::alloc::Global;
+use std::sync::Wait;
+use std::thread::Threads;
+
+/// Takes the lines one after the other, writes what the crew gives, and gives how many lines there were. It is
+/// `serve` of the front for a crew, whose answers start threads: a trait's method can't.
+///
+/// Before it asks the reader for more bytes, nothing is owed to a line that was taken, and all texts are written and
+/// flushed. Between two reads the texts are gathered.
+///
+/// `Read` where a read failed, or 1,099,511,627,776 reads met no end; `Write` where a write or a flush failed, or a
+/// write took nothing; `NoMemory` where an allocation failed or the crew answers it. After a fault nothing more is
+/// written.
+///
+/// Cost: that of the answers. Memory: one line, up to 64 KiB of gathered texts and one text more.
+pub fn serve_crew<
+    R: Threads + Wait + Sync,
+    N: DeskName,
+    S: Source,
+    W: Sink,
+    A: Audience,
+    G: Gate + Clone + Send + 'static,
+>(
+    alloc: Global,
+    reader: &mut S,
+    writer: &mut W,
+    audience: &mut A,
+    crew: &mut Crew<'_, '_, '_, R, N, G>,
+) -> Result<u64, RunFault>
+    requires unread { S.reads reader.old ≡ 0 }
+    requires reader_well { S.has_failed reader.old ≡ false }
+    requires writer_well { W.has_failed writer.old ≡ false }
+    requires settled { crew.old.owed ≡ [] }
+
+    // Where the bytes are known, the crew has answered just their lines, in order, and the writer has taken the
+    // answers.
+    ensures served { OnOk result (IfSome (S.left reader.old) (ServesAll (TurnsIn (course_at A.hearers))
+        (crew.old, audience.old) (crew.new, audience.new) (W.taken writer.old) (W.taken writer.new))) }
+    ensures settled { OnOk result (crew.new.owed ≡ []) }
+    ensures flushed { OnOk result (W.is_flushed writer.new ≡ true) }
+    ensures lines { IfOk result (λ count. IfSome (S.left reader.old) (λ input. count ≡ length (lines_of input))) }
+
+    // No device has failed, where all went well, and each fault has its reason.
+    ensures ok { OnOk result ((S.has_failed reader.new ≡ false) × (W.has_failed writer.new ≡ false)) }
+    ensures read { result ≡ Err RunFault.Read → (S.has_failed reader.new ≡ true)
+        ⊎ ((S.reads reader.new ≡ MOST_READS) × (S.met_end reader.new ≡ S.met_end reader.old)) }
+    ensures write { result ≡ Err RunFault.Write → W.has_failed writer.new ≡ true }
+    ensures reads { S.reads reader.new ≤ MOST_READS }
+
+    // After a fault, the crew has answered some first lines and begun one more at most, and the writer has taken a
+    // front of the answers.
+    ensures front { OnErr result (IfSome (S.left reader.old)
+        (ServesFront (TurnsIn (course_at A.hearers)) (BreaksIn (course_at A.hearers))
+        (crew.old, audience.old) (crew.new, audience.new) (W.taken writer.old) (W.taken writer.new))) }
+{
+    let mut lines = LineReader::new(alloc)?;
+    let mut outbox = Outbox::new(alloc);
+    let mut line = Vec::new(alloc);
+    let mut count = 0u64;
+    let mut has_more = false;
+    'lines: loop {
+        outbox.hand_over(writer, has_more)?;
+        if !lines.next_line(reader, &mut line)? {
+            return Ok(count);
+        }
+        count += 1;
+        has_more = lines.has_line();
+        let text = crew.answer(alloc, audience, count, &line, has_more)?;
+        outbox.gather(&text)?;
+    }
+}

@@ -1,0 +1,235 @@
+//! The run with workers.
+ghost use Rattle.std.specs.Prelude.{◌≡◌, ◌≤◌, ◌⊎◌, [], length, true, false, IfOk, OnOk, OnErr, IfSome, Err};
+ghost use Rattle.std.specs.Thread.{IsSync, IsSend};
+ghost use Rattle.clip_stream.specs.Lines.{lines_of};
+ghost use Rattle.clip_desk.specs.Updates.{heard_at};
+ghost use Rattle.clip_front.specs.Outcome.{GivesAll, GivesFront};
+ghost use Rattle.clip_run.specs.Ran.{told, IsFresh, Ran};
+ghost use Rattle.clip_run.specs.Seated.{IsOnly};
+
+use crate::alone::run_alone;
+use crate::caller::Caller;
+use crate::crew::Crew;
+use crate::serving::serve_crew;
+use clip_desk::{Desk, DeskName, DeskParts, Nudge, Seat, UpdateListeners, UpdateLog};
+use clip_front::{Ended, Settings};
+use clip_listen::Audience;
+use clip_match::Gate;
+use clip_stream::{MOST_READS, MOST_WORKERS, RunFault, Sink, Source};
+use clip_words::NoMemory;
+use crossbeam_channel::{Sender, unbounded};
+use std::alloc::Global;
+use std::marker::Brand;
+use std::sync::Wait;
+use std::thread::{Threads, join_mut};
+
+/// The tag of the desk of a run.
+const TAG: u64 = 1;
+
+/// Answers the lines, joins the threads that match, and tells the merging thread to stop.
+fn serve_and_stop<
+    R: Threads + Wait + Sync,
+    N: DeskName,
+    S: Source,
+    W: Sink,
+    A: Audience,
+    G: Gate + Clone + Send + 'static,
+>(
+    alloc: Global,
+    reader: &mut S,
+    writer: &mut W,
+    audience: &mut A,
+    crew: &mut Crew<'_, '_, '_, R, N, G>,
+) -> Result<u64, RunFault>
+    requires fresh { IsFresh (told S.Source W.Sink A.Audience reader.old writer.old audience.old) }
+    requires begins { (crew.old.history ≡ []) × (crew.old.rows ≡ []) × (crew.old.owed ≡ []) }
+    ensures { Ran (λ lines. lines) (λ lines. crew.new.rows) crew.old.keeps
+        (told S.Source W.Sink A.Audience reader.old writer.old audience.old)
+        (told S.Source W.Sink A.Audience reader.new writer.new audience.new)
+        result }
+{
+    let answer = serve_crew(alloc, reader, writer, audience, crew);
+    crew.stop();
+    answer
+}
+
+/// The crew of the only caller at a desk.
+fn crew_at<'a, R: Threads + Wait + Sync, N: DeskName, G: Gate + Clone + Send + 'static>(
+    rt: &'a R,
+    alloc: Global,
+    gate: &'a G,
+    desk: &'a Desk<N, UpdateLog>,
+    seat: Seat,
+    nudges: Sender<Nudge>,
+    settings: Settings,
+) -> Crew<'a, 'a, 'a, R, N, G>
+    requires { IsOnly N.book N.callers desk.now seat × (seat.mine ≡ []) }
+    ensures { result ≡ record { history = []; rows = []; keeps = settings.keeps_rows; owed = [] } }
+{
+    let caller = Caller::new(rt, desk, seat, nudges);
+    Crew::new(alloc, gate, caller, settings)
+}
+
+/// Answers the lines as the only caller at a desk, while another thread merges.
+fn run_seated<
+    R: Threads + Wait + Sync,
+    N: DeskName + Send + Sync,
+    S: Source,
+    W: Sink,
+    A: Audience,
+    G: Gate + Clone + Send + 'static,
+>(
+    rt: &R,
+    alloc: Global,
+    reader: &mut S,
+    writer: &mut W,
+    audience: &mut A,
+    settings: Settings,
+    gate: &G,
+    desk: &Desk<N, UpdateLog>,
+    seat: Seat,
+) -> Result<Ended, RunFault>
+    requires fresh { IsFresh (told S.Source W.Sink A.Audience reader.old writer.old audience.old) }
+    requires only { IsOnly N.book N.callers desk.now seat × (seat.mine ≡ []) }
+    ensures { Ran (λ ended. ended.lines) (λ ended. ended.ledger) settings.keeps_rows
+        (told S.Source W.Sink A.Audience reader.old writer.old audience.old)
+        (told S.Source W.Sink A.Audience reader.new writer.new audience.new)
+        result }
+{
+    let (nudges, nudged) = unbounded(alloc)?;
+    let mut crew = crew_at(rt, alloc, gate, desk, seat, nudges, settings);
+    let (_, lines) = join_mut(
+        rt,
+        &mut || desk.serve_merges(rt, &nudged),
+        &mut || -> Result<u64, RunFault>
+            requires sent { IsSync R.row × IsSync G.row × IsSend G.row }
+            requires fresh { IsFresh (told S.Source W.Sink A.Audience reader.now writer.now audience.now) }
+            requires begins { (crew.history ≡ []) × (crew.rows ≡ []) × (crew.owed ≡ []) }
+            ensures { Ran (λ lines. lines) (λ lines. crew.exit.rows) crew.entry.keeps
+                (told S.Source W.Sink A.Audience reader.entry.now writer.entry.now audience.entry.now)
+                (told S.Source W.Sink A.Audience reader.exit.now writer.exit.now audience.exit.now)
+                result }
+        { serve_and_stop(alloc, reader, writer, audience, &mut crew) },
+    );
+    Ok(Ended {
+        lines: lines?,
+        ledger: crew.into_ledger(),
+    })
+}
+
+/// The parts of a desk of one caller, without listeners.
+fn parts_of_one<R: Wait>(rt: &R, alloc: Global) -> Result<DeskParts<UpdateLog>, NoMemory>
+    ensures { IfOk result (λ parts. (parts.tag ≡ TAG) × (parts.callers ≡ 1)) }
+{
+    let Ok(updates) = UpdateListeners::new(alloc, Vec::new(alloc)) else {
+        return Err(NoMemory);
+    };
+    match DeskParts::new(rt, alloc, TAG, 1, updates) {
+        Ok(parts) => Ok(parts),
+        Err(_) => Err(NoMemory),
+    }
+}
+
+/// Answers the lines at a desk of these parts.
+fn run_desk<
+    N: DeskName + Send + Sync,
+    R: Threads + Wait + Sync,
+    S: Source,
+    W: Sink,
+    A: Audience,
+    G: Gate + Clone + Send + 'static,
+>(
+    rt: &R,
+    alloc: Global,
+    reader: &mut S,
+    writer: &mut W,
+    audience: &mut A,
+    settings: Settings,
+    gate: &G,
+    parts: DeskParts<UpdateLog>,
+) -> Result<Ended, RunFault>
+    requires fresh { IsFresh (told S.Source W.Sink A.Audience reader.old writer.old audience.old) }
+    requires named { (parts.book ≡ N.book) × (parts.callers ≡ N.callers) × (N.heard_before ≡ heard_at parts.updates) }
+    requires one { parts.callers ≡ 1 }
+    ensures { Ran (λ ended. ended.lines) (λ ended. ended.ledger) settings.keeps_rows
+        (told S.Source W.Sink A.Audience reader.old writer.old audience.old)
+        (told S.Source W.Sink A.Audience reader.new writer.new audience.new)
+        result }
+{
+    let (desk, mut seats) = Desk::<N, UpdateLog>::open(parts);
+    let Some(seat) = seats.pop() else {
+        unreachable!();
+    };
+    let answer = run_seated(
+        rt, alloc, reader, writer, audience, settings, gate, &desk, seat,
+    );
+    desk.end(rt);
+    answer
+}
+
+/// Reads requests, a JSON object a line, and writes the replies in the order of the lines. Each alert of a match is
+/// told to the listener of its query, whose note stands in the reply. `Listeners` are an audience.
+///
+/// With workers, batches are matched in threads while further lines are taken, up to the lesser of `workers` and 32
+/// at a time, each at the registry that the lines before its own leave; another thread merges after each accepted
+/// change. Whatever order these take, the replies, what is heard and the ledger are those of `run_alone`, which does
+/// it all with 0 workers. Alerts are told and replies written on the thread that calls this, in the order of the
+/// lines.
+///
+/// Before it asks the reader for more bytes, each line that was read whole is answered, and the replies are written and
+/// flushed: a client that waits for a reply before it sends its next line gets it. At the end, and after a fault, each
+/// thread that it started has ended.
+///
+/// `Read` where a read failed, or 1,099,511,627,776 reads met no end; `Write` where a write or a flush failed, or a
+/// write took nothing; `NoMemory` where an allocation failed outside of a merge, a listener answers it, or the desk's
+/// call does. After a fault nothing more is written, and no more is delivered.
+///
+/// Cost: that of `run_alone`, of which matches and merges are shared among threads; for each batch that is not
+/// matched alone the start of a thread; and for each change a view. Memory: that of `run_alone`, with up to 32
+/// batches, what was found of them, and the replies to the lines that wait behind them.
+pub fn run<
+    R: Threads + Wait + Sync,
+    S: Source,
+    W: Sink,
+    A: Audience,
+    G: Gate + Clone + Send + 'static,
+>(
+    rt: &R,
+    alloc: Global,
+    reader: &mut S,
+    writer: &mut W,
+    audience: &mut A,
+    settings: Settings,
+    gate: &G,
+) -> Result<Ended, RunFault>
+    requires unread { S.reads reader.old ≡ 0 }
+    requires reader_well { S.has_failed reader.old ≡ false }
+    requires writer_well { W.has_failed writer.old ≡ false }
+    requires workers { settings.workers ≤ MOST_WORKERS }
+
+    // Where the bytes are known, what was written and flushed is their reply text, each listener has heard just its own
+    // alerts, in order, and the ledger has a row for each alert, or none where none are kept.
+    ensures outcome { IfOk result (λ ended. IfSome (S.left reader.old)
+        (GivesAll (A.hearers audience.old) (A.hearers audience.new) settings.keeps_rows
+        (W.taken writer.old) (W.taken writer.new) ended.ledger)) }
+    ensures flushed { OnOk result (W.is_flushed writer.new ≡ true) }
+    ensures lines { IfOk result (λ ended. IfSome (S.left reader.old) (λ input.
+        ended.lines ≡ length (lines_of input))) }
+
+    // No device has failed, where the run ended well, and each fault has its reason.
+    ensures ok { OnOk result ((S.has_failed reader.new ≡ false) × (W.has_failed writer.new ≡ false)) }
+    ensures read { result ≡ Err RunFault.Read → (S.has_failed reader.new ≡ true)
+        ⊎ ((S.reads reader.new ≡ MOST_READS) × (S.met_end reader.new ≡ S.met_end reader.old)) }
+    ensures write { result ≡ Err RunFault.Write → W.has_failed writer.new ≡ true }
+    ensures reads { S.reads reader.new ≤ MOST_READS }
+
+    // After a fault, what was written and heard is a front of what some of the first lines give.
+    ensures front { OnErr result (IfSome (S.left reader.old)
+        (GivesFront (A.hearers audience.old) (A.hearers audience.new) (W.taken writer.old) (W.taken writer.new))) }
+{
+    if settings.workers == 0 {
+        return run_alone(alloc, reader, writer, audience, settings);
+    }
+    let parts = parts_of_one(rt, alloc)?;
+    run_desk::<Brand, _, _, _, _, _>(rt, alloc, reader, writer, audience, settings, gate, parts)
+}

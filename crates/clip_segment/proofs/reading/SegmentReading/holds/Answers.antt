@@ -1,0 +1,15 @@
+use Rattle.std.proofs.Common.{◌≡◌, IfOk, Some, slice_get, subst}
+use Rattle.std.proofs.lemmas.Result.{IfOk-weaker}
+use Rattle.clip_meaning.specs.Meaning.{holds}
+use Rattle.clip_model.specs.History.{Registered}
+use Rattle.clip_segment.specs.Segment.{AskedValue}
+use Rattle.clip_segment.specs.Steps.ReadingView.{index_asked}
+use Rattle.clip_segment.proofs.EntryPositions.{plan_of_entry}
+use Rattle.clip_segment.proofs.reading.SegmentReading.holds.Goals as goal
+
+pub returns : goal.returns
+returns c =
+    let inside = c.self.inside in
+    let at = c.args.position in
+    subst (λ (asked : AskedValue). IfOk c.judge.result (λ held. (entry : Registered) → slice_get asked.entries at ≡ Some entry → held ≡ holds entry.standing.tree asked.article.fields)) c.self.view_is
+    (IfOk-weaker c.judge.result _ _ (λ held judged entry there. judged entry.standing.tree (plan_of_entry inside.segment.now (index_asked inside) c.self.invariant.index at entry there)) c.judge.ensures)

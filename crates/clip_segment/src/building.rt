@@ -1,0 +1,200 @@
+//! How an index is built: the terms of queries, the positions under each, and the plans.
+ghost use Rattle.std.specs.Prelude.{◌≡◌, ◌<◌, ◌≤◌, ◌++◌, ◌∷◌, [], ℕ, List, if◌then◌else◌, IfOk, OnOk, IsTrue, Some};
+ghost use Rattle.std.specs.Prelude.{length, map, get_or, set, replicate, vec_items};
+ghost use Rattle.std.specs.List.Sorted.{IsStrictlySortedBy};
+ghost use Rattle.clip_grammar.specs.Tree.{tree_of};
+ghost use Rattle.clip_extract.specs.Keys.{KeyValue, key_of, key_cmp, is_same};
+ghost use Rattle.clip_extract.specs.Extraction.{query_keys};
+ghost use Rattle.clip_terms.specs.Terms.{number_of};
+ghost use Rattle.clip_plan.specs.Plan.{are_terms, decoded, plan_of};
+ghost use Rattle.clip_segment.specs.Index.{asked_of, has_key, query_positions_with, terms_of};
+ghost use Rattle.clip_segment.specs.declared.segment.TheConstants.{MOST_POSITIONS};
+
+use crate::kept_terms::add_copy;
+use clip_extract::{Key, keys};
+use clip_grammar::query::Query;
+use clip_pieces::PackedLists;
+use clip_plan::{Plans, add_word_keys};
+use clip_terms::Terms;
+use clip_words::NoMemory;
+use std::alloc::Global;
+
+/// A query with its keys.
+#[derive(Drop)]
+pub(crate) struct Keyed<'a> {
+    query: &'a Query,
+    keys: Vec<Key>,
+    ghost own: { map key_of keys.items ≡ query_keys (tree_of query.now) },
+}
+
+/// Queries with their keys.
+pub(crate) fn with_keys<'a>(alloc: Global, queries: &'a [Query]) -> Result<Vec<Keyed<'a>>, NoMemory>
+    ensures { IfOk result (λ keyed. map (λ k. tree_of k.query.now) keyed.items ≡ map tree_of queries.now) }
+{
+    let mut keyed = Vec::with_capacity(alloc, queries.len())?;
+    for query in queries {
+        keyed.push(Keyed {
+            query,
+            keys: keys(alloc, query)?,
+        })?;
+    }
+    Ok(keyed)
+}
+
+/// Adds copies of keys. Texts are shared.
+fn add_copies(keys: &[Key], all: &mut Vec<Key>) -> Result<(), NoMemory>
+    ensures { OnOk result (map key_of all.new.items ≡ map key_of all.old.items ++ map key_of keys.now) }
+{
+    for key in keys {
+        add_copy(key, all)?;
+    }
+    Ok(())
+}
+
+/// Adds the keys of a query, and the words that it asks for. Texts are shared.
+fn add_asked(keyed: &Keyed, all: &mut Vec<Key>) -> Result<(), NoMemory>
+    ensures { OnOk result (map key_of all.new.items
+        ≡ map key_of all.old.items ++ asked_of (tree_of keyed.now.query.now)) }
+{
+    add_copies(&keyed.keys, all)?;
+    add_word_keys(keyed.query, all)
+}
+
+/// The keys of queries and the words that they ask for, in order, each once.
+pub(crate) fn terms_of(alloc: Global, queries: &[Keyed]) -> Result<Terms, NoMemory>
+    ensures { IfOk result (λ terms. terms ≡ terms_of (map (λ k. tree_of k.query.now) queries.now)) }
+{
+    let mut all = Vec::new(alloc);
+    for query in queries {
+        add_asked(query, &mut all)?;
+    }
+    Terms::of(all)
+}
+
+/// So many empty lists.
+pub(crate) fn empty_lists(alloc: Global, count: usize) -> Result<Vec<Vec<u32>>, NoMemory>
+    ensures { IfOk result (λ lists. map vec_items lists.items ≡ replicate count []) }
+{
+    let mut lists = Vec::with_capacity(alloc, count)?;
+    for _ in 0..count {
+        lists.push(Vec::new(alloc))?;
+    }
+    Ok(lists)
+}
+
+/// The number of a key that is a term.
+fn number_of(terms: &Terms, key: &Key) -> u32
+    requires { IsTrue (are_terms terms.now (key_of key.now ∷ [])) }
+    ensures { number_of terms.now (key_of key.now) ≡ Some result }
+{
+    let Some(number) = terms.number(key) else {
+        unreachable!();
+    };
+    number
+}
+
+/// Adds a position at the end of the list of a number.
+fn add_to_list(lists: &mut Vec<Vec<u32>>, number: usize, position: u32) -> Result<(), NoMemory>
+    requires { number < length lists.old.items }
+    ensures { OnOk result (map vec_items lists.new.items
+        ≡ set (map vec_items lists.old.items) number
+        (get_or (map vec_items lists.old.items) number [] ++ position ∷ [])) }
+{
+    lists[number].push(position)?;
+    Ok(())
+}
+
+/// Adds a position to the list of a key that is a term, where each term has its list.
+fn add_to_key(
+    terms: &Terms,
+    key: &Key,
+    position: u32,
+    lists: &mut Vec<Vec<u32>>,
+) -> Result<(), NoMemory>
+    requires rising { IsStrictlySortedBy key_cmp terms.now }
+    requires term { IsTrue (are_terms terms.now (key_of key.now ∷ [])) }
+    requires long { length lists.old.items ≡ length terms.now }
+    ensures long { OnOk result (length lists.new.items ≡ length terms.now) }
+    ensures added { OnOk result ((under : KeyValue → List ℕ) → map vec_items lists.old.items ≡ map under terms.now
+        → map vec_items lists.new.items
+        ≡ map (λ term. under term ++ (if is_same (key_of key.now) term then position ∷ [] else [])) terms.now) }
+{
+    add_to_list(lists, number_of(terms, key) as usize, position)?;
+    Ok(())
+}
+
+/// Adds a query's position to the list of each of its keys, which are terms, where each term has its list.
+fn add_position(
+    terms: &Terms,
+    keyed: &Keyed,
+    position: u32,
+    lists: &mut Vec<Vec<u32>>,
+) -> Result<(), NoMemory>
+    requires rising { IsStrictlySortedBy key_cmp terms.now }
+    requires terms { IsTrue (are_terms terms.now (query_keys (tree_of keyed.now.query.now))) }
+    requires long { length lists.old.items ≡ length terms.now }
+    ensures { OnOk result ((under : KeyValue → List ℕ) → map vec_items lists.old.items ≡ map under terms.now
+        → map vec_items lists.new.items
+        ≡ map (λ term. under term ++ (if has_key term (tree_of keyed.now.query.now) then position ∷ [] else []))
+        terms.now) }
+{
+    for key in &keyed.keys {
+        add_to_key(terms, key, position, lists)?;
+    }
+    Ok(())
+}
+
+/// For each term the positions of the queries that have it, rising.
+fn lists_of(alloc: Global, terms: &Terms, queries: &[Keyed]) -> Result<Vec<Vec<u32>>, NoMemory>
+    requires short { length queries.now ≤ MOST_POSITIONS }
+    requires terms { terms.now ≡ terms_of (map (λ k. tree_of k.query.now) queries.now) }
+    ensures { IfOk result (λ lists. map vec_items lists.items
+        ≡ map (λ term. query_positions_with term (map (λ k. tree_of k.query.now) queries.now)) terms.now) }
+{
+    let mut lists = empty_lists(alloc, terms.len())?;
+    let mut position = 0;
+    for query in queries {
+        add_position(terms, query, position, &mut lists)?;
+        position += 1;
+    }
+    Ok(lists)
+}
+
+/// These lists in one buffer.
+pub(crate) fn packed(alloc: Global, lists: &[Vec<u32>]) -> Result<PackedLists<u32>, NoMemory>
+    ensures { IfOk result (λ packed. packed ≡ map vec_items lists.now) }
+{
+    let mut packed = PackedLists::new(alloc);
+    for list in lists {
+        packed.push(list)?;
+    }
+    Ok(packed)
+}
+
+/// For each term the positions of the queries that have it, rising, in one buffer.
+pub(crate) fn positions_of(
+    alloc: Global,
+    terms: &Terms,
+    queries: &[Keyed],
+) -> Result<PackedLists<u32>, NoMemory>
+    requires short { length queries.now ≤ MOST_POSITIONS }
+    requires terms { terms.now ≡ terms_of (map (λ k. tree_of k.query.now) queries.now) }
+    ensures { IfOk result (λ positions. positions
+        ≡ map (λ term. query_positions_with term (map (λ k. tree_of k.query.now) queries.now)) terms.now) }
+{
+    let lists = lists_of(alloc, terms, queries)?;
+    packed(alloc, &lists)
+}
+
+/// The plans of queries, in order.
+pub(crate) fn plans_of(alloc: Global, terms: &Terms, queries: &[Keyed]) -> Result<Plans, NoMemory>
+    requires { terms.now ≡ terms_of (map (λ k. tree_of k.query.now) queries.now) }
+    ensures { IfOk result (λ plans.
+        map (decoded terms.now) plans ≡ map plan_of (map (λ k. tree_of k.query.now) queries.now)) }
+{
+    let mut plans = Plans::new(alloc);
+    for query in queries {
+        plans.push(alloc, terms, query.query)?;
+    }
+    Ok(plans)
+}

@@ -1,0 +1,104 @@
+//! Indexes.
+ghost use Rattle.std.specs.Prelude.{◌≡◌, ◌≤◌, IfOk, List, length, map, vec_items};
+ghost use Rattle.clip_grammar.specs.Tree.{Tree, tree_of};
+ghost use Rattle.clip_extract.specs.Keys.{key_of};
+ghost use Rattle.clip_segment.specs.Index.{IsIndexOf, query_positions_with};
+ghost use Rattle.clip_segment.specs.Selecting.{AreFlagsOf, AreIndexesOf, count_set, kept_of};
+ghost use Rattle.clip_segment.specs.declared.segment.TheConstants.{MOST_POSITIONS};
+
+use crate::building::{empty_lists, packed, plans_of, positions_of, terms_of, with_keys};
+use crate::index_selecting::add_all_kept;
+use crate::kept_terms::kept_terms;
+use clip_extract::Key;
+use clip_grammar::query::Query;
+use clip_pieces::PackedLists;
+use clip_plan::Plans;
+use clip_terms::Terms;
+use clip_words::NoMemory;
+use std::alloc::Global;
+use std::marker::Model;
+
+/// An index over queries: by their keys, and by what they ask. The queries themselves are not kept. Contracts see its
+/// terms, the positions under each and the plans, and say of which queries it is the index (`IsIndexOf`).
+#[derive(Debug, Drop)]
+pub(crate) struct Index {
+    pub(crate) terms: Terms,
+    pub(crate) positions: PackedLists<u32>,
+    pub(crate) plans: Plans,
+}
+
+impl Model for Index {
+    ghost use Rattle.std.specs.Coded.{codes};
+    ghost use Rattle.clip_grammar.specs.TreeCode.{tree_code};
+    ghost use Rattle.clip_segment.specs.Index.{IndexValue};
+    ghost use Rattle.clip_segment.specs.Steps.IndexView.{index_of};
+
+    ghost Value = { IndexValue };
+
+    ghost coded = { Prim.hlevel (codes, tree_code) };
+
+    ghost view = { index_of };
+}
+
+impl Index {
+    /// The index of these queries, of which there are at most `MOST_POSITIONS`.
+    ///
+    /// `NoMemory` where an allocation failed, and where the queries have more than 4,294,967,295 terms. Cost: an
+    /// extraction of each query's keys, a sort of the keys and words of all, and a search by halves for each of them.
+    /// No text is copied but ends of ranges.
+    pub(crate) fn of(alloc: Global, queries: &[Query]) -> Result<Index, NoMemory>
+        requires { length queries.now ≤ MOST_POSITIONS }
+        ensures { IfOk result (λ index. IsIndexOf (map tree_of queries.now) index) }
+    {
+        let keyed = with_keys(alloc, queries)?;
+        let terms = terms_of(alloc, &keyed)?;
+        let positions = positions_of(alloc, &terms, &keyed)?;
+        let plans = plans_of(alloc, &terms, &keyed)?;
+        Ok(Index {
+            terms,
+            positions,
+            plans,
+        })
+    }
+
+    /// The index of the kept queries of several indexes, in order. `kept` has a list of flags for each index, and in it
+    /// a flag for each of its queries; at most `MOST_POSITIONS` flags are set.
+    ///
+    /// `NoMemory` where an allocation failed, and where the queries have more than 4,294,967,295 terms. Cost: a sort of
+    /// the terms that kept queries ask for, each once for each index; a search by halves for each term; a step for each
+    /// flag and each position; and for each kept query a step for each word and each leaf. No key is extracted, and no
+    /// text is copied but ends of ranges.
+    pub(crate) fn select(
+        alloc: Global,
+        indexes: &[&Index],
+        kept: &[Vec<bool>],
+    ) -> Result<Index, NoMemory>
+        requires { count_set (map vec_items kept.now) ≤ MOST_POSITIONS }
+        ensures { IfOk result (λ index. (trees : List (List Tree))
+            → AreIndexesOf trees (map (λ i. i.now) indexes.now) → AreFlagsOf trees (map vec_items kept.now)
+            → IsIndexOf (kept_of trees (map vec_items kept.now)) index) }
+    {
+        let terms = kept_terms(alloc, indexes, kept)?;
+        let mut lists = empty_lists(alloc, terms.len())?;
+        let mut plans = Plans::new(alloc);
+        add_all_kept(alloc, &terms, indexes, kept, &mut lists, &mut plans)?;
+        let positions = packed(alloc, &lists)?;
+        Ok(Index {
+            terms,
+            positions,
+            plans,
+        })
+    }
+
+    /// The positions, from 0 and rising, of just the queries that have the key. Takes no memory. Cost: a search by
+    /// halves among the terms.
+    pub(crate) fn with_key(&self, key: &Key) -> &[u32]
+        ensures { (trees : List Tree) → IsIndexOf trees self.now
+            → result.now ≡ query_positions_with (key_of key.now) trees }
+    {
+        match self.terms.number(key) {
+            Some(number) => self.positions.get(number as usize),
+            None => &[],
+        }
+    }
+}

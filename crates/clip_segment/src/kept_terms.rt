@@ -1,0 +1,159 @@
+//! The terms of the queries that are kept of several indexes.
+ghost use Rattle.std.specs.Prelude.{◌≡◌, ◌++◌, ◌||◌, ◌<◌, ◌∷◌, [], ℕ, List, IfOk, OnOk, length, map, flat_map, nat_eq};
+ghost use Rattle.std.specs.Prelude.{unwrap_or, slice_get, vec_items};
+ghost use Rattle.std.specs.List.{list_any};
+ghost use Rattle.std.specs.List.Sorted.{IsStrictlySortedBy};
+ghost use Rattle.clip_grammar.specs.Tree.{Tree};
+ghost use Rattle.clip_extract.specs.Keys.{KeyValue, key_of, key_cmp, is_same};
+ghost use Rattle.clip_plan.specs.Plan.{names};
+ghost use Rattle.clip_segment.specs.Index.{IsIndexOf, asked_of, terms_of};
+ghost use Rattle.clip_segment.specs.Selecting.{AreFlagsOf, AreIndexesOf, flagged, kept_of};
+ghost use Rattle.clip_segment.specs.Steps.Parts.{flag_at};
+
+use crate::index::Index;
+use clip_extract::Key;
+use clip_pieces::PackedLists;
+use clip_plan::Plans;
+use clip_terms::Terms;
+use clip_words::NoMemory;
+use std::alloc::Global;
+
+/// The flags of a list, none past the last list.
+pub(crate) fn flags_of(kept: &[Vec<bool>], place: usize) -> &[bool]
+    ensures { result.now ≡ unwrap_or (slice_get (map vec_items kept.now) place) [] }
+{
+    match kept.get(place) {
+        Some(flags) => flags,
+        None => &[],
+    }
+}
+
+/// Whether the flag of a place is set; a missing one is not.
+pub(crate) fn flag_at(flags: &[bool], place: usize) -> bool
+    ensures { result ≡ flag_at flags.now place }
+{
+    match flags.get(place) {
+        Some(flag) => *flag,
+        None => false,
+    }
+}
+
+/// Whether the flag of one of the positions is set.
+fn any_flag(flags: &[bool], positions: &[u32]) -> bool
+    ensures { result ≡ list_any (flag_at flags.now) positions.now }
+{
+    for position in positions {
+        if flag_at(flags, *position as usize) {
+            return true;
+        }
+    }
+    false
+}
+
+/// For each list of positions whether one of them is kept.
+fn with_kept_positions(
+    alloc: Global,
+    positions: &PackedLists<u32>,
+    kept: &[bool],
+) -> Result<Vec<bool>, NoMemory>
+    ensures { IfOk result (λ flags. flags.items ≡ map (list_any (flag_at kept.now)) positions.now) }
+{
+    let mut flags = Vec::with_capacity(alloc, positions.len())?;
+    for number in 0..positions.len() {
+        flags.push(any_flag(kept, positions.get(number)))?;
+    }
+    Ok(flags)
+}
+
+/// The numbers that the kept plans name.
+fn kept_numbers(alloc: Global, plans: &Plans, kept: &[bool]) -> Result<Vec<u32>, NoMemory>
+    ensures { IfOk result (λ numbers. numbers.items ≡ flat_map names (flagged kept.now plans.now)) }
+{
+    let mut numbers = Vec::new(alloc);
+    for position in 0..plans.len() {
+        if flag_at(kept, position) {
+            plans.add_numbers(position, &mut numbers)?;
+        }
+    }
+    Ok(numbers)
+}
+
+/// Sets the flag of a number, if there is one.
+fn set_flag(flags: &mut Vec<bool>, number: usize)
+    ensures long { length flags.new.items ≡ length flags.old.items }
+    ensures flags { (n : ℕ) → n < length flags.old.items
+        → flag_at flags.new.items n ≡ (flag_at flags.old.items n || nat_eq n number) }
+{
+    if number < flags.len() {
+        flags[number] = true;
+    }
+}
+
+/// Sets the flags of numbers; one past the last flag is left out.
+fn set_all(flags: &mut Vec<bool>, numbers: &[u32])
+    ensures long { length flags.new.items ≡ length flags.old.items }
+    ensures flags { (n : ℕ) → n < length flags.old.items
+        → flag_at flags.new.items n ≡ (flag_at flags.old.items n || list_any (nat_eq n) numbers.now) }
+{
+    for number in numbers {
+        set_flag(flags, *number as usize);
+    }
+}
+
+/// Adds a copy of a key. Texts are shared.
+pub(crate) fn add_copy(key: &Key, all: &mut Vec<Key>) -> Result<(), NoMemory>
+    ensures { OnOk result (map key_of all.new.items ≡ map key_of all.old.items ++ key_of key.now ∷ []) }
+{
+    all.push(key.clone()?)?;
+    Ok(())
+}
+
+/// Adds the keys whose flags are set.
+fn add_flagged(keys: &[Key], flags: &[bool], all: &mut Vec<Key>) -> Result<(), NoMemory>
+    ensures { OnOk result (map key_of all.new.items
+        ≡ map key_of all.old.items ++ flagged flags.now (map key_of keys.now)) }
+{
+    for number in 0..keys.len() {
+        if flag_at(flags, number) {
+            add_copy(&keys[number], all)?;
+        }
+    }
+    Ok(())
+}
+
+/// Adds the terms of an index that its kept queries ask for.
+fn add_kept_terms(
+    alloc: Global,
+    index: &Index,
+    kept: &[bool],
+    all: &mut Vec<Key>,
+) -> Result<(), NoMemory>
+    ensures { OnOk result ((trees : List Tree) → IsIndexOf trees index.now → (key : KeyValue)
+        → list_any (is_same key) (map key_of all.new.items)
+        ≡ (list_any (is_same key) (map key_of all.old.items)
+        || list_any (is_same key) (flat_map asked_of (flagged kept.now trees)))) }
+{
+    let mut used = with_kept_positions(alloc, &index.positions, kept)?;
+    let numbers = kept_numbers(alloc, &index.plans, kept)?;
+    set_all(&mut used, &numbers);
+    add_flagged(index.terms.keys(), &used, all)
+}
+
+/// The terms of the kept queries of several indexes.
+pub(crate) fn kept_terms(
+    alloc: Global,
+    indexes: &[&Index],
+    kept: &[Vec<bool>],
+) -> Result<Terms, NoMemory>
+    ensures rising { IfOk result (λ terms. IsStrictlySortedBy key_cmp terms) }
+    ensures terms { IfOk result (λ terms. (trees : List (List Tree)) → AreIndexesOf trees (map (λ i. i.now) indexes.now)
+        → AreFlagsOf trees (map vec_items kept.now) → terms ≡ terms_of (kept_of trees (map vec_items kept.now))) }
+{
+    let mut all = Vec::new(alloc);
+    let mut place = 0;
+    for index in indexes {
+        add_kept_terms(alloc, index, flags_of(kept, place), &mut all)?;
+        place += 1;
+    }
+    Terms::of(all)
+}

@@ -1,0 +1,44 @@
+-- Threads may hand over and share standing queries, entries, commands and entries of the history.
+use denote.Param.Send.{IsSend, IsSync, view_send, view_sync, sendable}
+use denote.Param.SendFields.{declared_send, declared_sync, variants_send, variants_sync}
+use Rattle.std.proofs.alloc.Global.TheSendSync as global_sent
+use Rattle.std.below.std_heap.proofs.GlobalAllocator.TheSendSync as allocator_sent
+use Rattle.std.proofs.string.String.TheSendSync as string_sent
+use Rattle.std.proofs.sync.ArcStr.TheSendSync as arc_str_sent
+use Rattle.std.proofs.option.Option.TheSendSync as option_sent
+use Rattle.std.proofs.sync.Arc.TheSendSync as arc_sent
+use Rattle.std.proofs.vec.Vec.TheSendSync as vec_sent
+use Rattle.clip_standing.specs.contracts.standing.Standing as standing
+use Rattle.clip_standing.specs.contracts.standing.Standing.TheInside as standing_inside
+use Rattle.clip_standing.specs.contracts.entry.Entry as entry
+use Rattle.clip_standing.specs.contracts.entry.Entry.TheInside as entry_inside
+use Rattle.clip_standing.specs.contracts.command.Command as command
+use Rattle.clip_standing.specs.contracts.command.HistoryEntry as history_entry
+
+ruleset global = (sendable, global_sent.the_send, global_sent.the_sync, allocator_sent.the_frees)
+
+ruleset parts = (global, vec_sent.the_send, vec_sent.the_sync, arc_sent.the_send, arc_sent.the_sync, string_sent.the_send, string_sent.the_sync)
+
+pub standing_send : IsSend standing.the_row
+standing_send = view_send standing_inside.the_row _ _ _ _ (declared_send standing_inside.the_type (search (global, arc_str_sent.the_send), (search (global, arc_str_sent.the_send), (search (global, arc_str_sent.the_send, option_sent.the_send), tt))))
+
+pub standing_sync : IsSync standing.the_row
+standing_sync = view_sync standing_inside.the_row _ _ _ _ (declared_sync standing_inside.the_type (search (global, arc_str_sent.the_sync), (search (global, arc_str_sent.the_sync), (search (global, arc_str_sent.the_sync, option_sent.the_sync), tt))))
+
+pub entry_send : IsSend entry.the_row
+entry_send = view_send entry_inside.the_row _ _ _ _ (declared_send entry_inside.the_type (search global, (search (global, arc_sent.the_send, standing_send, standing_sync), tt)))
+
+pub entry_sync : IsSync entry.the_row
+entry_sync = view_sync entry_inside.the_row _ _ _ _ (declared_sync entry_inside.the_type (search global, (search (global, arc_sent.the_sync, standing_send, standing_sync), tt)))
+
+command_send : IsSend command.the_row
+command_send = variants_send command.enum ((search (parts, standing_send, standing_sync), tt), ((search parts, tt), (tt, tt)))
+
+command_sync : IsSync command.the_row
+command_sync = variants_sync command.enum ((search (parts, standing_send, standing_sync), tt), ((search parts, tt), (tt, tt)))
+
+pub history_entry_send : IsSend history_entry.the_row
+history_entry_send = declared_send history_entry.the_type (search global, (search global, (command_send, tt)))
+
+pub history_entry_sync : IsSync history_entry.the_row
+history_entry_sync = declared_sync history_entry.the_type (search global, (search global, (command_sync, tt)))

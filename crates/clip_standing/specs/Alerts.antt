@@ -1,0 +1,24 @@
+-- The alerts of an article as contracts see them.
+use Rattle.std.specs.Prelude.{ℕ, List, map, option_map}
+use Rattle.std.specs.Arc.{arc_str_bytes}
+use Rattle.clip_model.specs.Alerts as model
+use Rattle.clip_standing.specs.declared.alert.Alert.{Alert}
+use Rattle.clip_standing.specs.declared.alert.Alerts.{Alerts}
+
+-- the article's id, the length of the history that was matched against, how many queries were tried, and the alerts
+pub record AlertsValue : Type 0 where
+  pub article : List ℕ
+  pub place : ℕ
+  pub asked : ℕ
+  pub alerts : List model.Alert
+
+abbrev pub alert_value : Alert → model.Alert
+alert_value a = record { query = arc_str_bytes a.query; article = arc_str_bytes a.article; listener = option_map arc_str_bytes a.listener }
+
+abbrev pub alerts_value : Alerts → AlertsValue
+alerts_value found = record {
+  article = arc_str_bytes found.article;
+  place = found.place;
+  asked = found.asked;
+  alerts = map alert_value found.alerts.items;
+}

@@ -1,0 +1,4 @@
+pub mod Alerts
+pub mod Command
+pub mod Standing
+pub mod Steps

@@ -1,0 +1,4 @@
+-- Private fields, as they are kept and as contracts see them; no public clause cites it.
+pub mod EntryView
+pub mod KeptReading
+pub mod StandingView

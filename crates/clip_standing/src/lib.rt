@@ -1,0 +1,12 @@
+//! What the protocol and the index both speak of: standing queries, their entries, commands with their answers, and alerts.
+#![tactic(auto)]
+
+mod alert;
+mod command;
+mod entry;
+mod standing;
+
+pub use alert::{Alert, Alerts};
+pub use command::{Applied, Command, HistoryEntry, Refused};
+pub use entry::Entry;
+pub use standing::{Standing, StandingFault};

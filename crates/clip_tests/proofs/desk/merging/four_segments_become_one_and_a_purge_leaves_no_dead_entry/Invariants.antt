@@ -1,6 +1,0 @@
-use Rattle.clip_listen.specs.Updates.{heard_at}
-use Rattle.clip_tests.proofs.desk.merging.four_segments_become_one_and_a_purge_leaves_no_dead_entry.Given as goal
-
--- the desk whose parts were just made
-abbrev pub ghosts-run_merge : goal.ghosts-run_merge
-ghosts-run_merge g a = record { book = a.parts.book; callers = a.parts.callers; heard_before = heard_at a.parts.updates }

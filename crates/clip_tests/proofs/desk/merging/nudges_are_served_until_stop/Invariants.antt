@@ -1,6 +1,0 @@
-use Rattle.clip_listen.specs.Updates.{heard_at}
-use Rattle.clip_tests.proofs.desk.merging.nudges_are_served_until_stop.Given as goal
-
--- the desk whose parts were just made
-abbrev pub ghosts-run_nudges : goal.ghosts-run_nudges
-ghosts-run_nudges g a = record { book = a.parts.book; callers = a.parts.callers; heard_before = heard_at a.parts.updates }

@@ -1,9 +1,0 @@
-use Rattle.clip_listen.specs.Updates.{heard_at}
-use Rattle.clip_tests.proofs.desk.refusals.a_foreign_seat_is_refused.Given as goal
-
--- the desks whose parts were just made
-abbrev pub ghosts-run_foreign-N-DeskName : goal.ghosts-run_foreign-N-DeskName
-ghosts-run_foreign-N-DeskName g a = record { book = a.parts.book; callers = a.parts.callers; heard_before = heard_at a.parts.updates }
-
-abbrev pub ghosts-run_foreign-M-DeskName : goal.ghosts-run_foreign-M-DeskName
-ghosts-run_foreign-M-DeskName g a = record { book = a.others.book; callers = a.others.callers; heard_before = heard_at a.others.updates }

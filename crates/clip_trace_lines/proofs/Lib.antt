@@ -1,0 +1,2 @@
+pub mod TraceRequestLaw
+pub mod Traced

@@ -1,0 +1,114 @@
+-- What a trace gives, by the answers to its lines.
+use Rattle.std.proofs.Common.{◌≡◌, ℕ, suc, List, [], ◌∷◌, ◌++◌, map, Bool, true, false, cond, Option, Some, None, refl, sym, ap, ◌∙◌, subst, append_assoc, append-nil, if◌then◌else◌}
+use Rattle.std.specs.Prelude.{IfSome}
+use Rattle.serde_json.specs.Data.{Data}
+use Rattle.clip_standing.specs.Alerts.{alerts_value}
+use Rattle.clip_standing.specs.declared.alert.Alerts.{Alerts}
+use Rattle.clip_stream.specs.Lines.{lines_of}
+use Rattle.clip_stream.specs.Steps.Reading.{cut}
+use Rattle.clip_trace.specs.Event.{found_of}
+use Rattle.clip_trace.specs.Schedule.{Step, Stand, IsDue, stand, nothing_open}
+use Rattle.clip_protocol.specs.declared.refusal.Refusal.TheVariants.{Long, Limit}
+use Rattle.clip_protocol.specs.LineMeaning.{blank, refused, asks, SaysBy, IsFilled, is_long, is_blank, json_of}
+use Rattle.clip_trace_lines.specs.TraceLine.{Said, SaysLine, SaysTrace}
+use Rattle.clip_trace_lines.specs.TraceOutcome.{found_shown, Traces, IsTrace, TracesAll, TracesFront}
+use Rattle.clip_trace_lines.specs.TraceRequest.{TraceRequest, trace_value, trace_within}
+use Rattle.clip_front.specs.Steps.Serving.{Serves, ServesAll, ServesFront}
+use Rattle.clip_trace_lines.specs.Steps.TraceOutline.{trace_request_of, trace_line, asked_line, value_line, AnswersTraced, AnswersIn, BreaksIn}
+use Rattle.clip_protocol.specs.Steps.Views.{alerts_ids}
+use Rattle.clip_protocol.proofs.RequestLaw.{none_is_some}
+use Rattle.clip_front.proofs.Served.{choose, cut_is_long, cut_is_whole}
+use Rattle.clip_trace_lines.proofs.TraceRequestLaw.{trace_request_of-trace_value, trace_value-trace_request_of}
+
+-- ---- replies
+
+pub shown_found : (found : List Alerts) → map alerts_ids (map alerts_value found) ≡ map found_shown (map (λ a. found_of (alerts_value a)) found)
+shown_found [] = refl
+shown_found (a ∷ found) = ap (λ rest. alerts_ids (alerts_value a) ∷ rest) (shown_found found)
+
+-- ---- what a line says
+
+says_limited : (line : List ℕ) (r : TraceRequest) (b : Bool) → IsFilled line → json_of line ≡ Some (trace_value r) → trace_within r ≡ b → SaysBy trace_value trace_within line (cond b (asks r) (refused Limit))
+says_limited line r true filled value e = (filled, value, e)
+says_limited line r false filled value e = (filled, r, value, e)
+
+says_asked : (line : List ℕ) (d : Data) (o : Option TraceRequest) → IsFilled line → json_of line ≡ Some d → trace_request_of d ≡ o → SaysBy trace_value trace_within line (asked_line o)
+says_asked line d None filled value e = (filled, d, value, λ r is. none_is_some r (sym e ∙ ap trace_request_of is ∙ trace_request_of-trace_value r))
+says_asked line d (Some r) filled value e = says_limited line r (trace_within r) filled (value ∙ ap Some (trace_value-trace_request_of d r e)) refl
+
+says_value : (line : List ℕ) (o : Option Data) → IsFilled line → json_of line ≡ o → SaysBy trace_value trace_within line (value_line o)
+says_value line None filled e = (filled, e)
+says_value line (Some d) filled e = says_asked line d (trace_request_of d) filled e refl
+
+says_short : (line : List ℕ) (b : Bool) → is_long line ≡ false → is_blank line ≡ b → SaysBy trace_value trace_within line (cond b blank (value_line (json_of line)))
+says_short line true short e = (short, e)
+says_short line false short e = says_value line (json_of line) (record { short = short; some = e }) refl
+
+says_any : (line : List ℕ) (b : Bool) → is_long line ≡ b → SaysBy trace_value trace_within line (cond b (refused Long) (cond (is_blank line) blank (value_line (json_of line))))
+says_any line true e = e
+says_any line false e = says_short line (is_blank line) e refl
+
+says_trace_line : (line : List ℕ) → SaysBy trace_value trace_within line (trace_line line)
+unfolding trace_line
+says_trace_line line = says_any line (is_long line) refl
+
+trace_line-cut : (line : List ℕ) → trace_line (cut line) ≡ trace_line line
+unfolding trace_line
+trace_line-cut line = choose _ _ _ _ _ (cut_is_long line) (λ e. ap (λ l. if is_blank l then blank else value_line (json_of l)) (cut_is_whole line e))
+
+says_whole : (line : List ℕ) (s : Said) → SaysLine (trace_line (cut line)) s → SaysTrace line s
+says_whole line s says = record { line = trace_line line; is = says_trace_line line; says = subst (λ l. SaysLine l s) (trace_line-cut line) says }
+
+-- ---- lines one after the other
+
+-- the steps of the lines, after those before them
+record TracedBy (s t : Stand) (n : ℕ) (lines : List (List ℕ)) (text : List ℕ) : Type 0 where
+  steps : List Step
+  traces : Traces n lines steps text
+  played : (before : List Step) → IsDue before → stand before ≡ s → IsDue (before ++ steps) × (stand (before ++ steps) ≡ t)
+
+traced_first : (s t u : Stand) (n : ℕ) (line first rest text : List ℕ) (lines : List (List ℕ)) → AnswersTraced s t n (cut line) first → text ≡ first ++ rest → TracedBy t u (suc n) lines rest → TracedBy s u n (line ∷ lines) text
+traced_first s t u n line first rest text lines a e later =
+    let now = a.responds.steps in
+    record {
+      steps = now ++ later.steps;
+      traces = (a.said, now, a.answered, later.steps, rest, says_whole line a.said a.says, a.responds.replies, refl, e ∙ ap (λ x. x ++ rest) a.printed, later.traces);
+      played = λ before due there.
+          let so = a.responds.played before due there in
+          let all = later.played (before ++ now) so.0 so.1 in
+          subst (λ xs. IsDue xs × (stand xs ≡ u)) (append_assoc before now later.steps) all;
+    }
+
+traced_by : {S : Type 0} (view : S → Stand) (s t : S) (n : ℕ) (lines : List (List ℕ)) (text : List ℕ) → Serves (AnswersIn view) s t n lines text → TracedBy (view s) (view t) n lines text
+traced_by view s t n [] text p = record {
+  steps = [];
+  traces = (refl, p.1);
+  played = λ before due there. subst (λ xs. IsDue xs × (stand xs ≡ view t)) (sym (append-nil before)) (due, there ∙ sym (ap view p.0));
+}
+traced_by view s t n (line ∷ lines) text p = traced_first (view s) (view p.0) (view t) n line p.1 p.2 text lines p.3 p.4 (traced_by view p.0 t (suc n) lines p.2 p.5)
+
+-- ---- from the beginning
+
+cons_is_none : {A : Type 0} (x : A) (xs : List A) → [] ≡ x ∷ xs → ⊥
+cons_is_none x xs e = cc
+
+none_before : (before later : List Step) (step : Step) → [] ≡ before ++ step ∷ later → ⊥
+none_before [] later step e = cons_is_none step later e
+none_before (x ∷ before) later step e = cons_is_none x (before ++ step ∷ later) e
+
+none_due : IsDue []
+none_due = record { each = λ before later step e. absurd (none_before before later step e) }
+
+is_trace : {S : Type 0} (view : S → Stand) (s t : S) (lines : List (List ℕ)) (text : List ℕ) → view s ≡ nothing_open → Serves (AnswersIn view) s t 1 lines text → IsTrace lines text
+is_trace view s t lines text start p =
+    let by = traced_by view s t 1 lines text p in
+    record { steps = by.steps; due = (by.played [] none_due (sym start)).0; traces = by.traces }
+
+pub trace_gives : {S : Type 0} (view : S → Stand) (s t : S) (input taken_first taken : Option (List ℕ)) → view s ≡ nothing_open → IfSome input (ServesAll (AnswersIn view) s t taken_first taken) → IfSome input (TracesAll taken_first taken)
+trace_gives view s t None taken_first taken start p = tt
+trace_gives view s t (Some input) taken_first taken start p = record { text = p.text; is = is_trace view s t (lines_of input) p.text start p.served; replies = p.written }
+
+pub trace_gives_front : {S : Type 0} (view : S → Stand) (s t : S) (input taken_first taken : Option (List ℕ)) → view s ≡ nothing_open → IfSome input (ServesFront (AnswersIn view) BreaksIn s t taken_first taken) → IfSome input (TracesFront taken_first taken)
+trace_gives_front view s t None taken_first taken start p = tt
+trace_gives_front view s t (Some input) taken_first taken start p =
+    record { lines = p.lines; later = p.later; text = p.text; cut = p.parts; is = is_trace view s p.between p.lines p.text start p.served; replies = p.written }

@@ -1,0 +1,4 @@
+pub mod Steps
+pub mod TraceLine
+pub mod TraceOutcome
+pub mod TraceRequest

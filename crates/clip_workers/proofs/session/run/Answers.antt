@@ -1,6 +1,0 @@
-use Rattle.clip_front.proofs.Progress.{on_err}
-use Rattle.clip_workers.proofs.Ended.{gives_none}
-use Rattle.clip_workers.proofs.session.run.Goals as goal
-
-pub returns-in_err-parts-clause-front : goal.returns-in_err-parts-clause-front
-returns-in_err-parts-clause-front g c = on_err c.from_residual.result (gives_none (g.A.Audience.hearers c.args.audience.now) (g.S.Source.left c.args.reader.now) (g.W.Sink.taken c.args.writer.now))

@@ -1,6 +1,0 @@
-use Rattle.clip_listen.specs.Updates.{heard_at}
-use Rattle.clip_workers.proofs.session.run.Given as goal
-
--- the desk whose parts were just made
-abbrev pub ghosts-run_desk : goal.ghosts-run_desk
-ghosts-run_desk g a = record { book = a.parts.book; callers = a.parts.callers; heard_before = heard_at a.parts.updates }

@@ -1,6 +1,0 @@
-pub mod Alone
-pub mod Crews
-pub mod Owed
-pub mod Pending
-pub mod Ran
-pub mod Seated

@@ -1,0 +1,98 @@
+//! Which segments are merged next, and segments with the live entries of others: worked examples.
+ghost use Rattle.std.specs.Prelude.{◌≡◌, ◌∷◌, [], IfOk, map};
+ghost use Rattle.std.specs.Arc.{arc_value};
+ghost use Rattle.clip_segment.specs.Segment.{all_entries};
+
+use crate::making::{entry, segment, segment_of};
+use clip_merge::{Live, merge, plan, purge};
+use clip_samples::owned;
+use clip_segment::Segment;
+use std::alloc::{AllocError, Global};
+use std::sync::Arc;
+use std::test::Fail;
+
+/// A segment of so many entries.
+fn of_length(alloc: Global, length: u8) -> Result<Arc<Segment>, Fail> {
+    let texts = vec![in alloc; "tea"; usize::from(length)]?;
+    Ok(Arc::new(alloc, segment_of(alloc, &owned(alloc, &texts)?)?)?)
+}
+
+/// Which of segments of these lengths are merged next.
+fn planned(alloc: Global, lengths: &[u8]) -> Result<Option<(usize, usize)>, Fail> {
+    let mut segments = Vec::new(alloc);
+    for length in lengths {
+        segments.push(of_length(alloc, *length)?)?;
+    }
+    Ok(plan(&segments))
+}
+
+/// Each some segments' lengths, and which of them are merged next.
+static PLANS: [(&[u8], Option<(usize, usize)>); 3] = [
+    (&[1, 1, 1, 1, 1], Some((0, 4))),
+    (&[4, 1, 1, 1], None),
+    (&[16, 5, 4, 15, 4], Some((1, 5))),
+];
+
+#[test]
+fn four_neighbours_of_one_level_are_merged(rt: HostRuntime) -> Result<(), Fail> {
+    for (lengths, wanted) in &PLANS {
+        assert!(rt; planned(rt.alloc(), lengths)? == *wanted);
+    }
+    Ok(())
+}
+
+/// The seqs of a segment's entries, each with a space after it.
+fn seqs(alloc: Global, segment: &Segment) -> Result<String, AllocError> {
+    let mut text = String::new(alloc);
+    for entry in segment.entries() {
+        let seq = entry.seq();
+        write!(text, "{seq} ")?;
+    }
+    Ok(text)
+}
+
+/// The segment of one entry.
+fn single(alloc: Global, seq: u64) -> Result<Arc<Segment>, Fail>
+    ensures { IfOk result (λ segment. map (λ entry. entry.seq) segment.value ≡ seq ∷ []) }
+{
+    let entries = vec![in alloc; entry(alloc, seq, "tea")?]?;
+    Ok(Arc::new(alloc, Segment::build(alloc, entries)?)?)
+}
+
+/// Four segments of one entry each.
+fn singles(alloc: Global) -> Result<Vec<Arc<Segment>>, Fail>
+    ensures { IfOk result (λ singles.
+        map (λ entry. entry.seq) (all_entries (map arc_value singles.items)) ≡ 1 ∷ 2 ∷ 3 ∷ 4 ∷ []) }
+{
+    let one = single(alloc, 1)?;
+    let two = single(alloc, 2)?;
+    let three = single(alloc, 3)?;
+    let four = single(alloc, 4)?;
+    Ok(vec![in alloc; one, two, three, four]?)
+}
+
+/// Those segments merged, where all but the second entry are live.
+fn merged(alloc: Global) -> Result<Segment, Fail> {
+    let live = Live::of(vec![in alloc; 1, 3, 4]?);
+    Ok(merge(alloc, &singles(alloc)?, &live)?)
+}
+
+#[test]
+fn a_merge_keeps_the_live_entries(rt: HostRuntime) -> Result<(), Fail> {
+    let merged = merged(rt.alloc())?;
+    assert!(rt; seqs(rt.alloc(), &merged)?.as_str() == "1 3 4 ");
+    Ok(())
+}
+
+/// The segment of two entries, purged where the first is live.
+fn purged(alloc: Global) -> Result<Segment, Fail> {
+    let segment = Arc::new(alloc, segment(alloc)?)?;
+    Ok(purge(alloc, &segment, &Live::of(vec![in alloc; 1]?))?)
+}
+
+#[test]
+fn a_purge_keeps_the_live_entries(rt: HostRuntime) -> Result<(), Fail> {
+    let purged = purged(rt.alloc())?;
+    assert!(rt; seqs(rt.alloc(), &purged)?.as_str() == "1 ");
+    Ok(())
+}

@@ -1,0 +1,101 @@
+//! Merges and purges of a shared desk, as looks show them.
+ghost use Rattle.std.specs.Prelude.{◌≡◌};
+ghost use Rattle.clip_desk.specs.Updates.{heard_at};
+ghost use Rattle.clip_desk.specs.Locked.{IsSeatOf};
+
+use crate::desk::making::{commit, commit_four, parts_of, pop_seat, purge, register};
+use clip_desk::{Desk, DeskName, DeskParts, Nudge, Seat, UpdateLog};
+use clip_registry::MergeTurn;
+use crossbeam_channel::unbounded;
+use std::alloc::Global;
+use std::marker::Brand;
+use std::process::Abort;
+use std::sync::Wait;
+use std::test::Fail;
+
+/// How many segments a look shows, and how many entries they have.
+fn look_inside<R: Abort>(rt: &R, seat: &mut Seat) -> (usize, usize)
+    ensures { (seat.new.book ≡ seat.old.book) × (seat.new.callers ≡ seat.old.callers) }
+{
+    let view = match seat.look() {
+        Ok(view) => view,
+        Err(_) => panic!(rt; "no look"),
+    };
+    let segments = view.segments();
+    let mut entries = 0usize;
+    for segment in segments {
+        entries = entries.wrapping_add(segment.len());
+    }
+    (segments.len(), entries)
+}
+
+/// A look shows so many segments, which have so many entries.
+fn sees_inside<R: Abort>(rt: &R, seat: &mut Seat, wanted: (usize, usize))
+    ensures { (seat.new.book ≡ seat.old.book) × (seat.new.callers ≡ seat.old.callers) }
+{
+    assert!(rt; look_inside(rt, seat) == wanted);
+}
+
+#[test]
+fn four_segments_become_one_and_a_purge_leaves_no_dead_entry(rt: HostRuntime) -> Result<(), Fail> {
+    let parts = parts_of(&rt, rt.alloc(), 1, 1)?;
+    run_merge::<Brand, _>(&rt, rt.alloc(), parts);
+    Ok(())
+}
+
+fn run_merge<N: DeskName, R: Wait + Abort>(rt: &R, alloc: Global, parts: DeskParts<UpdateLog>)
+    requires book { (parts.book ≡ N.book) × (parts.callers ≡ N.callers) }
+    requires heard { N.heard_before ≡ heard_at parts.updates }
+{
+    let (desk, mut seats) = Desk::<N, UpdateLog>::open(parts);
+    match pop_seat::<N>(&mut seats) {
+        Some(mut seat) => {
+            commit_four(rt, alloc, &desk, &mut seat);
+            sees_inside(rt, &mut seat, (4, 4));
+            assert!(rt; desk.merge_once(rt) == Ok(MergeTurn::Installed));
+            sees_inside(rt, &mut seat, (1, 4));
+            assert!(rt; desk.merge_once(rt) == Ok(MergeTurn::Nothing));
+            commit(rt, &desk, &mut seat, register(rt, alloc, "q1", "coffee"));
+            sees_inside(rt, &mut seat, (2, 5));
+            purge(rt, &desk, &mut seat);
+            sees_inside(rt, &mut seat, (2, 4));
+        }
+        None => panic!(rt; "one seat"),
+    }
+    desk.end(rt);
+}
+
+#[test]
+fn nudges_are_served_until_stop(rt: HostRuntime) -> Result<(), Fail> {
+    let parts = parts_of(&rt, rt.alloc(), 1, 1)?;
+    run_nudges::<Brand, _>(&rt, rt.alloc(), parts);
+    Ok(())
+}
+
+fn run_nudges<N: DeskName, R: Wait + Abort>(rt: &R, alloc: Global, parts: DeskParts<UpdateLog>)
+    requires book { (parts.book ≡ N.book) × (parts.callers ≡ N.callers) }
+    requires heard { N.heard_before ≡ heard_at parts.updates }
+{
+    let (desk, mut seats) = Desk::<N, UpdateLog>::open(parts);
+    match pop_seat::<N>(&mut seats) {
+        Some(mut seat) => {
+            commit_four(rt, alloc, &desk, &mut seat);
+            serve_two(rt, alloc, &desk);
+            sees_inside(rt, &mut seat, (1, 4));
+        }
+        None => panic!(rt; "one seat"),
+    }
+    desk.end(rt);
+}
+
+/// Serves a channel in which `Merge` and `Stop` stand.
+fn serve_two<N: DeskName, R: Wait + Abort>(rt: &R, alloc: Global, desk: &Desk<N, UpdateLog>) {
+    let (sender, nudges) = match unbounded(alloc) {
+        Ok(ends) => ends,
+        Err(_) => panic!(rt; "no channel"),
+    };
+    assert!(rt; sender.send(rt, Nudge::Merge).is_ok(), "sent");
+    assert!(rt; sender.send(rt, Nudge::Stop).is_ok(), "sent");
+    desk.serve_merges(rt, &nudges);
+    assert!(rt; nudges.len() == 0);
+}
