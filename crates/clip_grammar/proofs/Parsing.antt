@@ -1,7 +1,6 @@
 -- `parse` finds the clauses that the tokens write, and there are no others.
-use Rattle.std.proofs.Common.{◌≡◌, ℕ, zero, Bool, true, false, List, [], ◌∷◌, ◌++◌, Option, Some, None, refl, sym, ap, ◌∙◌, append_assoc, append-nil, flat_map, length}
+use Rattle.std.proofs.Common.{◌≡◌, ℕ, zero, Bool, true, false, List, [], ◌∷◌, ◌++◌, Option, Some, None, refl, sym, ap, ◌∙◌, append_assoc, append-nil, length}
 use Rattle.std.specs.Prelude.{is_some}
-use Rattle.std.proofs.lemmas.List.{flat_map_more}
 use Rattle.std.proofs.lemmas.Option.{none-some}
 use Rattle.clip_grammar.specs.Tokens as token
 use Rattle.clip_grammar.specs.Tokens.{Token, End}
@@ -286,7 +285,7 @@ push_close : (x : List Token) (f : Frame) (c : WrittenClause) (cs : Clauses) (ts
 push_close x f c cs ts =
     push_item x f.clauses f.pending (shape.Parens (written_after cs (one c))) ts
     ∙ ap (λ y. x ++ (flat f.clauses ++ (pending_tokens f.pending ++ token.Open ∷ y)))
-      (append_assoc (tokens (written_after cs (one c))) (token.Close ∷ []) ts ∙ ap (λ y. y ++ token.Close ∷ ts) (tokens_last cs c))
+    (append_assoc (tokens (written_after cs (one c))) (token.Close ∷ []) ts ∙ ap (λ y. y ++ token.Close ∷ ts) (tokens_last cs c))
     ∙ sym (push_open x (flat f.clauses) (pending_tokens f.pending) (flat (with_clause cs c) ++ token.Close ∷ ts))
 
 end_sound : (below : List Frame) (cs : Clauses) (pending : Pending) (w : Written) → ended below cs pending ≡ Some w → tokens w ≡ before below ++ (flat cs ++ (pending_tokens pending ++ []))
