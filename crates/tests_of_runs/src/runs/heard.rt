@@ -1,7 +1,7 @@
 //! Alerts that are heard in a run, and the ledger that is left.
 use crate::runs::devices::{Failing, MANY, blank_tape, script_of};
 use crate::runs::{WORKERS, text_of, with_workers};
-use clip_front::{Ended, Settings};
+use clip_front::Settings;
 use clip_listen::{Listener, Listeners, Named};
 use clip_match::OpenGate;
 use clip_run::run;
@@ -65,33 +65,6 @@ fn queries_of(alloc: Global, heard: Option<&[Alert]>) -> Result<String, AllocErr
     Ok(text)
 }
 
-/// Runs the lines for these listeners, which are answered by the replies, and gives how the run ended.
-fn run_heard<R: Threads + Wait + Sync + Abort + AllocGlobal>(
-    rt: &R,
-    workers: u32,
-    listeners: &mut Listeners,
-    keeps_rows: bool,
-) -> Result<Ended, Fail> {
-    let settings = Settings {
-        keeps_rows,
-        ..with_workers(workers)
-    };
-    let input = text_of(rt.alloc(), &LINES)?;
-    let mut source = script_of(input.as_bytes(), 1000, MANY);
-    let mut sink = blank_tape(rt.alloc(), 1000, Failing::Write, MANY);
-    let ended = run(
-        rt,
-        rt.alloc(),
-        &mut source,
-        &mut sink,
-        listeners,
-        settings,
-        &OpenGate,
-    )?;
-    assert!(rt; sink.taken.as_slice() == text_of(rt.alloc(), &REPLIES)?.as_bytes());
-    Ok(ended)
-}
-
 /// The lines are answered by the replies, `mail` and `feed` have heard these, and the ledger has so many rows.
 fn is_heard<R: Threads + Wait + Sync + Abort + AllocGlobal>(
     rt: &R,
@@ -102,10 +75,27 @@ fn is_heard<R: Threads + Wait + Sync + Abort + AllocGlobal>(
     rows: usize,
 ) -> Result<(), Fail> {
     let mut listeners = Listeners::new(parts).ok().ok_or("a name repeats")?;
-    let ended = run_heard(rt, workers, &mut listeners, keeps_rows)?;
+    let input = text_of(rt.alloc(), &LINES)?;
+    let mut source = script_of(input.as_bytes(), 1000, MANY);
+    let mut sink = blank_tape(rt.alloc(), 1000, Failing::Write, MANY);
+    let settings = Settings {
+        keeps_rows,
+        ..with_workers(workers)
+    };
+    let ended = run(
+        rt,
+        rt.alloc(),
+        &mut source,
+        &mut sink,
+        &mut listeners,
+        settings,
+        &OpenGate,
+    )?;
+    assert!(rt; sink.taken.as_slice() == text_of(rt.alloc(), &REPLIES)?.as_bytes());
     assert!(rt; ended.ledger.rows().len() == rows);
     assert!(rt; ended.ledger.total("mail") == (rows / 3) as u64);
-    for (part, wanted) in listeners.into_parts().iter().zip(heard) {
+    let parts = listeners.into_parts();
+    for (part, wanted) in parts.iter().zip(heard) {
         assert!(rt; queries_of(rt.alloc(), part.1.heard())?.as_str() == wanted);
     }
     Ok(())
