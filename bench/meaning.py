@@ -8,7 +8,7 @@ candidates, which replies do not tell.
 from __future__ import annotations
 
 from dataclasses import dataclass
-from typing import Iterable, NamedTuple
+from typing import Iterable, NamedTuple, Sequence
 
 from prose import Article, words_of
 from queries import All, Group, Phrase, Prefix, Query, Span, Word
@@ -66,14 +66,31 @@ def has_phrase(words: tuple[str, ...], field: Field) -> bool:
     return any(tuple(field.words[at:at + size]) == words for at in range(len(field.words) - size + 1))
 
 
+def signs_after(signs: Sequence[str], operators: Sequence[str]) -> list[str]:
+    """How clauses count that have these signs, and between each two of them these operators: what stands beside an
+    `AND` is required, unless it is excluded."""
+    joins = [operator in ("AND", "&&") for operator in operators]
+    beside = [before or after for before, after in zip([False, *joins], [*joins, False])]
+    return ["+" if sign == "" and joined else sign for sign, joined in zip(signs, beside)]
+
+
+def counted(group: Group) -> Sequence[tuple[str, Query]]:
+    """The clauses, each with the sign by which it counts."""
+    if not group.operators:
+        return group.clauses
+    signs = signs_after([sign for sign, _ in group.clauses], group.operators)
+    return [(sign, child) for sign, (_, child) in zip(signs, group.clauses)]
+
+
 def group_holds(group: Group, fields: dict[str, Field]) -> bool:
     """Each required clause, no excluded one, and where none is required at least one other."""
-    signs = {sign for sign, _ in group.clauses}
-    if any(not holds(child, fields) for sign, child in group.clauses if sign == "+"):
+    clauses = counted(group)
+    signs = {sign for sign, _ in clauses}
+    if any(not holds(child, fields) for sign, child in clauses if sign == "+"):
         return False
-    if any(holds(child, fields) for sign, child in group.clauses if sign == "-"):
+    if any(holds(child, fields) for sign, child in clauses if sign == "-"):
         return False
-    return "+" in signs or any(holds(child, fields) for sign, child in group.clauses if sign == "")
+    return "+" in signs or any(holds(child, fields) for sign, child in clauses if sign == "")
 
 
 def extract(query: Query) -> tuple[int, list[Key]]:
@@ -88,10 +105,11 @@ def extract(query: Query) -> tuple[int, list[Key]]:
         front = query.front[:FRONT]
         return len(front), [Key("front", query.field, front)]
     if isinstance(query, Group):
-        musts = [extract(child) for sign, child in query.clauses if sign == "+"]
+        clauses = counted(query)
+        musts = [extract(child) for sign, child in clauses if sign == "+"]
         if musts:
             return max(musts, key=lambda found: found[0])
-        shoulds = [extract(child) for sign, child in query.clauses if sign == ""]
+        shoulds = [extract(child) for sign, child in clauses if sign == ""]
         if shoulds:
             return min(weight for weight, _ in shoulds), [key for _, keys in shoulds for key in keys]
     return 0, [ANY]

@@ -52,9 +52,11 @@ class All:
 
 @dataclass(frozen=True)
 class Group:
-    """Clauses with their signs: `+` required, `-` excluded, and the empty sign."""
+    """Clauses with their signs: `+` required, `-` excluded, and the empty sign. Between each two of them stands an
+    operator, `AND`, `OR`, `&&` or `||`, or the empty one; without operators there is none anywhere."""
 
     clauses: tuple[tuple[str, "Query"], ...]
+    operators: tuple[str, ...] = ()
 
 
 Query = Union[Word, Phrase, Prefix, Span, All, Group]
@@ -63,7 +65,10 @@ Query = Union[Word, Phrase, Prefix, Span, All, Group]
 def text_of(query: Query, inner: bool = False) -> str:
     """The query in the syntax that the engine reads."""
     if isinstance(query, Group):
-        text = " ".join(sign + text_of(child, True) for sign, child in query.clauses)
+        parts = [sign + text_of(child, True) for sign, child in query.clauses]
+        if query.operators:
+            parts[1:] = [f"{operator} {part}".lstrip() for operator, part in zip(query.operators, parts[1:])]
+        text = " ".join(parts)
         return f"({text})" if inner else text
     if isinstance(query, All):
         return "*:*"
@@ -91,6 +96,19 @@ def either(*children: Query) -> Group:
 def without(query: Query, *others: Query) -> Group:
     """The first and none of the others."""
     return Group((("+", query),) + tuple(("-", other) for other in others))
+
+
+def with_operators(query: Query, conjunction: str, disjunction: str) -> Query:
+    """A query that means the same: in its groups the clauses that are required lose their sign and are joined by the
+    one operator, and where none is required all are joined by the other."""
+    if not isinstance(query, Group):
+        return query
+    clauses = tuple((sign, with_operators(child, conjunction, disjunction)) for sign, child in query.clauses)
+    signs = {sign for sign, _ in clauses}
+    if len(clauses) < 2 or {"+", ""} <= signs:
+        return Group(clauses, query.operators)
+    operator = conjunction if "+" in signs else disjunction
+    return Group(tuple((sign.replace("+", ""), child) for sign, child in clauses), (operator,) * (len(clauses) - 1))
 
 
 class Bands:
@@ -124,10 +142,14 @@ class QuerySource:
     """A source of queries about the same topics as the articles. The same seed gives the same queries."""
 
     STOCK = 20_000
+    # The share of groups that are written with operators, by which one query in ten is, and how operators are spelled.
+    WITH_OPERATORS = 0.146
+    SPELLINGS = 7 * [("AND", "OR")] + [("&&", "||")]
 
     def __init__(self, prose: Prose, seed: int) -> None:
         self.prose = prose
         self.rng = Random(f"queries {seed}")
+        self.spelling = Random(f"spelling {seed}")
         self.bands = Bands(prose, Random(f"bands {seed}"))
         self._stock: dict[str, list[str]] = {name: [] for name, _ in Bands.LIMITS}
         self._near: dict[Topic, dict[str, list[str]]] = {}
@@ -138,7 +160,13 @@ class QuerySource:
     def next(self) -> tuple[str, Query]:
         """The next query, and its kind."""
         kind = self.rng.choices(self._kinds, self._shares)[0]
-        return kind, self._makers[kind](self)
+        return kind, self._spelled(self._makers[kind](self))
+
+    def _spelled(self, query: Query) -> Query:
+        """The query as it is or, of some groups, with operators; nothing else that is drawn depends on which."""
+        if not isinstance(query, Group) or self.spelling.random() >= self.WITH_OPERATORS:
+            return query
+        return with_operators(query, *self.spelling.choice(self.SPELLINGS))
 
     def word(self, *bands: str) -> str:
         """A word of one of the bands."""

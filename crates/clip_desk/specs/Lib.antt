@@ -1,3 +1,5 @@
+-- who gave which command, for the crates above
+pub use Rattle.clip_chronicle.specs.Callers
 pub mod Locked
 pub mod Seats
 pub mod Steps

@@ -1,6 +1,6 @@
 //! Merges and purges of what the lock keeps: other segments, and the same history.
 ghost use Rattle.std.specs.Prelude.{◌≡◌, ℕ, Ok, None, IfOk, IfSome, OnOk, OnErr};
-ghost use Rattle.clip_merge.specs.Plan.{IsRun};
+ghost use Rattle.clip_registry.specs.Plan.{IsRun};
 ghost use Rattle.clip_registry.specs.Merging.{IsBegun, IsInstalled, IsStale, purged};
 
 use crate::events::Update;

@@ -1,5 +1,5 @@
 -- The shape of a query: its clauses as they are written, the tokens that spell them, and their tree.
-use Rattle.std.specs.Prelude.{ℕ, Bool, true, false, ◌||◌, List, [], ◌∷◌, ◌++◌, Option, Some, None, unwrap_or, codes}
+use Rattle.std.specs.Prelude.{ℕ, Bool, true, false, ◌||◌, List, [], ◌∷◌, ◌++◌, Option, Some, None, unwrap_or, if◌then◌else◌, codes}
 use Rattle.clip_words.specs.Words.{fold_of, words_of}
 use Rattle.clip_grammar.specs.Tokens as token
 use Rattle.clip_grammar.specs.Tokens.{Token, End}
@@ -14,11 +14,17 @@ pub data Sign : Type 0 where
   Bang : Sign
   Not : Sign
 
+-- what stands between two clauses
+pub data Joint : Type 0 where
+  Beside : Joint
+  And : Joint
+  Or : Joint
+
 mutual
   -- one clause or more
   pub data Written : Type 0 where
     one : WrittenClause → Written
-    more : WrittenClause → Written → Written
+    more : WrittenClause → Joint → Written → Written
 
   -- a sign or none, a field or none, and an item; `*:*` takes no field
   pub data WrittenClause : Type 0 where
@@ -43,11 +49,16 @@ abbrev pub field_tokens : Option (List ℕ) → List Token
 field_tokens None = []
 field_tokens (Some field) = token.Plain field ∷ token.Colon ∷ []
 
+abbrev pub joint_tokens : Joint → List Token
+joint_tokens Beside = []
+joint_tokens And = token.And ∷ []
+joint_tokens Or = token.Or ∷ []
+
 abbrev mutual
   -- how the clauses are written
   pub tokens : Written → List Token
   tokens (one c) = clause_tokens c
-  tokens (more c cs) = clause_tokens c ++ tokens cs
+  tokens (more c joint cs) = clause_tokens c ++ (joint_tokens joint ++ tokens cs)
 
   pub clause_tokens : WrittenClause → List Token
   clause_tokens (item sign field i) = sign_tokens sign ++ field_tokens field ++ item_tokens i
@@ -67,6 +78,15 @@ occur_of Minus = MustNot
 occur_of Bang = MustNot
 occur_of Not = MustNot
 
+abbrev pub is_and : Joint → Bool
+is_and And = true
+is_and _ = false
+
+-- A clause that stands beside an AND must hold, unless its own sign says that it must not.
+abbrev pub beside_and : Bool → Occur → Occur
+beside_and joined Should = if joined then Must else Should
+beside_and joined occur = occur
+
 -- one word is a term, several are a phrase
 abbrev pub words_tree : List ℕ → List (List ℕ) → Tree
 words_tree field (word ∷ []) = Tree.Term field word
@@ -78,10 +98,11 @@ fold_end (End.With text) = End.With (fold_of text)
 fold_end (End.Without text) = End.Without (fold_of text)
 
 abbrev mutual
-  -- the clauses of a group, in a field where no nearer one is written
-  pub clauses_in : Written → List ℕ → Clauses
-  clauses_in (one c) field = clause (clause_occur c) (clause_tree c field) none
-  clauses_in (more c cs) field = clause (clause_occur c) (clause_tree c field) (clauses_in cs field)
+  -- the clauses of a group, the first of them after an AND or not, in a field where no nearer one is written
+  pub clauses_in : Written → (after_and : Bool) → List ℕ → Clauses
+  clauses_in (one c) after_and field = clause (beside_and after_and (clause_occur c)) (clause_tree c field) none
+  clauses_in (more c joint cs) after_and field =
+      clause (beside_and (after_and || is_and joint) (clause_occur c)) (clause_tree c field) (clauses_in cs (is_and joint) field)
 
   pub clause_tree : WrittenClause → List ℕ → Tree
   clause_tree (item _ nearer i) field = item_tree i (unwrap_or nearer field)
@@ -92,15 +113,16 @@ abbrev mutual
   item_tree (Front text) field = Tree.Prefix field (fold_of text)
   item_tree (Phrase text) field = words_tree field (words_of text)
   item_tree (Range low high) field = Tree.Span field (fold_end low) (fold_end high)
-  item_tree (Parens cs) field = Tree.Group (clauses_in cs field)
+  item_tree (Parens cs) field = Tree.Group (clauses_in cs false field)
 
+  -- how a clause counts by its own sign
   pub clause_occur : WrittenClause → Occur
   clause_occur (item sign _ _) = occur_of sign
   clause_occur (everything sign) = occur_of sign
 
 -- the tree of a text's clauses, in the field `text` where none is written
 abbrev pub written_tree : Written → Tree
-written_tree cs = Tree.Group (clauses_in cs (codes "text"))
+written_tree cs = Tree.Group (clauses_in cs false (codes "text"))
 
 abbrev pub is_empty : List (List ℕ) → Bool
 is_empty [] = true
@@ -110,7 +132,7 @@ abbrev mutual
   -- some item has no words
   pub lacks_words : Written → Bool
   lacks_words (one c) = clause_lacks_words c
-  lacks_words (more c cs) = clause_lacks_words c || lacks_words cs
+  lacks_words (more c _ cs) = clause_lacks_words c || lacks_words cs
 
   pub clause_lacks_words : WrittenClause → Bool
   clause_lacks_words (item _ _ i) = item_lacks_words i

@@ -18,6 +18,8 @@ pub data Token : Type 0 where
   Minus : Token
   Bang : Token
   Not : Token
+  And : Token
+  Or : Token
   Open : Token
   Close : Token
   Colon : Token
@@ -27,7 +29,7 @@ pub data Token : Type 0 where
   Front : (text : List ℕ) → Token
   Phrase : (text : List ℕ) → Token
   Range : (low high : End) → Token
-  -- what is left out: an operator, a wild card inside a word, a form of another syntax
+  -- what is left out: an operator in a longer word, a wild card inside a word, a form of another syntax
   Other : Token
 
 -- a character of a text, and whether it stands after a backslash
@@ -75,18 +77,23 @@ has_operator [] = false
 has_operator (m ∷ []) = false
 has_operator (m ∷ n ∷ ms) = (is_bare 38 m && is_bare 38 n) || (is_bare 124 m && is_bare 124 n) || has_operator (n ∷ ms)
 
-abbrev pub is_operator : List Mark → Bool
-is_operator ms = is_spelled (codes "AND") ms || is_spelled (codes "OR") ms || has_operator ms
+abbrev pub is_and : List Mark → Bool
+is_and ms = is_spelled (codes "AND") ms || is_spelled (codes "&&") ms
+
+abbrev pub is_or : List Mark → Bool
+is_or ms = is_spelled (codes "OR") ms || is_spelled (codes "||") ms
 
 -- what a Word says
 unfoldable pub word_token : List Mark → Token
 word_token ms =
     if is_spelled (codes "*") ms then Star
-    else (if is_operator ms then Other
+    else (if is_and ms then And
+    else (if is_or ms then Or
+    else (if has_operator ms then Other
     else (if is_spelled (codes "NOT") ms then Not
     else (if not (list_any is_wild ms) then Plain (text_of ms)
     else (if ends_in_star ms then Front (text_of (front_of ms))
-    else Other))))
+    else Other))))))
 
 -- what a sign says: + is 43, - is 45, ! is 33, the parentheses are 40 and 41, and else it is a colon
 unfoldable pub sign_token : ℕ → Token

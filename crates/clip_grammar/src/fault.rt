@@ -14,8 +14,8 @@ pub enum QueryFault {
     /// The text is not spelled by lexemes. The payload is the greatest number of bytes at its front that are.
     #[error("no lexeme begins at byte {0}")]
     Lexical(usize),
-    /// The text uses a form that is left out: an operator, a wild card other than one last star, a star alone, `~`,
-    /// `^` or `/`.
+    /// The text uses a form that is left out: `&&` or `||` in a longer word, a wild card other than one last star, a
+    /// star alone, `~`, `^` or `/`.
     #[error("a form that is left out")]
     LeftOut,
     /// The lexemes are not clauses.

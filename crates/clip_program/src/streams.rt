@@ -2,10 +2,8 @@
 ghost use Rattle.std.specs.Prelude.{◌≤◌};
 
 use clip_command_line::{feed, mail, named};
-use clip_front::{Ended, Settings};
 use clip_listen::Listeners;
-use clip_match::OpenGate;
-use clip_run::run;
+use clip_run::{Ended, OpenGate, Settings, run};
 use clip_stream::{MOST_WORKERS, RunFault, StdSink, StdSource};
 use clip_trace_lines::run_trace;
 use std::io;

@@ -1,6 +1,6 @@
-pub mod OnlyCaller
-pub mod Ended
 pub mod Found
 pub mod Headline
+pub mod OnlyCaller
+pub mod Outcomes
 pub mod Owing
 pub mod Seats

@@ -8,7 +8,7 @@ use Rattle.clip_model.proofs.Legal.{room_from}
 use Rattle.clip_model.proofs.Replay.{replays_on}
 use Rattle.clip_standing.specs.Command.{answer_of}
 use Rattle.clip_standing.specs.declared.command.Applied.{Applied}
-use Rattle.clip_chronicle.specs.Callers.{IsBy}
+use Rattle.clip_desk.specs.Callers.{IsBy}
 use Rattle.clip_front.specs.Steps.Registry.{IsJudged}
 use Rattle.clip_run.specs.Alone.{then_alone, history_alone}
 

@@ -11,4 +11,6 @@ mod serving;
 mod session;
 
 pub use alone::run_alone;
+pub use clip_front::{Ended, Settings};
+pub use clip_match::OpenGate;
 pub use session::run;

@@ -8,8 +8,8 @@ use Rattle.clip_grammar.specs.Tokens as token
 use Rattle.clip_grammar.specs.Tokens.{Token}
 use Rattle.clip_grammar.specs.Steps.Parser.{begins_colon}
 use Rattle.clip_grammar.specs.Shape as shape
-use Rattle.clip_grammar.specs.Shape.{Sign, Written, one, more, WrittenClause, item, everything, Item, tokens, clause_tokens, item_tokens, sign_tokens, field_tokens, is_empty, lacks_words, clause_lacks_words, item_lacks_words}
-use Rattle.clip_grammar.proofs.Parsing.{no_colons}
+use Rattle.clip_grammar.specs.Shape.{Sign, Joint, Beside, joint_tokens, Written, one, more, WrittenClause, item, everything, Item, tokens, clause_tokens, item_tokens, sign_tokens, field_tokens, is_empty, lacks_words, clause_lacks_words, item_lacks_words}
+use Rattle.clip_grammar.proofs.Parsing.{joined, joined_parts, joined_no_colon}
 use Rattle.clip_syntax.specs.Steps.TokenOf.{token_of}
 use Rattle.clip_syntax.specs.declared.token.Token as code
 use Rattle.clip_syntax.specs.Steps.Items.{item_text, item_texts, items_words}
@@ -25,6 +25,11 @@ lacks_sign shape.Minus ts = refl
 lacks_sign shape.Bang ts = refl
 lacks_sign shape.Not ts = refl
 
+lacks_joint : (joint : Joint) (ts : List Token) → lacks (joint_tokens joint ++ ts) ≡ lacks ts
+lacks_joint Beside ts = refl
+lacks_joint shape.And ts = refl
+lacks_joint shape.Or ts = refl
+
 lacks_field : (field : Option (List ℕ)) (ts : List Token) → lacks (field_tokens field ++ ts) ≡ lacks ts
 lacks_field None ts = refl
 lacks_field (Some field) ts = refl
@@ -32,10 +37,10 @@ lacks_field (Some field) ts = refl
 mutual
   lacks_from : (w : Written) (ts : List Token) → begins_colon ts ≡ false → lacks (tokens w ++ ts) ≡ (lacks_words w || lacks ts)
   lacks_from (one c) ts h = lacks_clause c ts h
-  lacks_from (more c cs) ts h =
-      ap lacks (append_assoc (clause_tokens c) (tokens cs) ts)
-      ∙ lacks_clause c (tokens cs ++ ts) (no_colons cs ts h)
-      ∙ ap (λ b. clause_lacks_words c || b) (lacks_from cs ts h)
+  lacks_from (more c joint cs) ts h =
+      ap lacks (joined_parts c joint cs ts)
+      ∙ lacks_clause c (joined joint cs ts) (joined_no_colon joint cs ts)
+      ∙ ap (λ b. clause_lacks_words c || b) (lacks_joint joint (tokens cs ++ ts) ∙ lacks_from cs ts h)
       ∙ sym (or_assoc (clause_lacks_words c) (lacks_words cs) (lacks ts))
 
   lacks_clause : (c : WrittenClause) (ts : List Token) → begins_colon ts ≡ false → lacks (clause_tokens c ++ ts) ≡ (clause_lacks_words c || lacks ts)

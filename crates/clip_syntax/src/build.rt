@@ -2,13 +2,14 @@
 ghost use Rattle.std.specs.Prelude.{◌≡◌, [], map, IfOk};
 ghost use Rattle.std.specs.Arc.{arc_str_bytes};
 ghost use Rattle.clip_grammar.specs.Shape as shape;
-ghost use Rattle.clip_grammar.specs.Shape.{Written, written_tree, words_tree, fold_end};
+ghost use Rattle.clip_grammar.specs.Shape.{Written, written_tree, words_tree, fold_end, beside_and};
+ghost use Rattle.clip_grammar.specs.Steps.Parser.{begins_colon, begins_and};
 ghost use Rattle.clip_grammar.specs.Tree.{Tree, clauses_of, tree_of, end_of};
 ghost use Rattle.clip_syntax.specs.Steps.Building.{fresh, item_field, add, add_prefix, add_span, add_words, open_group, close, read, group_of, state_of};
 ghost use Rattle.clip_syntax.specs.Steps.Items.{items_words, words_of_items};
 ghost use Rattle.clip_syntax.specs.Steps.TokenOf.{token_of, IfWritten};
 
-use crate::token::{Token, begins_colon};
+use crate::token::{Token, begins_and, begins_colon};
 use clip_grammar::query::{Bound, Occur, Query};
 use clip_words::{NoMemory, fold};
 use std::alloc::Global;
@@ -53,33 +54,40 @@ impl OpenGroup {
     }
 
     /// Adds a clause.
-    fn add(&mut self, query: Query) -> Result<(), NoMemory>
-        ensures { IfOk result (λ _. group_of self.new ≡ add (group_of self.old) (tree_of query)) }
+    fn add(&mut self, query: Query, before_and: bool) -> Result<(), NoMemory>
+        ensures { IfOk result (λ _. group_of self.new ≡ add (group_of self.old) before_and (tree_of query)) }
     {
-        self.clauses.push((self.occur, query))?;
+        self.clauses
+            .push((beside_and(before_and, self.occur), query))?;
         self.occur = Occur::Should;
         self.nearer = None;
         Ok(())
     }
 
     /// Adds a prefix, folded.
-    fn add_prefix(&mut self, alloc: Global, front: &str) -> Result<(), NoMemory>
-        ensures { IfOk result (λ _. group_of self.new ≡ add_prefix (group_of self.old) front.now) }
+    fn add_prefix(&mut self, alloc: Global, front: &str, before_and: bool) -> Result<(), NoMemory>
+        ensures { IfOk result (λ _. group_of self.new ≡ add_prefix (group_of self.old) before_and front.now) }
     {
         let field = self.item_field()?;
         let front = ArcStr::from_string(fold(alloc, front)?)?;
-        self.add(Query::Prefix { field, front })
+        self.add(Query::Prefix { field, front }, before_and)
     }
 
     /// Adds a range, its ends folded.
-    fn add_span(&mut self, alloc: Global, low: &Bound, high: &Bound) -> Result<(), NoMemory>
+    fn add_span(
+        &mut self,
+        alloc: Global,
+        low: &Bound,
+        high: &Bound,
+        before_and: bool,
+    ) -> Result<(), NoMemory>
         ensures { IfOk result (λ _. group_of self.new
-            ≡ add_span (group_of self.old) (end_of low.now) (end_of high.now)) }
+            ≡ add_span (group_of self.old) before_and (end_of low.now) (end_of high.now)) }
     {
         let field = self.item_field()?;
         let low = fold_bound(alloc, low)?;
         let high = fold_bound(alloc, high)?;
-        self.add(Query::Span { field, low, high })
+        self.add(Query::Span { field, low, high }, before_and)
     }
 
     /// The query whose clauses have been read.
@@ -88,6 +96,16 @@ impl OpenGroup {
     {
         let OpenGroup { clauses, .. } = self;
         Query::Group(clauses)
+    }
+}
+
+/// How a clause counts that stands beside an `AND` or not.
+fn beside_and(joined: bool, occur: Occur) -> Occur
+    ensures { result ≡ beside_and joined occur }
+{
+    match occur {
+        Occur::Should if joined => Occur::Must,
+        _ => occur,
     }
 }
 
@@ -126,12 +144,13 @@ pub struct Builder {
 
 impl Builder {
     /// Adds an item that has the next words.
-    fn add_words(&mut self) -> Result<(), NoMemory>
-        ensures { IfOk result (λ _. state_of self.new ≡ add_words (state_of self.old) (state_of self.old).words) }
+    fn add_words(&mut self, before_and: bool) -> Result<(), NoMemory>
+        ensures { IfOk result (λ _. state_of self.new
+            ≡ add_words (state_of self.old) before_and (state_of self.old).words) }
     {
         if let Some(words) = self.words.next() {
             let field = self.group.item_field()?;
-            self.group.add(words_query(field, words))?;
+            self.group.add(words_query(field, words), before_and)?;
         }
         Ok(())
     }
@@ -147,34 +166,38 @@ impl Builder {
     }
 
     /// Closes the group: it becomes a clause of the group around it.
-    fn close(&mut self) -> Result<(), NoMemory>
-        ensures { IfOk result (λ _. state_of self.new ≡ close (state_of self.old) (state_of self.old).around) }
+    fn close(&mut self, before_and: bool) -> Result<(), NoMemory>
+        ensures { IfOk result (λ _. state_of self.new
+            ≡ close (state_of self.old) before_and (state_of self.old).around) }
     {
         if let Some(outer) = self.around.pop() {
             let inner = mem::replace(&mut self.group, outer);
-            self.group.add(inner.into_query())?;
+            self.group.add(inner.into_query(), before_and)?;
         }
         Ok(())
     }
 
-    /// Reads a token.
-    fn read(&mut self, alloc: Global, token: &Token, before_colon: bool) -> Result<(), NoMemory>
-        ensures { IfOk result (λ _. state_of self.new ≡ read (token_of token.now) before_colon (state_of self.old)) }
+    /// Reads a token, of which the rest tells what follows.
+    fn read(&mut self, alloc: Global, token: &Token, rest: &[Token]) -> Result<(), NoMemory>
+        ensures { IfOk result (λ _. state_of self.new ≡ read (token_of token.now)
+            (begins_colon (map token_of rest.now)) (begins_and (map token_of rest.now)) (state_of self.old)) }
     {
+        let before_colon = begins_colon(rest);
+        let before_and = begins_and(rest);
         match token {
-            Token::Plus => self.group.occur = Occur::Must,
+            Token::Plus | Token::And => self.group.occur = Occur::Must,
             Token::Minus | Token::Bang | Token::Not => self.group.occur = Occur::MustNot,
             Token::Plain(text) if before_colon => {
                 let field = ArcStr::from_str(alloc, text)?;
                 self.group.nearer = Some(field);
             }
-            Token::Plain(_) | Token::Phrase(_) => self.add_words()?,
-            Token::Front(text) => self.group.add_prefix(alloc, text)?,
-            Token::Range(low, high) => self.group.add_span(alloc, low, high)?,
-            Token::Star if before_colon => self.group.add(Query::All)?,
+            Token::Plain(_) | Token::Phrase(_) => self.add_words(before_and)?,
+            Token::Front(text) => self.group.add_prefix(alloc, text, before_and)?,
+            Token::Range(low, high) => self.group.add_span(alloc, low, high, before_and)?,
+            Token::Star if !before_colon => self.group.add(Query::All, before_and)?,
             Token::Open => self.open(alloc)?,
-            Token::Close => self.close()?,
-            Token::Star | Token::Colon | Token::Other => {}
+            Token::Close => self.close(before_and)?,
+            Token::Star | Token::Colon | Token::Or | Token::Other => {}
         }
         Ok(())
     }
@@ -198,7 +221,7 @@ pub fn build(alloc: Global, tokens: &[Token], words: Vec<Vec<ArcStr>>) -> Result
     let mut rest = tokens;
     while let Some((token, after)) = rest.split_first() {
         rest = after;
-        builder.read(alloc, token, begins_colon(rest))?;
+        builder.read(alloc, token, rest)?;
     }
     let Builder { group, .. } = builder;
     Ok(group.into_query())

@@ -8,7 +8,7 @@ ghost use Rattle.clip_grammar.specs.Steps.Lexer.{ending_at, piece_at, code_at, e
 ghost use Rattle.clip_syntax.specs.Steps.Lexing.{with_tokens, token_and_rest, tokens_and_rest, IsLexed};
 ghost use Rattle.std.specs.List.{list_any};
 ghost use Rattle.clip_syntax.specs.Steps.Marks.{class_test, and_rest, mark_and_rest, marks_and_rest, marks_after};
-ghost use Rattle.clip_grammar.specs.Tokens.{text_of, is_spelled, is_bare, is_wild, has_operator, is_operator, ends_in_star, word_token, sign_token};
+ghost use Rattle.clip_grammar.specs.Tokens.{text_of, is_spelled, is_bare, is_wild, has_operator, is_and, is_or, ends_in_star, word_token, sign_token};
 ghost use Rattle.clip_syntax.specs.Steps.TokenOf.{token_of};
 ghost use Rattle.clip_syntax.specs.Steps.Ends.{text_and_rest, end_text_and_rest, end_with, quoted_end_at, bare_end_at};
 ghost use Rattle.clip_grammar.specs.Tree.{end_of};
@@ -242,11 +242,18 @@ fn has_operator(marks: &[Mark]) -> bool
     false
 }
 
-/// Whether the marks are an operator, or have one in them.
-fn is_operator(marks: &[Mark]) -> bool
-    ensures { result ≡ is_operator marks.now }
+/// Whether the marks are `AND` or `&&`.
+fn is_and(marks: &[Mark]) -> bool
+    ensures { result ≡ is_and marks.now }
 {
-    is_spelled(&['A', 'N', 'D'], marks) || is_spelled(&['O', 'R'], marks) || has_operator(marks)
+    is_spelled(&['A', 'N', 'D'], marks) || is_spelled(&['&', '&'], marks)
+}
+
+/// Whether the marks are `OR` or `||`.
+fn is_or(marks: &[Mark]) -> bool
+    ensures { result ≡ is_or marks.now }
+{
+    is_spelled(&['O', 'R'], marks) || is_spelled(&['|', '|'], marks)
 }
 
 /// Whether a star is last, and no star or question mark is before it.
@@ -274,7 +281,13 @@ fn word_token(alloc: Global, marks: &[Mark]) -> Result<Token, NoMemory>
     if is_spelled(&['*'], marks) {
         return Ok(Token::Star);
     }
-    if is_operator(marks) {
+    if is_and(marks) {
+        return Ok(Token::And);
+    }
+    if is_or(marks) {
+        return Ok(Token::Or);
+    }
+    if has_operator(marks) {
         return Ok(Token::Other);
     }
     if is_spelled(&['N', 'O', 'T'], marks) {

@@ -47,8 +47,8 @@ pub fn has_left_out(tokens: &[Token]) -> bool
 pub struct Progress {
     /// How many parentheses are open.
     depth: usize,
-    /// Whether the group that is read has a clause.
-    any: bool,
+    /// Whether the group that is read may end here: a clause stands last.
+    may_end: bool,
     /// What of the next clause has been read.
     stage: Stage,
 }
@@ -56,10 +56,21 @@ pub struct Progress {
 impl Progress {
     /// After an item, which ends a clause.
     fn after_item(self) -> Progress
-        ensures { result ≡ record self { any = true; stage = Stage.Fresh } }
+        ensures { result ≡ record self { may_end = true; stage = Stage.Fresh } }
     {
         Progress {
-            any: true,
+            may_end: true,
+            stage: Stage::Fresh,
+            ..self
+        }
+    }
+
+    /// After an operator, which a clause has to follow.
+    fn after_operator(self) -> Progress
+        ensures { result ≡ record self { may_end = false; stage = Stage.Fresh } }
+    {
+        Progress {
+            may_end: false,
             stage: Stage::Fresh,
             ..self
         }
@@ -68,11 +79,11 @@ impl Progress {
     /// In a group that opens here.
     fn in_group(self) -> Progress
         requires { self.depth < usize.MAX }
-        ensures { result ≡ record { depth = self.depth + 1; any = false; stage = Stage.Fresh } }
+        ensures { result ≡ record { depth = self.depth + 1; may_end = false; stage = Stage.Fresh } }
     {
         Progress {
             depth: self.depth + 1,
-            any: false,
+            may_end: false,
             stage: Stage::Fresh,
         }
     }
@@ -113,6 +124,13 @@ impl Progress {
                     None
                 }
             }
+            Token::And | Token::Or => {
+                if self.may_end && is_fresh {
+                    Some((self.after_operator(), rest))
+                } else {
+                    None
+                }
+            }
             Token::Plain(_) => match after_colon(rest) {
                 Some(_) if has_field => None,
                 Some(rest) => Some((self.with_stage(Stage::AfterField), rest)),
@@ -127,7 +145,7 @@ impl Progress {
             },
             Token::Open => Some((self.in_group(), rest)),
             Token::Close => {
-                if self.depth > 0 && self.any && is_fresh {
+                if self.depth > 0 && self.may_end && is_fresh {
                     Some((self.after_group(), rest))
                 } else {
                     None
@@ -148,7 +166,7 @@ pub fn are_clauses(tokens: &[Token]) -> bool
     let mut rest = tokens;
     let mut progress = Progress {
         depth: 0,
-        any: false,
+        may_end: false,
         stage: Stage::Fresh,
     };
     while let Some((token, after)) = rest.split_first() {
@@ -158,5 +176,5 @@ pub fn are_clauses(tokens: &[Token]) -> bool
         progress = next;
         rest = after;
     }
-    progress.depth == 0 && progress.any && progress.stage == Stage::Fresh
+    progress.depth == 0 && progress.may_end && progress.stage == Stage::Fresh
 }

@@ -1,7 +1,7 @@
 //! Tokens: what the lexemes of a query's text say.
 ghost use Rattle.std.specs.Prelude.{◌≡◌, ◌+◌, ◌∷◌, map, length, false, IfNone, IfSome};
 ghost use Rattle.clip_grammar.specs.Tokens as spec;
-ghost use Rattle.clip_grammar.specs.Steps.Parser.{begins_colon};
+ghost use Rattle.clip_grammar.specs.Steps.Parser.{begins_colon, begins_and};
 ghost use Rattle.clip_grammar.specs.Reading.{begins_colon_star};
 ghost use Rattle.clip_syntax.specs.Steps.TokenOf.{token_of};
 
@@ -18,6 +18,10 @@ pub enum Token {
     Bang,
     /// The word `NOT`.
     Not,
+    /// The word `AND` or `&&`.
+    And,
+    /// The word `OR` or `||`.
+    Or,
     /// The sign `(`.
     Open,
     /// The sign `)`.
@@ -34,7 +38,7 @@ pub enum Token {
     Phrase(String),
     /// A range, its ends not yet folded.
     Range(Bound, Bound),
-    /// A form that is left out: an operator word, a word with wild cards elsewhere, `~`, `^` or `/`.
+    /// A form that is left out: a longer word with `&&` or `||`, a word with wild cards elsewhere, `~`, `^` or `/`.
     Other,
 }
 
@@ -43,6 +47,13 @@ pub fn begins_colon(tokens: &[Token]) -> bool
     ensures { result ≡ begins_colon (map token_of tokens.now) }
 {
     after_colon(tokens).is_some()
+}
+
+/// Whether an `AND` comes first.
+pub fn begins_and(tokens: &[Token]) -> bool
+    ensures { result ≡ begins_and (map token_of tokens.now) }
+{
+    matches!(tokens, [Token::And, ..])
 }
 
 /// What is left after a colon.

@@ -4,10 +4,8 @@
 
 use anyhow::{Result, bail};
 use clip_command_line::{feed, mail, named};
-use clip_front::Settings;
 use clip_listen::Listeners;
-use clip_match::OpenGate;
-use clip_run::run;
+use clip_run::{OpenGate, Settings, run};
 use clip_stream::{MOST_WORKERS, StdSink, StdSource};
 use clip_trace_lines::run_trace;
 use std::alloc::Global;
@@ -18,7 +16,7 @@ use std::thread::Threads;
 use std::{fs, io};
 
 /// The examples: of each the requests stand in NAME.jsonl, and the replies in NAME.out.
-const EXAMPLES: [&str; 16] = [
+const EXAMPLES: [&str; 18] = [
     "alerts",
     "changes",
     "clippings",
@@ -28,8 +26,10 @@ const EXAMPLES: [&str; 16] = [
     "limits",
     "listeners",
     "meaning",
+    "operators",
     "purging",
     "random_changes",
+    "random_operators",
     "random_queries",
     "ranges",
     "refusals",

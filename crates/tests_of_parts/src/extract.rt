@@ -10,8 +10,9 @@ use std::test::Fail;
 
 /// Each the text of a query, and its keys and its weight.
 #[rattlefmt::skip]
-static ROWS: [(&str, &str); 25] = [
+static ROWS: [(&str, &str); 26] = [
     ("+tea +coffee", "text:coffee 6"),
+    ("tea AND coffee", "text:coffee 6"),
     ("tea coffee", "text:coffee text:tea 3"),
     ("+tea +mat", "text:tea 3"),
     ("\"green tea\"", "text:green 5"),

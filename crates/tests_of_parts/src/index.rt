@@ -11,7 +11,7 @@ use std::collections::BTreeMap;
 use std::process::Abort;
 use std::test::Fail;
 
-/// Queries of every form, as `bench/random_queries` draws them.
+/// Queries of every form without operators, drawn at random.
 static TEXTS: [&str; 64] = [
     "te",
     "{extraordinary TO teapot]",

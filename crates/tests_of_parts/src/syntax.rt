@@ -202,14 +202,41 @@ const RANGES: &str = "\
 tea [a TO b => Lexical(4)
 ";
 
+/// Operators.
+const OPERATORS: &str = "\
+tea AND coffee => (+text=tea +text=coffee)
+tea AND coffee OR milk => (+text=tea +text=coffee text=milk)
+tea && coffee || milk => (+text=tea +text=coffee text=milk)
+tea OR coffee AND milk => (text=tea +text=coffee +text=milk)
+milk OR tea AND -coffee => (text=milk +text=tea -text=coffee)
+-tea AND milk => (-text=tea +text=milk)
+NOT tea AND !milk => (-text=tea -text=milk)
+a AND +b c => (+text=a +text=b text=c)
+(tea AND coffee) OR milk => ((+text=tea +text=coffee) text=milk)
+milk (tea OR mat) AND *:* => (text=milk +(text=tea text=mat) +*:*)
+title:(a AND b*) AND [c TO d] => (+(+title=a +title=b*) +text=['c' TO 'd'])
+tea and coffee => (text=tea text=and text=coffee)
+tea \\AND coffee => (text=tea text=and text=coffee)
+\"AND\" ANDY => (text=and text=andy)
+AND => Structure
+&& => Structure
+tea AND => Structure
+OR tea => Structure
+tea AND OR milk => Structure
+tea AND AND milk => Structure
+AND:tea => Structure
+tea:AND => Structure
++AND tea => Structure
+tea -OR milk => Structure
+(AND tea) => Structure
+(tea OR) milk => Structure
+";
+
 /// Forms that are left out.
 const LEFT_OUT: &str = "\
-tea AND milk => LeftOut
-OR => LeftOut
-&& => LeftOut
 a&&b => LeftOut
 a||b => LeftOut
-AND:tea => LeftOut
+tea &&milk => LeftOut
 a/b => LeftOut
 a~ => LeftOut
 tea^2 => LeftOut
@@ -235,8 +262,9 @@ static SPREAD: [(&str, &str); 2] = [
 ];
 
 /// The texts of lines.
-static LINES: [&str; 11] = [
-    WORDS, SIGNS, QUOTED, ESCAPES, FIELDS, GROUPS, STARS, PREFIXES, RANGES, LEFT_OUT, ORDER,
+static LINES: [&str; 12] = [
+    WORDS, SIGNS, QUOTED, ESCAPES, FIELDS, GROUPS, STARS, PREFIXES, RANGES, OPERATORS, LEFT_OUT,
+    ORDER,
 ];
 
 /// The text is read as this tree or fault.

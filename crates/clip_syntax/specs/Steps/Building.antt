@@ -6,8 +6,8 @@ use Rattle.std.specs.Vec.Iter.{into_iter_items}
 use Rattle.clip_words.specs.Words.{fold_of}
 use Rattle.clip_grammar.specs.Tokens as token
 use Rattle.clip_grammar.specs.Tokens.{Token, End}
-use Rattle.clip_grammar.specs.Steps.Parser.{begins_colon}
-use Rattle.clip_grammar.specs.Shape.{words_tree, fold_end}
+use Rattle.clip_grammar.specs.Steps.Parser.{begins_colon, begins_and}
+use Rattle.clip_grammar.specs.Shape.{words_tree, fold_end, beside_and}
 use Rattle.clip_grammar.specs.Tree.{Tree, clauses_of, tree_of}
 use Rattle.clip_grammar.specs.declared.query.Occur.{Occur}
 use Rattle.clip_grammar.specs.declared.query.Occur.TheVariants.{Must, Should, MustNot}
@@ -36,16 +36,16 @@ fresh clauses field = record { clauses = clauses; field = field; occur = Should;
 abbrev pub item_field : Group → List ℕ
 item_field g = unwrap_or g.nearer g.field
 
--- one clause more
-abbrev pub add : Group → Tree → Group
-add g tree = fresh (g.clauses ++ (g.occur, tree) ∷ []) g.field
+-- one clause more, before an AND or not
+abbrev pub add : Group → (before_and : Bool) → Tree → Group
+add g before_and tree = fresh (g.clauses ++ (beside_and before_and g.occur, tree) ∷ []) g.field
 
 -- a prefix more, and a range more
-abbrev pub add_prefix : Group → (text : List ℕ) → Group
-add_prefix g text = add g (Tree.Prefix (item_field g) (fold_of text))
+abbrev pub add_prefix : Group → (before_and : Bool) → (text : List ℕ) → Group
+add_prefix g before_and text = add g before_and (Tree.Prefix (item_field g) (fold_of text))
 
-abbrev pub add_span : Group → (low high : End) → Group
-add_span g low high = add g (Tree.Span (item_field g) (fold_end low) (fold_end high))
+abbrev pub add_span : Group → (before_and : Bool) → (low high : End) → Group
+add_span g before_and low high = add g before_and (Tree.Span (item_field g) (fold_end low) (fold_end high))
 
 abbrev pub with_occur : Occur → State → State
 with_occur occur s = record s { group = record s.group { occur = occur } }
@@ -54,38 +54,40 @@ abbrev pub with_group : State → Group → State
 with_group s group = record s { group = group }
 
 -- an item that has the next words
-abbrev pub add_words : State → List (List (List ℕ)) → State
-add_words s [] = s
-add_words s (words ∷ more) = record s { group = add s.group (words_tree (item_field s.group) words); words = more }
+abbrev pub add_words : State → (before_and : Bool) → List (List (List ℕ)) → State
+add_words s before_and [] = s
+add_words s before_and (words ∷ more) = record s { group = add s.group before_and (words_tree (item_field s.group) words); words = more }
 
 abbrev pub open_group : State → State
 open_group s = record s { around = s.group ∷ s.around; group = fresh [] (item_field s.group) }
 
-abbrev pub close : State → List Group → State
-close s [] = s
-close s (outer ∷ around) = record s { around = around; group = add outer (Tree.Group (clauses_of s.group.clauses)) }
+abbrev pub close : State → (before_and : Bool) → List Group → State
+close s before_and [] = s
+close s before_and (outer ∷ around) = record s { around = around; group = add outer before_and (Tree.Group (clauses_of s.group.clauses)) }
 
--- what a token does
-abbrev pub read : Token → (before_colon : Bool) → State → State
-read token.Plus _ s = with_occur Must s
-read token.Minus _ s = with_occur MustNot s
-read token.Bang _ s = with_occur MustNot s
-read token.Not _ s = with_occur MustNot s
-read (token.Plain field) true s = record s { group = record s.group { nearer = Some field } }
-read (token.Plain _) false s = add_words s s.words
-read (token.Phrase _) _ s = add_words s s.words
-read (token.Front text) _ s = with_group s (add_prefix s.group text)
-read (token.Range low high) _ s = with_group s (add_span s.group low high)
-read token.Star true s = with_group s (add s.group Tree.All)
-read token.Star false s = s
-read token.Open _ s = open_group s
-read token.Close _ s = close s s.around
-read token.Colon _ s = s
-read token.Other _ s = s
+-- What a token does. After an AND the next clause must hold, unless it has a sign of its own.
+abbrev pub read : Token → (before_colon before_and : Bool) → State → State
+read token.Plus _ _ s = with_occur Must s
+read token.And _ _ s = with_occur Must s
+read token.Minus _ _ s = with_occur MustNot s
+read token.Bang _ _ s = with_occur MustNot s
+read token.Not _ _ s = with_occur MustNot s
+read (token.Plain field) true _ s = record s { group = record s.group { nearer = Some field } }
+read (token.Plain _) false before_and s = add_words s before_and s.words
+read (token.Phrase _) _ before_and s = add_words s before_and s.words
+read (token.Front text) _ before_and s = with_group s (add_prefix s.group before_and text)
+read (token.Range low high) _ before_and s = with_group s (add_span s.group before_and low high)
+read token.Star true _ s = s
+read token.Star false before_and s = with_group s (add s.group before_and Tree.All)
+read token.Open _ _ s = open_group s
+read token.Close _ before_and s = close s before_and s.around
+read token.Or _ _ s = s
+read token.Colon _ _ s = s
+read token.Other _ _ s = s
 
 unfoldable pub read_all : List Token → State → State
 read_all [] s = s
-read_all (t ∷ ts) s = read_all ts (read t (begins_colon ts) s)
+read_all (t ∷ ts) s = read_all ts (read t (begins_colon ts) (begins_and ts) s)
 
 -- before the first token
 abbrev pub start : List (List (List ℕ)) → State

@@ -8,7 +8,7 @@ use Rattle.clip_syntax.specs.declared.parser.Progress.{Progress}
 use Rattle.clip_syntax.specs.declared.token.Token.{Token}
 
 abbrev pub accepts_after : Progress → List spec.Token → Bool
-accepts_after p ts = accepts ts p.depth p.any p.stage
+accepts_after p ts = accepts ts p.depth p.may_end p.stage
 
 -- the same of what is left after a step, and not where no step is
 abbrev pub next_accepts : Option (Progress × Bor (List Token)) → Bool

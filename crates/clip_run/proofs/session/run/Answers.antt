@@ -1,5 +1,5 @@
 use Rattle.clip_front.proofs.Progress.{on_err}
-use Rattle.clip_run.proofs.Ended.{gives_none}
+use Rattle.clip_run.proofs.Outcomes.{gives_none}
 use Rattle.clip_run.proofs.session.run.Goals as goal
 
 pub returns-in_err-parts-clause-front : goal.returns-in_err-parts-clause-front

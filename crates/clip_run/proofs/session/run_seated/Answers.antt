@@ -20,7 +20,7 @@ use Rattle.clip_desk.specs.contracts.desk.Desk as desk
 use Rattle.clip_desk.specs.contracts.desk_merging.Nudge as nudge
 use Rattle.clip_desk.proofs.Sent.{desk_sync}
 use Rattle.clip_desk.proofs.desk_merging.Nudge.TheSendSync as nudge_sent
-use Rattle.clip_run.proofs.Ended.{ran_none, refused_is}
+use Rattle.clip_run.proofs.Outcomes.{ran_none, refused_is}
 use Rattle.clip_run.proofs.session.run_seated.Goals as goal
 
 -- a closure of three captures

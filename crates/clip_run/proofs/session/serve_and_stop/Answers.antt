@@ -1,4 +1,4 @@
-use Rattle.clip_run.proofs.Ended.{ended_ok, ended_err}
+use Rattle.clip_run.proofs.Outcomes.{ended_ok, ended_err}
 use Rattle.clip_run.proofs.session.serve_and_stop.Goals as goal
 
 pub returns : goal.returns

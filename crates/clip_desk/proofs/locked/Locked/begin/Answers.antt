@@ -1,5 +1,5 @@
 use Rattle.std.proofs.Common.{sym, subst}
-use Rattle.clip_merge.specs.Plan.{IsRun}
+use Rattle.clip_registry.specs.Plan.{IsRun}
 use Rattle.clip_registry.specs.RegistryState.{RegistryState}
 use Rattle.clip_desk.proofs.locked.Locked.begin.Goals as goal
 
