@@ -92,49 +92,31 @@ run_everything shape.Minus ts below cs = refl
 run_everything shape.Bang ts below cs = refl
 run_everything shape.Not ts below cs = refl
 
--- no clause begins with a colon
-pub no_colon : (c : WrittenClause) (ts : List Token) → starts_colon (clause_tokens c ++ ts) ≡ false
-no_colon (item shape.Unsigned None (shape.Plain text)) ts = refl
-no_colon (item shape.Unsigned None (shape.Front text)) ts = refl
-no_colon (item shape.Unsigned None (shape.Phrase text)) ts = refl
-no_colon (item shape.Unsigned None (shape.Range low high)) ts = refl
-no_colon (item shape.Unsigned None (shape.Parens cs)) ts = refl
-no_colon (item shape.Unsigned (Some field) i) ts = refl
-no_colon (item shape.Plus field i) ts = refl
-no_colon (item shape.Minus field i) ts = refl
-no_colon (item shape.Bang field i) ts = refl
-no_colon (item shape.Not field i) ts = refl
-no_colon (everything shape.Unsigned) ts = refl
-no_colon (everything shape.Plus) ts = refl
-no_colon (everything shape.Minus) ts = refl
-no_colon (everything shape.Bang) ts = refl
-no_colon (everything shape.Not) ts = refl
-
--- nor with an AND
-no_and : (c : WrittenClause) (ts : List Token) → begins_and (clause_tokens c ++ ts) ≡ false
-no_and (item shape.Unsigned None (shape.Plain text)) ts = refl
-no_and (item shape.Unsigned None (shape.Front text)) ts = refl
-no_and (item shape.Unsigned None (shape.Phrase text)) ts = refl
-no_and (item shape.Unsigned None (shape.Range low high)) ts = refl
-no_and (item shape.Unsigned None (shape.Parens cs)) ts = refl
-no_and (item shape.Unsigned (Some field) i) ts = refl
-no_and (item shape.Plus field i) ts = refl
-no_and (item shape.Minus field i) ts = refl
-no_and (item shape.Bang field i) ts = refl
-no_and (item shape.Not field i) ts = refl
-no_and (everything shape.Unsigned) ts = refl
-no_and (everything shape.Plus) ts = refl
-no_and (everything shape.Minus) ts = refl
-no_and (everything shape.Bang) ts = refl
-no_and (everything shape.Not) ts = refl
+-- no clause begins with a colon, nor with an AND
+clause_first : (c : WrittenClause) (ts : List Token) → (starts_colon (clause_tokens c ++ ts) ≡ false) × (begins_and (clause_tokens c ++ ts) ≡ false)
+clause_first (item shape.Unsigned None (shape.Plain text)) ts = (refl, refl)
+clause_first (item shape.Unsigned None (shape.Front text)) ts = (refl, refl)
+clause_first (item shape.Unsigned None (shape.Phrase text)) ts = (refl, refl)
+clause_first (item shape.Unsigned None (shape.Range low high)) ts = (refl, refl)
+clause_first (item shape.Unsigned None (shape.Parens cs)) ts = (refl, refl)
+clause_first (item shape.Unsigned (Some field) i) ts = (refl, refl)
+clause_first (item shape.Plus field i) ts = (refl, refl)
+clause_first (item shape.Minus field i) ts = (refl, refl)
+clause_first (item shape.Bang field i) ts = (refl, refl)
+clause_first (item shape.Not field i) ts = (refl, refl)
+clause_first (everything shape.Unsigned) ts = (refl, refl)
+clause_first (everything shape.Plus) ts = (refl, refl)
+clause_first (everything shape.Minus) ts = (refl, refl)
+clause_first (everything shape.Bang) ts = (refl, refl)
+clause_first (everything shape.Not) ts = (refl, refl)
 
 pub no_colons : (cs : Written) (ts : List Token) → starts_colon (tokens cs ++ ts) ≡ false
-no_colons (one c) ts = no_colon c ts
-no_colons (more c joint cs) ts = ap starts_colon (append_assoc (clause_tokens c) (joint_tokens joint ++ tokens cs) ts) ∙ no_colon c ((joint_tokens joint ++ tokens cs) ++ ts)
+no_colons (one c) ts = (clause_first c ts).0
+no_colons (more c joint cs) ts = ap starts_colon (append_assoc (clause_tokens c) (joint_tokens joint ++ tokens cs) ts) ∙ (clause_first c ((joint_tokens joint ++ tokens cs) ++ ts)).0
 
 no_ands : (cs : Written) (ts : List Token) → begins_and (tokens cs ++ ts) ≡ false
-no_ands (one c) ts = no_and c ts
-no_ands (more c joint cs) ts = ap begins_and (append_assoc (clause_tokens c) (joint_tokens joint ++ tokens cs) ts) ∙ no_and c ((joint_tokens joint ++ tokens cs) ++ ts)
+no_ands (one c) ts = (clause_first c ts).1
+no_ands (more c joint cs) ts = ap begins_and (append_assoc (clause_tokens c) (joint_tokens joint ++ tokens cs) ts) ∙ (clause_first c ((joint_tokens joint ++ tokens cs) ++ ts)).1
 
 -- the tokens after a clause that another one follows
 abbrev pub joined : Joint → Written → List Token → List Token

@@ -19,6 +19,12 @@ use clip_grammar::query::Bound;
 use clip_words::NoMemory;
 use std::alloc::Global;
 
+/// As many marks as most words and quoted texts have: a list of so many rarely grows.
+const USUAL_MARKS: usize = 24;
+
+/// As many tokens as most queries have.
+const USUAL_TOKENS: usize = 12;
+
 /// Where a character stands, which decides whether it needs a backslash.
 #[derive(Clone, Copy)]
 pub enum Place {
@@ -175,7 +181,7 @@ fn pieces(
 fn text_of(alloc: Global, marks: &[Mark]) -> Result<String, NoMemory>
     ensures { IfOk result (λ text. string_bytes text ≡ text_of marks.now) }
 {
-    let mut text = String::new(alloc);
+    let mut text = String::with_capacity(alloc, marks.len())?;
     for mark in marks {
         let c = match mark {
             Mark::Bare(c) => *c,
@@ -323,7 +329,8 @@ fn sign_token(c: char) -> Token
 fn quoted(alloc: Global, text: &[char]) -> Result<Option<(Token, &[char])>, NoMemory>
     ensures { IfOk result (λ found. option_map token_and_rest found ≡ option_map with_tokens (quoted_at text.now)) }
 {
-    let (marks, rest) = pieces(Vec::new(alloc), text, Place::Quoted)?;
+    let marks = Vec::with_capacity(alloc, USUAL_MARKS)?;
+    let (marks, rest) = pieces(marks, text, Place::Quoted)?;
     let ['"', rest @ ..] = rest else {
         return Ok(None);
     };
@@ -338,7 +345,7 @@ fn word(alloc: Global, text: &[char]) -> Result<Option<(Token, &[char])>, NoMemo
     let Some((first, rest)) = piece(text, Place::WordStart) else {
         return Ok(None);
     };
-    let mut marks = Vec::new(alloc);
+    let mut marks = Vec::with_capacity(alloc, USUAL_MARKS)?;
     marks.push(first)?;
     let (marks, rest) = pieces(marks, rest, Place::Word)?;
     Ok(Some((word_token(alloc, &marks)?, rest)))
@@ -509,7 +516,7 @@ fn lexeme(alloc: Global, text: &[char]) -> Result<Option<(Option<Token>, &[char]
 pub fn lex(alloc: Global, text: &[char]) -> Result<(Vec<Token>, &[char]), NoMemory>
     ensures { IfOk result (λ found. IsLexed text.now (map token_of found.0.items) found.1.now) }
 {
-    let mut tokens = Vec::new(alloc);
+    let mut tokens = Vec::with_capacity(alloc, USUAL_TOKENS)?;
     let mut rest = text;
     while let Some((token, after)) = lexeme(alloc, rest)? {
         if let Some(token) = token {
