@@ -15,14 +15,16 @@ def line_of(value: object) -> str:
     return json.dumps(value, ensure_ascii=False, separators=(",", ":"), sort_keys=True) + "\n"
 
 
-def write(name: str, about: str, turns: Callable[[int], Iterable[tuple[dict, dict]]]) -> None:
+def write(name: str, about: str, turns: Callable[[int], Iterable[tuple[dict, ...]]]) -> None:
     """Writes NAME.jsonl and NAME.out: what `turns` gives for the seed of the command line, each line with its reply,
-    which gets its number here."""
+    which gets its number here; and NAME.hits, where a third value is the reply with hits."""
     parser = argparse.ArgumentParser(description=about, formatter_class=argparse.RawDescriptionHelpFormatter)
     parser.add_argument("--seed", type=int, default=1, help="of the lines (1)")
-    parser.add_argument("--into", type=Path, default=DATA, help="the folder of the two files")
+    parser.add_argument("--into", type=Path, default=DATA, help="the folder of the files")
     options = parser.parse_args()
     lines = list(turns(options.seed))
-    (options.into / f"{name}.jsonl").write_text("".join(line_of(line) for line, _ in lines))
-    (options.into / f"{name}.out").write_text(
-        "".join(line_of({**reply, "line": number}) for number, (_, reply) in enumerate(lines, 1)))
+    (options.into / f"{name}.jsonl").write_text("".join(line_of(line) for line, *_ in lines))
+    for place, ending in enumerate(("out", "hits"), 1):
+        replies = [{**turn[place], "line": number} for number, turn in enumerate(lines, 1) if place < len(turn)]
+        if replies:
+            (options.into / f"{name}.{ending}").write_text("".join(map(line_of, replies)))

@@ -1,13 +1,17 @@
 //! The words that the program is given, and how it ends.
 ghost use Rattle.std.specs.Prelude.{◌≡◌, ◌≤◌, IfSome};
 ghost use Rattle.clip_command_line.specs.CommandLine.{HasFewWorkers, digit_of, workers_of};
-ghost use Rattle.clip_command_line.specs.CommandLine.{plain_mode, mode_of, ending_of};
+ghost use Rattle.clip_command_line.specs.CommandLine.{run_mode, mode_of, ending_of};
 
 use crate::mode::Mode;
+use clip_protocol::Form;
 use clip_stream::{MOST_WORKERS, RunFault};
 
 /// How many workers match where the words name no number.
 pub const USUAL_WORKERS: u32 = 4;
+
+/// The word that asks for replies with hits.
+const HITS: &str = "hits";
 
 /// The number of workers that a word names: one or two digits, and at most 64.
 fn workers_of(word: &str) -> Option<u32>
@@ -37,36 +41,42 @@ fn digit_of(byte: u8) -> Option<u32>
     }
 }
 
-/// What one word asks for: `run` or `trace`.
-fn plain_mode(word: &str) -> Option<Mode>
-    ensures named { result ≡ plain_mode word.now }
+/// The run that the words after `run` ask for.
+fn run_mode(words: &[String]) -> Option<Mode>
+    ensures named { result ≡ run_mode words.now }
     ensures few { IfSome result HasFewWorkers }
 {
-    if word == "run" {
-        Some(Mode::Run(USUAL_WORKERS))
-    } else if word == "trace" {
-        Some(Mode::Trace)
-    } else {
-        None
+    match words {
+        [] => Some(Mode::Run(USUAL_WORKERS, Form::Plain)),
+        [word] => {
+            if word.as_str() == HITS {
+                return Some(Mode::Run(USUAL_WORKERS, Form::WithHits));
+            }
+            Some(Mode::Run(workers_of(word.as_str())?, Form::Plain))
+        }
+        [number, word] => {
+            if word.as_str() != HITS {
+                return None;
+            }
+            Some(Mode::Run(workers_of(number.as_str())?, Form::WithHits))
+        }
+        _ => None,
     }
 }
 
-/// What the words after the program's name ask for: `run`, `run` and a number of workers of one or two digits and at
-/// most 64, or `trace`; all else is None. Linear in the words' first bytes.
+/// What the words after the program's name ask for: `run`, after it or not a number of workers of one or two digits and
+/// at most 64, and after that or not `hits`; or `trace`; all else is None. Linear in the words' first bytes.
 pub fn mode(words: &[String]) -> Option<Mode>
     ensures named { result ≡ mode_of words.now }
     ensures few { IfSome result HasFewWorkers }
 {
-    match words {
-        [word] => plain_mode(word.as_str()),
-        [word, number] => {
-            if word.as_str() == "run" {
-                Some(Mode::Run(workers_of(number.as_str())?))
-            } else {
-                None
-            }
-        }
-        _ => None,
+    let (word, rest) = words.split_first()?;
+    if word.as_str() == "run" {
+        run_mode(rest)
+    } else if word.as_str() == "trace" && rest.is_empty() {
+        Some(Mode::Trace)
+    } else {
+        None
     }
 }
 

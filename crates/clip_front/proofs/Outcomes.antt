@@ -8,21 +8,22 @@ use Rattle.clip_listen.specs.Heard.{Hearer, told_all}
 use Rattle.clip_listen.proofs.Hearing.{all_notes_kept}
 use Rattle.clip_ledger.specs.Rows.{RowValue, rows_of}
 use Rattle.clip_protocol.specs.LineMeaning.{Meaning, nothing, refusal, refusal_at, command, purging, counting, showing, matching}
+use Rattle.clip_protocol.specs.declared.form.Form.{Form}
 use Rattle.clip_protocol.specs.Reply.{matched, alerts_shown, alerts_of_all, reply_text, texts_said}
 use Rattle.clip_front.specs.Outcome.{Outcome, nothing_given, followed_by, given, rows_of_article, kept_rows}
 
 -- ---- one after the other
 
-abbrev outcome_by : List ℕ → List Alert → List RowValue → Outcome
+abbrev outcome_by : (Form → List ℕ) → List Alert → List RowValue → Outcome
 outcome_by text alerts rows = record { text = text; alerts = alerts; rows = rows }
 
 pub followed_assoc : (a b c : Outcome) → followed_by (followed_by a b) c ≡ followed_by a (followed_by b c)
 followed_assoc a b c =
-    ap (λ t. outcome_by t ((a.alerts ++ b.alerts) ++ c.alerts) ((a.rows ++ b.rows) ++ c.rows)) (append_assoc a.text b.text c.text)
-    ∙ ap₂ (λ x y. outcome_by (a.text ++ (b.text ++ c.text)) x y) (append_assoc a.alerts b.alerts c.alerts) (append_assoc a.rows b.rows c.rows)
+    ap (λ t. outcome_by t ((a.alerts ++ b.alerts) ++ c.alerts) ((a.rows ++ b.rows) ++ c.rows)) (λ i form. append_assoc (a.text form) (b.text form) (c.text form) i)
+    ∙ ap₂ (λ x y. outcome_by (λ form. a.text form ++ (b.text form ++ c.text form)) x y) (append_assoc a.alerts b.alerts c.alerts) (append_assoc a.rows b.rows c.rows)
 
 pub followed_nothing : (a : Outcome) → followed_by a nothing_given ≡ a
-followed_nothing a = ap (λ t. outcome_by t (a.alerts ++ []) (a.rows ++ [])) (append-nil a.text) ∙ ap₂ (λ x y. outcome_by a.text x y) (append-nil a.alerts) (append-nil a.rows)
+followed_nothing a = ap (λ t. outcome_by t (a.alerts ++ []) (a.rows ++ [])) (λ i form. append-nil (a.text form) i) ∙ ap₂ (λ x y. outcome_by a.text x y) (append-nil a.alerts) (append-nil a.rows)
 
 pub kept_append : (keeps : Bool) (xs ys : List RowValue) → kept_rows keeps xs ++ kept_rows keeps ys ≡ kept_rows keeps (xs ++ ys)
 kept_append true xs ys = refl
@@ -47,4 +48,4 @@ given_kept front hearers n h purging = refl
 given_kept front hearers n h counting = refl
 given_kept front hearers n h (showing id) = refl
 given_kept front hearers n h (matching articles) =
-    ap₂ (λ t rows. outcome_by t (alerts_of_all h articles) rows) (ap (λ notes. reply_text n (matched (map (alerts_shown h) articles) notes)) (said_kept front hearers (alerts_of_all h articles))) (rows_kept front hearers n h articles)
+    ap₂ (λ t rows. outcome_by t (alerts_of_all h articles) rows) (λ i form. reply_text n (matched form (map (alerts_shown h) articles) (said_kept front hearers (alerts_of_all h articles) i))) (rows_kept front hearers n h articles)

@@ -9,6 +9,7 @@ use Rattle.clip_meaning.specs.Article.{ArticleValue}
 use Rattle.clip_standing.specs.Command.{answer_of}
 use Rattle.clip_standing.specs.declared.command.Applied.{Applied}
 use Rattle.clip_front.specs.declared.books.Books.{Books}
+use Rattle.clip_front.specs.declared.settings.Settings.{Settings}
 use Rattle.clip_protocol.specs.declared.refusal.Refusal.TheVariants.{Full}
 use Rattle.clip_protocol.specs.LineMeaning.{Meaning, Means, nothing, refusal, refusal_at, command, purging, counting, showing, matching, judged, after}
 use Rattle.clip_front.specs.Outcome.{alerts_told, rows_posted, kept_rows, given, names_in}
@@ -37,10 +38,10 @@ replies_as old new m n r same replies = rw same replies
 pub replies_accepted : (old new : History) (c : Command) (a : Applied) (r : Reply) → IsJudged old new c (Some a) → r ≡ applied_view a → Replies old new (judged old c) r
 replies_accepted old new c a r j shows =
     replies_as old new (judged old c) (command c) r (judged-room old c true j.0)
-    (record { quiet = tt; history = j.1; reply = λ hearers. shows ∙ ap applied_view j.2 ∙ applied_view-answer_of c _ })
+    (record { quiet = tt; history = j.1; reply = λ form hearers. shows ∙ ap applied_view j.2 ∙ applied_view-answer_of c _ })
 
 pub replies_full : (old new : History) (c : Command) → IsJudged old new c None → Replies old new (judged old c) (refused Full)
-replies_full old new c j = replies_as old new (judged old c) (refusal Full) (refused Full) (judged-room old c false j.0) (record { quiet = tt; history = j.1; reply = λ hearers. refl })
+replies_full old new c j = replies_as old new (judged old c) (refusal Full) (refused Full) (judged-room old c false j.0) (record { quiet = tt; history = j.1; reply = λ form hearers. refl })
 
 -- ---- lines that tell no alert
 
@@ -51,7 +52,7 @@ takes_settled names old new n line text o r said s printed = record {
   means = means_from names old line s.0 (subst (λ x. MeansOutline names old x s.0) (sym said) s.1);
   quiet = s.2.quiet;
   history = s.2.history;
-  replies = λ hearers. printed ∙ ap (reply_text n) (s.2.reply hearers);
+  replies = λ form hearers. printed ∙ ap (reply_text n) (s.2.reply form hearers);
 }
 
 -- a line that lists these articles is taken as they are
@@ -82,21 +83,21 @@ none_kept : (keeps : Bool) → kept_rows keeps [] ≡ []
 none_kept true = refl
 none_kept false = refl
 
-abbrev pub held_by : Bool → History → List Hearer → List RowValue → Held
-held_by keeps h hearers rows = record { history = h; hearers = hearers; rows = rows; keeps = keeps }
+abbrev pub held_by : Settings → History → List Hearer → List RowValue → Held
+held_by settings h hearers rows = record { history = h; hearers = hearers; rows = rows; settings = settings }
 
 -- a line that tells no alert leaves the listeners and the rows as they are
 pub answers_quiet : (hearers : List Hearer) (books : Books) (old new : History) (n : ℕ) (line text : List ℕ) → TakesQuietly (names_in hearers) old new n line text → Answers (held old hearers books) (held new hearers books) n line text
 answers_quiet hearers books old new n line text t =
     let told : hearers ≡ told_all (alerts_told old t.meaning) hearers = sym (ap (λ xs. told_all xs hearers) (quiet_alerts old t.meaning t.quiet) ∙ told_none hearers) in
-    let rows : books.ledger ≡ books.ledger ++ kept_rows books.keeps_rows (rows_posted hearers n old t.meaning) =
-    sym (ap (λ xs. books.ledger ++ kept_rows books.keeps_rows xs) (quiet_rows hearers n old t.meaning t.quiet) ∙ ap (λ xs. books.ledger ++ xs) (none_kept books.keeps_rows) ∙ append-nil books.ledger) in
+    let rows : books.ledger ≡ books.ledger ++ kept_rows books.settings.keeps_rows (rows_posted hearers n old t.meaning) =
+    sym (ap (λ xs. books.ledger ++ kept_rows books.settings.keeps_rows xs) (quiet_rows hearers n old t.meaning t.quiet) ∙ ap (λ xs. books.ledger ++ xs) (none_kept books.settings.keeps_rows) ∙ append-nil books.ledger) in
     record {
       meaning = t.meaning;
       means = t.means;
       goes_on = record {
-        leaves = ap (λ h. held_by books.keeps_rows h hearers books.ledger) t.history ∙ ap₂ (held_by books.keeps_rows (after old t.meaning)) told rows;
-        replies = t.replies hearers;
+        leaves = ap (λ h. held_by books.settings h hearers books.ledger) t.history ∙ ap₂ (held_by books.settings (after old t.meaning)) told rows;
+        replies = t.replies books.settings.form hearers;
       };
     }
 

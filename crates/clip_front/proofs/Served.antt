@@ -15,6 +15,7 @@ use Rattle.clip_listen.specs.Heard.{Hearer, told_all, HearsFront}
 use Rattle.clip_listen.proofs.Hearing.{told_none, told_more, names_told, front_after}
 use Rattle.clip_protocol.specs.LineMeaning.{Meaning, is_long, is_blank, json_of, Means, after}
 use Rattle.clip_front.specs.Outcome.{Outcome, nothing_given, followed_by, given, names_in, kept_rows, Gives, GivesAll, GivesFront}
+use Rattle.clip_front.specs.declared.settings.Settings.{Settings}
 use Rattle.clip_front.specs.Steps.Answers.{Held, Answers, AnswersIn, Breaks, BreaksIn}
 use Rattle.clip_protocol.specs.Steps.Outline.{outline, blank, outline_of_value, MeansOutline}
 use Rattle.clip_front.specs.Steps.Serving.{Serves, StopsAt, ServesAll, ServesFront}
@@ -76,7 +77,7 @@ given_now s t n line text answers = given s.hearers n s.history answers.meaning
 heard_now : (s t : Held) (n : ℕ) (line text : List ℕ) (a : Answers s t n line text) → t.hearers ≡ told_all (given_now s t n line text a).alerts s.hearers
 heard_now s t n line text a = ap (λ x. x.hearers) a.goes_on.leaves
 
-text_now : (s t : Held) (n : ℕ) (line text : List ℕ) (a : Answers s t n line text) → (given_now s t n line text a).text ≡ text
+text_now : (s t : Held) (n : ℕ) (line text : List ℕ) (a : Answers s t n line text) → (given_now s t n line text a).text s.settings.form ≡ text
 text_now s t n line text a = sym a.goes_on.replies
 
 gives_first : (s t : Held) (n : ℕ) (line text : List ℕ) (lines : List (List ℕ)) (rest : Outcome) (a : Answers s t n (cut line) text) → Gives t.hearers (suc n) t.history lines rest → Gives s.hearers n s.history (line ∷ lines) (followed_by (given_now s t n (cut line) text a) rest)
@@ -90,9 +91,9 @@ gives_first s t n line text lines rest a gives =
 record GivenBy (s t : Held) (n : ℕ) (lines : List (List ℕ)) (text : List ℕ) : Type 0 where
   outcome : Outcome
   gives : Gives s.hearers n s.history lines outcome
-  printed : outcome.text ≡ text
+  printed : outcome.text s.settings.form ≡ text
   heard : t.hearers ≡ told_all outcome.alerts s.hearers
-  rows : t.rows ≡ s.rows ++ kept_rows s.keeps outcome.rows
+  rows : t.rows ≡ s.rows ++ kept_rows s.settings.keeps_rows outcome.rows
 
 given_first : (s t u : Held) (n : ℕ) (line first rest text : List ℕ) (lines : List (List ℕ)) → Answers s t n (cut line) first → text ≡ first ++ rest → GivenBy t u (suc n) lines rest → GivenBy s u n (line ∷ lines) text
 given_first s t u n line first rest text lines a e more =
@@ -100,11 +101,11 @@ given_first s t u n line first rest text lines a e more =
     record {
       outcome = followed_by now more.outcome;
       gives = gives_first s t n line first lines more.outcome a more.gives;
-      printed = ap₂ (λ x y. x ++ y) (text_now s t n (cut line) first a) more.printed ∙ sym e;
+      printed = ap₂ (λ x y. x ++ y) (text_now s t n (cut line) first a) (ap (λ x. more.outcome.text x.settings.form) (sym a.goes_on.leaves) ∙ more.printed) ∙ sym e;
       heard = more.heard ∙ ap (told_all more.outcome.alerts) (heard_now s t n (cut line) first a) ∙ told_more now.alerts more.outcome.alerts s.hearers;
       rows =
-          more.rows ∙ ap (λ x. x.rows ++ kept_rows x.keeps more.outcome.rows) a.goes_on.leaves
-          ∙ append_assoc s.rows (kept_rows s.keeps now.rows) (kept_rows s.keeps more.outcome.rows) ∙ ap (λ xs. s.rows ++ xs) (kept_append s.keeps now.rows more.outcome.rows);
+          more.rows ∙ ap (λ x. x.rows ++ kept_rows x.settings.keeps_rows more.outcome.rows) a.goes_on.leaves
+          ∙ append_assoc s.rows (kept_rows s.settings.keeps_rows now.rows) (kept_rows s.settings.keeps_rows more.outcome.rows) ∙ ap (λ xs. s.rows ++ xs) (kept_append s.settings.keeps_rows now.rows more.outcome.rows);
     }
 
 given_by : {S : Type 0} (view : S → Held) (s t : S) (n : ℕ) (lines : List (List ℕ)) (text : List ℕ) → Serves (AnswersIn view) s t n lines text → GivenBy (view s) (view t) n lines text
@@ -113,21 +114,21 @@ given_by view s t n [] text p = record {
   gives = refl;
   printed = sym p.1;
   heard = ap (λ x. (view x).hearers) p.0 ∙ sym (told_none (view s).hearers);
-  rows = ap (λ x. (view x).rows) p.0 ∙ none_posted (view s).keeps (view s).rows;
+  rows = ap (λ x. (view x).rows) p.0 ∙ none_posted (view s).settings.keeps_rows (view s).rows;
 }
 given_by view s t n (line ∷ lines) text p = given_first (view s) (view p.0) (view t) n line p.1 p.2 text lines p.3 p.4 (given_by view p.0 t (suc n) lines p.2 p.5)
 
-pub run_gives : {S : Type 0} (view : S → Held) (s t : S) (keeps : Bool) (input taken_first taken : Option (List ℕ)) → (view s).history ≡ [] → (view s).rows ≡ [] → (view s).keeps ≡ keeps → IfSome input (ServesAll (AnswersIn view) s t taken_first taken)
-    → IfSome input (GivesAll (view s).hearers (view t).hearers keeps taken_first taken (view t).rows)
-run_gives view s t keeps None taken_first taken start none same p = tt
-run_gives view s t keeps (Some input) taken_first taken start none same p =
+pub run_gives : {S : Type 0} (view : S → Held) (s t : S) (settings : Settings) (input taken_first taken : Option (List ℕ)) → (view s).history ≡ [] → (view s).rows ≡ [] → (view s).settings ≡ settings → IfSome input (ServesAll (AnswersIn view) s t taken_first taken)
+    → IfSome input (GivesAll (view s).hearers (view t).hearers settings taken_first taken (view t).rows)
+run_gives view s t settings None taken_first taken start none same p = tt
+run_gives view s t settings (Some input) taken_first taken start none same p =
     let g = given_by view s t 1 (lines_of input) p.text p.served in
     record {
       outcome = g.outcome;
       is = subst (λ h. Gives (view s).hearers 1 h (lines_of input) g.outcome) start g.gives;
-      replies = subst (Appends taken_first taken) (sym g.printed) p.written;
+      replies = subst (Appends taken_first taken) (sym g.printed ∙ ap (λ k. g.outcome.text k.form) same) p.written;
       told = g.heard;
-      rows = g.rows ∙ ap₂ (λ xs k. xs ++ kept_rows k g.outcome.rows) none same;
+      rows = g.rows ∙ ap₂ (λ xs k. xs ++ kept_rows k.keeps_rows g.outcome.rows) none same;
     }
 
 -- ---- some first lines were answered, and the next was begun at most
@@ -137,7 +138,7 @@ record BegunBy (s t : Held) (n : ℕ) (lines : List (List ℕ)) (text : List ℕ
   outcome : Outcome
   gives : Gives s.hearers n s.history lines outcome
   more : List ℕ
-  printed : outcome.text ≡ text ++ more
+  printed : outcome.text s.settings.form ≡ text ++ more
   heard : HearsFront outcome.alerts s.hearers t.hearers
 
 begun_here : (s t : Held) (n : ℕ) (line : List ℕ) → Breaks s t (cut line) → BegunBy s t n (line ∷ []) []
@@ -146,7 +147,7 @@ begun_here s t n line b =
     record {
       outcome = now;
       gives = (b.meaning, nothing_given, means_cut (names_in s.hearers) s.history line b.meaning b.means, sym (followed_nothing now), refl);
-      more = now.text;
+      more = now.text s.settings.form;
       printed = refl;
       heard = b.heard;
     }
@@ -158,7 +159,7 @@ begun_first s t u n line first rest text lines a e later =
       outcome = followed_by now later.outcome;
       gives = gives_first s t n line first lines later.outcome a later.gives;
       more = later.more;
-      printed = ap₂ (λ x y. x ++ y) (text_now s t n (cut line) first a) later.printed ∙ sym (append_assoc first rest later.more) ∙ ap (λ x. x ++ later.more) (sym e);
+      printed = ap₂ (λ x y. x ++ y) (text_now s t n (cut line) first a) (ap (λ x. later.outcome.text x.settings.form) (sym a.goes_on.leaves) ∙ later.printed) ∙ sym (append_assoc first rest later.more) ∙ ap (λ x. x ++ later.more) (sym e);
       heard = front_after now.alerts later.outcome.alerts s.hearers t.hearers u.hearers (heard_now s t n (cut line) first a) later.heard;
     }
 
@@ -179,7 +180,7 @@ front_longer old new text more f =
     (length (take f.0 text), subst (Appends old new) (sym (take-append_seam (take f.0 text) (drop f.0 text ++ more)) ∙ ap (take (length (take f.0 text))) there) f.1)
 
 front_given : (s t : Held) (taken_first taken : Option (List ℕ)) (input text : List ℕ) (lines later : List (List ℕ)) → s.history ≡ [] → lines_of input ≡ lines ++ later → BegunBy s t 1 lines text → AppendsFront taken_first taken text
-    → GivesFront s.hearers t.hearers taken_first taken input
+    → GivesFront s.hearers t.hearers s.settings.form taken_first taken input
 front_given s t taken_first taken input text lines later start parts b written = record {
   lines = lines;
   later = later;
@@ -191,7 +192,7 @@ front_given s t taken_first taken input text lines later start parts b written =
 }
 
 front_at : {S : Type 0} (view : S → Held) (s t u : S) (taken_first taken : Option (List ℕ)) (input text : List ℕ) (lines later : List (List ℕ)) → (view s).history ≡ [] → lines_of input ≡ lines ++ later → Serves (AnswersIn view) s t 1 lines text
-    → StopsAt (BreaksIn view) t u (suc (length lines)) later → AppendsFront taken_first taken text → GivesFront (view s).hearers (view u).hearers taken_first taken input
+    → StopsAt (BreaksIn view) t u (suc (length lines)) later → AppendsFront taken_first taken text → GivesFront (view s).hearers (view u).hearers (view s).settings.form taken_first taken input
 front_at view s t u taken_first taken input text lines [] start parts p same written =
     front_given (view s) (view u) taken_first taken input text lines [] start parts (ended_by view s u 1 lines text (subst (λ x. Serves (AnswersIn view) s x 1 lines text) (sym same) p)) written
 front_at view s t u taken_first taken input text lines (line ∷ later) start parts p (inl same) written =
@@ -199,7 +200,9 @@ front_at view s t u taken_first taken input text lines (line ∷ later) start pa
 front_at view s t u taken_first taken input text lines (line ∷ later) start parts p (inr broken) written =
     front_given (view s) (view u) taken_first taken input text (lines ++ line ∷ []) later start (parts ∙ sym (append_assoc lines (line ∷ []) later)) (begun_by view s t u 1 (suc (length lines)) lines line text p broken) written
 
-pub run_gives_front : {S : Type 0} (view : S → Held) (s t : S) (input taken_first taken : Option (List ℕ)) → (view s).history ≡ [] → IfSome input (ServesFront (AnswersIn view) (BreaksIn view) s t taken_first taken)
-    → IfSome input (GivesFront (view s).hearers (view t).hearers taken_first taken)
-run_gives_front view s t None taken_first taken start p = tt
-run_gives_front view s t (Some input) taken_first taken start p = front_at view s p.between t taken_first taken input p.text p.lines p.later start p.parts p.served p.stops p.written
+pub run_gives_front : {S : Type 0} (view : S → Held) (s t : S) (settings : Settings) (input taken_first taken : Option (List ℕ)) → (view s).history ≡ [] → (view s).settings ≡ settings → IfSome input (ServesFront (AnswersIn view) (BreaksIn view) s t taken_first taken)
+    → IfSome input (GivesFront (view s).hearers (view t).hearers settings.form taken_first taken)
+run_gives_front view s t settings None taken_first taken start same p = tt
+run_gives_front view s t settings (Some input) taken_first taken start same p =
+    subst (λ k. GivesFront (view s).hearers (view t).hearers k.form taken_first taken input) same
+    (front_at view s p.between t taken_first taken input p.text p.lines p.later start p.parts p.served p.stops p.written)

@@ -10,10 +10,12 @@ use Rattle.clip_stream.specs.Lines.{lines_of}
 use Rattle.clip_protocol.specs.LineMeaning as line
 use Rattle.clip_protocol.specs.LineMeaning.{Meaning, Means, after}
 use Rattle.clip_protocol.specs.Reply.{reply, alerts_of_all}
+use Rattle.clip_protocol.specs.declared.form.Form.{Form}
+use Rattle.clip_front.specs.declared.settings.Settings.{Settings}
 
--- the text of the replies, the alerts in the order of lines, articles and ids, and a row for each
+-- the text of the replies in each form, the alerts in the order of lines, articles and ids, and a row for each
 pub record Outcome : Type 0 where
-  pub text : List ℕ
+  pub text : Form → List ℕ
   pub alerts : List Alert
   pub rows : List RowValue
 
@@ -46,15 +48,15 @@ rows_posted hearers n h (line.showing id) = []
 rows_posted hearers n h (line.matching articles) = flat_map (λ a. rows_of_article hearers n (alerts h a)) articles
 
 abbrev pub given : List Hearer → ℕ → History → Meaning → Outcome
-given hearers n h m = record { text = reply hearers n h m; alerts = alerts_told h m; rows = rows_posted hearers n h m }
+given hearers n h m = record { text = λ form. reply form hearers n h m; alerts = alerts_told h m; rows = rows_posted hearers n h m }
 
 -- ---- the whole input
 
 abbrev pub nothing_given : Outcome
-nothing_given = record { text = []; alerts = []; rows = [] }
+nothing_given = record { text = λ form. []; alerts = []; rows = [] }
 
 abbrev pub followed_by : Outcome → Outcome → Outcome
-followed_by first more = record { text = first.text ++ more.text; alerts = first.alerts ++ more.alerts; rows = first.rows ++ more.rows }
+followed_by first more = record { text = λ form. first.text form ++ more.text form; alerts = first.alerts ++ more.alerts; rows = first.rows ++ more.rows }
 
 abbrev pub names_in : List Hearer → List (List ℕ)
 names_in hearers = map (λ l. l.name) hearers
@@ -73,20 +75,20 @@ IsOutcome hearers input outcome = Gives hearers 1 [] (lines_of input) outcome
 abbrev pub kept_rows : Bool → List RowValue → List RowValue
 kept_rows keeps rows = if keeps then rows else []
 
--- All that is due was written, each listener has heard just its own alerts, in order, and the ledger has its rows.
-pub record GivesAll (hearers heard : List Hearer) (keeps : Bool) (old new : Option (List ℕ)) (ledger : List RowValue) (input : List ℕ) : Type 0 where
+-- All that is due was written in the form that is set, each listener has heard just its own alerts, in order, and the ledger has its rows.
+pub record GivesAll (hearers heard : List Hearer) (settings : Settings) (old new : Option (List ℕ)) (ledger : List RowValue) (input : List ℕ) : Type 0 where
   pub outcome : Outcome
   pub is : IsOutcome hearers input outcome
-  pub replies : Appends old new outcome.text
+  pub replies : Appends old new (outcome.text settings.form)
   pub told : heard ≡ told_all outcome.alerts hearers
-  pub rows : ledger ≡ kept_rows keeps outcome.rows
+  pub rows : ledger ≡ kept_rows settings.keeps_rows outcome.rows
 
 -- For some of the first lines, what was written is a front of their replies, and the listeners have heard a front of their alerts.
-pub record GivesFront (hearers heard : List Hearer) (old new : Option (List ℕ)) (input : List ℕ) : Type 0 where
+pub record GivesFront (hearers heard : List Hearer) (form : Form) (old new : Option (List ℕ)) (input : List ℕ) : Type 0 where
   pub lines : List (List ℕ)
   pub later : List (List ℕ)
   pub outcome : Outcome
   pub cut : lines_of input ≡ lines ++ later
   pub gives : Gives hearers 1 [] lines outcome
-  pub replies : AppendsFront old new outcome.text
+  pub replies : AppendsFront old new (outcome.text form)
   pub told : HearsFront outcome.alerts hearers heard

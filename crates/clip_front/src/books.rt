@@ -1,4 +1,4 @@
-//! The books of a run: its ledger, where rows are kept.
+//! The books of a run: its settings, and its ledger, where rows are kept.
 ghost use Rattle.std.specs.Prelude.{◌≡◌, ◌++◌, [], map, OnOk};
 ghost use Rattle.clip_listen.specs.Heard.{note_value, alerts_of};
 ghost use Rattle.clip_ledger.specs.Rows.{rows_of};
@@ -11,24 +11,24 @@ use clip_standing::Alerts;
 use clip_words::NoMemory;
 use std::alloc::Global;
 
-/// The ledger of a run, and whether it keeps rows.
+/// The ledger of a run, and the settings that it goes by.
 #[derive(Drop)]
 pub struct Books {
     /// The rows that were kept.
     pub ledger: Ledger,
-    /// Whether rows are kept.
-    pub keeps_rows: bool,
+    /// Whether rows are kept, and what replies show.
+    pub settings: Settings,
 }
 
 impl Books {
     /// Books without rows. Takes no memory.
     pub fn new(alloc: Global, settings: Settings) -> Books
         ensures ledger { result.ledger ≡ [] }
-        ensures keeps { result.keeps_rows ≡ settings.keeps_rows }
+        ensures settings { result.settings ≡ settings }
     {
         Books {
             ledger: Ledger::new(alloc),
-            keeps_rows: settings.keeps_rows,
+            settings,
         }
     }
 
@@ -37,10 +37,10 @@ impl Books {
     /// `NoMemory` where an allocation failed. Cost: that of `Ledger::post`, or none.
     pub fn post(&mut self, line: u64, alerts: &Alerts, notes: &[Note]) -> Result<(), NoMemory>
         ensures rows { OnOk result (self.new.ledger ≡ self.old.ledger
-            ++ kept_rows self.old.keeps_rows (rows_of line (alerts_of alerts.now) (map note_value notes.now))) }
-        ensures keeps { self.new.keeps_rows ≡ self.old.keeps_rows }
+            ++ kept_rows self.old.settings.keeps_rows (rows_of line (alerts_of alerts.now) (map note_value notes.now))) }
+        ensures settings { self.new.settings ≡ self.old.settings }
     {
-        if self.keeps_rows {
+        if self.settings.keeps_rows {
             self.ledger.post(line, alerts, notes)?;
         }
         Ok(())

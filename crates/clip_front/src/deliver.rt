@@ -24,9 +24,9 @@ fn deliver_article<A: Audience>(
         ≡ notes_of (A.hearers audience.old) (alerts_of alerts.now)) }
     ensures heard { OnOk result (A.hearers audience.new
         ≡ told_all (alerts_of alerts.now) (A.hearers audience.old)) }
-    ensures rows { OnOk result (books.new.ledger ≡ books.old.ledger ++ kept_rows books.old.keeps_rows
+    ensures rows { OnOk result (books.new.ledger ≡ books.old.ledger ++ kept_rows books.old.settings.keeps_rows
         (rows_of_article (A.hearers audience.old) line (alerts_of alerts.now))) }
-    ensures keeps { books.new.keeps_rows ≡ books.old.keeps_rows }
+    ensures settings { books.new.settings ≡ books.old.settings }
     ensures err { OnErr result (HearsFront (alerts_of alerts.now)
         (A.hearers audience.old) (A.hearers audience.new)) }
 {
@@ -50,9 +50,9 @@ fn deliver_all<A: Audience>(
         ≡ notes_of (A.hearers audience.old) (told_in (map alerts_value found.now))) }
     ensures heard { OnOk result (A.hearers audience.new
         ≡ told_all (told_in (map alerts_value found.now)) (A.hearers audience.old)) }
-    ensures rows { OnOk result (books.new.ledger ≡ books.old.ledger ++ kept_rows books.old.keeps_rows
+    ensures rows { OnOk result (books.new.ledger ≡ books.old.ledger ++ kept_rows books.old.settings.keeps_rows
         (rows_in (A.hearers audience.old) line (map alerts_value found.now))) }
-    ensures keeps { books.new.keeps_rows ≡ books.old.keeps_rows }
+    ensures settings { books.new.settings ≡ books.old.settings }
     ensures err { OnErr result (HearsFront (told_in (map alerts_value found.now))
         (A.hearers audience.old) (A.hearers audience.new)) }
 {
@@ -65,7 +65,8 @@ fn deliver_all<A: Audience>(
 }
 
 /// Delivers the alerts that were found of a line's articles, posts them, and gives the text of the reply to the line of
-/// this number: the ids of the queries of each article, and what the listeners said, all in order.
+/// this number: the ids of the queries of each article, with hits where the books' settings ask for them, and what the
+/// listeners said, all in order.
 ///
 /// `NoMemory` where an allocation failed or a listener answers it; the listeners have heard some first ones of the
 /// alerts then, and some first rows may be posted. Cost: that of `deliver_to` and of `Books::post` for each article, and
@@ -78,15 +79,15 @@ pub fn deliver_found<A: Audience>(
     found: Vec<Alerts>,
 ) -> Result<Vec<u8>, NoMemory>
     ensures text { IfOk result (λ text. text.items
-        ≡ found_text (A.hearers audience.old) number (map alerts_value found.items)) }
+        ≡ found_text books.old.settings.form (A.hearers audience.old) number (map alerts_value found.items)) }
     ensures heard { OnOk result (A.hearers audience.new
         ≡ told_all (told_in (map alerts_value found.items)) (A.hearers audience.old)) }
-    ensures rows { OnOk result (books.new.ledger ≡ books.old.ledger ++ kept_rows books.old.keeps_rows
+    ensures rows { OnOk result (books.new.ledger ≡ books.old.ledger ++ kept_rows books.old.settings.keeps_rows
         (rows_in (A.hearers audience.old) number (map alerts_value found.items))) }
-    ensures keeps { books.new.keeps_rows ≡ books.old.keeps_rows }
+    ensures settings { books.new.settings ≡ books.old.settings }
     ensures err { OnErr result (HearsFront (told_in (map alerts_value found.items))
         (A.hearers audience.old) (A.hearers audience.new)) }
 {
     let notes = deliver_all(alloc, audience, books, number, &found)?;
-    Reply::Matched(found, notes).text(alloc, number)
+    Reply::Matched(books.settings.form, found, notes).text(alloc, number)
 }

@@ -42,11 +42,12 @@ impl Ledger {
         }
     }
 
-    /// Adds a row for each alert, in order: its line, and the text of the first note of its query, if there is one.
+    /// Adds a row for each alert, in order: its line, its hits, and the text of the first note of its query, if there is
+    /// one.
     ///
     /// `NoMemory` where an allocation failed; the ledger is as it was then. Cost: one walk over alerts and notes where
     /// the queries of each rise by their bytes, as those of an article's alerts and of their notes do; else a walk over
-    /// the notes for each alert.
+    /// the notes for each alert; and that of `Alert::hits` for each alert.
     pub fn post(&mut self, line: u64, alerts: &Alerts, notes: &[Note]) -> Result<(), NoMemory>
         ensures ok { OnOk result (self.new
             ≡ self.old ++ rows_of line (alerts_of alerts.now) (map note_value notes.now)) }
@@ -88,7 +89,7 @@ fn rows_by_search(
 {
     let mut rows = Vec::new(alloc);
     for alert in &alerts.alerts {
-        rows.push(Row::of(line, alert, text_for(notes, &alert.query))?)?;
+        rows.push(Row::of(alloc, line, alert, text_for(notes, alert.query()))?)?;
     }
     Ok(rows)
 }
@@ -109,10 +110,10 @@ fn rows_along(
     let mut rest = notes;
     let mut last = "";
     for alert in &alerts.alerts {
-        let query = alert.query.as_str();
+        let query = alert.query().as_str();
         rest = next_notes(notes, rest, last, query);
         last = query;
-        rows.push(Row::of(line, alert, first_text(rest, query))?)?;
+        rows.push(Row::of(alloc, line, alert, first_text(rest, query))?)?;
     }
     Ok(rows)
 }

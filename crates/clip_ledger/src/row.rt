@@ -5,8 +5,10 @@ ghost use Rattle.std.specs.Arc.{arc_str_bytes};
 ghost use Rattle.clip_standing.specs.Alerts.{alert_value};
 ghost use Rattle.clip_ledger.specs.Rows.{row_with, row_value, is_of};
 
+use clip_meaning::Hit;
 use clip_standing::Alert;
 use clip_words::NoMemory;
+use std::alloc::Global;
 use std::sync::ArcStr;
 
 /// An alert of a line, with what its listener said of it. Its texts are shared.
@@ -20,6 +22,8 @@ pub struct Row {
     pub query: ArcStr,
     /// The name of the query's listener, if it has one.
     pub listener: Option<ArcStr>,
+    /// Where in the article the query holds, in order.
+    pub hits: Vec<Hit>,
     /// What that listener said, if it is here.
     pub text: Option<ArcStr>,
 }
@@ -37,17 +41,23 @@ fn shared(text: Option<&ArcStr>) -> Result<Option<ArcStr>, NoMemory>
 
 impl Row {
     /// The row of an alert, with what its listener said.
-    pub(crate) fn of(line: u64, alert: &Alert, text: Option<&ArcStr>) -> Result<Row, NoMemory>
+    pub(crate) fn of(
+        alloc: Global,
+        line: u64,
+        alert: &Alert,
+        text: Option<&ArcStr>,
+    ) -> Result<Row, NoMemory>
         ensures { IfOk result (λ row. row_value row
             ≡ row_with line (alert_value alert.now) (option_map arc_str_bytes (option_copied text.entry))) }
     {
-        let listener = shared(alert.listener.as_ref())?;
+        let listener = shared(alert.listener())?;
         let text = shared(text)?;
         Ok(Row {
             line,
-            article: alert.article.clone()?,
-            query: alert.query.clone()?,
+            article: alert.article().shared_id().clone()?,
+            query: alert.query().clone()?,
             listener,
+            hits: alert.hits(alloc)?,
             text,
         })
     }

@@ -35,7 +35,8 @@ pub trait Listener: Drop {
         ensures { option_map (λ alerts. map alert_value alerts.now) result ≡ heard self.now };
 }
 
-/// Says each alert by its render, keeps what it heard and tells it. It takes memory for each alert.
+/// Says each alert by its render, keeps what it heard and tells it. It takes memory for each alert, and what the alert
+/// shares, its query and its article, stays in memory with it.
 #[derive(Drop)]
 pub struct Folder<W: Wording> {
     render: Render<W>,
@@ -66,7 +67,7 @@ impl<W: Wording> Listener for Folder<W> {
 
     fn hear(&mut self, alloc: Global, alert: &Alert) -> Result<String, NoMemory> {
         let text = self.render.text(alloc, alert)?;
-        self.alerts.push(alert.clone()?)?;
+        self.alerts.push(alert.copy()?)?;
         Ok(text)
     }
 

@@ -107,14 +107,14 @@ impl Audience for Listeners {
     /// Tells the alert to its listener, if it is here. Cost: one search among the names, or a walk over them where
     /// there is no index, and what the listener takes.
     fn tell(&mut self, alloc: Global, alert: &Alert) -> Result<Option<Note>, NoMemory> {
-        let Some(name) = &alert.listener else {
+        let Some(name) = alert.listener() else {
             return Ok(None);
         };
         let Some(at) = self.place(name.as_str()) else {
             return Ok(None);
         };
         let listener = name.clone()?;
-        let query = alert.query.clone()?;
+        let query = alert.query().clone()?;
         let text = ArcStr::from_string(hear_at(alloc, &mut self.parts, at, name, alert)?)?;
         Ok(Some(Note {
             listener,

@@ -31,9 +31,9 @@ impl Wording for Style {
 
     fn text(&self, alloc: Global, alert: &Alert) -> Result<String, NoMemory> {
         let mut text = String::from_str(alloc, &self.head)?;
-        text.push_str(&alert.query)?;
+        text.push_str(alert.query())?;
         text.push_str(&self.middle)?;
-        text.push_str(&alert.article)?;
+        text.push_str(alert.article().id())?;
         Ok(text)
     }
 }

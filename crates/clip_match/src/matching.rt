@@ -25,22 +25,6 @@ fn sort_by_id(entries: &mut Vec<&Entry>)
     );
 }
 
-/// The alert of a query that holds of the article.
-fn alert(entry: &Entry, article: &Article) -> Result<Alert, NoMemory>
-    ensures { IfOk result (λ alert. alert_value alert ≡ alert_due article.now entry.now) }
-{
-    let standing = entry.standing();
-    let listener = match standing.shared_listener() {
-        Some(name) => Some(name.clone()?),
-        None => None,
-    };
-    Ok(Alert {
-        query: standing.shared_id().clone()?,
-        article: article.shared_id().clone()?,
-        listener,
-    })
-}
-
 /// The alerts of queries that hold of the article, in their order.
 fn alerts(alloc: Global, entries: &[&Entry], article: &Article) -> Result<Vec<Alert>, NoMemory>
     ensures { IfOk result (λ alerts. map alert_value alerts.items
@@ -48,7 +32,7 @@ fn alerts(alloc: Global, entries: &[&Entry], article: &Article) -> Result<Vec<Al
 {
     let mut alerts = Vec::new(alloc);
     for entry in entries {
-        alerts.push(alert(entry, article)?)?;
+        alerts.push(Alert::of(entry.standing(), article)?)?;
     }
     Ok(alerts)
 }

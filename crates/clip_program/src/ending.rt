@@ -10,7 +10,7 @@ use std::process::ExitCode;
 /// The status where the words ask for nothing that the program can do.
 const REFUSED: u8 = 2;
 
-const USAGE: &str = "usage: pressclip run [workers] | pressclip trace";
+const USAGE: &str = "usage: pressclip run [workers] [hits] | pressclip trace";
 
 /// Says the text on standard error, where it is not empty, and gives the status. A fault of standard error is dropped.
 fn end_with<R: Eprint>(rt: &R, status: u8, text: &str) -> ExitCode

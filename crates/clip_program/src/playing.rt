@@ -13,9 +13,9 @@ use std::rt::Env;
 use std::sync::Wait;
 use std::thread::Threads;
 
-/// Does what the words after the program's name ask for: `run`, with a number of workers or without, answers the
-/// requests of standard input on standard output, with the listeners `mail` and `feed`, and `trace` plays the events of
-/// standard input.
+/// Does what the words after the program's name ask for: `run`, with a number of workers or without, and with `hits` or
+/// without, answers the requests of standard input on standard output, with the listeners `mail` and `feed`, and `trace`
+/// plays the events of standard input.
 ///
 /// The status is 0 where it ended well, 1 after a fault, and 2 for other words; the fault, or the words that there are,
 /// is said on standard error. The cost is that of `run`, or of `run_trace`.
@@ -26,7 +26,7 @@ pub fn play<R: Env + Input + Print + Eprint + Threads + Wait + Sync + AllocGloba
 {
     match words_of(rt) {
         Ok(words) => match command_line::mode(&words) {
-            Some(Mode::Run(workers)) => end(rt, &run_heard(rt, workers)),
+            Some(Mode::Run(workers, form)) => end(rt, &run_heard(rt, workers, form)),
             Some(Mode::Trace) => end(rt, &run_traced(rt)),
             None => end_refused(rt),
         },

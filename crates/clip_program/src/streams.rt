@@ -3,19 +3,21 @@ ghost use Rattle.std.specs.Prelude.{◌≤◌};
 
 use clip_command_line::{feed, mail, named};
 use clip_listen::Listeners;
-use clip_run::{Ended, OpenGate, Settings, run};
+use clip_run::{Ended, Form, OpenGate, Settings, run};
 use clip_stream::{MOST_WORKERS, RunFault, StdSink, StdSource};
 use clip_trace_lines::run_trace;
 use std::io;
 use std::sync::Wait;
 use std::thread::Threads;
 
-/// Runs over the standard streams, with so many workers and the program's listeners. No rows are kept.
+/// Runs over the standard streams, with so many workers, this form of replies and the program's listeners. No rows are
+/// kept.
 ///
 /// The faults and the cost are those of `run`, and `NoMemory` where the listeners get none.
 pub fn run_heard<R: Input + Print + Threads + Wait + Sync + AllocGlobal>(
     rt: &R,
     workers: u32,
+    form: Form,
 ) -> Result<Ended, RunFault>
     requires { workers ≤ MOST_WORKERS }
 {
@@ -28,6 +30,7 @@ pub fn run_heard<R: Input + Print + Threads + Wait + Sync + AllocGlobal>(
     let mut source = StdSource::new(rt.reader());
     let mut sink = StdSink::new(io::writer(rt));
     let settings = Settings {
+        form,
         keeps_rows: false,
         workers,
     };

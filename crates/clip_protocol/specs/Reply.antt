@@ -4,6 +4,7 @@ use Rattle.std.specs.FinMap as finite
 use Rattle.serde_json.specs.Data.{Data, null, boolean, number, unsigned, string}
 use Rattle.serde_json.specs.Written.{compact_text}
 use Rattle.clip_meaning.specs.Article.{ArticleValue}
+use Rattle.clip_meaning.specs.Hits.{HitValue}
 use Rattle.clip_model.specs.History.{History, Command, Register, Delete, Clear, replay, applied}
 use Rattle.clip_model.specs.Alerts.{Alert, alerts}
 use Rattle.clip_listen.specs.Heard.{Hearer, notes_of}
@@ -11,11 +12,13 @@ use Rattle.clip_protocol.specs.LineMeaning as line
 use Rattle.clip_protocol.specs.LineMeaning.{Meaning}
 use Rattle.clip_protocol.specs.Refusal.{word_of}
 use Rattle.clip_protocol.specs.Request.{object_of, array_of}
+use Rattle.clip_protocol.specs.declared.form.Form.{Form}
+use Rattle.clip_protocol.specs.declared.form.Form.TheVariants.{Plain, WithHits}
 use Rattle.clip_protocol.specs.declared.refusal.Refusal.{Refusal}
 
 -- ---- one line
 
--- what is answered, to a blank line nothing; to a match of each article its id and the ids of queries, and the texts of the notes; to an event of a trace the word for its answer, and to the finish of a batch the ids as to a match
+-- what is answered, to a blank line nothing; to a match in this form of each article its id and its alerts, and the texts of the notes; to an event of a trace the word for its answer, and to the finish of a batch the alerts as to a match
 pub data Reply : Type 0 where
   nothing : Reply
   refused : Refusal → Reply
@@ -26,9 +29,9 @@ pub data Reply : Type 0 where
   purged : Reply
   counted : ℕ → Reply
   shown : Option (List ℕ) → Reply
-  matched : List (List ℕ × List (List ℕ)) → List (List ℕ) → Reply
+  matched : Form → List (List ℕ × List Alert) → List (List ℕ) → Reply
   stepped : List ℕ → Reply
-  finished : List (List ℕ × List (List ℕ)) → Reply
+  finished : List (List ℕ × List Alert) → Reply
 
 -- a command that counts n
 abbrev pub accepted : Command → ℕ → Reply
@@ -36,9 +39,9 @@ accepted (Register standings) n = registered n
 accepted (Delete ids) n = deleted n
 accepted Clear n = cleared n
 
--- the article's id, and the ids of its alerts
-abbrev pub alerts_shown : History → ArticleValue → List ℕ × List (List ℕ)
-alerts_shown h article = (article.id, map (λ a. a.query) (alerts h article))
+-- the article's id, and its alerts
+abbrev pub alerts_shown : History → ArticleValue → List ℕ × List Alert
+alerts_shown h article = (article.id, alerts h article)
 
 -- the alerts of each article, in order
 abbrev pub alerts_of_all : History → List ArticleValue → List Alert
@@ -48,16 +51,16 @@ alerts_of_all h articles = flat_map (alerts h) articles
 abbrev pub texts_said : List Hearer → List Alert → List (List ℕ)
 texts_said hearers alerts = map (λ n. n.text) (notes_of hearers alerts)
 
--- what is answered to a line that means this after the history, where these listeners are here
-abbrev pub answer_to : List Hearer → History → Meaning → Reply
-answer_to hearers h line.nothing = nothing
-answer_to hearers h (line.refusal r) = refused r
-answer_to hearers h (line.refusal_at r k) = refused_at r k
-answer_to hearers h (line.command c) = accepted c (applied h c)
-answer_to hearers h line.purging = purged
-answer_to hearers h line.counting = counted (finite.len (replay h))
-answer_to hearers h (line.showing id) = shown (option_map (λ r. r.standing.text) (finite.get (replay h) id))
-answer_to hearers h (line.matching articles) = matched (map (alerts_shown h) articles) (texts_said hearers (alerts_of_all h articles))
+-- what is answered in this form to a line that means this after the history, where these listeners are here
+abbrev pub answer_to : Form → List Hearer → History → Meaning → Reply
+answer_to form hearers h line.nothing = nothing
+answer_to form hearers h (line.refusal r) = refused r
+answer_to form hearers h (line.refusal_at r k) = refused_at r k
+answer_to form hearers h (line.command c) = accepted c (applied h c)
+answer_to form hearers h line.purging = purged
+answer_to form hearers h line.counting = counted (finite.len (replay h))
+answer_to form hearers h (line.showing id) = shown (option_map (λ r. r.standing.text) (finite.get (replay h) id))
+answer_to form hearers h (line.matching articles) = matched form (map (alerts_shown h) articles) (texts_said hearers (alerts_of_all h articles))
 
 -- ---- its text
 
@@ -68,8 +71,21 @@ abbrev pub text_or_null : Option (List ℕ) → Data
 text_or_null None = null
 text_or_null (Some text) = string text
 
-abbrev pub alerts_data : List ℕ × List (List ℕ) → Data
-alerts_data a = object_of ((codes "article", string a.0) ∷ (codes "queries", array_of (map string a.1)) ∷ [])
+-- the name of a field, and a position in it
+abbrev pub hit_data : HitValue → Data
+hit_data hit = object_of ((codes "field", string hit.0) ∷ (codes "position", number_of hit.1) ∷ [])
+
+-- for each alert where its query holds
+abbrev pub hits_data : List Alert → Data
+hits_data alerts = array_of (map (λ a. array_of (map hit_data a.hits)) alerts)
+
+abbrev pub queries_data : List Alert → Data
+queries_data alerts = array_of (map string (map (λ a. a.query) alerts))
+
+-- an article's id and the ids of the queries, and with hits where each of them holds
+abbrev pub alerts_data : Form → List ℕ × List Alert → Data
+alerts_data Plain a = object_of ((codes "article", string a.0) ∷ (codes "queries", queries_data a.1) ∷ [])
+alerts_data WithHits a = object_of ((codes "article", string a.0) ∷ (codes "hits", hits_data a.1) ∷ (codes "queries", queries_data a.1) ∷ [])
 
 -- the value of a reply to line n; that of no reply is never printed
 unfoldable pub reply_value : ℕ → Reply → Data
@@ -82,10 +98,10 @@ reply_value n (cleared k) = object_of ((codes "cleared", number_of k) ∷ (codes
 reply_value n purged = object_of ((codes "line", number_of n) ∷ (codes "purged", boolean true) ∷ [])
 reply_value n (counted k) = object_of ((codes "count", number_of k) ∷ (codes "line", number_of n) ∷ [])
 reply_value n (shown text) = object_of ((codes "line", number_of n) ∷ (codes "query", text_or_null text) ∷ [])
-reply_value n (matched found notes) =
-    object_of ((codes "alerts", array_of (map alerts_data found)) ∷ (codes "line", number_of n) ∷ (codes "notes", array_of (map string notes)) ∷ [])
+reply_value n (matched form found notes) =
+    object_of ((codes "alerts", array_of (map (alerts_data form) found)) ∷ (codes "line", number_of n) ∷ (codes "notes", array_of (map string notes)) ∷ [])
 reply_value n (stepped word) = object_of ((codes "line", number_of n) ∷ (codes "step", string word) ∷ [])
-reply_value n (finished found) = object_of ((codes "alerts", array_of (map alerts_data found)) ∷ (codes "line", number_of n) ∷ [])
+reply_value n (finished found) = object_of ((codes "alerts", array_of (map (alerts_data Plain) found)) ∷ (codes "line", number_of n) ∷ [])
 
 -- the value as compact JSON, and a line feed
 unfoldable pub printed : Data → List ℕ
@@ -96,6 +112,6 @@ abbrev pub reply_text : ℕ → Reply → List ℕ
 reply_text n nothing = []
 reply_text n r = printed (reply_value n r)
 
--- the reply to line n, which means this after the history
-abbrev pub reply : List Hearer → ℕ → History → Meaning → List ℕ
-reply hearers n h m = reply_text n (answer_to hearers h m)
+-- the reply to line n in this form, which means this after the history
+abbrev pub reply : Form → List Hearer → ℕ → History → Meaning → List ℕ
+reply form hearers n h m = reply_text n (answer_to form hearers h m)

@@ -1,6 +1,7 @@
 //! The protocol: what a JSON line asks for, what it means after a history, and the text of its reply.
 #![tactic(auto)]
 
+mod form;
 mod line;
 mod listing;
 mod members;
@@ -8,6 +9,7 @@ mod refusal;
 mod reply;
 mod request;
 
+pub use form::Form;
 pub use line::{Line, articles_of, have_ids, is_blank, json_of};
 pub use listing::{ListFault, read_listing};
 pub use members::{

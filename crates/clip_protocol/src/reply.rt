@@ -1,16 +1,21 @@
 //! Replies, and their text.
 ghost use Rattle.std.specs.Prelude.{◌≡◌, false, codes, IfOk, map};
 ghost use Rattle.std.specs.Arc.{arc_str_bytes};
-ghost use Rattle.serde_json.specs.Data.{string, object, put, member, no_members};
+ghost use Rattle.serde_json.specs.Data.{string, array, object, put, member, no_members};
 ghost use Rattle.serde_json.specs.View.{view};
 ghost use Rattle.serde_json.specs.Written.{has_float};
+ghost use Rattle.clip_meaning.specs.Hits.{hit_value};
 ghost use Rattle.clip_standing.specs.Alerts.{alert_value, alerts_value};
 ghost use Rattle.clip_protocol.specs.Reply as reply;
-ghost use Rattle.clip_protocol.specs.Reply.{printed as printed_text, alerts_data, number_of, reply_value};
-ghost use Rattle.clip_protocol.specs.Steps.Views.{alerts_ids, applied_view, reply_view};
+ghost use Rattle.clip_protocol.specs.Request.{array_of};
+ghost use Rattle.clip_protocol.specs.Reply.{printed as printed_text, alerts_data, hit_data, number_of, reply_value};
+ghost use Rattle.clip_protocol.specs.declared.form.Form.TheVariants as form;
+ghost use Rattle.clip_protocol.specs.Steps.Views.{alerts_by_id, applied_view, reply_view};
 
+use crate::form::Form;
 use crate::refusal::Refusal;
 use clip_listen::Note;
+use clip_meaning::Hit;
 use clip_standing::{Alert, Alerts, Applied};
 use clip_words::NoMemory;
 use serde_json::{Value, json};
@@ -37,8 +42,8 @@ pub enum Reply {
     Counted(u64),
     /// The text of a query, where one is registered under the id.
     Shown(Option<String>),
-    /// The alerts of each article, and what the listeners said of them.
-    Matched(Vec<Alerts>, Vec<Note>),
+    /// The alerts of each article, shown in this form, and what the listeners said of them.
+    Matched(Form, Vec<Alerts>, Vec<Note>),
     /// The word for the answer to an event of a trace.
     Stepped(&'static str),
     /// The alerts of each article of a batch of a trace.
@@ -63,27 +68,65 @@ fn query_ids(alloc: Global, alerts: &[Alert]) -> Result<Vec<Value>, NoMemory>
 {
     let mut ids = Vec::with_capacity(alloc, alerts.len())?;
     for alert in alerts {
-        ids.push(Value::String(String::from_str(alloc, alert.query.as_str())?))?;
+        ids.push(Value::String(String::from_str(alloc, alert.query().as_str())?))?;
     }
     Ok(ids)
 }
 
-/// An article's alerts, as JSON.
-fn alerts_json(alloc: Global, found: &Alerts) -> Result<Value, NoMemory>
-    ensures { IfOk result (λ v. view v ≡ alerts_data (alerts_ids (alerts_value found.now))) }
+/// The name of a field and a position in it, as JSON.
+fn hit_json(alloc: Global, hit: &Hit) -> Result<Value, NoMemory>
+    ensures { IfOk result (λ v. view v ≡ hit_data (hit_value hit.now)) }
 {
-    let queries = query_ids(alloc, &found.alerts)?;
-    Ok(json!(in alloc; {"article": found.article.as_str(), "queries": queries})?)
+    Ok(json!(in alloc; {"field": hit.field.as_str(), "position": hit.position})?)
 }
 
-/// The alerts of each article, as JSON.
-fn all_alerts_json(alloc: Global, found: &[Alerts]) -> Result<Vec<Value>, NoMemory>
+/// Where the query of an alert holds, as JSON.
+fn hits_json(alloc: Global, alert: &Alert) -> Result<Vec<Value>, NoMemory>
+    ensures { IfOk result (λ hits. map view hits.items ≡ map hit_data (alert_value alert.now).hits) }
+{
+    let found = alert.hits(alloc)?;
+    let mut hits = Vec::with_capacity(alloc, found.len())?;
+    for hit in &found {
+        hits.push(hit_json(alloc, hit)?)?;
+    }
+    Ok(hits)
+}
+
+/// For each alert where its query holds, as JSON.
+fn all_hits_json(alloc: Global, alerts: &[Alert]) -> Result<Vec<Value>, NoMemory>
     ensures { IfOk result (λ all. map view all.items
-        ≡ map alerts_data (map alerts_ids (map alerts_value found.now))) }
+        ≡ map (λ a. array_of (map hit_data a.hits)) (map alert_value alerts.now)) }
+{
+    let mut all = Vec::with_capacity(alloc, alerts.len())?;
+    for alert in alerts {
+        all.push(Value::Array(hits_json(alloc, alert)?))?;
+    }
+    Ok(all)
+}
+
+/// An article's alerts in a form, as JSON.
+fn alerts_json(alloc: Global, form: Form, found: &Alerts) -> Result<Value, NoMemory>
+    ensures { IfOk result (λ v. view v ≡ alerts_data form (alerts_by_id (alerts_value found.now))) }
+{
+    let article = found.article.as_str();
+    let queries = query_ids(alloc, &found.alerts)?;
+    match form {
+        Form::Plain => Ok(json!(in alloc; {"article": article, "queries": queries})?),
+        Form::WithHits => {
+            let hits = all_hits_json(alloc, &found.alerts)?;
+            Ok(json!(in alloc; {"article": article, "hits": hits, "queries": queries})?)
+        }
+    }
+}
+
+/// The alerts of each article in a form, as JSON.
+fn all_alerts_json(alloc: Global, form: Form, found: &[Alerts]) -> Result<Vec<Value>, NoMemory>
+    ensures { IfOk result (λ all. map view all.items
+        ≡ map (alerts_data form) (map alerts_by_id (map alerts_value found.now))) }
 {
     let mut all = Vec::with_capacity(alloc, found.len())?;
     for alerts in found {
-        all.push(alerts_json(alloc, alerts)?)?;
+        all.push(alerts_json(alloc, form, alerts)?)?;
     }
     Ok(all)
 }
@@ -141,14 +184,15 @@ fn value_json(alloc: Global, number: u64, name: &str, value: Value) -> Result<Va
 #[tactic(auto, unfolding(crate::specs::Reply::reply_value))]
 fn matched_json(
     alloc: Global,
+    form: Form,
     number: u64,
     found: &[Alerts],
     notes: &[Note],
 ) -> Result<Value, NoMemory>
     ensures { IfOk result (λ v. view v ≡ reply_value number
-        (reply.matched (map alerts_ids (map alerts_value found.now)) (map (λ n. arc_str_bytes n.text) notes.now))) }
+        (reply.matched form (map alerts_by_id (map alerts_value found.now)) (map (λ n. arc_str_bytes n.text) notes.now))) }
 {
-    let alerts = all_alerts_json(alloc, found)?;
+    let alerts = all_alerts_json(alloc, form, found)?;
     let notes = notes_json(alloc, notes)?;
     Ok(json!(in alloc; {"alerts": alerts, "line": number, "notes": notes})?)
 }
@@ -157,9 +201,9 @@ fn matched_json(
 #[tactic(auto, unfolding(crate::specs::Reply::reply_value))]
 fn finished_json(alloc: Global, number: u64, found: &[Alerts]) -> Result<Value, NoMemory>
     ensures { IfOk result (λ v. view v ≡ reply_value number
-        (reply.finished (map alerts_ids (map alerts_value found.now)))) }
+        (reply.finished (map alerts_by_id (map alerts_value found.now)))) }
 {
-    let alerts = all_alerts_json(alloc, found)?;
+    let alerts = all_alerts_json(alloc, Form::Plain, found)?;
     Ok(json!(in alloc; {"alerts": alerts, "line": number})?)
 }
 
@@ -196,7 +240,9 @@ impl Reply {
             Reply::Counted(count) => count_json(alloc, number, "count", count),
             Reply::Shown(Some(text)) => value_json(alloc, number, "query", Value::String(text)),
             Reply::Shown(None) => value_json(alloc, number, "query", Value::Null),
-            Reply::Matched(found, notes) => matched_json(alloc, number, &found, &notes),
+            Reply::Matched(form, found, notes) => {
+                matched_json(alloc, form, number, &found, &notes)
+            }
             Reply::Stepped(word) => word_json(alloc, number, "step", word),
             Reply::Finished(found) => finished_json(alloc, number, &found),
         }
@@ -204,7 +250,8 @@ impl Reply {
 
     /// The text of the reply to the line of this number: compact JSON and a line feed, or nothing.
     ///
-    /// `NoMemory` where an allocation failed. Its cost is linear in the text.
+    /// `NoMemory` where an allocation failed. Its cost is linear in the text, and with hits that of `Alert::hits` for each
+    /// alert.
     pub fn text(self, alloc: Global, number: u64) -> Result<Vec<u8>, NoMemory>
         ensures { IfOk result (λ text. text.items ≡ reply_text number (reply_view self)) }
     {

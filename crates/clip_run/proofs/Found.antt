@@ -8,15 +8,16 @@ use Rattle.clip_standing.specs.Alerts.{AlertsValue}
 use Rattle.clip_listen.specs.Heard.{Hearer, told_all}
 use Rattle.clip_registry.specs.RegistryState.{RegistryState}
 use Rattle.clip_protocol.specs.LineMeaning.{matching}
+use Rattle.clip_protocol.specs.declared.form.Form.{Form}
 use Rattle.clip_protocol.specs.Reply.{alerts_shown, alerts_of_all, matched, reply_text, texts_said}
-use Rattle.clip_protocol.specs.Steps.Views.{alerts_ids}
+use Rattle.clip_protocol.specs.Steps.Views.{alerts_by_id}
 use Rattle.clip_front.specs.declared.books.Books.{Books}
 use Rattle.clip_front.specs.Outcome.{given, kept_rows, rows_of_article}
 use Rattle.clip_front.specs.Steps.Answers.{GoesOn, held}
 use Rattle.clip_front.specs.Steps.Found.{told_in, rows_in, found_text, found_outcome}
 use Rattle.clip_front.proofs.Responses.{held_by}
 
-shown-alerts_due : (s : RegistryState) (articles : List ArticleValue) → map alerts_ids (map (alerts_due s) articles) ≡ map (alerts_shown s.history) articles
+shown-alerts_due : (s : RegistryState) (articles : List ArticleValue) → map alerts_by_id (map (alerts_due s) articles) ≡ map (alerts_shown s.history) articles
 shown-alerts_due s [] = refl
 shown-alerts_due s (a ∷ articles) = ap (λ rest. alerts_shown s.history a ∷ rest) (shown-alerts_due s articles)
 
@@ -29,24 +30,24 @@ rows-alerts_due hearers n s [] = refl
 rows-alerts_due hearers n s (a ∷ articles) = ap (λ rest. rows_of_article hearers n (alerts s.history a) ++ rest) (rows-alerts_due hearers n s articles)
 
 -- the text of what is due, with the texts of the notes
-text-alerts_due : (hearers : List Hearer) (n : ℕ) (s : RegistryState) (articles : List ArticleValue) → found_text hearers n (map (alerts_due s) articles) ≡ (given hearers n s.history (matching articles)).text
-text-alerts_due hearers n s articles = ap₂ (λ ids told. reply_text n (matched ids (texts_said hearers told))) (shown-alerts_due s articles) (told-alerts_due s articles)
+text-alerts_due : (form : Form) (hearers : List Hearer) (n : ℕ) (s : RegistryState) (articles : List ArticleValue) → found_text form hearers n (map (alerts_due s) articles) ≡ (given hearers n s.history (matching articles)).text form
+text-alerts_due form hearers n s articles = ap₂ (λ ids told. reply_text n (matched form ids (texts_said hearers told))) (shown-alerts_due s articles) (told-alerts_due s articles)
 
 -- a line that matches articles gives just what is found of them at a view with its history
 pub found_given : (view : RegistryState) (hearers : List Hearer) (n : ℕ) (articles : List ArticleValue) (found : List AlertsValue) → found ≡ map (alerts_due view) articles → found_outcome hearers n found ≡ given hearers n view.history (matching articles)
 found_given view hearers n articles found is =
     ap (found_outcome hearers n) is
-    ∙ ap₂ (λ text rows. record { text = text; alerts = told_in (map (alerts_due view) articles); rows = rows }) (text-alerts_due hearers n view articles) (rows-alerts_due hearers n view articles)
+    ∙ ap₂ (λ text rows. record { text = text; alerts = told_in (map (alerts_due view) articles); rows = rows }) (λ i form. text-alerts_due form hearers n view articles i) (rows-alerts_due hearers n view articles)
     ∙ ap (λ told. record { text = (given hearers n view.history (matching articles)).text; alerts = told; rows = (given hearers n view.history (matching articles)).rows }) (told-alerts_due view articles)
 
-pub goes_on_matched : (view : RegistryState) (hearers heard : List Hearer) (books new_books : Books) (n : ℕ) (articles : List ArticleValue) (found : List AlertsValue) (text : List ℕ) → found ≡ map (alerts_due view) articles → text ≡ found_text hearers n found
-    → heard ≡ told_all (told_in found) hearers → new_books.ledger ≡ books.ledger ++ kept_rows books.keeps_rows (rows_in hearers n found) → new_books.keeps_rows ≡ books.keeps_rows
+pub goes_on_matched : (view : RegistryState) (hearers heard : List Hearer) (books new_books : Books) (n : ℕ) (articles : List ArticleValue) (found : List AlertsValue) (text : List ℕ) → found ≡ map (alerts_due view) articles → text ≡ found_text books.settings.form hearers n found
+    → heard ≡ told_all (told_in found) hearers → new_books.ledger ≡ books.ledger ++ kept_rows books.settings.keeps_rows (rows_in hearers n found) → new_books.settings ≡ books.settings
     → GoesOn (held view.history hearers books) (held view.history heard new_books) n (matching articles) text
-goes_on_matched view hearers heard books new_books n articles found text is printed told rows keeps =
+goes_on_matched view hearers heard books new_books n articles found text is printed told rows settings =
     let gives : found_outcome hearers n found ≡ given hearers n view.history (matching articles) = found_given view hearers n articles found is in
     record {
       leaves =
-          ap (λ k. held_by k view.history heard new_books.ledger) keeps
-          ∙ ap₂ (held_by books.keeps_rows view.history) (told ∙ ap (λ o. told_all o.alerts hearers) gives) (rows ∙ ap (λ o. books.ledger ++ kept_rows books.keeps_rows o.rows) gives);
-      replies = printed ∙ ap (λ o. o.text) gives;
+          ap (λ k. held_by k view.history heard new_books.ledger) settings
+          ∙ ap₂ (held_by books.settings view.history) (told ∙ ap (λ o. told_all o.alerts hearers) gives) (rows ∙ ap (λ o. books.ledger ++ kept_rows books.settings.keeps_rows o.rows) gives);
+      replies = printed ∙ ap (λ o. o.text books.settings.form) gives;
     }

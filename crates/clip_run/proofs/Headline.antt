@@ -18,6 +18,7 @@ use Rattle.clip_front.specs.Steps.Serving.{Serves, StopsAt, ServesAll, ServesFro
 use Rattle.clip_protocol.proofs.Meanings.{means_from, means_to}
 use Rattle.clip_front.proofs.Outcomes.{followed_assoc, followed_nothing, given_kept}
 use Rattle.clip_front.proofs.Served.{choose, cut_is_long, cut_is_whole}
+use Rattle.clip_front.specs.declared.settings.Settings.{Settings}
 use Rattle.clip_run.specs.Owed.{Owed, owes, Course, Gave, Turns, BreaksOff, TurnsIn, BreaksIn}
 use Rattle.clip_run.proofs.Owing.{owes_told, gave_nothing, gave_more}
 
@@ -63,7 +64,7 @@ record TakenBy (s t : Course) (n : ℕ) (lines : List (List ℕ)) (text : List �
   gives : Gives s.hearers n s.history lines outcome
   out : Outcome
   gave : Gave s t out
-  printed : out.text ≡ text
+  printed : out.text s.settings.form ≡ text
   rest : followed_by (owes s.hearers s.owed) outcome ≡ followed_by out (owes t.hearers t.owed)
 
 taken_first : (s t u : Course) (n : ℕ) (line first more text : List ℕ) (lines : List (List ℕ)) → Turns s t n (cut line) first → text ≡ first ++ more → TakenBy t u (suc n) lines more → TakenBy s u n (line ∷ lines) text
@@ -72,7 +73,7 @@ taken_first s t u n line first more text lines a e later = record {
   gives = gives_first s t n line first lines later.outcome a later.gives;
   out = followed_by a.out later.out;
   gave = gave_more s t u a.out later.out a.gave later.gave;
-  printed = ap₂ (λ x y. x ++ y) a.printed later.printed ∙ sym e;
+  printed = ap₂ (λ x y. x ++ y) a.printed (ap (λ k. later.out.text k.form) (sym a.gave.settings) ∙ later.printed) ∙ sym e;
   rest = rest_first s t n (cut line) first a later.outcome ∙ ap (followed_by a.out) later.rest ∙ sym (followed_assoc a.out later.out (owes u.hearers u.owed));
 }
 
@@ -94,18 +95,18 @@ settled : (s t : Course) (out outcome : Outcome) → s.owed ≡ [] → t.owed �
 settled s t out outcome none_before none e =
     sym (followed_nothing out) ∙ ap (λ os. followed_by out (owes t.hearers os)) (sym none) ∙ sym e ∙ ap (λ os. followed_by (owes s.hearers os) outcome) none_before
 
-pub run_gives : {S : Type 0} (view : S → Course) (s t : S) (keeps : Bool) (input taken_old taken : Option (List ℕ)) → (view s).history ≡ [] → (view s).rows ≡ [] → (view s).keeps ≡ keeps → (view s).owed ≡ [] → (view t).owed ≡ []
-    → IfSome input (ServesAll (TurnsIn view) s t taken_old taken) → IfSome input (GivesAll (view s).hearers (view t).hearers keeps taken_old taken (view t).rows)
-run_gives view s t keeps None taken_old taken start no_rows same none_before none p = tt
-run_gives view s t keeps (Some input) taken_old taken start no_rows same none_before none p =
+pub run_gives : {S : Type 0} (view : S → Course) (s t : S) (settings : Settings) (input taken_old taken : Option (List ℕ)) → (view s).history ≡ [] → (view s).rows ≡ [] → (view s).settings ≡ settings → (view s).owed ≡ [] → (view t).owed ≡ []
+    → IfSome input (ServesAll (TurnsIn view) s t taken_old taken) → IfSome input (GivesAll (view s).hearers (view t).hearers settings taken_old taken (view t).rows)
+run_gives view s t settings None taken_old taken start no_rows same none_before none p = tt
+run_gives view s t settings (Some input) taken_old taken start no_rows same none_before none p =
     let g = taken_by view s t 1 (lines_of input) p.text p.served in
     let whole = settled (view s) (view t) g.out g.outcome none_before none g.rest in
     record {
       outcome = g.outcome;
       is = subst (λ h. Gives (view s).hearers 1 h (lines_of input) g.outcome) start g.gives;
-      replies = subst (Appends taken_old taken) (sym g.printed ∙ ap (λ o. o.text) whole) p.written;
+      replies = subst (Appends taken_old taken) (sym g.printed ∙ ap (λ k. g.out.text k.form) same ∙ ap (λ o. o.text settings.form) whole) p.written;
       told = g.gave.heard ∙ ap (λ o. told_all o.alerts (view s).hearers) whole;
-      rows = g.gave.rows ∙ ap₂ (λ xs k. xs ++ kept_rows k g.out.rows) no_rows same ∙ ap (λ o. kept_rows keeps o.rows) whole;
+      rows = g.gave.rows ∙ ap₂ (λ xs k. xs ++ kept_rows k.keeps_rows g.out.rows) no_rows same ∙ ap (λ o. kept_rows settings.keeps_rows o.rows) whole;
     }
 
 -- ---- some first lines were taken, and the next was begun at most
@@ -115,14 +116,14 @@ record BegunBy (s t : Course) (n : ℕ) (lines : List (List ℕ)) (text : List �
   outcome : Outcome
   gives : Gives s.hearers n s.history lines outcome
   more : List ℕ
-  printed : (followed_by (owes s.hearers s.owed) outcome).text ≡ text ++ more
+  printed : (followed_by (owes s.hearers s.owed) outcome).text s.settings.form ≡ text ++ more
   heard : HearsFront (followed_by (owes s.hearers s.owed) outcome).alerts s.hearers t.hearers
 
 begun_none : (s : Course) (n : ℕ) → BegunBy s s n [] []
 begun_none s n = record {
   outcome = nothing_given;
   gives = refl;
-  more = (followed_by (owes s.hearers s.owed) nothing_given).text;
+  more = (followed_by (owes s.hearers s.owed) nothing_given).text s.settings.form;
   printed = refl;
   heard = no_front (followed_by (owes s.hearers s.owed) nothing_given).alerts s.hearers;
 }
@@ -133,7 +134,7 @@ begun_here s t n line b =
     record {
       outcome = now;
       gives = (b.meaning, nothing_given, means_whole (names_in s.hearers) s.history line b.meaning b.means, sym (followed_nothing now), refl);
-      more = (followed_by (owes s.hearers s.owed) now).text;
+      more = (followed_by (owes s.hearers s.owed) now).text s.settings.form;
       printed = refl;
       heard = b.heard;
     }
@@ -146,7 +147,7 @@ begun_first s t u n line first rest text lines a e later =
       outcome = followed_by now later.outcome;
       gives = gives_first s t n line first lines later.outcome a later.gives;
       more = later.more;
-      printed = ap (λ o. o.text) all ∙ ap₂ (λ x y. x ++ y) a.printed later.printed ∙ sym (append_assoc first rest later.more) ∙ ap (λ x. x ++ later.more) (sym e);
+      printed = ap (λ o. o.text s.settings.form) all ∙ ap₂ (λ x y. x ++ y) a.printed (ap (λ k. (followed_by (owes t.hearers t.owed) later.outcome).text k.form) (sym a.gave.settings) ∙ later.printed) ∙ sym (append_assoc first rest later.more) ∙ ap (λ x. x ++ later.more) (sym e);
       heard = subst (λ o. HearsFront o.alerts s.hearers u.hearers) (sym all)
           (front_after a.out.alerts (followed_by (owes t.hearers t.owed) later.outcome).alerts s.hearers t.hearers u.hearers a.gave.heard later.heard);
     }
@@ -167,7 +168,7 @@ front_longer old new text more f =
     (length (take f.0 text), subst (Appends old new) (sym (take-append_seam (take f.0 text) (drop f.0 text ++ more)) ∙ ap (take (length (take f.0 text))) there) f.1)
 
 front_given : (s t : Course) (taken_old taken : Option (List ℕ)) (input text : List ℕ) (lines later : List (List ℕ)) → s.history ≡ [] → s.owed ≡ [] → lines_of input ≡ lines ++ later → BegunBy s t 1 lines text → AppendsFront taken_old taken text
-    → GivesFront s.hearers t.hearers taken_old taken input
+    → GivesFront s.hearers t.hearers s.settings.form taken_old taken input
 front_given s t taken_old taken input text lines later start none parts b written =
     let whole : followed_by (owes s.hearers s.owed) b.outcome ≡ b.outcome = ap (λ os. followed_by (owes s.hearers os) b.outcome) none in
     record {
@@ -176,7 +177,7 @@ front_given s t taken_old taken input text lines later start none parts b writte
       outcome = b.outcome;
       cut = parts;
       gives = subst (λ h. Gives s.hearers 1 h lines b.outcome) start b.gives;
-      replies = subst (AppendsFront taken_old taken) (sym b.printed ∙ ap (λ o. o.text) whole) (front_longer taken_old taken text b.more written);
+      replies = subst (AppendsFront taken_old taken) (sym b.printed ∙ ap (λ o. o.text s.settings.form) whole) (front_longer taken_old taken text b.more written);
       told = subst (λ o. HearsFront o.alerts s.hearers t.hearers) whole b.heard;
     }
 
@@ -186,7 +187,7 @@ stopped view s t u lines text p same =
     subst (λ ls. BegunBy (view s) (view u) 1 ls text) (append-nil lines) (begun_by view s t u 1 lines [] text p (λ k. subst (λ x. BegunBy (view t) (view x) k [] []) (sym same) (begun_none (view t) k)))
 
 front_at : {S : Type 0} (view : S → Course) (s t u : S) (taken_old taken : Option (List ℕ)) (input text : List ℕ) (lines later : List (List ℕ)) → (view s).history ≡ [] → (view s).owed ≡ [] → lines_of input ≡ lines ++ later → Serves (TurnsIn view) s t 1 lines text
-    → StopsAt (BreaksIn view) t u (suc (length lines)) later → AppendsFront taken_old taken text → GivesFront (view s).hearers (view u).hearers taken_old taken input
+    → StopsAt (BreaksIn view) t u (suc (length lines)) later → AppendsFront taken_old taken text → GivesFront (view s).hearers (view u).hearers (view s).settings.form taken_old taken input
 front_at view s t u taken_old taken input text lines [] start none parts p same written =
     front_given (view s) (view u) taken_old taken input text lines [] start none parts (stopped view s t u lines text p same) written
 front_at view s t u taken_old taken input text lines (line ∷ later) start none parts p (inl same) written =
@@ -195,7 +196,9 @@ front_at view s t u taken_old taken input text lines (line ∷ later) start none
     front_given (view s) (view u) taken_old taken input text (lines ++ line ∷ []) later start none (parts ∙ sym (append_assoc lines (line ∷ []) later))
     (begun_by view s t u 1 lines (line ∷ []) text p (λ k. begun_here (view t) (view u) k line (renumbered (view t) (view u) (suc (length lines)) k (cut line) broken))) written
 
-pub run_gives_front : {S : Type 0} (view : S → Course) (s t : S) (input taken_old taken : Option (List ℕ)) → (view s).history ≡ [] → (view s).owed ≡ [] → IfSome input (ServesFront (TurnsIn view) (BreaksIn view) s t taken_old taken)
-    → IfSome input (GivesFront (view s).hearers (view t).hearers taken_old taken)
-run_gives_front view s t None taken_old taken start none p = tt
-run_gives_front view s t (Some input) taken_old taken start none p = front_at view s p.between t taken_old taken input p.text p.lines p.later start none p.parts p.served p.stops p.written
+pub run_gives_front : {S : Type 0} (view : S → Course) (s t : S) (settings : Settings) (input taken_old taken : Option (List ℕ)) → (view s).history ≡ [] → (view s).settings ≡ settings → (view s).owed ≡ []
+    → IfSome input (ServesFront (TurnsIn view) (BreaksIn view) s t taken_old taken) → IfSome input (GivesFront (view s).hearers (view t).hearers settings.form taken_old taken)
+run_gives_front view s t settings None taken_old taken start same none p = tt
+run_gives_front view s t settings (Some input) taken_old taken start same none p =
+    subst (λ k. GivesFront (view s).hearers (view t).hearers k.form taken_old taken input) same
+    (front_at view s p.between t taken_old taken input p.text p.lines p.later start none p.parts p.served p.stops p.written)

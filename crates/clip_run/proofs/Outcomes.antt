@@ -10,6 +10,8 @@ use Rattle.clip_listen.specs.Heard.{Hearer}
 use Rattle.clip_listen.proofs.Hearing.{no_front}
 use Rattle.clip_ledger.specs.Rows.{RowValue}
 use Rattle.clip_front.specs.Outcome.{nothing_given, GivesAll, GivesFront}
+use Rattle.clip_front.specs.declared.settings.Settings.{Settings}
+use Rattle.clip_protocol.specs.declared.form.Form.{Form}
 use Rattle.clip_front.specs.Steps.Serving.{ServesAll, ServesFront}
 use Rattle.clip_run.specs.Crews.{CrewIs, course_at}
 use Rattle.clip_run.specs.Owed.{TurnsIn, BreaksIn}
@@ -18,13 +20,13 @@ use Rattle.clip_run.proofs.Headline.{run_gives, run_gives_front}
 use Rattle.clip_run.proofs.Owing.{on_err_more}
 
 module _ {A : Type 0} (hearers : A → List Hearer) (c d : CrewIs) (a b : A) (input taken_old taken : Option (List ℕ)) (result : Result ℕ RunFault) (start : c.history ≡ []) (none_owed : c.owed ≡ []) where
-  pub ended_err : OnErr result (IfSome input (ServesFront (TurnsIn (course_at hearers)) (BreaksIn (course_at hearers)) (c, a) (d, b) taken_old taken)) → OnErr result (IfSome input (GivesFront (hearers a) (hearers b) taken_old taken))
-  ended_err front = on_err_more result front (run_gives_front (course_at hearers) (c, a) (d, b) input taken_old taken start none_owed)
+  pub ended_err : OnErr result (IfSome input (ServesFront (TurnsIn (course_at hearers)) (BreaksIn (course_at hearers)) (c, a) (d, b) taken_old taken)) → OnErr result (IfSome input (GivesFront (hearers a) (hearers b) c.settings.form taken_old taken))
+  ended_err front = on_err_more result front (run_gives_front (course_at hearers) (c, a) (d, b) c.settings input taken_old taken start refl none_owed)
 
 pub ended_ok : {A : Type 0} (hearers : A → List Hearer) (c d : CrewIs) (rows : List RowValue) (a b : A) (input taken_old taken : Option (List ℕ)) (result : Result ℕ RunFault) → c.history ≡ [] → c.rows ≡ [] → c.owed ≡ [] → rows ≡ d.rows → OnOk result (d.owed ≡ [])
-    → OnOk result (IfSome input (ServesAll (TurnsIn (course_at hearers)) (c, a) (d, b) taken_old taken)) → IfOk result (λ n. IfSome input (GivesAll (hearers a) (hearers b) c.keeps taken_old taken rows))
+    → OnOk result (IfSome input (ServesAll (TurnsIn (course_at hearers)) (c, a) (d, b) taken_old taken)) → IfOk result (λ n. IfSome input (GivesAll (hearers a) (hearers b) c.settings taken_old taken rows))
 ended_ok hearers c d rows a b input taken_old taken (Ok n) start no_rows none_owed same settled served =
-    subst (λ rs. IfSome input (GivesAll (hearers a) (hearers b) c.keeps taken_old taken rs)) (sym same) (run_gives (course_at hearers) (c, a) (d, b) c.keeps input taken_old taken start no_rows refl none_owed settled served)
+    subst (λ rs. IfSome input (GivesAll (hearers a) (hearers b) c.settings taken_old taken rs)) (sym same) (run_gives (course_at hearers) (c, a) (d, b) c.settings input taken_old taken start no_rows refl none_owed settled served)
 ended_ok hearers c d rows a b input taken_old taken (Err e) start no_rows none_owed same settled served = tt
 
 -- ---- a run that was refused memory before it began
@@ -33,13 +35,13 @@ appends_none : (old : Option (List ℕ)) → Appends old old []
 appends_none None = tt
 appends_none (Some xs) = sym (append-nil xs)
 
-pub gives_none : (hearers : List Hearer) (input taken : Option (List ℕ)) → IfSome input (GivesFront hearers hearers taken taken)
-gives_none hearers None taken = tt
-gives_none hearers (Some input) taken =
+pub gives_none : (form : Form) (hearers : List Hearer) (input taken : Option (List ℕ)) → IfSome input (GivesFront hearers hearers form taken taken)
+gives_none form hearers None taken = tt
+gives_none form hearers (Some input) taken =
     record { lines = []; later = lines_of input; outcome = nothing_given; cut = refl; gives = refl; replies = (0, appends_none taken); told = no_front [] hearers }
 
-ran_refused : {T : Type 0} (lines : T → ℕ) (rows : T → List RowValue) (keeps : Bool) (told : Told) → told.reads ≡ 0 → Ran lines rows keeps told told (Err fault.NoMemory)
-ran_refused lines rows keeps told unread = record {
+ran_refused : {T : Type 0} (lines : T → ℕ) (rows : T → List RowValue) (settings : Settings) (told : Told) → told.reads ≡ 0 → Ran lines rows settings told told (Err fault.NoMemory)
+ran_refused lines rows settings told unread = record {
   outcome = tt;
   flushed = tt;
   counted = tt;
@@ -47,17 +49,17 @@ ran_refused lines rows keeps told unread = record {
   read = λ e. absurd (cc e);
   write = λ e. absurd (cc e);
   reads = omega (arith, unread);
-  front = gives_none told.hearers told.left told.taken;
+  front = gives_none settings.form told.hearers told.left told.taken;
 }
 
-pub ran_none : {T : Type 0} (lines : T → ℕ) (rows : T → List RowValue) (keeps : Bool) (told : Told) (result : Result T RunFault) → result ≡ Err fault.NoMemory → told.reads ≡ 0 → Ran lines rows keeps told told result
-ran_none lines rows keeps told result is unread = subst (Ran lines rows keeps told told) (sym is) (ran_refused lines rows keeps told unread)
+pub ran_none : {T : Type 0} (lines : T → ℕ) (rows : T → List RowValue) (settings : Settings) (told : Told) (result : Result T RunFault) → result ≡ Err fault.NoMemory → told.reads ≡ 0 → Ran lines rows settings told told result
+ran_none lines rows settings told result is unread = subst (Ran lines rows settings told told) (sym is) (ran_refused lines rows settings told unread)
 
 -- ---- what a run gives, by what its lines gave
 
-pub ran_ended : {T : Type 0} (lines : T → ℕ) (rows : T → List RowValue) (t : T) (n : ℕ) (given : List RowValue) (keeps : Bool) (old new : Told) → Ran (λ n. n) (λ n. given) keeps old new (Ok n) → n ≡ lines t → given ≡ rows t → Ran lines rows keeps old new (Ok t)
-ran_ended lines rows t n given keeps old new ran counted kept = record {
-  outcome = subst (λ rs. IfSome old.left (GivesAll old.hearers new.hearers keeps old.taken new.taken rs)) kept ran.outcome;
+pub ran_ended : {T : Type 0} (lines : T → ℕ) (rows : T → List RowValue) (t : T) (n : ℕ) (given : List RowValue) (settings : Settings) (old new : Told) → Ran (λ n. n) (λ n. given) settings old new (Ok n) → n ≡ lines t → given ≡ rows t → Ran lines rows settings old new (Ok t)
+ran_ended lines rows t n given settings old new ran counted kept = record {
+  outcome = subst (λ rs. IfSome old.left (GivesAll old.hearers new.hearers settings old.taken new.taken rs)) kept ran.outcome;
   flushed = ran.flushed;
   counted = subst (λ k. IfSome old.left (λ input. k ≡ length (lines_of input))) counted ran.counted;
   ok = ran.ok;
@@ -67,8 +69,8 @@ ran_ended lines rows t n given keeps old new ran counted kept = record {
   front = tt;
 }
 
-failed_as : {T : Type 0} (lines : T → ℕ) (rows : T → List RowValue) (given : List RowValue) (keeps : Bool) (old new : Told) (e : RunFault) → Ran (λ n. n) (λ n. given) keeps old new (Err e) → Ran lines rows keeps old new (Err e)
-failed_as lines rows given keeps old new e ran = record {
+failed_as : {T : Type 0} (lines : T → ℕ) (rows : T → List RowValue) (given : List RowValue) (settings : Settings) (old new : Told) (e : RunFault) → Ran (λ n. n) (λ n. given) settings old new (Err e) → Ran lines rows settings old new (Err e)
+failed_as lines rows given settings old new e ran = record {
   outcome = tt;
   flushed = tt;
   counted = tt;
@@ -79,8 +81,8 @@ failed_as lines rows given keeps old new e ran = record {
   front = ran.front;
 }
 
-pub ran_failed : {T : Type 0} (lines : T → ℕ) (rows : T → List RowValue) (given : List RowValue) (keeps : Bool) (old new : Told) (e : RunFault) (result : Result T RunFault) → result ≡ Err e → Ran (λ n. n) (λ n. given) keeps old new (Err e) → Ran lines rows keeps old new result
-ran_failed lines rows given keeps old new e result is ran = subst (Ran lines rows keeps old new) (sym is) (failed_as lines rows given keeps old new e ran)
+pub ran_failed : {T : Type 0} (lines : T → ℕ) (rows : T → List RowValue) (given : List RowValue) (settings : Settings) (old new : Told) (e : RunFault) (result : Result T RunFault) → result ≡ Err e → Ran (λ n. n) (λ n. given) settings old new (Err e) → Ran lines rows settings old new result
+ran_failed lines rows given settings old new e result is ran = subst (Ran lines rows settings old new) (sym is) (failed_as lines rows given settings old new e ran)
 
 -- the fault of a conversion that gives just this one
 pub refused_is : {T : Type 0} (result : Result T RunFault) → IsErrAnd result (λ e. e ≡ fault.NoMemory) → result ≡ Err fault.NoMemory

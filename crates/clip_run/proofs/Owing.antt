@@ -13,6 +13,7 @@ use Rattle.clip_registry.specs.RegistryState.{RegistryState}
 use Rattle.clip_ledger.specs.Rows.{RowValue}
 use Rattle.clip_protocol.specs.LineMeaning.{Meaning, Means, after, nothing, refusal, refusal_at, command, purging, counting, showing, matching}
 use Rattle.clip_protocol.specs.Reply.{reply}
+use Rattle.clip_protocol.specs.declared.form.Form.{Form}
 use Rattle.clip_front.specs.Steps.Taking.{IsQuiet, TakesQuietly}
 use Rattle.clip_front.specs.Outcome.{Outcome, nothing_given, followed_by, given, names_in, kept_rows}
 use Rattle.clip_protocol.specs.Steps.Outline.{outline}
@@ -22,6 +23,7 @@ use Rattle.clip_run.proofs.Found.{found_given}
 use Rattle.clip_protocol.proofs.Meanings.{means_from}
 use Rattle.clip_front.proofs.OneOutcome.{outline_some}
 use Rattle.clip_front.proofs.Outcomes.{followed_assoc, followed_nothing, kept_append, given_kept}
+use Rattle.clip_front.specs.declared.settings.Settings.{Settings}
 use Rattle.clip_run.specs.Pending.{owed_by}
 use Rattle.clip_run.specs.declared.batch.Pending.{Pending}
 use Rattle.clip_run.specs.Owed.{Owed, ready, matched, owed_of, owes, Course, Gave, Pays, Turns, BreaksOff, HearsOwed, PaysInto, TakesBatch, TurnsInto, owing}
@@ -58,18 +60,22 @@ owes_last hearers xs o = owes_append hearers xs (o ∷ []) ∙ ap (followed_by (
 -- ---- what was given
 
 pub gave_nothing : (s : Course) → Gave s s nothing_given
-gave_nothing s = record { heard = sym (told_none s.hearers); rows = none_posted s.keeps s.rows; keeps = refl }
+gave_nothing s = record { heard = sym (told_none s.hearers); rows = none_posted s.settings.keeps_rows s.rows; settings = refl }
 
 pub gave_more : (s t u : Course) (a b : Outcome) → Gave s t a → Gave t u b → Gave s u (followed_by a b)
 gave_more s t u a b first more = record {
   heard = more.heard ∙ ap (told_all b.alerts) first.heard ∙ told_more a.alerts b.alerts s.hearers;
   rows =
-      more.rows ∙ ap₂ (λ xs k. xs ++ kept_rows k b.rows) first.rows first.keeps
-      ∙ append_assoc s.rows (kept_rows s.keeps a.rows) (kept_rows s.keeps b.rows) ∙ ap (λ xs. s.rows ++ xs) (kept_append s.keeps a.rows b.rows);
-  keeps = more.keeps ∙ first.keeps;
+      more.rows ∙ ap₂ (λ xs k. xs ++ kept_rows k.keeps_rows b.rows) first.rows first.settings
+      ∙ append_assoc s.rows (kept_rows s.settings.keeps_rows a.rows) (kept_rows s.settings.keeps_rows b.rows) ∙ ap (λ xs. s.rows ++ xs) (kept_append s.settings.keeps_rows a.rows b.rows);
+  settings = more.settings ∙ first.settings;
 }
 
 -- ---- payments
+
+-- the same settings, the same text
+printed_before : {s t : Course} {o : Outcome} {text : List ℕ} → t.settings ≡ s.settings → o.text t.settings.form ≡ text → o.text s.settings.form ≡ text
+printed_before {s} {t} {o} same printed = ap (λ k. o.text k.form) (sym same) ∙ printed
 
 pub pays_nothing : (s : Course) → Pays s s []
 pays_nothing s = record { out = nothing_given; gave = gave_nothing s; printed = refl; history = refl; rest = refl }
@@ -78,7 +84,7 @@ pub pays_more : (s t u : Course) (a b : List ℕ) → Pays s t a → Pays t u b 
 pays_more s t u a b p q = record {
   out = followed_by p.out q.out;
   gave = gave_more s t u p.out q.out p.gave q.gave;
-  printed = ap₂ (λ x y. x ++ y) p.printed q.printed;
+  printed = ap₂ (λ x y. x ++ y) p.printed (printed_before p.gave.settings q.printed);
   history = q.history ∙ p.history;
   rest =
       let there : owes s.hearers t.owed ≡ followed_by q.out (owes s.hearers u.owed) =
@@ -87,20 +93,20 @@ pays_more s t u a b p q = record {
 }
 
 -- the oldest was given
-pub pays_first : (s t : Course) (o : Owed) → s.owed ≡ o ∷ t.owed → Gave s t (owed_of s.hearers o) → t.history ≡ s.history → Pays s t (owed_of s.hearers o).text
+pub pays_first : (s t : Course) (o : Owed) → s.owed ≡ o ∷ t.owed → Gave s t (owed_of s.hearers o) → t.history ≡ s.history → Pays s t ((owed_of s.hearers o).text s.settings.form)
 pays_first s t o first gave same = record { out = owed_of s.hearers o; gave = gave; printed = refl; history = same; rest = ap (owes s.hearers) first }
 
 -- ---- lines
 
 -- a line was taken, and what it gives is owed
 pub turns_taken : (s t : Course) (n : ℕ) (line : List ℕ) (m : Meaning) (o : Owed) → Means (names_in s.hearers) s.history line m → owed_of s.hearers o ≡ given s.hearers n s.history m
-    → t ≡ record { history = after s.history m; hearers = s.hearers; rows = s.rows; keeps = s.keeps; owed = s.owed ++ o ∷ [] } → Turns s t n line []
+    → t ≡ record { history = after s.history m; hearers = s.hearers; rows = s.rows; settings = s.settings; owed = s.owed ++ o ∷ [] } → Turns s t n line []
 turns_taken s t n line m o means is e = record {
   meaning = m;
   means = means;
   history = ap (λ x. x.history) e;
   out = nothing_given;
-  gave = record { heard = ap (λ x. x.hearers) e ∙ sym (told_none s.hearers); rows = ap (λ x. x.rows) e ∙ none_posted s.keeps s.rows; keeps = ap (λ x. x.keeps) e };
+  gave = record { heard = ap (λ x. x.hearers) e ∙ sym (told_none s.hearers); rows = ap (λ x. x.rows) e ∙ none_posted s.settings.keeps_rows s.rows; settings = ap (λ x. x.settings) e };
   printed = refl;
   rest = ap (followed_by (owes s.hearers s.owed)) (sym is) ∙ sym (owes_last s.hearers s.owed o) ∙ ap (λ x. owes s.hearers x.owed) (sym e);
 }
@@ -112,7 +118,7 @@ turns_then s t u n line a b p q = record {
   history = q.history ∙ p.history;
   out = followed_by p.out q.out;
   gave = gave_more s t u p.out q.out p.gave q.gave;
-  printed = ap₂ (λ x y. x ++ y) p.printed q.printed;
+  printed = ap₂ (λ x y. x ++ y) p.printed (printed_before p.gave.settings q.printed);
   rest =
       let there : owes s.hearers t.owed ≡ followed_by q.out (owes s.hearers u.owed) =
       sym (owes_told p.out.alerts s.hearers t.hearers t.owed p.gave.heard) ∙ q.rest ∙ ap (followed_by q.out) (owes_told p.out.alerts s.hearers t.hearers u.owed p.gave.heard) in
@@ -131,7 +137,7 @@ turns_after s t u n line a b p q =
       history = q.history ∙ ap (λ h. after h q.meaning) p.history;
       out = followed_by p.out q.out;
       gave = gave_more s t u p.out q.out p.gave q.gave;
-      printed = ap₂ (λ x y. x ++ y) p.printed q.printed;
+      printed = ap₂ (λ x y. x ++ y) p.printed (printed_before p.gave.settings q.printed);
       rest =
           ap (λ x. followed_by x (given s.hearers n s.history q.meaning)) p.rest
           ∙ followed_assoc p.out (owes s.hearers t.owed) (given s.hearers n s.history q.meaning)
@@ -195,30 +201,30 @@ pays_into_none s a = ([], pays_nothing s, sym (append-nil a))
 pub pays_into_more : (s t u : Course) (a b c : List ℕ) → PaysInto s t a b → PaysInto t u b c → PaysInto s u a c
 pays_into_more s t u a b c p q = (p.0 ++ q.0, pays_more s t u p.0 q.0 p.1 q.1, q.2 ∙ ap (λ x. x ++ q.0) p.2 ∙ append_assoc a p.0 q.0)
 
-pub pays_into_first : (s t : Course) (o : Owed) (a b text : List ℕ) → s.owed ≡ o ∷ t.owed → Gave s t (owed_of s.hearers o) → t.history ≡ s.history → text ≡ (owed_of s.hearers o).text → b ≡ a ++ text → PaysInto s t a b
-pays_into_first s t o a b text first gave same is grown = ((owed_of s.hearers o).text, pays_first s t o first gave same, grown ∙ ap (λ x. a ++ x) is)
+pub pays_into_first : (s t : Course) (o : Owed) (a b text : List ℕ) → s.owed ≡ o ∷ t.owed → Gave s t (owed_of s.hearers o) → t.history ≡ s.history → text ≡ (owed_of s.hearers o).text s.settings.form → b ≡ a ++ text → PaysInto s t a b
+pays_into_first s t o a b text first gave same is grown = ((owed_of s.hearers o).text s.settings.form, pays_first s t o first gave same, grown ∙ ap (λ x. a ++ x) is)
 
 pub hears_into : (s t u : Course) (a b : List ℕ) → PaysInto s t a b → HearsOwed t u → HearsOwed s u
 hears_into s t u a b p front = hears_after s t u p.0 p.1 front
 
 -- ---- a line
 
-quiet_told : (text : List ℕ) (hearers : List Hearer) (n : ℕ) (h : History) (m : Meaning) → IsQuiet m → text ≡ reply hearers n h m → owed_of hearers (ready text) ≡ given hearers n h m
-quiet_told text hearers n h nothing q e = ap (λ t. record { text = t; alerts = []; rows = [] }) e
-quiet_told text hearers n h (refusal r) q e = ap (λ t. record { text = t; alerts = []; rows = [] }) e
-quiet_told text hearers n h (refusal_at r k) q e = ap (λ t. record { text = t; alerts = []; rows = [] }) e
-quiet_told text hearers n h (command c) q e = ap (λ t. record { text = t; alerts = []; rows = [] }) e
-quiet_told text hearers n h purging q e = ap (λ t. record { text = t; alerts = []; rows = [] }) e
-quiet_told text hearers n h counting q e = ap (λ t. record { text = t; alerts = []; rows = [] }) e
-quiet_told text hearers n h (showing id) q e = ap (λ t. record { text = t; alerts = []; rows = [] }) e
+quiet_told : (text : List ℕ) (hearers : List Hearer) (n : ℕ) (h : History) (m : Meaning) → IsQuiet m → ((form : Form) → text ≡ reply form hearers n h m) → owed_of hearers (ready text) ≡ given hearers n h m
+quiet_told text hearers n h nothing q e = λ i. record { text = λ form. e form i; alerts = []; rows = [] }
+quiet_told text hearers n h (refusal r) q e = λ i. record { text = λ form. e form i; alerts = []; rows = [] }
+quiet_told text hearers n h (refusal_at r k) q e = λ i. record { text = λ form. e form i; alerts = []; rows = [] }
+quiet_told text hearers n h (command c) q e = λ i. record { text = λ form. e form i; alerts = []; rows = [] }
+quiet_told text hearers n h purging q e = λ i. record { text = λ form. e form i; alerts = []; rows = [] }
+quiet_told text hearers n h counting q e = λ i. record { text = λ form. e form i; alerts = []; rows = [] }
+quiet_told text hearers n h (showing id) q e = λ i. record { text = λ form. e form i; alerts = []; rows = [] }
 quiet_told text hearers n h (matching articles) q e = absurd q
 
 -- a line that tells no alert
-pub turns_quiet : (s t : Course) (n : ℕ) (line text a : List ℕ) → TakesQuietly (names_in s.hearers) s.history t.history n line text → t ≡ record { history = t.history; hearers = s.hearers; rows = s.rows; keeps = s.keeps; owed = s.owed ++ ready text ∷ [] } → TurnsInto s t n line a a
+pub turns_quiet : (s t : Course) (n : ℕ) (line text a : List ℕ) → TakesQuietly (names_in s.hearers) s.history t.history n line text → t ≡ record { history = t.history; hearers = s.hearers; rows = s.rows; settings = s.settings; owed = s.owed ++ ready text ∷ [] } → TurnsInto s t n line a a
 turns_quiet s t n line text a takes is = (
   [],
-  turns_taken s t n line takes.meaning (ready text) takes.means (quiet_told text s.hearers n s.history takes.meaning takes.quiet (takes.replies s.hearers))
-      (is ∙ ap (λ h. record { history = h; hearers = s.hearers; rows = s.rows; keeps = s.keeps; owed = s.owed ++ ready text ∷ [] }) takes.history),
+  turns_taken s t n line takes.meaning (ready text) takes.means (quiet_told text s.hearers n s.history takes.meaning takes.quiet (λ form. takes.replies form s.hearers))
+      (is ∙ ap (λ h. record { history = h; hearers = s.hearers; rows = s.rows; settings = s.settings; owed = s.owed ++ ready text ∷ [] }) takes.history),
   sym (append-nil a),
 )
 
@@ -244,10 +250,10 @@ breaks_paid s t u n line a b p front = breaks_turned s t u n line p.0 p.1 front
 
 -- a course by what is pending
 abbrev pub course_by : History → List Hearer → List RowValue → Bool → List Pending → Course
-course_by h hearers rows keeps items = record { history = h; hearers = hearers; rows = rows; keeps = keeps; owed = map owed_by items }
+course_by h hearers rows settings items = record { history = h; hearers = hearers; rows = rows; settings = settings; owed = map owed_by items }
 
-pub pays_same : (h : History) (hearers : List Hearer) (rows : List RowValue) (keeps : Bool) (xs ys : List Pending) (a : List ℕ) → xs ≡ ys → PaysInto (course_by h hearers rows keeps xs) (course_by h hearers rows keeps ys) a a
-pays_same h hearers rows keeps xs ys a e = subst (λ zs. PaysInto (course_by h hearers rows keeps xs) (course_by h hearers rows keeps zs) a a) e (pays_into_none (course_by h hearers rows keeps xs) a)
+pub pays_same : (h : History) (hearers : List Hearer) (rows : List RowValue) (settings : Settings) (xs ys : List Pending) (a : List ℕ) → xs ≡ ys → PaysInto (course_by h hearers rows settings xs) (course_by h hearers rows settings ys) a a
+pays_same h hearers rows settings xs ys a e = subst (λ zs. PaysInto (course_by h hearers rows settings xs) (course_by h hearers rows settings zs) a a) e (pays_into_none (course_by h hearers rows settings xs) a)
 
 pub hears_item : (hearers now : List Hearer) (xs ys : List Pending) (item : Pending) → xs ≡ item ∷ ys → HearsFront (owed_of hearers (owed_by item)).alerts hearers now → HearsFront (owes hearers (map owed_by xs)).alerts hearers now
 hears_item hearers now xs ys item e front =
@@ -257,18 +263,18 @@ pub owed_last : (xs ys : List Pending) (item : Pending) → ys ≡ xs ++ item �
 owed_last xs ys item e = ap (map owed_by) e ∙ map-append owed_by xs (item ∷ [])
 
 -- the line's text is pending
-pub turns_ready : (h new : History) (hearers : List Hearer) (rows : List RowValue) (keeps : Bool) (xs ys : List Pending) (item : Pending) (n : ℕ) (line text a : List ℕ) → TakesQuietly (names_in hearers) h new n line text → ys ≡ xs ++ item ∷ [] → owed_by item ≡ ready text
-    → TurnsInto (course_by h hearers rows keeps xs) (course_by new hearers rows keeps ys) n line a a
-turns_ready h new hearers rows keeps xs ys item n line text a takes e is =
-    turns_quiet (course_by h hearers rows keeps xs) (course_by new hearers rows keeps ys) n line text a takes
-    (ap (λ os. record { history = new; hearers = hearers; rows = rows; keeps = keeps; owed = os }) (owed_last xs ys item e ∙ ap (λ o. map owed_by xs ++ o ∷ []) is))
+pub turns_ready : (h new : History) (hearers : List Hearer) (rows : List RowValue) (settings : Settings) (xs ys : List Pending) (item : Pending) (n : ℕ) (line text a : List ℕ) → TakesQuietly (names_in hearers) h new n line text → ys ≡ xs ++ item ∷ [] → owed_by item ≡ ready text
+    → TurnsInto (course_by h hearers rows settings xs) (course_by new hearers rows settings ys) n line a a
+turns_ready h new hearers rows settings xs ys item n line text a takes e is =
+    turns_quiet (course_by h hearers rows settings xs) (course_by new hearers rows settings ys) n line text a takes
+    (ap (λ os. record { history = new; hearers = hearers; rows = rows; settings = settings; owed = os }) (owed_last xs ys item e ∙ ap (λ o. map owed_by xs ++ o ∷ []) is))
 
 -- the line's batch was begun
-pub turns_begun : (h new : History) (hearers : List Hearer) (rows : List RowValue) (keeps : Bool) (owed : List Owed) (t : Course) (n : ℕ) (line : List ℕ) (articles : List ArticleValue) (a b : List ℕ) → Means (names_in hearers) h line (matching articles) → new ≡ h
-    → TakesBatch (record { history = new; hearers = hearers; rows = rows; keeps = keeps; owed = owed }) t n articles a b → TurnsInto (record { history = h; hearers = hearers; rows = rows; keeps = keeps; owed = owed }) t n line a b
-turns_begun h new hearers rows keeps owed t n line articles a b means same takes =
-    turns_batch (record { history = h; hearers = hearers; rows = rows; keeps = keeps; owed = owed }) t n line articles a b means
-    (subst (λ g. TakesBatch (record { history = g; hearers = hearers; rows = rows; keeps = keeps; owed = owed }) t n articles a b) same takes)
+pub turns_begun : (h new : History) (hearers : List Hearer) (rows : List RowValue) (settings : Settings) (owed : List Owed) (t : Course) (n : ℕ) (line : List ℕ) (articles : List ArticleValue) (a b : List ℕ) → Means (names_in hearers) h line (matching articles) → new ≡ h
+    → TakesBatch (record { history = new; hearers = hearers; rows = rows; settings = settings; owed = owed }) t n articles a b → TurnsInto (record { history = h; hearers = hearers; rows = rows; settings = settings; owed = owed }) t n line a b
+turns_begun h new hearers rows settings owed t n line articles a b means same takes =
+    turns_batch (record { history = h; hearers = hearers; rows = rows; settings = settings; owed = owed }) t n line articles a b means
+    (subst (λ g. TakesBatch (record { history = g; hearers = hearers; rows = rows; settings = settings; owed = owed }) t n articles a b) same takes)
 
 -- ---- results
 

@@ -1,11 +1,12 @@
 -- What a run owes to lines that it has taken, and what it gives meanwhile.
-use Rattle.std.specs.Prelude.{◌≡◌, ℕ, List, [], ◌∷◌, ◌++◌, Bool}
+use Rattle.std.specs.Prelude.{◌≡◌, ℕ, List, [], ◌∷◌, ◌++◌}
 use Rattle.clip_meaning.specs.Article.{ArticleValue}
 use Rattle.clip_model.specs.History.{History}
 use Rattle.clip_listen.specs.Heard.{Hearer, told_all, HearsFront}
 use Rattle.clip_ledger.specs.Rows.{RowValue}
 use Rattle.clip_protocol.specs.LineMeaning.{Meaning, Means, after, matching}
 use Rattle.clip_front.specs.Outcome.{Outcome, nothing_given, followed_by, given, names_in, kept_rows}
+use Rattle.clip_front.specs.declared.settings.Settings.{Settings}
 use Rattle.clip_front.specs.Steps.Serving.{Answering, Breaking}
 
 -- the text of a reply, or what line n gives that asks for these articles after the history
@@ -14,7 +15,7 @@ pub data Owed : Type 0 where
   matched : ℕ → History → List ArticleValue → Owed
 
 abbrev pub owed_of : List Hearer → Owed → Outcome
-owed_of hearers (ready text) = record { text = text; alerts = []; rows = [] }
+owed_of hearers (ready text) = record { text = λ form. text; alerts = []; rows = [] }
 owed_of hearers (matched n h articles) = given hearers n h (matching articles)
 
 -- what is owed, one after the other
@@ -22,25 +23,25 @@ abbrev pub owes : List Hearer → List Owed → Outcome
 owes hearers [] = nothing_given
 owes hearers (o ∷ owed) = followed_by (owed_of hearers o) (owes hearers owed)
 
--- what a run holds between two lines: what was accepted, what the listeners have heard, the rows, where they are kept, and what it owes
+-- what a run holds between two lines: what was accepted, what the listeners have heard, the rows, where they are kept, its settings, and what it owes
 pub record Course : Type 0 where
   pub history : History
   pub hearers : List Hearer
   pub rows : List RowValue
-  pub keeps : Bool
+  pub settings : Settings
   pub owed : List Owed
 
 -- This much was given: its alerts are told, and its rows kept.
 pub record Gave (old new : Course) (out : Outcome) : Type 0 where
   pub heard : new.hearers ≡ told_all out.alerts old.hearers
-  pub rows : new.rows ≡ old.rows ++ kept_rows old.keeps out.rows
-  pub keeps : new.keeps ≡ old.keeps
+  pub rows : new.rows ≡ old.rows ++ kept_rows old.settings.keeps_rows out.rows
+  pub settings : new.settings ≡ old.settings
 
 -- Of what was owed, a front was given, with this text. The rest is still owed.
 pub record Pays (old new : Course) (text : List ℕ) : Type 0 where
   pub out : Outcome
   pub gave : Gave old new out
-  pub printed : out.text ≡ text
+  pub printed : out.text old.settings.form ≡ text
   pub history : new.history ≡ old.history
   pub rest : owes old.hearers old.owed ≡ followed_by out (owes old.hearers new.owed)
 
@@ -51,7 +52,7 @@ pub record Turns (old new : Course) (n : ℕ) (line text : List ℕ) : Type 0 wh
   pub history : new.history ≡ after old.history meaning
   pub out : Outcome
   pub gave : Gave old new out
-  pub printed : out.text ≡ text
+  pub printed : out.text old.settings.form ≡ text
   pub rest : followed_by (owes old.hearers old.owed) (given old.hearers n old.history meaning) ≡ followed_by out (owes old.hearers new.owed)
 
 -- The run was broken off at line n: the listeners have heard a front of the alerts of what was owed and of what the line gives.
@@ -77,7 +78,7 @@ PaysInto old new before now = (text : List ℕ) × Pays old new text × (now ≡
 
 -- the course that owes one thing more
 abbrev pub owing : Course → Owed → Course
-owing s o = record { history = s.history; hearers = s.hearers; rows = s.rows; keeps = s.keeps; owed = s.owed ++ o ∷ [] }
+owing s o = record { history = s.history; hearers = s.hearers; rows = s.rows; settings = s.settings; owed = s.owed ++ o ∷ [] }
 
 -- A front of what was owed was given, its text stands at the end, and a batch is owed to line n.
 pub record TakesBatch (old new : Course) (n : ℕ) (articles : List ArticleValue) (before now : List ℕ) : Type 0 where

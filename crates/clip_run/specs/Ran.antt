@@ -10,6 +10,7 @@ use Rattle.clip_listen.specs.Heard.{Hearer}
 use Rattle.clip_listen.specs.declared.listeners.Audience as audience
 use Rattle.clip_ledger.specs.Rows.{RowValue}
 use Rattle.clip_front.specs.Outcome.{GivesAll, GivesFront}
+use Rattle.clip_front.specs.declared.settings.Settings.{Settings}
 
 -- what a reader, a writer and an audience tell: the bytes that are left, whether a read failed, how many there were, whether they met the end; the bytes that were taken, whether they are flushed, whether a write failed; the listeners
 pub record Told : Type 0 where
@@ -41,13 +42,13 @@ pub record IsFresh (t : Told) : Type 0 where
   pub reader_well : t.read_failed ≡ false
   pub writer_well : t.write_failed ≡ false
 
--- A run that keeps rows, or none, went from the first to the second, and gave so many lines and these rows, or a fault.
-pub record Ran {T : Type 0} (lines : T → ℕ) (rows : T → List RowValue) (keeps : Bool) (old new : Told) (result : Result T RunFault) : Type 0 where
-  pub outcome : IfOk result (λ t. IfSome old.left (GivesAll old.hearers new.hearers keeps old.taken new.taken (rows t)))
+-- A run of these settings went from the first to the second, and gave so many lines and these rows, or a fault.
+pub record Ran {T : Type 0} (lines : T → ℕ) (rows : T → List RowValue) (settings : Settings) (old new : Told) (result : Result T RunFault) : Type 0 where
+  pub outcome : IfOk result (λ t. IfSome old.left (GivesAll old.hearers new.hearers settings old.taken new.taken (rows t)))
   pub flushed : OnOk result (new.is_flushed ≡ true)
   pub counted : IfOk result (λ t. IfSome old.left (λ input. lines t ≡ length (lines_of input)))
   pub ok : OnOk result ((new.read_failed ≡ false) × (new.write_failed ≡ false))
   pub read : result ≡ Err fault.Read → (new.read_failed ≡ true) ⊎ ((new.reads ≡ MOST_READS) × (new.met_end ≡ old.met_end))
   pub write : result ≡ Err fault.Write → new.write_failed ≡ true
   pub reads : new.reads ≤ MOST_READS
-  pub front : OnErr result (IfSome old.left (GivesFront old.hearers new.hearers old.taken new.taken))
+  pub front : OnErr result (IfSome old.left (GivesFront old.hearers new.hearers settings.form old.taken new.taken))

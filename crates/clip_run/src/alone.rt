@@ -149,7 +149,7 @@ pub fn run_alone<R: Source, W: Sink, A: Audience>(
     // Where the bytes are known, what was written and flushed is their reply text, each listener has heard just its own
     // alerts, in order, and the ledger has a row for each alert, or none where none are kept.
     ensures outcome { IfOk result (λ ended. IfSome (R.left reader.old)
-        (GivesAll (A.hearers audience.old) (A.hearers audience.new) settings.keeps_rows
+        (GivesAll (A.hearers audience.old) (A.hearers audience.new) settings
         (W.taken writer.old) (W.taken writer.new) ended.ledger)) }
     ensures flushed { OnOk result (W.is_flushed writer.new ≡ true) }
     ensures lines { IfOk result (λ ended. IfSome (R.left reader.old) (λ input.
@@ -164,7 +164,8 @@ pub fn run_alone<R: Source, W: Sink, A: Audience>(
 
     // After a fault, what was written and heard is a front of what some of the first lines give.
     ensures front { OnErr result (IfSome (R.left reader.old)
-        (GivesFront (A.hearers audience.old) (A.hearers audience.new) (W.taken writer.old) (W.taken writer.new))) }
+        (GivesFront (A.hearers audience.old) (A.hearers audience.new) settings.form
+        (W.taken writer.old) (W.taken writer.new))) }
 {
     let mut server = RunServer {
         registry: Owned {

@@ -51,7 +51,7 @@ impl<'r, 'd, 'g, R, N: DeskName, G> Model for Crew<'r, 'd, 'g, R, N, G> {
     ghost view = { λ c. record {
       history = c.caller;
       rows = c.books.ledger;
-      keeps = c.books.keeps_rows;
+      settings = c.books.settings;
       owed = map owed_by c.pending.items;
     } };
 }
@@ -65,12 +65,13 @@ fn settle<R: Threads, A: Audience>(
     books: &mut Books,
     item: Pending,
 ) -> Result<Vec<u8>, NoMemory>
-    ensures text { IfOk result (λ text. text.items ≡ (owed_of (A.hearers audience.old) (owed_by item)).text) }
+    ensures text { IfOk result (λ text. text.items
+        ≡ (owed_of (A.hearers audience.old) (owed_by item)).text books.old.settings.form) }
     ensures heard { OnOk result (A.hearers audience.new
         ≡ told_all (owed_of (A.hearers audience.old) (owed_by item)).alerts (A.hearers audience.old)) }
-    ensures rows { OnOk result (books.new.ledger ≡ books.old.ledger ++ kept_rows books.old.keeps_rows
+    ensures rows { OnOk result (books.new.ledger ≡ books.old.ledger ++ kept_rows books.old.settings.keeps_rows
         (owed_of (A.hearers audience.old) (owed_by item)).rows) }
-    ensures keeps { books.new.keeps_rows ≡ books.old.keeps_rows }
+    ensures settings { books.new.settings ≡ books.old.settings }
     ensures err { OnErr result (HearsFront (owed_of (A.hearers audience.old) (owed_by item)).alerts
         (A.hearers audience.old) (A.hearers audience.new)) }
 {
@@ -116,7 +117,7 @@ impl<'r, 'd, 'g, R: Threads + Wait + Sync, N: DeskName, G: Gate + Clone + Send +
         caller: Caller<'r, 'd, R, N>,
         settings: Settings,
     ) -> Crew<'r, 'd, 'g, R, N, G>
-        ensures { result ≡ record { history = caller.entry; rows = []; keeps = settings.keeps_rows; owed = [] } }
+        ensures { result ≡ record { history = caller.entry; rows = []; settings = settings; owed = [] } }
     {
         Crew {
             rt: caller.runtime(),

@@ -13,4 +13,5 @@ mod session;
 pub use alone::run_alone;
 pub use clip_front::{Ended, Settings};
 pub use clip_match::OpenGate;
+pub use clip_protocol::Form;
 pub use session::run;

@@ -43,7 +43,7 @@ fn serve_and_stop<
 ) -> Result<u64, RunFault>
     requires fresh { IsFresh (told S.Source W.Sink A.Audience reader.old writer.old audience.old) }
     requires begins { (crew.old.history ≡ []) × (crew.old.rows ≡ []) × (crew.old.owed ≡ []) }
-    ensures { Ran (λ lines. lines) (λ lines. crew.new.rows) crew.old.keeps
+    ensures { Ran (λ lines. lines) (λ lines. crew.new.rows) crew.old.settings
         (told S.Source W.Sink A.Audience reader.old writer.old audience.old)
         (told S.Source W.Sink A.Audience reader.new writer.new audience.new)
         result }
@@ -64,7 +64,7 @@ fn crew_at<'a, R: Threads + Wait + Sync, N: DeskName, G: Gate + Clone + Send + '
     settings: Settings,
 ) -> Crew<'a, 'a, 'a, R, N, G>
     requires { IsOnly N.book N.callers desk.now seat × (seat.mine ≡ []) }
-    ensures { result ≡ record { history = []; rows = []; keeps = settings.keeps_rows; owed = [] } }
+    ensures { result ≡ record { history = []; rows = []; settings = settings; owed = [] } }
 {
     let caller = Caller::new(rt, desk, seat, nudges);
     Crew::new(alloc, gate, caller, settings)
@@ -91,7 +91,7 @@ fn run_seated<
 ) -> Result<Ended, RunFault>
     requires fresh { IsFresh (told S.Source W.Sink A.Audience reader.old writer.old audience.old) }
     requires only { IsOnly N.book N.callers desk.now seat × (seat.mine ≡ []) }
-    ensures { Ran (λ ended. ended.lines) (λ ended. ended.ledger) settings.keeps_rows
+    ensures { Ran (λ ended. ended.lines) (λ ended. ended.ledger) settings
         (told S.Source W.Sink A.Audience reader.old writer.old audience.old)
         (told S.Source W.Sink A.Audience reader.new writer.new audience.new)
         result }
@@ -105,7 +105,7 @@ fn run_seated<
             requires sent { IsSync R.row × IsSync G.row × IsSend G.row }
             requires fresh { IsFresh (told S.Source W.Sink A.Audience reader.now writer.now audience.now) }
             requires begins { (crew.history ≡ []) × (crew.rows ≡ []) × (crew.owed ≡ []) }
-            ensures { Ran (λ lines. lines) (λ lines. crew.exit.rows) crew.entry.keeps
+            ensures { Ran (λ lines. lines) (λ lines. crew.exit.rows) crew.entry.settings
                 (told S.Source W.Sink A.Audience reader.entry.now writer.entry.now audience.entry.now)
                 (told S.Source W.Sink A.Audience reader.exit.now writer.exit.now audience.exit.now)
                 result }
@@ -151,7 +151,7 @@ fn run_desk<
     requires fresh { IsFresh (told S.Source W.Sink A.Audience reader.old writer.old audience.old) }
     requires named { (parts.book ≡ N.book) × (parts.callers ≡ N.callers) × (N.heard_before ≡ heard_at parts.updates) }
     requires one { parts.callers ≡ 1 }
-    ensures { Ran (λ ended. ended.lines) (λ ended. ended.ledger) settings.keeps_rows
+    ensures { Ran (λ ended. ended.lines) (λ ended. ended.ledger) settings
         (told S.Source W.Sink A.Audience reader.old writer.old audience.old)
         (told S.Source W.Sink A.Audience reader.new writer.new audience.new)
         result }
@@ -210,7 +210,7 @@ pub fn run<
     // Where the bytes are known, what was written and flushed is their reply text, each listener has heard just its own
     // alerts, in order, and the ledger has a row for each alert, or none where none are kept.
     ensures outcome { IfOk result (λ ended. IfSome (S.left reader.old)
-        (GivesAll (A.hearers audience.old) (A.hearers audience.new) settings.keeps_rows
+        (GivesAll (A.hearers audience.old) (A.hearers audience.new) settings
         (W.taken writer.old) (W.taken writer.new) ended.ledger)) }
     ensures flushed { OnOk result (W.is_flushed writer.new ≡ true) }
     ensures lines { IfOk result (λ ended. IfSome (S.left reader.old) (λ input.
@@ -225,7 +225,8 @@ pub fn run<
 
     // After a fault, what was written and heard is a front of what some of the first lines give.
     ensures front { OnErr result (IfSome (S.left reader.old)
-        (GivesFront (A.hearers audience.old) (A.hearers audience.new) (W.taken writer.old) (W.taken writer.new))) }
+        (GivesFront (A.hearers audience.old) (A.hearers audience.new) settings.form
+        (W.taken writer.old) (W.taken writer.new))) }
 {
     if settings.workers == 0 {
         return run_alone(alloc, reader, writer, audience, settings);

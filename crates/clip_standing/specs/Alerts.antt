@@ -1,5 +1,5 @@
 -- The alerts of an article as contracts see them.
-use Rattle.std.specs.Prelude.{ℕ, List, map, option_map}
+use Rattle.std.specs.Prelude.{ℕ, List, map}
 use Rattle.std.specs.Arc.{arc_str_bytes}
 use Rattle.clip_model.specs.Alerts as model
 use Rattle.clip_standing.specs.declared.alert.Alert.{Alert}
@@ -13,7 +13,7 @@ pub record AlertsValue : Type 0 where
   pub alerts : List model.Alert
 
 abbrev pub alert_value : Alert → model.Alert
-alert_value a = record { query = arc_str_bytes a.query; article = arc_str_bytes a.article; listener = option_map arc_str_bytes a.listener }
+alert_value a = model.alert_for a.standing.value a.article
 
 abbrev pub alerts_value : Alerts → AlertsValue
 alerts_value found = record {

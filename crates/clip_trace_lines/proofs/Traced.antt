@@ -15,16 +15,16 @@ use Rattle.clip_trace_lines.specs.TraceOutcome.{found_shown, Traces, IsTrace, Tr
 use Rattle.clip_trace_lines.specs.TraceRequest.{TraceRequest, trace_value, trace_within}
 use Rattle.clip_front.specs.Steps.Serving.{Serves, ServesAll, ServesFront}
 use Rattle.clip_trace_lines.specs.Steps.TraceOutline.{trace_request_of, trace_line, asked_line, value_line, AnswersTraced, AnswersIn, BreaksIn}
-use Rattle.clip_protocol.specs.Steps.Views.{alerts_ids}
+use Rattle.clip_protocol.specs.Steps.Views.{alerts_by_id}
 use Rattle.clip_protocol.proofs.RequestLaw.{none_is_some}
 use Rattle.clip_front.proofs.Served.{choose, cut_is_long, cut_is_whole}
 use Rattle.clip_trace_lines.proofs.TraceRequestLaw.{trace_request_of-trace_value, trace_value-trace_request_of}
 
 -- ---- replies
 
-pub shown_found : (found : List Alerts) → map alerts_ids (map alerts_value found) ≡ map found_shown (map (λ a. found_of (alerts_value a)) found)
+pub shown_found : (found : List Alerts) → map alerts_by_id (map alerts_value found) ≡ map found_shown (map (λ a. found_of (alerts_value a)) found)
 shown_found [] = refl
-shown_found (a ∷ found) = ap (λ rest. alerts_ids (alerts_value a) ∷ rest) (shown_found found)
+shown_found (a ∷ found) = ap (λ rest. alerts_by_id (alerts_value a) ∷ rest) (shown_found found)
 
 -- ---- what a line says
 

@@ -15,8 +15,8 @@ use Rattle.clip_trace_lines.specs.TraceLine.{Said, nothing, refusal, refusal_at,
 -- ---- replies
 
 -- the article's id, and the ids of its alerts
-abbrev pub found_shown : Found → List ℕ × List (List ℕ)
-found_shown f = (f.article, map (λ a. a.query) f.alerts)
+abbrev pub found_shown : Found → List ℕ × List Alert
+found_shown f = (f.article, f.alerts)
 
 -- the reply that tells an answer
 abbrev pub reply_to : Answer → Reply

@@ -36,7 +36,7 @@ impl Listener for Desk {
 
     fn hear(&mut self, alloc: Global, alert: &Alert) -> Result<String, NoMemory> {
         let text = self.render.text(alloc, alert)?;
-        self.kept.push(alert.clone()?)?;
+        self.kept.push(alert.copy()?)?;
         Ok(text)
     }
 

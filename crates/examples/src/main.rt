@@ -5,7 +5,7 @@
 use anyhow::{Result, bail};
 use clip_command_line::{feed, mail, named};
 use clip_listen::Listeners;
-use clip_run::{OpenGate, Settings, run};
+use clip_run::{Form, OpenGate, Settings, run};
 use clip_stream::{MOST_WORKERS, StdSink, StdSource};
 use clip_trace_lines::run_trace;
 use std::alloc::Global;
@@ -36,6 +36,9 @@ const EXAMPLES: [&str; 18] = [
     "shapes",
     "syntax",
 ];
+
+/// The examples that are run with hits: of each the replies stand in NAME.hits.
+const WITH_HITS: [&str; 2] = ["hits", "random_queries"];
 
 /// The traces, in files of the same kind.
 const TRACES: [&str; 8] = [
@@ -103,10 +106,12 @@ impl Read for OneByOne<'_> {
     }
 }
 
-/// Runs an example with so many workers and the listeners of the program, whose replies are to be the wanted bytes.
+/// Runs an example with so many workers, in this form and with the listeners of the program, whose replies are to be
+/// the wanted bytes.
 fn played_by<R: Threads + Wait + Sync + AllocGlobal, I: Read + Drop>(
     rt: &R,
     workers: u32,
+    form: Form,
     requests: I,
     wanted: &[u8],
 ) -> Result<Outcome> {
@@ -120,6 +125,7 @@ fn played_by<R: Threads + Wait + Sync + AllocGlobal, I: Read + Drop>(
     let mut source = StdSource::new(requests);
     let mut sink = StdSink::new(&mut replies);
     let settings = Settings {
+        form,
         keeps_rows: false,
         workers: workers.min(MOST_WORKERS),
     };
@@ -139,15 +145,16 @@ fn played_by<R: Threads + Wait + Sync + AllocGlobal, I: Read + Drop>(
 /// Runs an example with each number of workers, read whole and a byte at a time, up to the first that is not as shown.
 fn played<R: Threads + Wait + Sync + AllocGlobal>(
     rt: &R,
+    form: Form,
     requests: &[u8],
     wanted: &[u8],
 ) -> Result<Outcome> {
     for workers in WORKERS {
-        let whole = played_by(rt, workers, requests, wanted)?;
+        let whole = played_by(rt, workers, form, requests, wanted)?;
         if whole != Outcome::AsShown {
             return Ok(whole);
         }
-        let one_by_one = played_by(rt, workers, OneByOne { rest: requests }, wanted)?;
+        let one_by_one = played_by(rt, workers, form, OneByOne { rest: requests }, wanted)?;
         if one_by_one != Outcome::AsShown {
             return Ok(one_by_one);
         }
@@ -172,8 +179,13 @@ fn file<R: AllocGlobal + Files>(rt: &R, name: &str, ending: &str) -> Result<Vec<
 fn main(rt: HostRuntime) -> Result<()> {
     for name in EXAMPLES {
         let wanted = file(&rt, name, "out")?;
-        let ended = played(&rt, &file(&rt, name, "jsonl")?, &wanted)?;
+        let ended = played(&rt, Form::Plain, &file(&rt, name, "jsonl")?, &wanted)?;
         println!(rt; "{name}: {}", ended.word())?;
+    }
+    for name in WITH_HITS {
+        let wanted = file(&rt, name, "hits")?;
+        let ended = played(&rt, Form::WithHits, &file(&rt, name, "jsonl")?, &wanted)?;
+        println!(rt; "{name} with hits: {}", ended.word())?;
     }
     for name in TRACES {
         let wanted = file(&rt, name, "out")?;

@@ -26,9 +26,9 @@ impl Listener for Postcard {
 
     fn hear(&mut self, alloc: Global, alert: &Alert) -> Result<String, NoMemory> {
         let mut text = String::from_str(alloc, "card ")?;
-        text.push_str(&alert.query)?;
+        text.push_str(alert.query())?;
         text.push_str(" on ")?;
-        text.push_str(&alert.article)?;
+        text.push_str(alert.article().id())?;
         self.sent = true;
         Ok(text)
     }
@@ -55,8 +55,8 @@ impl Wording for Once {
         }
         self.called.set(true);
         let mut text = String::from_str(alloc, "x")?;
-        text.push_str(&alert.query)?;
-        text.push_str(&alert.article)?;
+        text.push_str(alert.query())?;
+        text.push_str(alert.article().id())?;
         Ok(text)
     }
 }
@@ -84,7 +84,7 @@ fn add_heard(text: &mut String, name: &str, heard: &[Alert]) -> Result<(), Alloc
     text.push_str(name)?;
     for alert in heard {
         text.push_str(" ")?;
-        text.push_str(&alert.query)?;
+        text.push_str(alert.query())?;
     }
     text.push_str("\n")
 }

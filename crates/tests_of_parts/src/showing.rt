@@ -100,8 +100,11 @@ fn add_alerts(text: &mut String, found: &Alerts) -> Result<(), AllocError> {
     let (article, place, asked) = (&found.article, found.place, found.asked);
     write!(text, "{article} {place} {asked}")?;
     for alert in &found.alerts {
-        let (query, article) = (&alert.query, &alert.article);
-        let listener = alert.listener.as_deref().unwrap_or("-");
+        let (query, article) = (alert.query(), alert.article().id());
+        let listener = match alert.listener() {
+            Some(name) => name.as_str(),
+            None => "-",
+        };
         write!(text, " {query}/{article}/{listener}")?;
     }
     text.push_str(". ")

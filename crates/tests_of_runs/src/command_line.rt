@@ -1,26 +1,33 @@
 //! What the words of a command line ask for, and how a run's end is told.
 use clip_command_line::command_line::mode;
 use clip_command_line::{Mode, ending};
+use clip_run::Form;
 use clip_samples::owned;
 use clip_stream::RunFault;
 use std::test::Fail;
 
 /// Each some words, and what they ask for.
-static WORDS: [(&[&str], Option<Mode>); 14] = [
-    (&["run"], Some(Mode::Run(4))),
+static WORDS: [(&[&str], Option<Mode>); 20] = [
+    (&["run"], Some(Mode::Run(4, Form::Plain))),
     (&["trace"], Some(Mode::Trace)),
     (&["runs"], None),
     (&["trace", "4"], None),
     (&["4"], None),
     (&[], None),
-    (&["run", "0"], Some(Mode::Run(0))),
-    (&["run", "4"], Some(Mode::Run(4))),
-    (&["run", "64"], Some(Mode::Run(64))),
+    (&["run", "0"], Some(Mode::Run(0, Form::Plain))),
+    (&["run", "4"], Some(Mode::Run(4, Form::Plain))),
+    (&["run", "64"], Some(Mode::Run(64, Form::Plain))),
     (&["run", "65"], None),
     (&["run", "x"], None),
     (&["run", ""], None),
     (&["run", "004"], None),
     (&["run", "4", "4"], None),
+    (&["run", "hits"], Some(Mode::Run(4, Form::WithHits))),
+    (&["run", "0", "hits"], Some(Mode::Run(0, Form::WithHits))),
+    (&["run", "64", "hits"], Some(Mode::Run(64, Form::WithHits))),
+    (&["run", "hits", "4"], None),
+    (&["run", "65", "hits"], None),
+    (&["hits"], None),
 ];
 
 #[test]

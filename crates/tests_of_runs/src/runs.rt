@@ -39,6 +39,7 @@ pub fn with_workers(workers: u32) -> Settings
     ensures { result.workers ≤ MOST_WORKERS }
 {
     Settings {
+        form: Form::Plain,
         keeps_rows: false,
         workers: workers.min(MOST_WORKERS),
     }

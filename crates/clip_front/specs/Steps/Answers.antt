@@ -22,6 +22,8 @@ use Rattle.clip_protocol.specs.declared.listing.ListFault.TheVariants as fault
 use Rattle.clip_front.specs.declared.answer.Response.{Response}
 use Rattle.clip_front.specs.declared.answer.Response.TheVariants as response
 use Rattle.clip_front.specs.declared.books.Books.{Books}
+use Rattle.clip_front.specs.declared.settings.Settings.{Settings}
+use Rattle.clip_protocol.specs.declared.form.Form.{Form}
 use Rattle.clip_protocol.specs.declared.refusal.Refusal.TheVariants as reason
 use Rattle.clip_protocol.specs.declared.refusal.Unread.{Unread}
 use Rattle.clip_protocol.specs.declared.refusal.Unread.TheVariants as unread
@@ -42,11 +44,11 @@ TakesList names listings (Err fault.NoMemory) = ⊤
 
 -- ---- a line that tells no alert
 
--- From the first history to the second by a line that means this and tells no alert, and whoever listens, this is the reply.
+-- From the first history to the second by a line that means this and tells no alert, and in each form and whoever listens, this is the reply.
 pub record Replies (old new : History) (m : Meaning) (r : Reply) : Type 0 where
   pub quiet : IsQuiet m
   pub history : new ≡ after old m
-  pub reply : (hearers : List Hearer) → r ≡ answer_to hearers old m
+  pub reply : (form : Form) (hearers : List Hearer) → r ≡ answer_to form hearers old m
 
 -- The same by a line that says this.
 abbrev pub Settles : List (List ℕ) → History → History → Outline → Reply → Type 0
@@ -59,29 +61,29 @@ Comes names old new o (response.Match articles) = (o ≡ matches articles.items)
 
 -- ---- any line
 
--- what a run holds between two lines: what was accepted, what the listeners have heard, and the rows, where they are kept
+-- what a run holds between two lines: what was accepted, what the listeners have heard, the rows, where they are kept, and its settings
 pub record Held : Type 0 where
   pub history : History
   pub hearers : List Hearer
   pub rows : List RowValue
-  pub keeps : Bool
+  pub settings : Settings
 
 abbrev pub held : History → List Hearer → Books → Held
-held history hearers books = record { history = history; hearers = hearers; rows = books.ledger; keeps = books.keeps_rows }
+held history hearers books = record { history = history; hearers = hearers; rows = books.ledger; settings = books.settings }
 
 -- what it holds after line n, which means this
 abbrev pub held_after : Held → ℕ → Meaning → Held
 held_after s n m = record {
   history = after s.history m;
   hearers = told_all (alerts_told s.history m) s.hearers;
-  rows = s.rows ++ kept_rows s.keeps (rows_posted s.hearers n s.history m);
-  keeps = s.keeps;
+  rows = s.rows ++ kept_rows s.settings.keeps_rows (rows_posted s.hearers n s.history m);
+  settings = s.settings;
 }
 
 -- The run goes on by line n, which means this, and this is the text of the reply.
 pub record GoesOn (old new : Held) (n : ℕ) (m : Meaning) (text : List ℕ) : Type 0 where
   pub leaves : new ≡ held_after old n m
-  pub replies : text ≡ reply old.hearers n old.history m
+  pub replies : text ≡ reply old.settings.form old.hearers n old.history m
 
 -- The same by a line of these bytes.
 pub record Answers (old new : Held) (n : ℕ) (line text : List ℕ) : Type 0 where

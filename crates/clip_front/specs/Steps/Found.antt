@@ -5,8 +5,9 @@ use Rattle.clip_standing.specs.Alerts.{AlertsValue}
 use Rattle.clip_listen.specs.Heard.{Hearer}
 use Rattle.clip_ledger.specs.Rows.{RowValue}
 use Rattle.clip_front.specs.Outcome.{Outcome, rows_of_article}
+use Rattle.clip_protocol.specs.declared.form.Form.{Form}
 use Rattle.clip_protocol.specs.Reply.{matched, reply_text, texts_said}
-use Rattle.clip_protocol.specs.Steps.Views.{alerts_ids}
+use Rattle.clip_protocol.specs.Steps.Views.{alerts_by_id}
 
 -- the alerts that are found of articles, in order
 abbrev pub told_in : List AlertsValue → List Alert
@@ -16,10 +17,10 @@ told_in found = flat_map (λ v. v.alerts) found
 abbrev pub rows_in : List Hearer → ℕ → List AlertsValue → List RowValue
 rows_in hearers n found = flat_map (λ v. rows_of_article hearers n v.alerts) found
 
--- the text of the reply to line n
-abbrev pub found_text : List Hearer → ℕ → List AlertsValue → List ℕ
-found_text hearers n found = reply_text n (matched (map alerts_ids found) (texts_said hearers (told_in found)))
+-- the text of the reply to line n in this form
+abbrev pub found_text : Form → List Hearer → ℕ → List AlertsValue → List ℕ
+found_text form hearers n found = reply_text n (matched form (map alerts_by_id found) (texts_said hearers (told_in found)))
 
 -- all that line n gives
 abbrev pub found_outcome : List Hearer → ℕ → List AlertsValue → Outcome
-found_outcome hearers n found = record { text = found_text hearers n found; alerts = told_in found; rows = rows_in hearers n found }
+found_outcome hearers n found = record { text = λ form. found_text form hearers n found; alerts = told_in found; rows = rows_in hearers n found }

@@ -4,6 +4,7 @@ use Rattle.clip_model.specs.History.{History}
 use Rattle.clip_listen.specs.Heard.{Hearer}
 use Rattle.clip_protocol.specs.LineMeaning.{Meaning, Means, after, nothing, refusal, refusal_at, command, purging, counting, showing, matching}
 use Rattle.clip_protocol.specs.Reply.{reply}
+use Rattle.clip_protocol.specs.declared.form.Form.{Form}
 use Rattle.clip_front.specs.declared.answer.Taken.{Taken}
 use Rattle.clip_front.specs.declared.answer.Taken.TheVariants as taken
 
@@ -18,13 +19,13 @@ IsQuiet counting = ⊤
 IsQuiet (showing id) = ⊤
 IsQuiet (matching articles) = ⊥
 
--- From the first history to the second by line n, which tells no alert, and whoever listens, this is the text of its reply.
+-- From the first history to the second by line n, which tells no alert, and in each form and whoever listens, this is the text of its reply.
 pub record TakesQuietly (names : List (List ℕ)) (old new : History) (n : ℕ) (line text : List ℕ) : Type 0 where
   pub meaning : Meaning
   pub means : Means names old line meaning
   pub quiet : IsQuiet meaning
   pub history : new ≡ after old meaning
-  pub replies : (hearers : List Hearer) → text ≡ reply hearers n old meaning
+  pub replies : (form : Form) (hearers : List Hearer) → text ≡ reply form hearers n old meaning
 
 -- From the first history to the second by line n, where the listeners of these names are here, and this is what it comes to.
 abbrev pub Takes : List (List ℕ) → History → History → ℕ → List ℕ → Taken → Type 0

@@ -2,6 +2,7 @@
 use Rattle.std.specs.Prelude.{ℕ, List, map, String, string_bytes, option_map}
 use Rattle.std.specs.Arc.{arc_str_bytes}
 use Rattle.std.specs.declared.alloc.Global.{Global}
+use Rattle.clip_model.specs.Alerts.{Alert}
 use Rattle.clip_standing.specs.declared.command.Applied.{Applied}
 use Rattle.clip_standing.specs.declared.command.Applied.TheVariants as applied
 use Rattle.clip_standing.specs.Alerts.{AlertsValue, alerts_value}
@@ -49,9 +50,9 @@ line_view (line.Match articles) = outline.matches articles.items
 
 -- ---- replies
 
--- an article's id, and the ids of its alerts
-abbrev pub alerts_ids : AlertsValue → List ℕ × List (List ℕ)
-alerts_ids found = (found.article, map (λ a. a.query) found.alerts)
+-- an article's id, and its alerts
+abbrev pub alerts_by_id : AlertsValue → List ℕ × List Alert
+alerts_by_id found = (found.article, found.alerts)
 
 abbrev pub reply_view : Reply → reply.Reply
 reply_view answered.Nothing = reply.nothing
@@ -63,9 +64,9 @@ reply_view (answered.Cleared count) = reply.cleared count
 reply_view answered.Purged = reply.purged
 reply_view (answered.Counted count) = reply.counted count
 reply_view (answered.Shown text) = reply.shown (option_map string_bytes text)
-reply_view (answered.Matched found notes) = reply.matched (map alerts_ids (map alerts_value found.items)) (map (λ n. arc_str_bytes n.text) notes.items)
+reply_view (answered.Matched form found notes) = reply.matched form (map alerts_by_id (map alerts_value found.items)) (map (λ n. arc_str_bytes n.text) notes.items)
 reply_view (answered.Stepped word) = reply.stepped word.now
-reply_view (answered.Finished found) = reply.finished (map alerts_ids (map alerts_value found.items))
+reply_view (answered.Finished found) = reply.finished (map alerts_by_id (map alerts_value found.items))
 
 -- the reply to a command that was accepted
 abbrev pub applied_view : Applied → reply.Reply

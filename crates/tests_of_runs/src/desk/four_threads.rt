@@ -45,7 +45,7 @@ fn check_alerts<R: Abort>(rt: &R, plain: &Plain, alerts: &[Alert], texts: [&str;
     for (id, text) in plain.texts().iter() {
         if text.as_str() == texts[0] || text.as_str() == texts[1] {
             let alert = alerts.next().expect(rt, "an alert");
-            assert!(rt; alert.query.as_str() == id.as_str());
+            assert!(rt; alert.query().as_str() == id.as_str());
         }
     }
     assert!(rt; alerts.next().is_none());

@@ -59,7 +59,7 @@ fn queries_of(alloc: Global, heard: Option<&[Alert]>) -> Result<String, AllocErr
     };
     let mut text = String::new(alloc);
     for alert in heard {
-        text.push_str(&alert.query)?;
+        text.push_str(alert.query())?;
         text.push_str(" ")?;
     }
     Ok(text)

@@ -8,7 +8,7 @@ use Rattle.clip_front.proofs.Progress.{on_err}
 use Rattle.clip_front.proofs.deliver.deliver_all.Goals as goal
 
 pub loop-alerts-init : goal.loop-alerts-init
-loop-alerts-init g c = record { heard = sym (told_none _); notes = ap (map note_value) c.new-notes.ensures.items; rows = none_posted c.args.books.now.keeps_rows c.args.books.now.ledger; keeps = refl }
+loop-alerts-init g c = record { heard = sym (told_none _); notes = ap (map note_value) c.new-notes.ensures.items; rows = none_posted c.args.books.now.settings.keeps_rows c.args.books.now.ledger; settings = refl }
 
 pub returns-in_err-said-clause-err : goal.returns-in_err-said-clause-err
 returns-in_err-said-clause-err g c =
@@ -30,7 +30,7 @@ loop-alerts-preserved g c =
           ap (map note_value) {y = c.loop-alerts.notes.items ++ c.in_ok-said.said.items} c.in_ok-append.ensures.items ∙ map-append note_value c.loop-alerts.notes.items c.in_ok-said.said.items
           ∙ notes_next _ c.loop-alerts.alerts-index (alerts_value c.alerts-item.result) _ _ _ _ it.0 it.1 c.loop-alerts.invariant.heard c.loop-alerts.invariant.notes c.in_ok-said.ensures.notes;
       rows =
-          posted_next _ c.loop-alerts.alerts-index c.args.line (alerts_value c.alerts-item.result) _ _ c.args.books.now.keeps_rows c.loop-alerts.books.keeps_rows c.args.books.now.ledger c.loop-alerts.books.ledger _ it.0 it.1 c.loop-alerts.invariant.heard c.loop-alerts.invariant.keeps
+          posted_next _ c.loop-alerts.alerts-index c.args.line (alerts_value c.alerts-item.result) _ _ c.args.books.now.settings.keeps_rows c.loop-alerts.books.settings.keeps_rows c.args.books.now.ledger c.loop-alerts.books.ledger _ it.0 it.1 c.loop-alerts.invariant.heard (ap (λ k. k.keeps_rows) c.loop-alerts.invariant.settings)
           c.loop-alerts.invariant.rows c.in_ok-said.ensures.rows;
-      keeps = c.in_ok-said.ensures.keeps ∙ c.loop-alerts.invariant.keeps;
+      settings = c.in_ok-said.ensures.settings ∙ c.loop-alerts.invariant.settings;
     }

@@ -7,10 +7,10 @@ use Rattle.clip_run.proofs.alone.run_alone.Goals as goal
 pub returns-in_err-lines-clause-front : goal.returns-in_err-lines-clause-front
 returns-in_err-lines-clause-front g c =
     on_err c.from_residual.result
-    (run_gives_front (held_at g.A.Audience.hearers) (record { registry = record { registrar = c.new.result }; books = c.new-2.result }, c.args.audience.now) (c.serve.new.server, c.serve.new.lent) (g.R.Source.left c.args.reader.now) (g.W.Sink.taken c.args.writer.now) (g.W.Sink.taken c.serve.new.writer) (ap (λ s. s.history) c.new.ensures)
+    (run_gives_front (held_at g.A.Audience.hearers) (record { registry = record { registrar = c.new.result }; books = c.new-2.result }, c.args.audience.now) (c.serve.new.server, c.serve.new.lent) c.args.settings (g.R.Source.left c.args.reader.now) (g.W.Sink.taken c.args.writer.now) (g.W.Sink.taken c.serve.new.writer) (ap (λ s. s.history) c.new.ensures) c.new-2.ensures.settings
     c.in_err-lines.ensures.front)
 
 pub returns-clause-outcome : goal.returns-clause-outcome
 returns-clause-outcome g c =
-    run_gives (held_at g.A.Audience.hearers) (record { registry = record { registrar = c.new.result }; books = c.new-2.result }, c.args.audience.now) (c.serve.new.server, c.serve.new.lent) c.args.settings.keeps_rows (g.R.Source.left c.args.reader.now) (g.W.Sink.taken c.args.writer.now) (g.W.Sink.taken c.serve.new.writer)
-    (ap (λ s. s.history) c.new.ensures) c.new-2.ensures.ledger c.new-2.ensures.keeps c.in_ok-lines.ensures.served
+    run_gives (held_at g.A.Audience.hearers) (record { registry = record { registrar = c.new.result }; books = c.new-2.result }, c.args.audience.now) (c.serve.new.server, c.serve.new.lent) c.args.settings (g.R.Source.left c.args.reader.now) (g.W.Sink.taken c.args.writer.now) (g.W.Sink.taken c.serve.new.writer)
+    (ap (λ s. s.history) c.new.ensures) c.new-2.ensures.ledger c.new-2.ensures.settings c.in_ok-lines.ensures.served

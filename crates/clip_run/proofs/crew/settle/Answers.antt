@@ -25,7 +25,7 @@ returns-in-Matched-clause-text g c =
     let hearers = g.A.Audience.hearers c.args.audience.now in
     let f = c.in-Matched.batch in
     let same = found_owed hearers c.args.item f.number f.due.view.value f.due.articles.value.items (map alerts_value f.alerts.items) (ap owed_by c.in-Matched.is) f.right in
-    subst (λ o. IfOk c.deliver_found.result (λ text. text.items ≡ o.text)) same c.deliver_found.ensures.text
+    subst (λ o. IfOk c.deliver_found.result (λ text. text.items ≡ o.text c.args.books.now.settings.form)) same c.deliver_found.ensures.text
 
 pub returns-in-Matched-clause-heard : goal.returns-in-Matched-clause-heard
 returns-in-Matched-clause-heard g c =
@@ -39,7 +39,7 @@ returns-in-Matched-clause-rows g c =
     let hearers = g.A.Audience.hearers c.args.audience.now in
     let f = c.in-Matched.batch in
     let same = found_owed hearers c.args.item f.number f.due.view.value f.due.articles.value.items (map alerts_value f.alerts.items) (ap owed_by c.in-Matched.is) f.right in
-    subst (λ o. OnOk c.deliver_found.result (c.deliver_found.new.books.ledger ≡ c.args.books.now.ledger ++ kept_rows c.args.books.now.keeps_rows o.rows)) same c.deliver_found.ensures.rows
+    subst (λ o. OnOk c.deliver_found.result (c.deliver_found.new.books.ledger ≡ c.args.books.now.ledger ++ kept_rows c.args.books.now.settings.keeps_rows o.rows)) same c.deliver_found.ensures.rows
 
 pub returns-in-Matched-clause-err : goal.returns-in-Matched-clause-err
 returns-in-Matched-clause-err g c =
@@ -53,7 +53,7 @@ returns-in_ok-alerts-in-InFlight-clause-text g c =
     let hearers = g.A.Audience.hearers c.args.audience.now in
     let f = c.in-InFlight.flight in
     let same = found_owed hearers c.args.item f.number f.thread.promise.view.value f.thread.promise.articles.value.items (map alerts_value c.in_ok-alerts-in-InFlight.alerts.items) (ap owed_by c.in-InFlight.is) c.in_ok-alerts-in-InFlight.ensures in
-    subst (λ o. IfOk c.deliver_found-in-InFlight.result (λ text. text.items ≡ o.text)) same c.deliver_found-in-InFlight.ensures.text
+    subst (λ o. IfOk c.deliver_found-in-InFlight.result (λ text. text.items ≡ o.text c.args.books.now.settings.form)) same c.deliver_found-in-InFlight.ensures.text
 
 pub returns-in_ok-alerts-in-InFlight-clause-heard : goal.returns-in_ok-alerts-in-InFlight-clause-heard
 returns-in_ok-alerts-in-InFlight-clause-heard g c =
@@ -67,7 +67,7 @@ returns-in_ok-alerts-in-InFlight-clause-rows g c =
     let hearers = g.A.Audience.hearers c.args.audience.now in
     let f = c.in-InFlight.flight in
     let same = found_owed hearers c.args.item f.number f.thread.promise.view.value f.thread.promise.articles.value.items (map alerts_value c.in_ok-alerts-in-InFlight.alerts.items) (ap owed_by c.in-InFlight.is) c.in_ok-alerts-in-InFlight.ensures in
-    subst (λ o. OnOk c.deliver_found-in-InFlight.result (c.deliver_found-in-InFlight.new.books.ledger ≡ c.args.books.now.ledger ++ kept_rows c.args.books.now.keeps_rows o.rows)) same c.deliver_found-in-InFlight.ensures.rows
+    subst (λ o. OnOk c.deliver_found-in-InFlight.result (c.deliver_found-in-InFlight.new.books.ledger ≡ c.args.books.now.ledger ++ kept_rows c.args.books.now.settings.keeps_rows o.rows)) same c.deliver_found-in-InFlight.ensures.rows
 
 pub returns-in_ok-alerts-in-InFlight-clause-err : goal.returns-in_ok-alerts-in-InFlight-clause-err
 returns-in_ok-alerts-in-InFlight-clause-err g c =

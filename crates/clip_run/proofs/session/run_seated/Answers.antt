@@ -28,7 +28,7 @@ captures_send : (name : Sym) (A B C : RattleType) → IsSend A → IsSend B → 
 captures_send name A B C a b c = declared_send (type_at name (A ∷ B ∷ C ∷ [])) (as_row_send (row_field A) a, (as_row_send (row_field B) b, (as_row_send (row_field C) c, tt)))
 
 pub returns-in_err-nudges : goal.returns-in_err-nudges
-returns-in_err-nudges g c = ran_none (λ ended. ended.lines) (λ ended. ended.ledger) c.args.settings.keeps_rows _ c.from_residual.result (refused_is c.from_residual.result c.from_residual.ensures.1) c.requires.fresh.unread
+returns-in_err-nudges g c = ran_none (λ ended. ended.lines) (λ ended. ended.ledger) c.args.settings _ c.from_residual.result (refused_is c.from_residual.result c.from_residual.ensures.1) c.requires.fresh.unread
 
 pub join_mut-lines-requires-send-F : goal.join_mut-lines-requires-send-F
 join_mut-lines-requires-send-F g c κs within =

@@ -6,7 +6,7 @@ use Rattle.clip_run.proofs.crew.Crew.pay_oldest.Goals as goal
 pub returns-in_default-clause-ok : goal.returns-in_default-clause-ok
 returns-in_default-clause-ok g c =
     let i = c.self.inside in
-    rw (← c.self.view_is) (pays_same i.caller (g.A.Audience.hearers c.args.audience.now) i.books.ledger i.books.keeps_rows i.pending.items c.pop_front.new.self.items c.args.out.now.items c.in_default.ensures.items)
+    rw (← c.self.view_is) (pays_same i.caller (g.A.Audience.hearers c.args.audience.now) i.books.ledger i.books.settings i.pending.items c.pop_front.new.self.items c.args.out.now.items c.in_default.ensures.items)
 
 pub returns-in_err-text-clause-err : goal.returns-in_err-text-clause-err
 returns-in_err-text-clause-err g c =
