@@ -7,17 +7,24 @@ ghost use Rattle.clip_meaning.specs.Article.{words_in, fault_of, refusal_of, art
 use crate::fault::{ArticleFault, fault_of};
 use crate::field::Field;
 use crate::field_map::FieldMap;
+use clip_words::NoMemory;
 use std::alloc::Global;
 use std::marker::Model;
-use std::sync::ArcStr;
+use std::sync::{Arc, ArcStr};
 
-/// An article: an id of 1 to 256 bytes, and at most 16 fields, each the words of a text.
+/// What the handles on one article share.
+#[derive(Debug, Drop)]
+pub(crate) struct Parts {
+    id: ArcStr,
+    fields: FieldMap,
+}
+
+/// An article: an id of 1 to 256 bytes, and at most 16 fields, each the words of a text. A `copy` shares all of it.
 ///
 /// Contracts see the id's bytes and a map from the bytes of each field's name to the words of its text.
 #[derive(Debug, Drop)]
 pub struct Article {
-    id: ArcStr,
-    fields: FieldMap,
+    parts: Arc<Parts>,
 }
 
 impl Model for Article {
@@ -28,7 +35,7 @@ impl Model for Article {
 
     ghost coded = { article_code };
 
-    ghost view = { λ a. record { id = arc_str_bytes a.id; fields = a.fields } };
+    ghost view = { λ a. record { id = arc_str_bytes a.parts.value.id; fields = a.parts.value.fields } };
 }
 
 impl Article {
@@ -58,21 +65,33 @@ impl Article {
         for (name, text) in fields {
             kept.insert(Field::read(alloc, name.as_str(), text.as_str())?)?;
         }
-        Ok(Article { id, fields: kept })
+        Ok(Article {
+            parts: Arc::new(alloc, Parts { id, fields: kept })?,
+        })
+    }
+
+    /// Another handle on the same article, which shares all of it, or `NoMemory` where the count of the article's handles
+    /// is at its end. Takes no memory. Constant time.
+    pub fn copy(&self) -> Result<Article, NoMemory>
+        ensures { IfOk result (λ article. article ≡ self.now) }
+    {
+        Ok(Article {
+            parts: self.parts.clone()?,
+        })
     }
 
     /// The article's id. Takes constant time.
     pub fn id(&self) -> &str
         ensures { result.now ≡ self.now.id }
     {
-        self.id.as_str()
+        self.parts.id.as_str()
     }
 
     /// The article's id, as a text that a `clone` shares. Takes constant time.
     pub fn shared_id(&self) -> &ArcStr
         ensures { arc_str_bytes result.now ≡ self.now.id }
     {
-        &self.id
+        &self.parts.id
     }
 
     /// The words of a field in the order of its text, none where the field is not there. Searches among at most 16
@@ -90,13 +109,13 @@ impl Article {
     pub(crate) fn named(&self, name: &str) -> Option<&Field>
         ensures { option_map (λ field. field.now.1) result ≡ finite.get self.now.fields name.now }
     {
-        self.fields.get(name)
+        self.parts.fields.get(name)
     }
 
     /// The fields, in the byte order of their names. Takes constant time.
     pub fn fields(&self) -> &[Field]
         ensures { result.now ≡ finite.entries self.now.fields }
     {
-        self.fields.as_slice()
+        self.parts.fields.as_slice()
     }
 }

@@ -55,6 +55,16 @@ impl From<AllocError> for ArticleFault {
     }
 }
 
+impl<T: Drop> From<AllocFailed<T>> for ArticleFault {
+    ghost use Rattle.clip_meaning.specs.declared.fault.ArticleFault.TheVariants as faults;
+
+    ghost from_gives = { λ _ fault. fault ≡ faults.NoMemory };
+
+    fn from(_error: AllocFailed<T>) -> ArticleFault {
+        ArticleFault::NoMemory
+    }
+}
+
 /// Whether a byte is an ASCII letter, a digit or `_`.
 fn is_name_byte(byte: u8) -> bool
     ensures { result ≡ is_name_byte byte }
