@@ -1,5 +1,4 @@
 pub mod Article
-pub mod Hits
 pub mod Index
 pub mod Leads
 pub mod Meaning

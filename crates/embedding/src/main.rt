@@ -3,6 +3,7 @@
 #![tactic(auto)]
 
 mod desk;
+mod marked;
 mod morning;
 
 use anyhow::{Result, bail};
@@ -10,9 +11,10 @@ use clip_ledger::Ledger;
 use clip_listen::{Folder, Listener, Listeners, Named, Render, Style, Teller};
 use clip_meaning::{Article, ArticleFault};
 use clip_registry::{Registrar, View};
-use clip_standing::{Command, Standing, StandingFault};
+use clip_standing::{Alert, Command, Standing, StandingFault};
 use clip_words::NoMemory;
 use desk::Desk;
+use marked::marked;
 use morning::morning;
 use std::alloc::Global;
 use std::sync::Arc;
@@ -110,12 +112,24 @@ fn named(
     Ok(parts)
 }
 
-/// Says how many rows of the ledger are each listener's, and how many alerts it has kept, where it tells them.
-fn report<R: Print>(rt: &R, listeners: Listeners, ledger: &Ledger) -> Result<()> {
+/// Says of each alert its query, and the words of its article with those marked that the query names.
+fn show<R: Print + AllocGlobal>(rt: &R, kept: &[Alert]) -> Result<()> {
+    for alert in kept {
+        let words = marked(rt.alloc(), alert, "text")?;
+        println!(rt; "  {}: {words}", alert.query())?;
+    }
+    Ok(())
+}
+
+/// Says how many rows of the ledger are each listener's, and what it has kept, where it tells that.
+fn report<R: Print + AllocGlobal>(rt: &R, listeners: Listeners, ledger: &Ledger) -> Result<()> {
     for (name, listener) in &listeners.into_parts() {
         let rows = ledger.total(name);
         match listener.heard() {
-            Some(kept) => println!(rt; "{name}: {rows} in the ledger, {} kept", kept.len())?,
+            Some(kept) => {
+                println!(rt; "{name}: {rows} in the ledger, {} kept", kept.len())?;
+                show(rt, kept)?;
+            }
             None => println!(rt; "{name}: {rows} in the ledger")?,
         }
     }

@@ -2,7 +2,7 @@
 ghost use Rattle.std.specs.Prelude.{◌≡◌, IfOk};
 
 use clip_extract::Key;
-use clip_samples::standing;
+use clip_samples::{article, standing};
 use clip_segment::{MOST_POSITIONS, Segment};
 use clip_standing::{Alert, Alerts, Entry, Standing};
 use std::alloc::{AllocError, Global};
@@ -67,23 +67,25 @@ pub fn text_key(alloc: Global, word: &str) -> Result<Key, AllocError> {
     Ok(Key::Word(ArcStr::from_str(alloc, "text")?, word))
 }
 
-/// The alert of article a1 on a query, with the name of its listener or none.
-pub fn alert(alloc: Global, query: &str, listener: Option<&str>) -> Result<Alert, AllocError> {
-    let query = ArcStr::from_str(alloc, query)?;
-    let article = ArcStr::from_str(alloc, "a1")?;
+/// The standing query `tea` under an id, with the name of its listener or none.
+fn tea(alloc: Global, id: &str, listener: Option<&str>) -> Result<Arc<Standing>, Fail> {
     let listener = match listener {
-        Some(name) => Some(ArcStr::from_str(alloc, name)?),
+        Some(name) => Some(String::from_str(alloc, name)?),
         None => None,
     };
-    Ok(Alert {
-        query,
-        article,
-        listener,
-    })
+    let id = String::from_str(alloc, id)?;
+    let standing = Standing::read(alloc, id, String::from_str(alloc, "tea")?, listener)?;
+    Ok(Arc::new(alloc, standing)?)
+}
+
+/// The alert of article a1, whose text is `tea`, on the query `tea` under an id, with the name of its listener or none.
+pub fn alert(alloc: Global, query: &str, listener: Option<&str>) -> Result<Alert, Fail> {
+    let article = article(alloc, "a1", &[("text", "tea")])?;
+    Ok(Alert::of(&tea(alloc, query, listener)?, &article)?)
 }
 
 /// The alerts of article a1 on queries, each with the name of its listener or none.
-pub fn alerts(alloc: Global, queries: &[(&str, Option<&str>)]) -> Result<Alerts, AllocError> {
+pub fn alerts(alloc: Global, queries: &[(&str, Option<&str>)]) -> Result<Alerts, Fail> {
     let mut alerts = Vec::new(alloc);
     for (query, listener) in queries {
         alerts.push(alert(alloc, query, *listener)?)?;
