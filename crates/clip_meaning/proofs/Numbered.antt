@@ -28,7 +28,7 @@ words_pass t ws ps same = sym (list_any-IsPermutation (λ (p : Place). t p.0) (n
 
 -- ---- phrases
 
-rest_dropped : (n : ℕ) (all : List (List ℕ)) (w : List ℕ) (ws : List (List ℕ)) → drop n all ≡ w ∷ ws → drop (n + 1) all ≡ ws
+pub rest_dropped : (n : ℕ) (all : List (List ℕ)) (w : List ℕ) (ws : List (List ℕ)) → drop n all ≡ w ∷ ws → drop (n + 1) all ≡ ws
 rest_dropped n all w ws e = sym (drop-drop 1 n all) ∙ ap (drop 1) e
 
 twice : (a b c : Bool) → a ≡ b → (a && (b && c)) ≡ (b && c)

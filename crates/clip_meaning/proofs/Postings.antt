@@ -27,7 +27,7 @@ Place = List ℕ × ℕ
 -- ---- the order of texts
 
 -- at least, told from the other side
-turned : (x y : List ℕ) → is_lt (bytes_cmp y x) ≡ false → is_gt (bytes_cmp x y) ≡ false
+pub turned : (x y : List ℕ) → is_lt (bytes_cmp y x) ≡ false → is_gt (bytes_cmp x y) ≡ false
 turned x y e = ap is_gt (nat_list_cmp_total.antisymm x y) ∙ reversed (bytes_cmp y x) e
   where
     reversed : (o : Ordering) → is_lt o ≡ false → is_gt (ordering_reverse o) ≡ false
@@ -36,7 +36,7 @@ turned x y e = ap is_gt (nat_list_cmp_total.antisymm x y) ∙ reversed (bytes_cm
     reversed Greater e = refl
 
 -- x is below y, and z is not
-below_upto : (x y z : List ℕ) → bytes_cmp x y ≡ Less → is_lt (bytes_cmp z y) ≡ false → bytes_cmp x z ≡ Less
+pub below_upto : (x y z : List ℕ) → bytes_cmp x y ≡ Less → is_lt (bytes_cmp z y) ≡ false → bytes_cmp x z ≡ Less
 below_upto x y z less le = by_order (bytes_cmp y z) refl
   where
     by_order : (o : Ordering) → bytes_cmp y z ≡ o → bytes_cmp x z ≡ Less
@@ -80,7 +80,7 @@ Rises ps = (i j : ℕ) (d : Place) → i ≤ j → j < length ps → is_lt (byte
 pub rises : (ps : List Place) → Sorted ps → Rises ps
 rises ps s = sorted_far (λ (x y : Place). is_lt (bytes_cmp x.0 y.0)) (ranks_by nat_list_cmp_total (λ (p : Place). p.0)) ps s
 
-tail_rises : (p : Place) (ps : List Place) → Rises (p ∷ ps) → Rises ps
+pub tail_rises : (p : Place) (ps : List Place) → Rises (p ∷ ps) → Rises ps
 tail_rises p ps r i j d le lt = r (suc i) (suc j) d (omega arith) (omega arith)
 
 pub rises-drop : (n : ℕ) (ps : List Place) → Rises ps → Rises (drop n ps)
@@ -123,7 +123,7 @@ past_word word = reached (λ p. not (is_lt (bytes_cmp word p.0))) (λ p. not (ab
 -- ---- words that begin with a front
 
 -- a word below the front does not
-not_below : (front w : List ℕ) → is_gt (bytes_cmp front w) ≡ true → begins_with front w ≡ false
+pub not_below : (front w : List ℕ) → is_gt (bytes_cmp front w) ≡ true → begins_with front w ≡ false
 not_below [] [] g = absurd (true≢false (sym g))
 not_below [] (x ∷ xs) g = absurd (true≢false (sym g))
 not_below (f ∷ fs) [] g = refl
@@ -135,7 +135,7 @@ not_below (f ∷ fs) (x ∷ xs) g = step (nat_lt f x) (f == x) (bytes_cmp fs xs)
     step false false o t g rest = refl
 
 -- where a word that is not below the front does not, no later word does
-no_later : (front w v : List ℕ) → is_gt (bytes_cmp front w) ≡ false → is_lt (bytes_cmp v w) ≡ false → begins_with front w ≡ false → begins_with front v ≡ false
+pub no_later : (front w v : List ℕ) → is_gt (bytes_cmp front w) ≡ false → is_lt (bytes_cmp v w) ≡ false → begins_with front w ≡ false → begins_with front v ≡ false
 no_later [] w v g le e = absurd (true≢false e)
 no_later (f ∷ fs) [] v g le e = absurd (true≢false g)
 no_later (f ∷ fs) (x ∷ xs) [] g le e = refl
@@ -203,7 +203,7 @@ pub front_settles : (front : List ℕ) (ps : List Place) → Rises ps → list_a
 front_settles front ps r = first_settles (End.With front) (λ (p : Place). begins_with front p.0) (λ p e. not_below front p.0 (not-false _ e)) (λ p q here le e. no_later front p.0 q.0 (not-true _ here) le e) ps r
 
 -- above the high end, and so is what follows
-stays_above : (high : End) (w v : List ℕ) → is_lt (bytes_cmp v w) ≡ false → below high w ≡ false → below high v ≡ false
+pub stays_above : (high : End) (w v : List ℕ) → is_lt (bytes_cmp v w) ≡ false → below high w ≡ false → below high v ≡ false
 stays_above End.Free w v le e = absurd (true≢false e)
 stays_above (End.With h) w v le e =
     let less : bytes_cmp h w ≡ Less = nat_list_cmp_total.antisymm h w ∙ ap ordering_reverse (greater _ (not-false _ e)) in
@@ -249,7 +249,7 @@ upto_test word p = not (is_lt (bytes_cmp word p.0))
 abbrev equal_test : List ℕ → Place → Bool
 equal_test word p = bytes_eq p.0 word
 
-none_kept : (t : Place → Bool) (ps : List Place) → ((k : ℕ) (d : Place) → k < length ps → t (get_or ps k d) ≡ false) → filter t ps ≡ []
+pub none_kept : (t : Place → Bool) (ps : List Place) → ((k : ℕ) (d : Place) → k < length ps → t (get_or ps k d) ≡ false) → filter t ps ≡ []
 none_kept t [] none = refl
 none_kept t (p ∷ ps) none = ap (λ b. cond b (p ∷ filter t ps) (filter t ps)) (none 0 p (omega arith)) ∙ none_kept t ps (λ k d lt. none (suc k) d (omega arith))
 

@@ -1,4 +1,5 @@
 pub mod Article
+pub mod Hits
 pub mod Index
 pub mod Leads
 pub mod Meaning

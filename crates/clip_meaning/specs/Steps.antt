@@ -1,3 +1,4 @@
 -- What the proofs of this crate go through; no public clause cites it.
+pub mod Marks
 pub mod Searches
 pub mod Tally

@@ -1,5 +1,5 @@
 //! The words of one field of an article.
-ghost use Rattle.std.specs.Prelude.{◌≡◌, map, drop, IfOk, IsPermutation};
+ghost use Rattle.std.specs.Prelude.{◌≡◌, [], map, drop, length, get_or, IfOk, IsPermutation};
 ghost use Rattle.std.specs.Arc.{arc_str_bytes};
 ghost use Rattle.std.specs.List.{All, list_any, starts_with};
 ghost use Rattle.std.specs.List.Sorted.{IsSorted, IsSortedByKey};
@@ -10,8 +10,11 @@ ghost use Rattle.clip_grammar.specs.Tree.{end_of};
 ghost use Rattle.clip_meaning.specs.Index.{numbered, posting_cmp};
 ghost use Rattle.clip_meaning.specs.Steps.Searches.{stands_at};
 ghost use Rattle.clip_meaning.specs.Meaning.{begins_with, has_phrase, is_between};
+ghost use Rattle.clip_meaning.specs.Hits.{covers};
+ghost use Rattle.clip_meaning.specs.Steps.Marks.{AreRaised};
 
 use crate::index::{Posting, WordIndex};
+use crate::marking::{mark_all, mark_run};
 use clip_grammar::query::Bound;
 use clip_words::{NoMemory, shared_words};
 use std::alloc::Global;
@@ -114,6 +117,52 @@ impl Field {
     {
         self.index.has_between(low, high)
     }
+
+    /// Raises the flags of a word's positions. Compares about the logarithm of the number of words, and takes a step for
+    /// each position.
+    pub(crate) fn mark_word(&self, word: &str, flags: &mut Vec<bool>)
+        requires { length flags.old.items ≡ length self.now.1 }
+        ensures long { length flags.new.items ≡ length flags.old.items }
+        ensures raised { AreRaised flags.old.items flags.new.items
+            (λ k. bytes_eq (get_or self.now.1 k []) word.now) }
+    {
+        mark_all(flags, self.index.occurrences(word));
+    }
+
+    /// Raises the flags of the positions that a phrase covers. Looks only where the phrase's first word stands: at worst
+    /// these places times the words of the phrase.
+    pub(crate) fn mark_phrase(&self, phrase: &[ArcStr], flags: &mut Vec<bool>)
+        ensures long { length flags.new.items ≡ length flags.old.items }
+        ensures raised { AreRaised flags.old.items flags.new.items
+            (λ k. list_any (λ start. covers self.now.1 (map arc_str_bytes phrase.now) k start.1)
+            (numbered 0 self.now.1)) }
+    {
+        if let Some(first) = phrase.first() {
+            mark_runs(&self.words, self.index.occurrences(first), phrase, flags);
+        }
+    }
+
+    /// Raises the flags of the words that begin with a front. Compares about the logarithm of the number of words, and
+    /// takes a step for each such word.
+    pub(crate) fn mark_front(&self, front: &str, flags: &mut Vec<bool>)
+        requires { length flags.old.items ≡ length self.now.1 }
+        ensures long { length flags.new.items ≡ length flags.old.items }
+        ensures raised { AreRaised flags.old.items flags.new.items
+            (λ k. begins_with front.now (get_or self.now.1 k [])) }
+    {
+        mark_all(flags, self.index.with_front(front));
+    }
+
+    /// Raises the flags of the words between the bounds. Compares about the logarithm of the number of words, and takes a
+    /// step for each such word.
+    pub(crate) fn mark_between(&self, low: &Bound, high: &Bound, flags: &mut Vec<bool>)
+        requires { length flags.old.items ≡ length self.now.1 }
+        ensures long { length flags.new.items ≡ length flags.old.items }
+        ensures raised { AreRaised flags.old.items flags.new.items
+            (λ k. is_between (end_of low.now) (end_of high.now) (get_or self.now.1 k [])) }
+    {
+        mark_all(flags, self.index.between(low, high));
+    }
 }
 
 /// The words from a position on, none where it is past the end.
@@ -144,6 +193,19 @@ fn stands_at_any(words: &[ArcStr], postings: &[Posting], phrase: &[ArcStr]) -> b
         }
     }
     false
+}
+
+/// Raises the flags of the words of a phrase at those of the postings where it stands.
+fn mark_runs(words: &[ArcStr], postings: &[Posting], phrase: &[ArcStr], flags: &mut Vec<bool>)
+    ensures long { length flags.new.items ≡ length flags.old.items }
+    ensures raised { AreRaised flags.old.items flags.new.items
+        (λ k. list_any (λ p. covers (map arc_str_bytes words.now) (map arc_str_bytes phrase.now) k p.1) postings.now) }
+{
+    for posting in postings {
+        if stands_at(words, phrase, posting) {
+            mark_run(flags, posting.position(), phrase.len());
+        }
+    }
 }
 
 /// Whether the words begin with those of a phrase.

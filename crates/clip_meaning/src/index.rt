@@ -179,6 +179,32 @@ impl WordIndex {
         postings.split_at(place).0
     }
 
+    /// The postings of the words that begin with the front.
+    pub(crate) fn with_front(&self, front: &str) -> &[Posting]
+        ensures { result.now ≡ filter (λ p. begins_with front.now p.0) self.now }
+    {
+        let postings = self.not_below(front);
+        let place = postings.partition_point(
+            |posting: &Posting| -> bool
+                ensures { result ≡ begins_with front.entry.now posting.now.0 }
+            { posting.word().as_bytes().starts_with(front.as_bytes()) },
+        );
+        postings.split_at(place).0
+    }
+
+    /// The postings of the words between the bounds.
+    pub(crate) fn between(&self, low: &Bound, high: &Bound) -> &[Posting]
+        ensures { result.now ≡ filter (λ p. is_between (end_of low.now) (end_of high.now) p.0) self.now }
+    {
+        let postings = self.from_low(low);
+        let place = postings.partition_point(
+            |posting: &Posting| -> bool
+                ensures { result ≡ below (end_of high.entry.now) posting.now.0 }
+            { is_below(high, posting.word()) },
+        );
+        postings.split_at(place).0
+    }
+
     /// Whether a word is among the words.
     pub(crate) fn has_word(&self, word: &str) -> bool
         ensures { result ≡ list_any (λ p. bytes_eq p.0 word.now) self.now }

@@ -1,4 +1,4 @@
-//! Articles, and when a query holds of one.
+//! Articles, when a query holds of one, and which of its words a query names.
 //!
 //! An article's texts are cut into words and folded once, when it is read, and each field keeps its words sorted, so
 //! that a query is answered by searches among them.
@@ -10,13 +10,16 @@ mod article;
 mod fault;
 mod field;
 mod field_map;
+mod hit;
 mod index;
 mod lead;
+mod marking;
 mod meaning;
 
 pub use article::Article;
 pub use fault::{ArticleFault, MOST_FIELDS, MOST_NAME_BYTES};
 pub use field::Field;
+pub use hit::{Hit, hits};
 pub use index::Posting;
 pub use lead::{compare_by_leads, lead_of};
 pub use meaning::holds;

@@ -1,0 +1,38 @@
+//! Flags, one for each word of a field, that are raised at positions.
+ghost use Rattle.std.specs.Prelude.{◌≡◌, length, nat_eq};
+ghost use Rattle.std.specs.List.{list_any};
+ghost use Rattle.clip_meaning.specs.Hits.{is_within};
+ghost use Rattle.clip_meaning.specs.Steps.Marks.{AreRaised};
+
+use crate::index::Posting;
+
+/// Raises the flag of a position, if there is one.
+fn mark(flags: &mut Vec<bool>, position: usize)
+    ensures long { length flags.new.items ≡ length flags.old.items }
+    ensures raised { AreRaised flags.old.items flags.new.items (λ k. nat_eq k position) }
+{
+    if position < flags.len() {
+        flags[position] = true;
+    }
+}
+
+/// Raises the flags of `count` positions from `start` on, as far as there are flags.
+pub(crate) fn mark_run(flags: &mut Vec<bool>, start: usize, count: usize)
+    ensures long { length flags.new.items ≡ length flags.old.items }
+    ensures raised { AreRaised flags.old.items flags.new.items (is_within start count) }
+{
+    let end = flags.len().min(start.saturating_add(count));
+    for position in start..end {
+        flags[position] = true;
+    }
+}
+
+/// Raises the flags of the positions of postings.
+pub(crate) fn mark_all(flags: &mut Vec<bool>, postings: &[Posting])
+    ensures long { length flags.new.items ≡ length flags.old.items }
+    ensures raised { AreRaised flags.old.items flags.new.items (λ k. list_any (λ p. nat_eq k p.1) postings.now) }
+{
+    for posting in postings {
+        mark(flags, posting.position());
+    }
+}
