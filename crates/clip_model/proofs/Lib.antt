@@ -10,3 +10,8 @@ pub mod Counting
 pub mod Seqs
 pub mod Rows
 pub mod Dead
+pub mod Filters
+pub mod Merging
+pub mod Divided
+pub mod Parts
+pub mod ShardRows

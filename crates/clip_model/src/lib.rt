@@ -5,8 +5,10 @@
 ghost use Rattle.clip_model.specs.Laws.{ReplaysOn, FrontsAreLegal, GoesOn, ListedAreCounted, RegisteredAreListed, SeqsAreListed, DeadStaysDead};
 
 mod limits;
+mod shards;
 
 pub use limits::{MOST_ARTICLES, MOST_CALLERS, MOST_ENTRIES, MOST_LISTED, MOST_LIVE};
+pub use shards::law_of_shards;
 
 /// What holds of histories.
 pub fn laws_of_histories()
