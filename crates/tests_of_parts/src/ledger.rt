@@ -1,4 +1,5 @@
 //! The ledger: worked examples.
+use crate::hits::add_hits;
 use crate::making::alerts;
 use clip_ledger::{Ledger, Row};
 use clip_listen::Note;
@@ -36,13 +37,15 @@ fn or_dash(text: &Option<ArcStr>) -> &str {
     }
 }
 
-/// The rows as lines: the number of the line, the article, the query, the listener and the text.
+/// The rows as lines: the number of the line, the article, the query, the listener, the hits and the text.
 fn lines(alloc: Global, rows: &[Row]) -> Result<String, AllocError> {
     let mut text = String::new(alloc);
     for row in rows {
         let (line, article, query) = (row.line, &row.article, &row.query);
         let (listener, said) = (or_dash(&row.listener), or_dash(&row.text));
-        write!(text, "{line} {article} {query} {listener} {said}\n")?;
+        write!(text, "{line} {article} {query} {listener} ")?;
+        add_hits(&mut text, &row.hits)?;
+        write!(text, "{said}\n")?;
     }
     Ok(text)
 }
@@ -66,13 +69,14 @@ type Notes = &'static [(&'static str, &'static str, &'static str)];
 type Post = (u64, Queries, Notes);
 
 /// Adds the rows of a post to the ledger.
-fn post(alloc: Global, ledger: &mut Ledger, posted: &Post) -> Result<(), NoMemory> {
+fn post(alloc: Global, ledger: &mut Ledger, posted: &Post) -> Result<(), Fail> {
     let (line, queries, said) = posted;
-    ledger.post(*line, &alerts(alloc, queries)?, &notes(alloc, said)?)
+    ledger.post(*line, &alerts(alloc, queries)?, &notes(alloc, said)?)?;
+    Ok(())
 }
 
 /// The rows of a ledger of these posts, and what each listener has.
-fn told(alloc: Global, posts: &[Post]) -> Result<String, NoMemory> {
+fn told(alloc: Global, posts: &[Post]) -> Result<String, Fail> {
     let mut ledger = Ledger::new(alloc);
     for posted in posts {
         post(alloc, &mut ledger, posted)?;
@@ -95,9 +99,9 @@ static LEDGERS: [(&[Post], &str); 2] = [
             ],
         )],
         "\
-2 a1 q1 mail mail: q1 in a1
-2 a1 q2 feed feed q2/a1
-2 a1 q3 - -
+2 a1 q1 mail text@0 mail: q1 in a1
+2 a1 q2 feed text@0 feed q2/a1
+2 a1 q3 - text@0 -
 mail 1
 feed 1
 fax 0
@@ -119,10 +123,10 @@ fax 0
             (8, &[("q1", Some("fax"))], &[]),
         ],
         "\
-7 a1 q2 fax -
-7 a1 q1 - one
-7 a1 q9 fax late
-8 a1 q1 fax -
+7 a1 q2 fax text@0 -
+7 a1 q1 - text@0 one
+7 a1 q9 fax text@0 late
+8 a1 q1 fax text@0 -
 mail 0
 feed 0
 fax 3

@@ -5,6 +5,8 @@
 #[cfg(test)]
 mod extract;
 #[cfg(test)]
+mod hits;
+#[cfg(test)]
 mod index;
 #[cfg(test)]
 mod ledger;

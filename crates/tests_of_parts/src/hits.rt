@@ -1,0 +1,62 @@
+//! Hits: where in an article a query holds.
+use clip_meaning::Hit;
+use clip_samples::{article, standing};
+use clip_standing::Alert;
+use std::alloc::{AllocError, Global};
+use std::test::Fail;
+
+/// A query, an article's fields, each a name and a text, and the hits.
+type Row = (
+    &'static str,
+    &'static [(&'static str, &'static str)],
+    &'static str,
+);
+
+#[rattlefmt::skip]
+static ROWS: [Row; 12] = [
+    ("\"tea tea\"", &[("text", "tea tea tea")], "text@0 text@1 text@2 "),
+    ("tea te*", &[("text", "tea")], "text@0 "),
+    ("(tea -coffee) *:*", &[("text", "coffee tea")], "text@1 "),
+    ("*:*", &[("text", "tea")], ""),
+    ("title:gre* [m TO z]", &[("title", "Green grey"), ("text", "milk")], "text@0 title@0 title@1 "),
+    // occurrences that overlap
+    ("\"a b a\"", &[("text", "a b a b a")], "text@0 text@1 text@2 text@3 text@4 "),
+    // a leaf inside and outside of a group that is excluded, and below two exclusions
+    ("tea -(tea +milk)", &[("text", "tea")], "text@0 "),
+    ("tea -(coffee -milk)", &[("text", "milk tea")], "text@1 "),
+    // a leaf whose own group does not hold, and a phrase that does not stand
+    ("(+tea +milk) OR coffee", &[("text", "tea, coffee")], "text@0 text@1 "),
+    ("tea \"green leaf\"", &[("text", "green tea leaf")], "text@1 "),
+    // other fields, and none
+    ("a:tea tea", &[("text", "milk"), ("a", "a tea"), ("b", "tea")], "a@1 "),
+    ("tea", &[], ""),
+];
+
+/// Adds hits, each a field and a position, with a space after it.
+pub fn add_hits(text: &mut String, hits: &[Hit]) -> Result<(), AllocError> {
+    for hit in hits {
+        let (field, position) = (&hit.field, hit.position);
+        write!(text, "{field}@{position} ")?;
+    }
+    Ok(())
+}
+
+/// The hits of a query in an article.
+fn hits_of(alloc: Global, query: &str, fields: &[(&str, &str)]) -> Result<String, Fail> {
+    let alert = Alert::of(
+        &standing(alloc, "q1", query)?,
+        &article(alloc, "a1", fields)?,
+    )?;
+    let mut text = String::new(alloc);
+    add_hits(&mut text, &alert.hits(alloc)?)?;
+    Ok(text)
+}
+
+#[test]
+fn hits_are_the_words_that_leaves_below_no_exclusion_name(rt: HostRuntime) -> Result<(), Fail> {
+    for (query, fields, wanted) in &ROWS {
+        let hits = hits_of(rt.alloc(), query, fields)?;
+        assert!(rt; hits.as_str() == *wanted, "{query}: {hits}");
+    }
+    Ok(())
+}
