@@ -57,6 +57,11 @@ class Result:
         return sum(len(ids) for run in self.matching for _, ids in alerts_of(run.replies)) / self.size.timed
 
     @property
+    def hits(self) -> float:
+        """Hits that replies show, an article."""
+        return sum(hits_in(reply) for run in self.matching for reply in run.replies) / self.size.timed
+
+    @property
     def bytes_per_query(self) -> float:
         """Growth of the process by registering, a query."""
         return self.grown_bytes / self.size.queries
@@ -67,6 +72,11 @@ def alerts_of(replies: Sequence[bytes]) -> Iterator[tuple[str, list[str]]]:
     for reply in replies:
         for alert in json.loads(reply).get("alerts", ()):
             yield alert["article"], alert["queries"]
+
+
+def hits_in(reply: bytes) -> int:
+    """How many hits a reply shows."""
+    return reply.count(b'"position":')
 
 
 def articles_in(run: Exchange) -> int:

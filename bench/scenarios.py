@@ -117,6 +117,7 @@ def changes(workload: Workload, size: Size) -> Scenario:
 
 SCENARIOS: dict[str, Callable[[Workload, Size], Scenario]] = {
     "full-lines": full_lines,
+    "with-hits": full_lines,
     "batches": batches,
     "lock-step": lock_step,
     "one-a-line": one_a_line,

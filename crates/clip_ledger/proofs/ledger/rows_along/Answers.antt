@@ -21,7 +21,7 @@ loop-alert-preserved c =
       rows =
           next_row c.args.line notes c.args.alerts.now.alerts.items c.deref-alert-items.result.now c.loop-alert.alert-index c.alert-item.result c.loop-alert.rows.items _ c.in_ok-of.field-0
           c.deref-alert-items.ensures.value c.loop-alert-test.true c.alert-item.is c.loop-alert.invariant.rows c.in_ok-push.ensures.items
-          (c.in_ok-of.ensures ∙ ap (row_with c.args.line (alert_value c.alert-item.result)) (c.first_text.ensures ∙ ap (option_map (λ n. n.text)) (ap (first_of query) c.next_notes-rest.ensures ∙ found query notes c.requires ∙ ap (note_for notes) c.as_str-query.ensures.value)));
+          (c.in_ok-of.ensures ∙ ap (row_with c.args.line (alert_value c.alert-item.result)) (c.first_text.ensures ∙ ap (option_map (λ n. n.text)) (ap (first_of query) c.next_notes-rest.ensures ∙ found query notes c.requires ∙ ap (note_for notes) (c.as_str-query.ensures.value ∙ c.query.ensures))));
       rest = c.next_notes-rest.ensures;
       text = c.as_str-query.utf8;
     }
