@@ -88,6 +88,7 @@ pub fn deliver_found<A: Audience>(
     ensures err { OnErr result (HearsFront (told_in (map alerts_value found.items))
         (A.hearers audience.old) (A.hearers audience.new)) }
 {
+    let form = books.settings.form;
     let notes = deliver_all(alloc, audience, books, number, &found)?;
-    Reply::Matched(books.settings.form, found, notes).text(alloc, number)
+    Reply::Matched(form, found, notes).text(alloc, number)
 }

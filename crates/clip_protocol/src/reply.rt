@@ -80,13 +80,12 @@ fn hit_json(alloc: Global, hit: &Hit) -> Result<Value, NoMemory>
     Ok(json!(in alloc; {"field": hit.field.as_str(), "position": hit.position})?)
 }
 
-/// Where the query of an alert holds, as JSON.
-fn hits_json(alloc: Global, alert: &Alert) -> Result<Vec<Value>, NoMemory>
-    ensures { IfOk result (λ hits. map view hits.items ≡ map hit_data (alert_value alert.now).hits) }
+/// Where a query holds, as JSON.
+fn hits_json(alloc: Global, found: &[Hit]) -> Result<Vec<Value>, NoMemory>
+    ensures { IfOk result (λ hits. map view hits.items ≡ map hit_data (map hit_value found.now)) }
 {
-    let found = alert.hits(alloc)?;
     let mut hits = Vec::with_capacity(alloc, found.len())?;
-    for hit in &found {
+    for hit in found {
         hits.push(hit_json(alloc, hit)?)?;
     }
     Ok(hits)
@@ -99,7 +98,8 @@ fn all_hits_json(alloc: Global, alerts: &[Alert]) -> Result<Vec<Value>, NoMemory
 {
     let mut all = Vec::with_capacity(alloc, alerts.len())?;
     for alert in alerts {
-        all.push(Value::Array(hits_json(alloc, alert)?))?;
+        let hits = alert.hits(alloc)?;
+        all.push(Value::Array(hits_json(alloc, &hits)?))?;
     }
     Ok(all)
 }

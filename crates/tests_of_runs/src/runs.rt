@@ -13,7 +13,7 @@ use crate::runs::devices::{Failing, MANY, blank_tape, script_of};
 use clip_front::{Ended, Settings};
 use clip_listen::Listeners;
 use clip_match::OpenGate;
-use clip_run::run;
+use clip_run::{Form, run};
 use clip_stream::{MOST_WORKERS, RunFault, Sink, Source};
 use std::alloc::Global;
 use std::process::Abort;

@@ -5,4 +5,4 @@ use Rattle.clip_protocol.specs.Reply.{hit_data}
 use Rattle.clip_protocol.proofs.reply.hits_json.Given as goal
 
 abbrev pub invariant-loop-hit : goal.invariant-loop-hit
-invariant-loop-hit l = map view l.hits.items ++ map hit_data (map hit_value (drop l.hit-index l.found.items)) ≡ map hit_data (map hit_value l.found.items)
+invariant-loop-hit l = map view l.hits.items ++ map hit_data (map hit_value (drop l.hit-index l.found)) ≡ map hit_data (map hit_value l.found)
