@@ -185,16 +185,16 @@ fn a_name_that_repeats_hands_the_listeners_back(rt: HostRuntime) -> Result<(), F
 }
 
 /// What a folder says of the alert on a query, or `refused`.
-fn said(alloc: Global, folder: &mut Folder<Once>, query: &str) -> Result<String, AllocError> {
+fn said(alloc: Global, folder: &mut Folder<Once>, query: &str) -> Result<String, Fail> {
     let alert = alert(alloc, query, None)?;
     match folder.hear(alloc, &alert) {
         Ok(said) => Ok(said),
-        Err(NoMemory) => String::from_str(alloc, "refused"),
+        Err(NoMemory) => Ok(String::from_str(alloc, "refused")?),
     }
 }
 
 /// What a folder whose wording refuses its second call says of two alerts, and what it heard.
-fn told_by_once(alloc: Global) -> Result<String, NoMemory> {
+fn told_by_once(alloc: Global) -> Result<String, Fail> {
     let mut folder = folder_of_once(alloc)?;
     let mut text = said(alloc, &mut folder, "q1")?;
     text.push_str(&said(alloc, &mut folder, "q2")?)?;
