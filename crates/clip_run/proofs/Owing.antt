@@ -74,8 +74,8 @@ gave_more s t u a b first more = record {
 -- ---- payments
 
 -- the same settings, the same text
-printed_before : {s t : Course} {o : Outcome} {text : List ℕ} → t.settings ≡ s.settings → o.text t.settings.form ≡ text → o.text s.settings.form ≡ text
-printed_before {s} {t} {o} same printed = ap (λ k. o.text k.form) (sym same) ∙ printed
+printed_before : {k l : Settings} (text_in : Form → List ℕ) {text : List ℕ} → l ≡ k → text_in l.form ≡ text → text_in k.form ≡ text
+printed_before text_in same printed = ap (λ k. text_in k.form) (sym same) ∙ printed
 
 pub pays_nothing : (s : Course) → Pays s s []
 pays_nothing s = record { out = nothing_given; gave = gave_nothing s; printed = refl; history = refl; rest = refl }
@@ -84,7 +84,7 @@ pub pays_more : (s t u : Course) (a b : List ℕ) → Pays s t a → Pays t u b 
 pays_more s t u a b p q = record {
   out = followed_by p.out q.out;
   gave = gave_more s t u p.out q.out p.gave q.gave;
-  printed = ap₂ (λ x y. x ++ y) p.printed (printed_before p.gave.settings q.printed);
+  printed = ap₂ (λ x y. x ++ y) p.printed (printed_before q.out.text p.gave.settings q.printed);
   history = q.history ∙ p.history;
   rest =
       let there : owes s.hearers t.owed ≡ followed_by q.out (owes s.hearers u.owed) =
@@ -118,7 +118,7 @@ turns_then s t u n line a b p q = record {
   history = q.history ∙ p.history;
   out = followed_by p.out q.out;
   gave = gave_more s t u p.out q.out p.gave q.gave;
-  printed = ap₂ (λ x y. x ++ y) p.printed (printed_before p.gave.settings q.printed);
+  printed = ap₂ (λ x y. x ++ y) p.printed (printed_before q.out.text p.gave.settings q.printed);
   rest =
       let there : owes s.hearers t.owed ≡ followed_by q.out (owes s.hearers u.owed) =
       sym (owes_told p.out.alerts s.hearers t.hearers t.owed p.gave.heard) ∙ q.rest ∙ ap (followed_by q.out) (owes_told p.out.alerts s.hearers t.hearers u.owed p.gave.heard) in
@@ -137,7 +137,7 @@ turns_after s t u n line a b p q =
       history = q.history ∙ ap (λ h. after h q.meaning) p.history;
       out = followed_by p.out q.out;
       gave = gave_more s t u p.out q.out p.gave q.gave;
-      printed = ap₂ (λ x y. x ++ y) p.printed (printed_before p.gave.settings q.printed);
+      printed = ap₂ (λ x y. x ++ y) p.printed (printed_before q.out.text p.gave.settings q.printed);
       rest =
           ap (λ x. followed_by x (given s.hearers n s.history q.meaning)) p.rest
           ∙ followed_assoc p.out (owes s.hearers t.owed) (given s.hearers n s.history q.meaning)
