@@ -84,6 +84,13 @@ class Engine:
         except BrokenPipeError:
             self.unsent.clear()
 
+    def push_all(self) -> None:
+        """Writes all of it, and waits where the pipe is full."""
+        while self.unsent:
+            self.push()
+            if self.unsent:
+                select.select([], [self.input], [])
+
     def close_input(self) -> None:
         """Tells it that no more lines come."""
         assert self._process.stdin

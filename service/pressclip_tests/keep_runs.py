@@ -3,11 +3,8 @@
 from __future__ import annotations
 
 import os
-import re
-import select
 import signal
 import subprocess
-import tempfile
 from pathlib import Path
 from random import Random
 from typing import Callable, Sequence
@@ -15,8 +12,8 @@ from typing import Callable, Sequence
 from pressclip_service.engine import command_of
 
 from .judge import KEEP, Due, need
+from .processes import Spoken
 
-PATIENCE_SECONDS = 60.0
 MOST_OWED = 40
 
 
@@ -43,89 +40,11 @@ def changes_in(journal: Path) -> int:
     return int(dump_of(journal, "--changes")) if (journal / "journal").exists() else 0
 
 
-class Keep:
-    """A process of `keep`, asked line by line."""
+class Keep(Spoken):
+    """A process of `keep`."""
 
     def __init__(self, journal: Path, *options: str, before: Callable[[], None] | None = None) -> None:
-        self._told = tempfile.TemporaryFile()
-        self.process = subprocess.Popen(command(journal, *options), stdin=subprocess.PIPE, stdout=subprocess.PIPE,
-                                        stderr=self._told, bufsize=0, preexec_fn=before)
-        assert self.process.stdin and self.process.stdout
-        os.set_blocking(self.process.stdin.fileno(), False)
-        self.input, self.output = self.process.stdin.fileno(), self.process.stdout.fileno()
-        self.unsent = bytearray()
-        self.got = bytearray()
-
-    def send(self, line: bytes) -> None:
-        """Takes a line on its way."""
-        self.unsent += line + b"\n"
-
-    def turn(self, seconds: float) -> bool:
-        """Writes and reads as far as that goes; whether anything came."""
-        readable, writable, _ = select.select([self.output], [self.input] if self.unsent else [], [], seconds)
-        if writable:
-            try:
-                del self.unsent[:os.write(self.input, memoryview(self.unsent)[:65_536])]
-            except BrokenPipeError:
-                self.unsent.clear()
-        if readable:
-            block = os.read(self.output, 1 << 20)
-            self.got += block
-            return bool(block)
-        return False
-
-    def wait_for_replies(self) -> list[bytes]:
-        """The next replies, after a wait; none where it ended."""
-        while not (found := self.replies()):
-            if not self.turn(1) and not self.unsent and self.process.poll() is not None and not self.turn(0):
-                return self.replies()
-        return found
-
-    def replies(self) -> list[bytes]:
-        """The whole replies that came, taken out."""
-        whole = self.got.rfind(b"\n") + 1
-        lines = bytes(self.got[:whole]).splitlines()
-        del self.got[:whole]
-        return lines
-
-    def told(self) -> str:
-        """What was told on standard error so far."""
-        self._told.seek(0)
-        return self._told.read().decode()
-
-    def engine(self) -> int | None:
-        """The number of the engine's process, the newest child that is no Python."""
-        return engine_of(self.process.pid)
-
-    def kill(self) -> bytes:
-        """Ends it at once, and gives what it had written still."""
-        self.process.kill()
-        self.process.wait()
-        while self.turn(PATIENCE_SECONDS):
-            pass
-        return bytes(self.got)
-
-    def close(self) -> None:
-        """Ends its input, waits for its end, and lets go of it."""
-        assert self.process.stdin and self.process.stdout
-        self.process.stdin.close()
-        self.status = self.process.wait(PATIENCE_SECONDS)
-        self.last_words = self.told()
-        self.process.stdout.close()
-        self._told.close()
-
-
-def engine_of(parent: int) -> int | None:
-    """The engine that is a child of a process: the child whose words end in `run` and a number."""
-    try:
-        children = Path(f"/proc/{parent}/task/{parent}/children").read_text().split()
-        for child in children:
-            words = Path(f"/proc/{child}/cmdline").read_bytes().split(b"\0")
-            if len(words) >= 3 and words[-3] == b"run" and re.fullmatch(rb"\d\d?", words[-2]):
-                return int(child)
-    except OSError:
-        pass
-    return None
+        super().__init__(command(journal, *options), before)
 
 
 class Client:

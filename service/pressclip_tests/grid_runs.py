@@ -1,0 +1,208 @@
+"""A grid under test: a Redis of its own, its processes, and a client that goes on where one was ended."""
+
+from __future__ import annotations
+
+import os
+import signal
+import socket
+import subprocess
+import time
+from pathlib import Path
+from random import Random
+from typing import Sequence
+
+from pressclip_service.engine import command_of
+
+from .judge import GRID, Due, Failed, need
+from .processes import Spoken, engine_of
+
+DEBIAN_PYTHON = "/usr/bin/python3"
+WINDOW = 60
+PATIENCE_SECONDS = 60.0
+
+
+def free_port() -> int:
+    """A port of this machine that nobody uses."""
+    with socket.socket() as found:
+        found.bind(("127.0.0.1", 0))
+        return found.getsockname()[1]
+
+
+class Redis:
+    """A Redis on 127.0.0.1, in a folder of its own, which loses nothing that it answered."""
+
+    def __init__(self, folder: Path) -> None:
+        self.folder = folder
+        self.port = free_port()
+        self.process: subprocess.Popen | None = None
+        self.start()
+
+    @property
+    def url(self) -> str:
+        """Where it is."""
+        return f"redis://127.0.0.1:{self.port}/0"
+
+    def start(self) -> None:
+        """Starts it."""
+        self.process = subprocess.Popen(
+            ["redis-server", "--port", str(self.port), "--bind", "127.0.0.1", "--dir", str(self.folder), "--save", "",
+             "--appendonly", "yes", "--appendfsync", "always"], stdin=subprocess.DEVNULL, stdout=subprocess.DEVNULL)
+
+    def kill(self) -> None:
+        """Ends it at once."""
+        assert self.process
+        self.process.kill()
+        self.process.wait()
+
+
+class Role:
+    """One process of the grid."""
+
+    def __init__(self, grid: Grid, *words: str) -> None:
+        self.words = words
+        self.command = [DEBIAN_PYTHON, str(GRID), "--redis", grid.redis.url, *words, "--", *command_of([], workers=0)]
+        self.told = open(grid.folder / ("-".join(words).replace("/", "") + ".told"), "ab")
+        self.process: subprocess.Popen | None = None
+        self.start()
+
+    def start(self) -> None:
+        """Starts it."""
+        self.process = subprocess.Popen(self.command, stdin=subprocess.DEVNULL, stdout=subprocess.DEVNULL,
+                                        stderr=self.told)
+
+    def kill(self) -> None:
+        """Ends it at once."""
+        assert self.process
+        self.process.kill()
+        self.process.wait()
+
+
+class Grid:
+    """Redis, the workers, the gatherer and what tidies."""
+
+    def __init__(self, folder: Path, shards: int, replicas: int, *, limit: int = 1_000_000, after: int = 150) -> None:
+        self.folder = folder
+        self.redis = Redis(folder)
+        self.run("init", "--shards", str(shards), "--replicas", str(replicas), "--limit", str(limit))
+        self.workers = [Role(self, "worker", "--shard", str(shard), "--replica", str(replica))
+                        for shard in range(shards) for replica in range(replicas)]
+        self.others = [Role(self, "gather"), Role(self, "tidy", "--after", str(after))]
+
+    def command(self, *words: str) -> list[str]:
+        """The command of a role."""
+        return [DEBIAN_PYTHON, str(GRID), "--redis", self.redis.url, *words]
+
+    def run(self, *words: str, text: bytes = b"") -> bytes:
+        """What a role that ends by itself prints."""
+        return subprocess.run(self.command(*words, "--", *command_of([], workers=0)), input=text,
+                              stdout=subprocess.PIPE, check=True).stdout
+
+    def told(self) -> str:
+        """What its processes told, and which of them have ended."""
+        texts = [path.name + ":\n" + path.read_text() for path in sorted(self.folder.glob("*.told"))]
+        ended = [role.words for role in (*self.workers, *self.others) if role.process and role.process.poll() is not None]
+        return "\n".join(texts) + f"\nended: {ended}"
+
+    def needs_all(self) -> None:
+        """`Failed` where one of its processes ended by itself."""
+        for role in (*self.workers, *self.others):
+            if role.process and role.process.poll() is not None:
+                raise Failed(f"{role.words} ended\n{self.told()}")
+
+    def close(self) -> None:
+        """Ends all of it."""
+        for role in (*self.workers, *self.others):
+            role.kill()
+            role.told.close()
+        self.redis.kill()
+
+    def __enter__(self) -> Grid:
+        return self
+
+    def __exit__(self, *_: object) -> None:
+        self.close()
+
+
+class Chaos:
+    """One input through a grid, with a process ended at each of some places in it, and started again."""
+
+    def __init__(self, grid: Grid, due: Due, dice: Random, name: str) -> None:
+        self.grid = grid
+        self.due = due
+        self.dice = dice
+        self.name = name
+        self.answered = self.sent = 0
+        self.got: list[bytes] = []
+        self.ended: list[str] = []
+        self.client = self._client()
+
+    def _client(self) -> Spoken:
+        """A client that prints what is not printed yet, of the whole input."""
+        self.sent = 0
+        return Spoken(self.grid.command("submit", "--name", self.name, "--from", str(self.answered + 1), "--",
+                                        *command_of([], workers=0)))
+
+    def run(self, places: Sequence[int]) -> bytes:
+        """The replies to the whole input."""
+        left = sorted(places)
+        while self.answered < len(self.due.lines):
+            while self.sent < min(len(self.due.lines), self.answered + WINDOW):
+                self.client.send(self.due.lines[self.sent])
+                self.sent += 1
+            if left and self.answered >= left[0]:
+                left.pop(0)
+                self._end_one()
+                continue
+            self._take(self.client.wait_for_replies())
+        self.client.close()
+        return b"".join(reply + b"\n" for reply in self.got)
+
+    def _take(self, replies: list[bytes]) -> None:
+        if not replies:
+            raise Failed(f"no reply to line {self.answered + 1}; the client told {self.client.told()}\n"
+                         f"{self.grid.told()}")
+        self._count(replies)
+
+    def _count(self, replies: list[bytes]) -> None:
+        for reply in replies:
+            self.got.append(reply)
+            self._pass_blank()
+            self.answered += 1
+        self._pass_blank()
+
+    def _pass_blank(self) -> None:
+        while self.answered < len(self.due.lines) and self.due.replies[self.answered] is None:
+            self.answered += 1
+
+    def _end_one(self) -> None:
+        """Ends a process of some kind by SIGKILL, and starts it again."""
+        kind = self.dice.choice(["worker", "engine", "gatherer", "tidy", "client", "redis"])
+        self.client.turn(self.dice.choice([0, 0.005, 0.02]))
+        if kind == "client":
+            self.client.kill()
+            self._count(self.client.replies())
+            self.client = self._client()
+        elif kind == "redis":
+            self.grid.redis.kill()
+            self.grid.redis.start()
+        elif kind == "engine":
+            if not self._end_engine(self.dice.choice(self.grid.workers)):
+                return
+        else:
+            role = (self.dice.choice(self.grid.workers) if kind == "worker" else
+                    self.grid.others[0 if kind == "gatherer" else 1])
+            role.kill()
+            role.start()
+        self.ended.append(kind)
+
+    def _end_engine(self, role: Role) -> bool:
+        """Ends the engine of a worker, where it has one already."""
+        assert role.process
+        start = time.monotonic()
+        while time.monotonic() - start < 5:
+            engine = engine_of(role.process.pid)
+            if engine is not None:
+                os.kill(engine, signal.SIGKILL)
+                return True
+            time.sleep(0.02)
+        return False
