@@ -18,6 +18,9 @@ from .processes import Spoken, engine_of
 
 DEBIAN_PYTHON = "/usr/bin/python3"
 WINDOW = 60
+KINDS = ("worker", "engine", "gatherer", "tidy", "client", "redis")
+# How often two processes are ended with nothing between.
+TWO_AT_ONCE = 0.2
 PATIENCE_SECONDS = 60.0
 
 
@@ -134,6 +137,7 @@ class Chaos:
         self.answered = self.sent = 0
         self.got: list[bytes] = []
         self.ended: list[str] = []
+        self.kinds: list[str] = []
         self.client = self._client()
 
     def _client(self) -> Spoken:
@@ -152,6 +156,9 @@ class Chaos:
             if left and self.answered >= left[0]:
                 left.pop(0)
                 self._end_one()
+                if left and self.dice.random() < TWO_AT_ONCE:
+                    left.pop(0)
+                    self._end_one()
                 continue
             self._take(self.client.wait_for_replies())
         self.client.close()
@@ -176,7 +183,7 @@ class Chaos:
 
     def _end_one(self) -> None:
         """Ends a process of some kind by SIGKILL, and starts it again."""
-        kind = self.dice.choice(["worker", "engine", "gatherer", "tidy", "client", "redis"])
+        kind = self._next_kind()
         self.client.turn(self.dice.choice([0, 0.005, 0.02]))
         if kind == "client":
             self.client.kill()
@@ -194,6 +201,12 @@ class Chaos:
             role.kill()
             role.start()
         self.ended.append(kind)
+
+    def _next_kind(self) -> str:
+        """What is ended next: each kind as often as the others, in a random order."""
+        if not self.kinds:
+            self.kinds = self.dice.sample(KINDS, len(KINDS))
+        return self.kinds.pop()
 
     def _end_engine(self, role: Role) -> bool:
         """Ends the engine of a worker, where it has one already."""

@@ -2,9 +2,12 @@
 
 from __future__ import annotations
 
+import subprocess
 import time
 from pathlib import Path
 from random import Random
+
+from pressclip_service.replies import renumbered
 
 from .grid_runs import Chaos, Grid
 from .inputs import Source, joined, with_long_lines
@@ -14,7 +17,7 @@ from .keep_runs import dump_of, run_keep
 SHAPES = ((1, 1), (2, 1), (3, 2), (8, 1))
 LINES = 1_500
 # How many processes are ended in a grid of each shape.
-KILLS = 32
+KILLS = 36
 
 
 def a_large_register() -> bytes:
@@ -44,9 +47,9 @@ def the_grid_with_processes_ended(shards: int, replicas: int) -> None:
     with folder() as name, Grid(Path(name), shards, replicas) as grid:
         chaos = Chaos(grid, due, source.dice, "desk")
         same(chaos.run(places), due.text(), f"{shards} shards, {replicas} replicas, ended: {chaos.ended}")
-        need(len(chaos.ended) >= KILLS - 2, f"only {len(chaos.ended)} processes were ended")
-        ended = {kind: chaos.ended.count(kind) for kind in sorted(set(chaos.ended))}
-        print(f"    {shards} shards, {replicas} replicas; ended {ended}", flush=True)
+        need(len(chaos.ended) >= KILLS - 3, f"only {len(chaos.ended)} processes were ended")
+        ended = ", ".join(f"{chaos.ended.count(kind)} {kind}" for kind in sorted(set(chaos.ended)))
+        print(f"    {shards} shards, {replicas} replicas; ended: {ended}", flush=True)
 
 
 def processes_ended_1_1() -> None:
@@ -133,7 +136,6 @@ def moves_from_one_process_to_the_grid_and_back() -> None:
 
 def need_same_but_numbers(got: list[bytes], due: list[bytes]) -> None:
     """`Failed` where replies differ, in more than the numbers of their lines."""
-    from pressclip_service.replies import renumbered
     same(joined([renumbered(reply, 0) for reply in got]), joined([renumbered(reply, 0) for reply in due]), "moved")
 
 
@@ -150,7 +152,6 @@ def an_input_goes_on_under_its_name() -> None:
         same(grid.run("submit", "--name", "desk", text=joined(first)), front, "the first part again")
         last = max(place for place in range(120) if b"refused" not in (due.replies[place] or b"refused"))
         other = joined(first[:last]) + b'{"op":"purge" }\n'
-        import subprocess
         done = subprocess.run(grid.command("submit", "--name", "desk"), input=other, stdout=subprocess.PIPE,
                               stderr=subprocess.PIPE, check=False)
         need(done.returncode == 1 and b"is another than" in done.stderr, f"{done.returncode} {done.stderr.decode()}")
