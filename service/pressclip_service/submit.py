@@ -32,8 +32,9 @@ MOST_BYTES_IN_FLIGHT = 16 << 20
 REPLIES_AT_ONCE = 256
 TRIMMED_AFTER = 1_000
 FORGOTTEN_AFTER_SECONDS = 3_600
-PROBE_LINES = 200_000
+PROBE_BYTES = 64 << 20
 MOST_DEATHS_IN_A_ROW = 5
+_CLEAR = b'{"op":"clear"}'
 _KINDS = {Kind.REGISTERED: REGISTER, Kind.DELETED: DELETE, Kind.CLEARED: CLEAR, Kind.COUNTED: COUNT}
 
 
@@ -43,22 +44,30 @@ class Probe:
     def __init__(self, command: Sequence[str]) -> None:
         self._command = command
         self._engine = Engine(command)
+        self._taken = 0
 
     def judge(self, lines: Sequence[bytes]) -> list[bytes]:
         """Its replies to the lines, none of which is blank."""
         for attempt in range(MOST_DEATHS_IN_A_ROW):
             try:
-                if self._engine.sent > PROBE_LINES:
-                    raise EngineDied("the probe has judged enough")
-                replies = list(self._engine.exchange(lines))
-                if any(kind_of(reply) is Kind.REGISTERED for reply in replies):
-                    list(self._engine.exchange([b'{"op":"clear"}']))
+                self._renew()
+                clears = [_CLEAR] if any(b"register" in line for line in lines) else []
+                self._taken += sum(map(len, lines)) if clears else 0
+                replies = list(self._engine.exchange([*lines, *clears]))[:len(lines)]
+                if not clears and any(kind_of(reply) is Kind.REGISTERED for reply in replies):
+                    list(self._engine.exchange([_CLEAR]))
                 return replies
             except EngineDied:
-                self._engine.kill()
                 time.sleep(0.01 * attempt)
-                self._engine = Engine(self._command)
+                self._taken = PROBE_BYTES
         raise EngineDied(f"the probe ended {MOST_DEATHS_IN_A_ROW} times in a row")
+
+    def _renew(self) -> None:
+        """Begins with another engine where this one has taken much, since an engine keeps its history."""
+        if self._taken >= PROBE_BYTES:
+            self._engine.kill()
+            self._engine = Engine(self._command)
+            self._taken = 0
 
 
 def kind_of_line(reply: bytes) -> bytes:
