@@ -1,8 +1,8 @@
 """Answers of shards, and how the parts of an answer are put together.
 
-The answer to a change or a count is a number. That to a `show` is the query's text as JSON from the shard of its id, and
-nothing from another. That to a `match` is JSON: for each article its id, the ids of the queries that hold in order, and
-what listeners said, each with the place of its query in that list.
+The answer to a change or a count is a number. That to a `show` is the query's text as JSON from the shard of its id,
+and nothing from another. That to a `match` is JSON: for each article its id, the ids of the queries that hold in
+order, and what listeners said, each with the place of its query in that list.
 """
 
 from __future__ import annotations

@@ -96,7 +96,8 @@ class Store:
         if self.settings() != settings:
             raise ServiceError(f"the grid is there with other settings: {self.settings()}")
 
-    def read(self, after: Mapping[str, Id], count: int, block: int | None = BLOCK_MILLISECONDS) -> dict[str, list[Entry]]:
+    def read(self, after: Mapping[str, Id], count: int,
+             block: int | None = BLOCK_MILLISECONDS) -> dict[str, list[Entry]]:
         """The next entries of some streams, after a wait where there are none; none where that was too long."""
         wanted = {key: place.text() for key, place in after.items()}
         found = self.do(lambda client: client.xread(wanted, count=count, block=block))

@@ -165,7 +165,8 @@ class Submitter:
         slots, calls = [], []
         for (number, line), reply in zip(numbered, self.probe.judge([line for _, line in numbered])):
             is_refused = kind_of(reply) is Kind.REFUSED
-            slots.append(Slot(number, len(line), renumbered(reply, number) if is_refused else None, number >= self.first))
+            answered = renumbered(reply, number) if is_refused else None
+            slots.append(Slot(number, len(line), answered, number >= self.first))
             if number > self.entered_before and not is_refused:
                 calls.append(self._call(number, line, kind_of_line(reply)))
         self._wait_for_room(slots)

@@ -100,10 +100,22 @@ class Grid:
         return subprocess.run(self.command(*words, "--", *command_of([], workers=0)), input=text,
                               stdout=subprocess.PIPE, check=True).stdout
 
+    def requests(self) -> list[tuple[str, int, bytes]]:
+        """All requests in the stream in order: client, number of the line, and the line."""
+        printed = subprocess.run(["redis-cli", "-p", str(self.redis.port), "--raw", "XRANGE",
+                                  "pressclip:grid:requests", "-", "+"], stdout=subprocess.PIPE, check=True).stdout
+        lines = printed.split(b"\n")
+        found = []
+        for at in range(0, len(lines) - 10, 11):
+            fields = dict(zip(lines[at + 1:at + 11:2], lines[at + 2:at + 11:2]))
+            found.append((fields[b"c"].decode(), int(fields[b"n"]), fields[b"l"]))
+        return found
+
     def told(self) -> str:
         """What its processes told, and which of them have ended."""
         texts = [path.name + ":\n" + path.read_text() for path in sorted(self.folder.glob("*.told"))]
-        ended = [role.words for role in (*self.workers, *self.others) if role.process and role.process.poll() is not None]
+        roles = (*self.workers, *self.others)
+        ended = [role.words for role in roles if role.process and role.process.poll() is not None]
         return "\n".join(texts) + f"\nended: {ended}"
 
     def needs_all(self) -> None:

@@ -186,6 +186,27 @@ def tidying_drops_what_is_passed() -> None:
                  for text in told), grid.told())
 
 
-TESTS = (the_grid_answers_as_the_engine, processes_ended_1_1, processes_ended_2_1, processes_ended_3_2,
+def clients_at_once() -> None:
+    """Three clients at once: each has the replies that one process gives to all lines in the order of the stream."""
+    inputs = {f"desk{number}": Source(80 + number).lines(400) for number in range(3)}
+    with folder() as name, Grid(Path(name), 2, 2, after=1_000_000) as grid:
+        running = {}
+        for client, lines in inputs.items():
+            source = Path(name) / client
+            source.write_bytes(joined(lines))
+            with open(source, "rb") as file, open(f"{source}.out", "wb") as out:
+                running[client] = subprocess.Popen(grid.command("submit", "--name", client), stdin=file, stdout=out)
+        need(all(process.wait(120) == 0 for process in running.values()), grid.told())
+        order = grid.requests()
+        replies = replies_of_engine(joined([line for _, _, line in order])).splitlines()
+        due: dict[str, list[bytes]] = {client: [] for client in inputs}
+        for (client, number, _), reply in zip(order, replies):
+            due[client].append(renumbered(reply, number))
+        for client in inputs:
+            got = Path(name, f"{client}.out").read_bytes().splitlines()
+            same(joined([reply for reply in got if b'"refused":' not in reply[:40]]), joined(due[client]), client)
+
+
+TESTS = (the_grid_answers_as_the_engine, clients_at_once, processes_ended_1_1, processes_ended_2_1, processes_ended_3_2,
          processes_ended_8_1, redis_gone_for_ten_seconds, a_full_grid_changes_no_shard,
          moves_from_one_process_to_the_grid_and_back, an_input_goes_on_under_its_name, tidying_drops_what_is_passed)

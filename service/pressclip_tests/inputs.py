@@ -7,8 +7,8 @@ from random import Random
 from typing import Callable
 
 WORDS = [f"w{number}" for number in range(24)]
-ODD_IDS = ["x in y", "x", "y in z", "z", "a/b", "a", "b/c", "quote\"d", "back\\slash", "tab\there", "\u007f", "\u0001", "é",
-           "ﬀ", "\U0001f375", "\uffff", "ä in é", " ", "line\nfeed", ",\"line\":7", "q" * 256]
+ODD_IDS = ["x in y", "x", "y in z", "z", "a/b", "a", "b/c", "quote\"d", "back\\slash", "tab\there", "\u007f", "\u0001",
+           "é", "ﬀ", "\U0001f375", "\uffff", "ä in é", " ", "line\nfeed", ",\"line\":7", "q" * 256]
 LISTENERS = ["mail", "feed"]
 LONG = 1_048_576
 
@@ -56,7 +56,8 @@ class Source:
 
     def register(self) -> bytes:
         """A register of none to six queries."""
-        return dumped({"op": "register", "queries": [self.listing() for _ in range(self.dice.randint(0, 6))]}, self.dice)
+        listed = [self.listing() for _ in range(self.dice.randint(0, 6))]
+        return dumped({"op": "register", "queries": listed}, self.dice)
 
     def delete(self) -> bytes:
         """A delete of none to four ids, some of them twice."""
@@ -132,7 +133,8 @@ REFUSED: tuple[Callable[[Source], bytes], ...] = (
 def long_lines(dice: Random) -> list[bytes]:
     """Lines at the limit of a line's length, and beyond it."""
     whole = b'{"op":"count"}'
-    return [whole.ljust(LONG), whole.ljust(LONG + 1), b" " * LONG, b" " * (LONG + 1), b"x" * (3 * LONG + dice.randint(0, 9))]
+    return [whole.ljust(LONG), whole.ljust(LONG + 1), b" " * LONG, b" " * (LONG + 1),
+            b"x" * (3 * LONG + dice.randint(0, 9))]
 
 
 def with_long_lines(lines: list[bytes], dice: Random) -> list[bytes]:
