@@ -8,12 +8,16 @@ import subprocess
 from pathlib import Path
 from random import Random
 from typing import Callable
+from unittest import mock
 
+from pressclip_service import keep
+from pressclip_service.engine import command_of
 from pressclip_service.frames import frames_of
+from pressclip_service.journal import Journal
 from pressclip_service.replies import CHANGES, kind_of
 
 from .inputs import Source, joined, with_long_lines
-from .judge import Due, folder, need, replies_of_engine, same
+from .judge import KEEP, Due, folder, need, replies_of_engine, same
 from .keep_runs import Client, Keep, changes_in, command, dump_of, kill_engines, run_keep
 
 KEEP_KILLS = 60
@@ -62,9 +66,9 @@ def its_engine_ended() -> None:
     source = Source(5)
     due = Due.of(source.lines(3_000))
     with folder() as name:
-        keep = Keep(Path(name), "--rewrite-above", "60")
-        replies = kill_engines(keep, source.dice, due, ENGINE_KILLS)
-        keep.close()
+        kept = Keep(Path(name), "--rewrite-above", "60")
+        replies = kill_engines(kept, source.dice, due, ENGINE_KILLS)
+        kept.close()
         same(replies, due.text(), "replies")
 
 
@@ -169,18 +173,18 @@ def a_full_disk_ends_it() -> None:
 
 def judge_full_disk(journal: Path, due: Due, before: Callable[[], None] | None) -> None:
     """A run with too little room, and what is left after it."""
-    keep = Keep(journal, "--rewrite-above", "100000", before=before)
+    kept = Keep(journal, "--rewrite-above", "100000", before=before)
     got: list[bytes] = []
     sent = 0
     for number, line in enumerate(due.lines):
-        keep.send(line)
+        kept.send(line)
         sent += due.replies[number] is not None
-        while sent - len(got) > 20 and (replies := keep.wait_for_replies()):
+        while sent - len(got) > 20 and (replies := kept.wait_for_replies()):
             got += replies
-    while replies := keep.wait_for_replies():
+    while replies := kept.wait_for_replies():
         got += replies
-    keep.close()
-    need(keep.status == 4 and "can't write" in keep.last_words, f"{keep.status} {keep.last_words}")
+    kept.close()
+    need(kept.status == 4 and "can't write" in kept.last_words, f"{kept.status} {kept.last_words}")
     need(due.text().startswith(b"".join(reply + b"\n" for reply in got)), "not a front of the replies that are due")
     answered = sum(kind_of(reply) in CHANGES for reply in got)
     need(changes_in(journal) == answered > 0, f"{changes_in(journal)} kept, {answered} answered")
@@ -206,6 +210,30 @@ def an_engine_that_never_starts() -> None:
         need(done.returncode in (0, 1), done.stderr.decode())
 
 
+def a_reply_follows_its_sync() -> None:
+    """The journal is synced before the reply to a change is written, once for many lines in flight."""
+    happened: list[bytes] = []
+    sync = os.fdatasync
+
+    def noted_sync(descriptor: int) -> None:
+        sync(descriptor)
+        happened.append(b"sync")
+
+    lines = [b'{"op":"register","queries":[{"id":"q%d","query":"w1"}]}' % number for number in range(500)]
+    with folder() as name, open(Path(name) / "input", "w+b") as file:
+        file.write(joined(lines) + b'{"op":"match","articles":[]}\n')
+        file.seek(0)
+        journal = Journal(Path(name) / "j")
+        with mock.patch.object(os, "fdatasync", noted_sync), mock.patch.object(keep, "INPUT", file.fileno()), \
+                mock.patch.object(keep, "write_all", lambda _, text: happened.append(text)):
+            keep.Keeper(journal, command_of([], workers=0), KEEP, 10_000).run()
+        journal.close()
+    writes = [place for place, what in enumerate(happened) if b'"registered":' in what]
+    need(bool(writes) and all(happened[place - 1] == b"sync" for place in writes), "a reply without its sync")
+    need(happened.count(b"sync") == len(writes) < 250, f"{happened.count(b'sync')} syncs for 500 changes in flight")
+    need(sum(what.count(b"\n") for what in happened) == 501, "not all replies")
+
+
 TESTS = (answers_as_the_engine, goes_on_after_its_end, ended_at_random_places, its_engine_ended,
-         a_torn_end_is_left_out, a_broken_middle_ends_it, a_second_one_is_refused, a_journal_stays_short,
-         a_full_disk_ends_it, a_journal_that_cannot_be_written, an_engine_that_never_starts)
+         a_reply_follows_its_sync, a_torn_end_is_left_out, a_broken_middle_ends_it, a_second_one_is_refused,
+         a_journal_stays_short, a_full_disk_ends_it, a_journal_that_cannot_be_written, an_engine_that_never_starts)
