@@ -14,7 +14,7 @@ from typing import Sequence
 from pressclip_service.engine import command_of
 
 from .judge import GRID, Due, Failed, need
-from .processes import Spoken, engine_of
+from .processes import ENDED, Spoken, engine_of
 
 DEBIAN_PYTHON = "/usr/bin/python3"
 WINDOW = 60
@@ -213,6 +213,7 @@ class Chaos:
             role.kill()
             role.start()
         self.ended.append(kind)
+        ENDED.append(kind)
 
     def _next_kind(self) -> str:
         """What is ended next: each kind as often as the others, in a random order."""

@@ -12,7 +12,7 @@ from typing import Callable, Sequence
 from pressclip_service.engine import command_of
 
 from .judge import KEEP, Due, need
-from .processes import Spoken
+from .processes import ENDED, Spoken
 
 MOST_OWED = 40
 
@@ -91,6 +91,7 @@ class Client:
             keep.turn(self.dice.choice([0, 0.001, 0.01]))
         keep.kill()
         self.kills += 1
+        ENDED.append("keep")
         answered = self._judge(keep.replies(), start, answered, at)
         self.at = self._kept(answered, at)
 
@@ -132,6 +133,7 @@ def kill_engines(keep: Keep, dice: Random, due: Due, kills: int) -> bytes:
             if engine is not None:
                 os.kill(engine, signal.SIGKILL)
                 done += 1
+                ENDED.append("engine of keep")
         while owed - len(out) > MOST_OWED or (number + 1 == len(due.lines) and len(out) < owed):
             replies = keep.wait_for_replies()
             need(bool(replies), f"keep ended: {keep.told()}")

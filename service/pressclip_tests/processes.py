@@ -13,6 +13,9 @@ from typing import Callable, Mapping, Sequence
 
 PATIENCE_SECONDS = 120.0
 
+# What was ended by SIGKILL in the middle of an input, over the whole test.
+ENDED: list[str] = []
+
 
 class Spoken:
     """A process that answers lines with lines."""
