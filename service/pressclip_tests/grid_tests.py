@@ -2,17 +2,21 @@
 
 from __future__ import annotations
 
+import os
+import signal
 import subprocess
 import time
 from pathlib import Path
 from random import Random
 
+from pressclip_service.engine import command_of
 from pressclip_service.replies import renumbered
 
 from .grid_runs import Chaos, Grid
 from .inputs import Source, joined, with_long_lines
 from .judge import Due, folder, need, replies_of_engine, same
 from .keep_runs import dump_of, run_keep
+from .processes import children_of, engine_of
 
 SHAPES = ((1, 1), (2, 1), (3, 2), (8, 1))
 LINES = 1_500
@@ -207,6 +211,30 @@ def clients_at_once() -> None:
             same(joined([reply for reply in got if b'"refused":' not in reply[:40]]), joined(due[client]), client)
 
 
-TESTS = (the_grid_answers_as_the_engine, clients_at_once, processes_ended_1_1, processes_ended_2_1, processes_ended_3_2,
-         processes_ended_8_1, redis_gone_for_ten_seconds, a_full_grid_changes_no_shard,
-         moves_from_one_process_to_the_grid_and_back, an_input_goes_on_under_its_name, tidying_drops_what_is_passed)
+def one_command_keeps_a_grid_up() -> None:
+    """`grid up` starts all of a grid, starts again what ends, and ends all of it when it is ended."""
+    with folder() as name, Grid(Path(name), 2, 1) as grid:
+        for role in (*grid.workers, *grid.others):
+            role.kill()
+        with open(Path(name) / "up.told", "ab") as told:
+            whole = subprocess.Popen(grid.command("up", "--shards", "2", "--", *command_of([], workers=0)),
+                                     stdin=subprocess.DEVNULL, stderr=told)
+        try:
+            due = b'{"line":1,"registered":1}\n{"count":1,"line":2}\n'
+            text = b'{"op":"register","queries":[{"id":"q1","query":"tea"}]}\n{"op":"count"}\n'
+            same(grid.run("submit", text=text), due, "the grid that is up")
+            worker = engine_of(whole.pid)
+            need(worker is not None, "no worker runs")
+            os.kill(worker or 0, signal.SIGKILL)
+            same(grid.run("submit", text=text), due, "the grid after an end")
+            parts = children_of(whole.pid)
+        finally:
+            whole.terminate()
+            whole.wait(30)
+        need(len(parts) == 4 and not any(Path(f"/proc/{part}").exists() for part in parts), grid.told())
+
+
+TESTS = (one_command_keeps_a_grid_up, the_grid_answers_as_the_engine, clients_at_once, processes_ended_1_1,
+         processes_ended_2_1, processes_ended_3_2, processes_ended_8_1, redis_gone_for_ten_seconds,
+         a_full_grid_changes_no_shard, moves_from_one_process_to_the_grid_and_back, an_input_goes_on_under_its_name,
+         tidying_drops_what_is_passed)

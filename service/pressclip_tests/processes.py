@@ -95,14 +95,21 @@ class Spoken:
         self._told.close()
 
 
+def children_of(parent: int) -> list[int]:
+    """The children of a process; none where it is gone."""
+    try:
+        return [int(child) for child in Path(f"/proc/{parent}/task/{parent}/children").read_text().split()]
+    except OSError:
+        return []
+
+
 def engine_of(parent: int) -> int | None:
     """The engine that is a child of a process: the child whose words end in `run` and a number."""
-    try:
-        children = Path(f"/proc/{parent}/task/{parent}/children").read_text().split()
-        for child in children:
+    for child in children_of(parent):
+        try:
             words = Path(f"/proc/{child}/cmdline").read_bytes().split(b"\0")
-            if len(words) >= 3 and words[-3] == b"run" and re.fullmatch(rb"\d\d?", words[-2]):
-                return int(child)
-    except OSError:
-        pass
+        except OSError:
+            continue
+        if len(words) >= 3 and words[-3] == b"run" and re.fullmatch(rb"\d\d?", words[-2]):
+            return child
     return None
