@@ -14,10 +14,13 @@ from typing import Sequence
 from pressclip_service.engine import command_of
 
 from .judge import GRID, Due, Failed, need
+from .leaky import LeakyWay
 from .processes import ENDED, Spoken, engine_of
 
 DEBIAN_PYTHON = "/usr/bin/python3"
 WINDOW = 60
+# In a grid with leaks so few of Redis's answers are dropped.
+DROPPED_ONE_IN = 8
 KINDS = ("worker", "engine", "gatherer", "tidy", "client", "redis")
 # How often two processes are ended with nothing between.
 TWO_AT_ONCE = 0.2
@@ -40,11 +43,6 @@ class Redis:
         self.process: subprocess.Popen | None = None
         self.start()
 
-    @property
-    def url(self) -> str:
-        """Where it is."""
-        return f"redis://127.0.0.1:{self.port}/0"
-
     def start(self) -> None:
         """Starts it."""
         self.process = subprocess.Popen(
@@ -63,7 +61,7 @@ class Role:
 
     def __init__(self, grid: Grid, *words: str) -> None:
         self.words = words
-        self.command = [DEBIAN_PYTHON, str(GRID), "--redis", grid.redis.url, *words, "--", *command_of([], workers=0)]
+        self.command = [*grid.command(*words), "--", *command_of([], workers=0)]
         self.told = open(grid.folder / ("-".join(words).replace("/", "") + ".told"), "ab")
         self.process: subprocess.Popen | None = None
         self.start()
@@ -83,17 +81,23 @@ class Role:
 class Grid:
     """Redis, the workers, the gatherer and what tidies."""
 
-    def __init__(self, folder: Path, shards: int, replicas: int, *, limit: int = 1_000_000, after: int = 150) -> None:
+    def __init__(self, folder: Path, shards: int, replicas: int, *, limit: int = 1_000_000, after: int = 150,
+                 leaks: Random | None = None) -> None:
         self.folder = folder
         self.redis = Redis(folder)
+        self.way = LeakyWay(self.redis.port, leaks, DROPPED_ONE_IN) if leaks else None
         self.run("init", "--shards", str(shards), "--replicas", str(replicas), "--limit", str(limit))
         self.workers = [Role(self, "worker", "--shard", str(shard), "--replica", str(replica))
                         for shard in range(shards) for replica in range(replicas)]
         self.others = [Role(self, "gather"), Role(self, "tidy", "--after", str(after))]
 
+    @property
+    def _port(self) -> int:
+        return self.way.port if self.way else self.redis.port
+
     def command(self, *words: str) -> list[str]:
         """The command of a role."""
-        return [DEBIAN_PYTHON, str(GRID), "--redis", self.redis.url, *words]
+        return [DEBIAN_PYTHON, str(GRID), "--redis", f"redis://127.0.0.1:{self._port}/0", *words]
 
     def run(self, *words: str, text: bytes = b"") -> bytes:
         """What a role that ends by itself prints."""
@@ -130,6 +134,8 @@ class Grid:
             role.kill()
             role.told.close()
         self.redis.kill()
+        if self.way:
+            self.way.close()
 
     def __enter__(self) -> Grid:
         return self

@@ -76,6 +76,17 @@ def processes_ended_8_1() -> None:
     the_grid_with_processes_ended(8, 1)
 
 
+def answers_of_redis_are_lost() -> None:
+    """Connections that break between what Redis did and its answer: all is done once, whoever asks again."""
+    source = Source(90)
+    due = Due.of(source.lines(800))
+    with folder() as name, Grid(Path(name), 2, 2, after=100, leaks=Random(1)) as grid:
+        chaos = Chaos(grid, due, source.dice, "desk")
+        same(chaos.run([]), due.text(), "with answers of Redis lost")
+        need(grid.way is not None and grid.way.dropped > 50, "too few answers were lost")
+        grid.needs_all()
+
+
 def redis_gone_for_ten_seconds() -> None:
     """All wait, and go on."""
     source = Source(40)
@@ -236,5 +247,5 @@ def one_command_keeps_a_grid_up() -> None:
 
 TESTS = (one_command_keeps_a_grid_up, the_grid_answers_as_the_engine, clients_at_once, processes_ended_1_1,
          processes_ended_2_1, processes_ended_3_2, processes_ended_8_1, redis_gone_for_ten_seconds,
-         a_full_grid_changes_no_shard, moves_from_one_process_to_the_grid_and_back, an_input_goes_on_under_its_name,
-         tidying_drops_what_is_passed)
+         answers_of_redis_are_lost, a_full_grid_changes_no_shard, moves_from_one_process_to_the_grid_and_back,
+         an_input_goes_on_under_its_name, tidying_drops_what_is_passed)

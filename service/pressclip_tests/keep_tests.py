@@ -13,7 +13,7 @@ from unittest import mock
 from pressclip_service import keep
 from pressclip_service.engine import command_of
 from pressclip_service.frames import frames_of
-from pressclip_service.journal import Journal
+from pressclip_service.journal import Journal, Reading
 from pressclip_service.replies import CHANGES, kind_of
 
 from .inputs import Source, joined, with_long_lines
@@ -212,12 +212,16 @@ def an_engine_that_never_starts() -> None:
 
 def a_reply_follows_its_sync() -> None:
     """The journal is synced before the reply to a change is written, once for many lines in flight."""
-    happened: list[bytes] = []
+    synced, answered, written = [], [], []
     sync = os.fdatasync
 
     def noted_sync(descriptor: int) -> None:
         sync(descriptor)
-        happened.append(b"sync")
+        synced.append(os.fstat(descriptor).st_size)
+
+    def noted_write(_: int, text: bytes) -> None:
+        written.append(text)
+        answered.append((b"".join(written).count(b'"registered":'), synced[-1] if synced else 0))
 
     lines = [b'{"op":"register","queries":[{"id":"q%d","query":"w1"}]}' % number for number in range(500)]
     with folder() as name, open(Path(name) / "input", "w+b") as file:
@@ -225,13 +229,23 @@ def a_reply_follows_its_sync() -> None:
         file.seek(0)
         journal = Journal(Path(name) / "j")
         with mock.patch.object(os, "fdatasync", noted_sync), mock.patch.object(keep, "INPUT", file.fileno()), \
-                mock.patch.object(keep, "write_all", lambda _, text: happened.append(text)):
+                mock.patch.object(keep, "write_all", noted_write):
             keep.Keeper(journal, command_of([], workers=0), KEEP, 10_000).run()
         journal.close()
-    writes = [place for place, what in enumerate(happened) if b'"registered":' in what]
-    need(bool(writes) and all(happened[place - 1] == b"sync" for place in writes), "a reply without its sync")
-    need(happened.count(b"sync") == len(writes) < 250, f"{happened.count(b'sync')} syncs for 500 changes in flight")
-    need(sum(what.count(b"\n") for what in happened) == 501, "not all replies")
+        for count, size in answered:
+            need(changes_up_to(journal.path, size) >= count, "a reply before its sync")
+    need(len(synced) < 250, f"{len(synced)} syncs for 500 changes in flight")
+    need(b"".join(written).count(b"\n") == 501, "not all replies")
+
+
+def changes_up_to(path: Path, size: int) -> int:
+    """How many changes stand in the first so many bytes of a journal."""
+    if size == 0:
+        return 0
+    reading = Reading(path, size)
+    for _ in reading.frames():
+        pass
+    return reading.changes
 
 
 TESTS = (answers_as_the_engine, goes_on_after_its_end, ended_at_random_places, its_engine_ended,
