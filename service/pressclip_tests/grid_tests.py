@@ -10,7 +10,7 @@ from pathlib import Path
 from random import Random
 
 from pressclip_service.engine import command_of
-from pressclip_service.replies import renumbered
+from pressclip_service.replies import Kind, kind_of, renumbered
 
 from .grid_runs import Chaos, Grid
 from .inputs import Source, joined, with_long_lines
@@ -80,9 +80,12 @@ def answers_of_redis_are_lost() -> None:
     """Connections that break between what Redis did and its answer: all is done once, whoever asks again."""
     source = Source(90)
     due = Due.of(source.lines(800))
-    with folder() as name, Grid(Path(name), 2, 2, after=100, leaks=Random(1)) as grid:
+    with folder() as name, Grid(Path(name), 2, 2, after=1_000_000, leaks=Random(1)) as grid:
         chaos = Chaos(grid, due, source.dice, "desk")
         same(chaos.run([]), due.text(), "with answers of Redis lost")
+        entered = [place + 1 for place, reply in enumerate(due.replies)
+                   if reply is not None and kind_of(reply) is not Kind.REFUSED]
+        need([number for _, number, _ in grid.requests()] == entered, "not each line entered once")
         need(grid.way is not None and grid.way.dropped > 50, "too few answers were lost")
         grid.needs_all()
 
