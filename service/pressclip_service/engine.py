@@ -1,0 +1,141 @@
+"""An engine behind pipes: `pressclip run` as a child of this process."""
+
+from __future__ import annotations
+
+import fcntl
+import os
+import select
+import shutil
+import subprocess
+from pathlib import Path
+from typing import Iterable, Iterator, Sequence
+
+from .errors import EngineDied, EngineFailed
+from .lines import BLOCK_BYTES, LineCutter
+
+PROGRAM = "pressclip"
+_BUILT = Path(__file__).resolve().parents[2] / "crates" / PROGRAM / "out" / PROGRAM
+_PIPE_BYTES = 1 << 20
+_WRITTEN_AT_ONCE = 1 << 18
+
+
+def program() -> str:
+    """The engine's program: what the variable PRESSCLIP names, or what this checkout built."""
+    return os.environ.get("PRESSCLIP") or str(_BUILT)
+
+
+def command_of(words: Sequence[str], workers: int | None = None) -> list[str]:
+    """The command that starts an engine: the words, or the engine's program where there are none. `pressclip` is the
+    one on the path, and where none is there the engine's program."""
+    if not words:
+        return [program(), "run"] + ([] if workers is None else [str(workers)])
+    if words[0] == PROGRAM and shutil.which(PROGRAM) is None:
+        return [program(), *words[1:]]
+    return list(words)
+
+
+def widen(descriptor: int) -> None:
+    """Lets a pipe hold more, where the system does."""
+    try:
+        fcntl.fcntl(descriptor, fcntl.F_SETPIPE_SZ, _PIPE_BYTES)
+    except (AttributeError, OSError):
+        pass
+
+
+class Engine:
+    """One process. Writes never wait: what its pipe has no room for stands in `unsent`."""
+
+    def __init__(self, command: Sequence[str]) -> None:
+        try:
+            self._process = subprocess.Popen(command, stdin=subprocess.PIPE, stdout=subprocess.PIPE, bufsize=0)
+        except OSError as error:
+            raise EngineFailed(f"the engine {command[0]} can't be started: {error.strerror}") from error
+        assert self._process.stdin and self._process.stdout
+        self.input = self._process.stdin.fileno()
+        self.output = self._process.stdout.fileno()
+        self.unsent = bytearray()
+        self.sent = 0
+        self.closed = False
+        self._replies = LineCutter(most=None)
+        os.set_blocking(self.input, False)
+        widen(self.input)
+        widen(self.output)
+
+    @property
+    def pid(self) -> int:
+        """The number of the process."""
+        return self._process.pid
+
+    def send(self, line: bytes) -> int:
+        """Takes a line on its way, and gives the number that the engine counts it by."""
+        self.unsent += line
+        self.unsent += b"\n"
+        self.sent += 1
+        return self.sent
+
+    def push(self) -> None:
+        """Writes as much as the pipe takes. A process that is gone is seen where its replies are read."""
+        try:
+            while self.unsent:
+                written = os.write(self.input, memoryview(self.unsent)[:_WRITTEN_AT_ONCE])
+                del self.unsent[:written]
+        except BlockingIOError:
+            pass
+        except BrokenPipeError:
+            self.unsent.clear()
+
+    def push_all(self) -> None:
+        """Writes all of it, and waits where the pipe is full."""
+        while self.unsent:
+            self.push()
+            if self.unsent:
+                select.select([], [self.input], [])
+
+    def close_input(self) -> None:
+        """Tells it that no more lines come."""
+        assert self._process.stdin
+        self._process.stdin.close()
+        self.closed = True
+
+    def read(self) -> list[bytes] | None:
+        """The replies that came, after a wait where none did, without their line feeds; None where it ended."""
+        block = os.read(self.output, BLOCK_BYTES)
+        return self._replies.feed(block) if block else None
+
+    def wait(self) -> int:
+        """The status with which it ended."""
+        return self._process.wait()
+
+    def kill(self) -> None:
+        """Ends it at once."""
+        self._process.kill()
+        self._process.wait()
+        for pipe in (self._process.stdin, self._process.stdout):
+            if pipe:
+                try:
+                    pipe.close()
+                except OSError:
+                    pass
+
+    def exchange(self, lines: Iterable[bytes]) -> Iterator[bytes]:
+        """The replies to the lines, none of which may be blank; `EngineFailed` where it ends before it gave them. Lines
+        are taken as the engine takes them, so that few are held at a time."""
+        source = iter(lines)
+        owed, more = 0, True
+        while more or owed or self.unsent:
+            while more and len(self.unsent) < _WRITTEN_AT_ONCE:
+                line = next(source, None)
+                more = line is not None
+                if line is not None:
+                    self.send(line)
+                    owed += 1
+            self.push()
+            if not owed:
+                continue
+            readable, _, _ = select.select([self.output], [self.input] if self.unsent else [], [])
+            if readable:
+                replies = self.read()
+                if replies is None:
+                    raise EngineDied(f"the engine ended with status {self.wait()} and owed {owed} replies")
+                owed -= len(replies)
+                yield from replies

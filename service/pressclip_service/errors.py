@@ -1,0 +1,87 @@
+"""How the programs of this folder end: each error that is expected has a status of its own."""
+
+from __future__ import annotations
+
+import os
+import sys
+from typing import Callable
+
+STATUS_ENDED = 0
+STATUS_ENGINE = 1
+STATUS_USAGE = 2
+STATUS_BROKEN = 3
+STATUS_STORAGE = 4
+STATUS_LOCKED = 5
+STATUS_NO_READER = 6
+STATUS_INTERRUPTED = 130
+
+
+class ServiceError(Exception):
+    """An error that is told in one line and ends the program with its status."""
+
+    status = STATUS_ENGINE
+
+
+class EngineFailed(ServiceError):
+    """The engine can't be started, ended again and again, or answered what it never should."""
+
+    status = STATUS_ENGINE
+
+
+class EngineDied(EngineFailed):
+    """The engine ended before it gave all replies."""
+
+
+class BrokenJournal(ServiceError):
+    """The journal is not what was written; nothing was changed."""
+
+    status = STATUS_BROKEN
+
+
+class StorageFailed(ServiceError):
+    """The journal can't be read or written."""
+
+    status = STATUS_STORAGE
+
+
+class JournalLocked(ServiceError):
+    """Another process has the journal open."""
+
+    status = STATUS_LOCKED
+
+
+class NoReader(ServiceError):
+    """Nobody reads the replies any more."""
+
+    status = STATUS_NO_READER
+
+
+def tell(program: str, text: str) -> None:
+    """A line on standard error, which may be closed."""
+    try:
+        print(f"{program}: {text}", file=sys.stderr, flush=True)
+    except OSError:
+        pass
+
+
+def ending(program: str, work: Callable[[], int]) -> int:
+    """The status of the work; an expected error is told in one line."""
+    try:
+        return work()
+    except ServiceError as error:
+        tell(program, str(error))
+        return error.status
+    except KeyboardInterrupt:
+        return STATUS_INTERRUPTED
+
+
+def write_all(descriptor: int, text: bytes) -> None:
+    """Writes the whole text and waits where nobody takes it yet; `NoReader` where nobody ever will."""
+    left = memoryview(text)
+    while left:
+        try:
+            left = left[os.write(descriptor, left):]
+        except BrokenPipeError:
+            raise NoReader("nobody reads the replies: standard output is closed") from None
+        except OSError as error:
+            raise NoReader(f"the replies can't be written: {error.strerror}") from error

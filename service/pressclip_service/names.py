@@ -1,0 +1,118 @@
+"""How a grid lies in Redis: the names of its keys, what stands where, and to which shard an id belongs."""
+
+from __future__ import annotations
+
+import zlib
+from dataclasses import dataclass
+from typing import NamedTuple
+
+# Kinds of requests, as they stand in the stream.
+REGISTER, DELETE, CLEAR, PURGE, COUNT, SHOW, MATCH, FULL = b"r", b"d", b"c", b"p", b"n", b"s", b"m", b"f"
+CHANGES = frozenset({REGISTER, DELETE, CLEAR})
+
+# Fields of a request: the client, the number of the line in its input, the request's number, its kind, and the line.
+CLIENT, LINE_NUMBER, NUMBER, KIND, LINE = b"c", b"n", b"m", b"k", b"l"
+# The field of an answer, and the one of a reply beside LINE_NUMBER.
+ANSWER, REPLY = b"a", b"r"
+
+# Under this name the gatherer's position stands among those of the workers.
+GATHERER = "gatherer"
+
+
+class Id(NamedTuple):
+    """The id of an entry of a stream."""
+
+    milliseconds: int
+    sequence: int
+
+    @staticmethod
+    def of(text: bytes | None) -> Id:
+        """The id that Redis wrote; the lowest one for none."""
+        if text is None:
+            return Id(0, 0)
+        first, _, second = text.partition(b"-")
+        return Id(int(first), int(second or 0))
+
+    def text(self) -> str:
+        """As Redis reads it."""
+        return f"{self.milliseconds}-{self.sequence}"
+
+
+@dataclass(frozen=True)
+class Settings:
+    """What a grid is made of; it stays as it is for the grid's life."""
+
+    shards: int
+    replicas: int
+    limit: int
+
+
+@dataclass(frozen=True)
+class Names:
+    """The keys of a grid."""
+
+    grid: str
+
+    def _key(self, *parts: object) -> str:
+        return ":".join(("pressclip", self.grid, *map(str, parts)))
+
+    @property
+    def prefix(self) -> str:
+        """What all keys begin with."""
+        return self._key()
+
+    @property
+    def settings(self) -> str:
+        """A hash: shards, replicas, limit."""
+        return self._key("settings")
+
+    @property
+    def requests(self) -> str:
+        """The stream of all requests."""
+        return self._key("requests")
+
+    @property
+    def clients(self) -> str:
+        """A hash: of each client the number of the last line that entered, and its checksum."""
+        return self._key("clients")
+
+    @property
+    def answered(self) -> str:
+        """A hash: of each worker and of the gatherer up to which request it has answered."""
+        return self._key("answered")
+
+    @property
+    def needs(self) -> str:
+        """A hash: of each worker behind which request it needs the stream."""
+        return self._key("needs")
+
+    @property
+    def snapshots(self) -> str:
+        """A hash: of each shard the request that its snapshot stands at, and the snapshot's key."""
+        return self._key("snapshots")
+
+    def ids(self, shard: int) -> str:
+        """The set of a shard's live ids."""
+        return self._key("ids", shard)
+
+    def answers(self, shard: int, replica: int) -> str:
+        """The stream of a worker's answers."""
+        return self._key("answers", shard, replica)
+
+    def replies(self, client: str) -> str:
+        """The stream of the replies to a client."""
+        return self._key("replies", client)
+
+    def snapshot(self, shard: int, version: str) -> str:
+        """A list: lines that register a shard's queries."""
+        return self._key("snapshot", shard, version)
+
+
+def worker_name(shard: int, replica: int) -> str:
+    """Under which name a worker's positions stand."""
+    return f"{shard}:{replica}"
+
+
+def shard_of(name: str, shards: int) -> int:
+    """The shard of an id."""
+    return zlib.crc32(name.encode()) % shards

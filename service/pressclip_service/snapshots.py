@@ -1,0 +1,125 @@
+"""Snapshots of shards: lines that register a shard's live queries, with the request that they stand at."""
+
+from __future__ import annotations
+
+import os
+import time
+from dataclasses import dataclass
+from typing import Iterator
+
+from .errors import ServiceError
+from .live import LiveQueries, text_of, value_of
+from .names import CHANGES, CLEAR, DELETE, KIND, LINE, NUMBER, Id, shard_of
+from .scripts import REPLACE
+from .store import Store
+
+_LINES_AT_ONCE = 16
+_REQUESTS_AT_ONCE = 500
+# How long a snapshot that never took its place stays.
+_LEFT_OVER_SECONDS = 86_400
+
+
+class Replaced(Exception):
+    """Another snapshot took the place of the one that is read."""
+
+
+@dataclass(frozen=True)
+class Snapshot:
+    """Where a shard's snapshot stands, by the id and the number of a request; an empty mark and key for a shard without
+    one, which stands before all."""
+
+    mark: str
+    at: Id
+    number: int
+    key: str
+
+    @staticmethod
+    def of(mark: bytes | None) -> Snapshot:
+        """What the hash of snapshots says."""
+        if mark is None:
+            return Snapshot("", Id(0, 0), 0, "")
+        place, number, key = mark.split(b" ", 2)
+        return Snapshot(mark.decode(), Id.of(place), int(number), key.decode())
+
+
+def snapshot_of(store: Store, shard: int) -> Snapshot:
+    """The shard's snapshot."""
+    return Snapshot.of(store.do(lambda client: client.hget(store.names.snapshots, str(shard))))
+
+
+def lines_of(store: Store, snapshot: Snapshot) -> Iterator[bytes]:
+    """Its lines; `Replaced` where they were taken away meanwhile."""
+    if not snapshot.key:
+        return
+    place = 0
+    while True:
+        lines = store.do(lambda client: client.lrange(snapshot.key, place, place + _LINES_AT_ONCE - 1))
+        if not lines:
+            raise Replaced()
+        for line in lines:
+            if line == b"":
+                return
+            yield line
+        place += len(lines)
+
+
+def part_of(kind: bytes, line: bytes, shard: int, shards: int) -> tuple[bytes | None, list[dict], list[str]]:
+    """What is a shard's own of a change: the line for it, or None where it has no part, and the queries and the ids
+    that the line names."""
+    if kind == CLEAR:
+        return line, [], []
+    value = value_of(line)
+    if kind == DELETE:
+        ids = [name for name in value["ids"] if shard_of(name, shards) == shard]
+        return (text_of({"op": "delete", "ids": ids}) if ids else None), [], ids
+    queries = [listing for listing in value["queries"] if shard_of(listing["id"], shards) == shard]
+    return (text_of({"op": "register", "queries": queries}) if queries else None), queries, []
+
+
+def live_at(store: Store, shard: int, shards: int, snapshot: Snapshot, target: Id | None) -> tuple[LiveQueries, int]:
+    """The shard's live queries behind a request, or behind all that there are, and the number of the last request: its
+    snapshot, and the requests after. `Replaced` where these are not all there any more."""
+    live = LiveQueries()
+    for line in lines_of(store, snapshot):
+        live.take(line)
+    after, number = snapshot.at, snapshot.number
+    while entries := store.read_requests(after, _REQUESTS_AT_ONCE, block=None):
+        for place, fields in entries:
+            if target is not None and place > target:
+                return live, number
+            if int(fields[NUMBER]) != number + 1:
+                raise Replaced()
+            number += 1
+            if fields[KIND] in CHANGES:
+                line, _, _ = part_of(fields[KIND], fields[LINE], shard, shards)
+                if line is not None:
+                    live.take(line)
+            after = place
+    return live, number
+
+
+def replace(store: Store, shard: int, old: Snapshot, live: LiveQueries, at: Id, number: int) -> bool:
+    """Puts a snapshot in the place of another; False where that one is not there any more."""
+    key = store.names.snapshot(shard, f"{at.text()}-{os.getpid()}-{time.time_ns()}")
+    for line in (*live.lines(), b""):
+        store.do(lambda client: client.rpush(key, line))
+    store.do(lambda client: client.expire(key, _LEFT_OVER_SECONDS))
+    arguments = [str(shard), old.mark, f"{at.text()} {number} {key}", old.key]
+    return store.scripted(REPLACE, [([store.names.snapshots, key], arguments)]) == [1]
+
+
+def dump(store: Store) -> Iterator[bytes]:
+    """Lines that register all live queries of the grid."""
+    shards = store.settings().shards
+    for shard in range(shards):
+        for _ in range(100):
+            try:
+                snapshot = snapshot_of(store, shard)
+                live, _ = live_at(store, shard, shards, snapshot, None)
+                if snapshot_of(store, shard).mark == snapshot.mark:
+                    break
+            except Replaced:
+                continue
+        else:
+            raise ServiceError("the snapshots change too fast to be read")
+        yield from live.lines()

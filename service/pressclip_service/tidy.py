@@ -1,0 +1,66 @@
+"""Tidying: snapshots of the shards, and streams cut off below what everybody has passed."""
+
+from __future__ import annotations
+
+import time
+
+from .errors import tell
+from .names import GATHERER, Id, worker_name
+from .snapshots import Replaced, live_at, replace, snapshot_of
+from .store import PAUSE_SECONDS, Store
+
+
+class Tidier:
+    """Makes snapshots once enough requests were answered, and then drops what nobody needs."""
+
+    def __init__(self, store: Store, after: int) -> None:
+        self.store = store
+        self.after = after
+        self.settings = store.settings()
+        self.workers = [worker_name(shard, replica) for shard in range(self.settings.shards)
+                        for replica in range(self.settings.replicas)]
+
+    def run(self) -> None:
+        """Tidies whenever the stream is long enough; ends by an error alone."""
+        while True:
+            if self.store.do(lambda client: client.xlen(self.store.names.requests)) > self.after:
+                self.tidy()
+            time.sleep(PAUSE_SECONDS * 5)
+
+    def passed(self) -> Id:
+        """Up to which request all have answered, and need the stream no more."""
+        answered = self.store.positions(self.store.names.answered)
+        needs = self.store.positions(self.store.names.needs)
+        lowest = Id(0, 0)
+        return min(min(answered.get(name, lowest), needs.get(name, answered.get(name, lowest)))
+                   for name in (*self.workers, GATHERER))
+
+    def tidy(self) -> bool:
+        """A snapshot of each shard at what all have passed, and what stands before it dropped; False where another
+        program did so meanwhile."""
+        target = self.passed()
+        kept: list[Id] = []
+        for shard in range(self.settings.shards):
+            snapshot = snapshot_of(self.store, shard)
+            if snapshot.at < target:
+                try:
+                    live, number = live_at(self.store, shard, self.settings.shards, snapshot, target)
+                except Replaced:
+                    return False
+                if not replace(self.store, shard, snapshot, live, target, number):
+                    return False
+            kept.append(max(snapshot.at, target))
+        self._trim(min(*kept, self.passed()) if kept else target)
+        return True
+
+    def _trim(self, up_to: Id) -> None:
+        """Drops requests and answers before a place; that one itself may stay."""
+        names = self.store.names
+        gathered = self.store.positions(names.answered).get(GATHERER, Id(0, 0))
+        dropped = self.store.do(lambda client: client.xtrim(names.requests, minid=up_to.text(), approximate=False))
+        for shard in range(self.settings.shards):
+            for replica in range(self.settings.replicas):
+                key = names.answers(shard, replica)
+                self.store.do(lambda client: client.xtrim(key, minid=gathered.text(), approximate=False))
+        if dropped:
+            tell(self.store.program, f"snapshots stand at {up_to.text()}; {dropped} requests dropped")

@@ -1,0 +1,228 @@
+"""A worker: beside one engine, for one shard and one replica of it.
+
+It reads all requests in their order, hands its engine the part that is its own, and adds the answers that are its own
+to its stream, under the ids of the requests. One thread reads requests and feeds the engine, the other takes its
+replies. Started anew it builds the engine from the shard's snapshot and the requests behind it.
+"""
+
+from __future__ import annotations
+
+import select
+import threading
+import time
+from collections import deque
+from dataclasses import dataclass, field
+from typing import Sequence
+
+from .engine import Engine
+from .errors import EngineDied, EngineFailed, ServiceError, tell
+from .live import value_of
+from .names import (ANSWER, CHANGES, CLEAR, COUNT, DELETE, KIND, LINE, MATCH, NUMBER, PURGE, REGISTER, SHOW, Id,
+                    Settings, shard_of, worker_name)
+from .parts import Heard, answer_of
+from .replies import Kind, kind_of
+from .snapshots import Replaced, Snapshot, lines_of, part_of, snapshot_of
+from .store import Entry, Store
+
+MOST_OWED = 1_024
+REQUESTS_AT_ONCE = 64
+IDLE_SECONDS = 1.0
+MOST_DEATHS_IN_A_ROW = 5
+# Before an engine has taken as many changes as it can (4,294,967,295) another is built from the live queries.
+MOST_LINES_OF_AN_ENGINE = 4_000_000_000
+_NOTHING = b'{"op":"count"}'
+
+
+@dataclass
+class Owed:
+    """A request that was read. Where `is_sent` the engine owes a reply, and where `is_own` the worker an answer."""
+
+    place: Id
+    kind: bytes
+    is_own: bool
+    is_sent: bool = False
+    is_owner: bool = False
+    queries: list[dict] = field(default_factory=list)
+    ids: list[str] = field(default_factory=list)
+
+
+class Session:
+    """The work with one engine, until that ends."""
+
+    def __init__(self, store: Store, settings: Settings, shard: int, replica: int, engine: Engine) -> None:
+        self.store = store
+        self.settings = settings
+        self.shard = shard
+        self.replica = replica
+        self.engine = engine
+        self.name = worker_name(shard, replica)
+        self.stream = store.names.answers(shard, replica)
+        self.heard = Heard()
+        self.owed: deque[Owed] = deque()
+        self.room = threading.Semaphore(MOST_OWED)
+        self.stop = threading.Event()
+        self.failure: Exception | None = None
+        self.told = self.answered = store.positions(store.names.answered).get(self.name, Id(0, 0))
+        self.is_behind = True
+
+    def run(self) -> None:
+        """Answers requests; ends by an error alone."""
+        snapshot = self._load()
+        feeder = threading.Thread(target=self._feed, args=(snapshot, self.answered), daemon=True)
+        feeder.start()
+        try:
+            while True:
+                self._take_replies()
+        finally:
+            self.stop.set()
+            self.engine.kill()
+            feeder.join()
+
+    def _load(self) -> Snapshot:
+        """Gives the engine what the shard's snapshot has. From here on the requests behind it stay until they are
+        read."""
+        snapshot = snapshot_of(self.store, self.shard)
+        self.store.do(lambda client: client.hset(self.store.names.needs, self.name, snapshot.at.text()))
+        if snapshot_of(self.store, self.shard) != snapshot:
+            raise Replaced()
+        start = time.monotonic()
+        for reply in self.engine.exchange(self._listening(lines_of(self.store, snapshot))):
+            if kind_of(reply) is not Kind.REGISTERED:
+                raise EngineFailed(f"the engine refuses a line of the snapshot: {reply[:200]!r}")
+        tell(self.store.program, f"has the snapshot of {snapshot.at.text()} after {time.monotonic() - start:.1f} s")
+        return snapshot
+
+    def _listening(self, lines):
+        for line in lines:
+            self.heard.register(value_of(line)["queries"])
+            yield line
+
+    def _feed(self, snapshot: Snapshot, answered: Id) -> None:
+        """Reads requests and sends the engine its parts, in a thread of its own."""
+        after, number = snapshot.at, snapshot.number
+        try:
+            while not self.stop.is_set():
+                for entry in self.store.read_requests(after, REQUESTS_AT_ONCE):
+                    number += 1
+                    if int(entry[1][NUMBER]) != number:
+                        raise Replaced()
+                    if not self._feed_one(entry, answered):
+                        return
+                    after = entry[0]
+                self.engine.push_all()
+        except Exception as error:
+            self.failure = error
+
+    def _feed_one(self, entry: Entry, answered: Id) -> bool:
+        """Sends the engine its part of a request; False where the session is over."""
+        while not self.room.acquire(timeout=0.001):
+            self.engine.push_all()
+            if not self.room.acquire(timeout=IDLE_SECONDS):
+                if self.stop.is_set():
+                    return False
+                continue
+            break
+        owed, line = self._part(entry, answered)
+        if self.engine.sent >= MOST_LINES_OF_AN_ENGINE:
+            raise EngineDied("the engine has taken as many lines as it may")
+        owed.is_sent = line is not None
+        self.owed.append(owed)
+        if line is not None:
+            self.engine.send(line)
+            if len(self.engine.unsent) > 1 << 16:
+                self.engine.push_all()
+        return True
+
+    def _part(self, entry: Entry, answered: Id) -> tuple[Owed, bytes | None]:
+        """What is owed for a request, and the line for the engine, if any."""
+        place, fields = entry
+        kind, line = fields[KIND], fields[LINE]
+        is_own = int(fields[NUMBER]) % self.settings.replicas == self.replica and place > answered
+        owed = Owed(place, kind, is_own)
+        part: bytes | None = None
+        if kind in CHANGES:
+            part, owed.queries, owed.ids = part_of(kind, line, self.shard, self.settings.shards)
+        elif kind == SHOW and is_own:
+            owed.is_owner = shard_of(value_of(line)["id"], self.settings.shards) == self.shard
+            part = line if owed.is_owner else None
+        elif kind == PURGE or (is_own and kind in (MATCH, COUNT)):
+            part = line
+        else:
+            owed.is_own = False
+        if part is None and owed.is_own:
+            part = _NOTHING
+        return owed, part
+
+    def _take_replies(self) -> None:
+        """Takes what the engine answered, and adds the answers that are due."""
+        readable, _, _ = select.select([self.engine.output], [], [], IDLE_SECONDS)
+        if self.failure:
+            raise self.failure
+        answers: list[tuple[str, Id, dict[bytes, bytes]]] = []
+        handled = self._skip()
+        if readable:
+            replies = self.engine.read()
+            if replies is None:
+                raise EngineDied(f"the engine ended with status {self.engine.wait()}")
+            for reply in replies:
+                owed = self.owed.popleft()
+                self.room.release()
+                answer = self._follow(owed, reply)
+                if owed.is_own:
+                    answers.append((self.stream, owed.place, {ANSWER: answer}))
+                handled = self._skip() or owed.place
+        self._add(answers, handled, idle=not readable)
+
+    def _skip(self) -> Id | None:
+        """Passes by requests that nothing is owed for, and gives the last of them."""
+        place = None
+        while self.owed and not self.owed[0].is_sent:
+            place = self.owed.popleft().place
+            self.room.release()
+        return place
+
+    def _follow(self, owed: Owed, reply: bytes) -> bytes:
+        """The answer to a request, by the engine's reply to a part of it."""
+        if kind_of(reply) is Kind.REFUSED:
+            raise EngineFailed(f"the engine refuses what was judged before: {reply[:200]!r}")
+        if owed.is_own and owed.kind in CHANGES and kind_of(reply) is Kind.COUNTED:
+            return b"0"
+        answer = answer_of(owed.kind, reply, owed.is_owner, self.heard) if owed.is_own else b""
+        if owed.kind == REGISTER:
+            self.heard.register(owed.queries)
+        elif owed.kind == DELETE:
+            self.heard.delete(owed.ids)
+        elif owed.kind == CLEAR:
+            self.heard.names.clear()
+        return answer
+
+    def _add(self, answers: Sequence[tuple[str, Id, dict[bytes, bytes]]], handled: Id | None, idle: bool) -> None:
+        """Adds the answers, and tells up to where those before them went."""
+        if answers or (idle and self.answered > self.told):
+            position = (self.name, self.answered) if self.answered > self.told else None
+            self.store.add_once(answers, position)
+            self.told = self.answered
+        if handled is not None and handled > self.answered:
+            self.answered = handled
+        if self.is_behind and handled is not None and handled >= self.told:
+            self.is_behind = False
+            self.store.do(lambda client: client.hdel(self.store.names.needs, self.name))
+
+
+def work(store: Store, shard: int, replica: int, command: Sequence[str]) -> None:
+    """Answers for a shard and a replica, with one engine after another where they end."""
+    settings = store.settings()
+    if not (0 <= shard < settings.shards and 0 <= replica < settings.replicas):
+        raise ServiceError(f"there is no shard {shard} with a replica {replica} in this grid: {settings}")
+    deaths = 0
+    while True:
+        start = time.monotonic()
+        try:
+            Session(store, settings, shard, replica, Engine(command)).run()
+        except Replaced:
+            tell(store.program, "the snapshot that it began with was replaced; it begins anew")
+        except EngineDied as error:
+            deaths = deaths + 1 if time.monotonic() - start < IDLE_SECONDS else 1
+            if deaths > MOST_DEATHS_IN_A_ROW:
+                raise
+            tell(store.program, f"{error}; another one is built")

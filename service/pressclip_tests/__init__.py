@@ -1,0 +1,1 @@
+"""Tests of `keep` and `grid`: the engine itself is the judge."""

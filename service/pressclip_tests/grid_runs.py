@@ -1,0 +1,240 @@
+"""A grid under test: a Redis of its own, its processes, and a client that goes on where one was ended."""
+
+from __future__ import annotations
+
+import os
+import signal
+import socket
+import subprocess
+import time
+from pathlib import Path
+from random import Random
+from typing import Sequence
+
+from pressclip_service.engine import command_of
+
+from .judge import GRID, Due, Failed, need
+from .leaky import LeakyWay
+from .processes import ENDED, Spoken, engine_of
+
+DEBIAN_PYTHON = "/usr/bin/python3"
+WINDOW = 60
+# In a grid with leaks so few of Redis's answers are dropped.
+DROPPED_ONE_IN = 8
+KINDS = ("worker", "engine", "gatherer", "tidy", "client", "redis")
+# How often two processes are ended with nothing between.
+TWO_AT_ONCE = 0.2
+PATIENCE_SECONDS = 60.0
+
+
+def free_port() -> int:
+    """A port of this machine that nobody uses."""
+    with socket.socket() as found:
+        found.bind(("127.0.0.1", 0))
+        return found.getsockname()[1]
+
+
+class Redis:
+    """A Redis on 127.0.0.1, in a folder of its own, which loses nothing that it answered."""
+
+    def __init__(self, folder: Path) -> None:
+        self.folder = folder
+        self.port = free_port()
+        self.process: subprocess.Popen | None = None
+        self.start()
+
+    def start(self) -> None:
+        """Starts it."""
+        self.process = subprocess.Popen(
+            ["redis-server", "--port", str(self.port), "--bind", "127.0.0.1", "--dir", str(self.folder), "--save", "",
+             "--appendonly", "yes", "--appendfsync", "always"], stdin=subprocess.DEVNULL, stdout=subprocess.DEVNULL)
+
+    def kill(self) -> None:
+        """Ends it at once."""
+        assert self.process
+        self.process.kill()
+        self.process.wait()
+
+
+class Role:
+    """One process of the grid."""
+
+    def __init__(self, grid: Grid, *words: str) -> None:
+        self.words = words
+        self.command = [*grid.command(*words), "--", *command_of([], workers=0)]
+        self.told = open(grid.folder / ("-".join(words).replace("/", "") + ".told"), "ab")
+        self.process: subprocess.Popen | None = None
+        self.start()
+
+    def start(self) -> None:
+        """Starts it."""
+        self.process = subprocess.Popen(self.command, stdin=subprocess.DEVNULL, stdout=subprocess.DEVNULL,
+                                        stderr=self.told)
+
+    def kill(self) -> None:
+        """Ends it at once."""
+        assert self.process
+        self.process.kill()
+        self.process.wait()
+
+
+class Grid:
+    """Redis, the workers, the gatherer and what tidies."""
+
+    def __init__(self, folder: Path, shards: int, replicas: int, *, limit: int = 1_000_000, after: int = 150,
+                 leaks: Random | None = None) -> None:
+        self.folder = folder
+        self.redis = Redis(folder)
+        self.way = LeakyWay(self.redis.port, leaks, DROPPED_ONE_IN) if leaks else None
+        self.run("init", "--shards", str(shards), "--replicas", str(replicas), "--limit", str(limit))
+        self.workers = [Role(self, "worker", "--shard", str(shard), "--replica", str(replica))
+                        for shard in range(shards) for replica in range(replicas)]
+        self.others = [Role(self, "gather"), Role(self, "tidy", "--after", str(after))]
+
+    @property
+    def _port(self) -> int:
+        return self.way.port if self.way else self.redis.port
+
+    def command(self, *words: str) -> list[str]:
+        """The command of a role."""
+        return [DEBIAN_PYTHON, str(GRID), "--redis", f"redis://127.0.0.1:{self._port}/0", *words]
+
+    def run(self, *words: str, text: bytes = b"") -> bytes:
+        """What a role that ends by itself prints."""
+        return subprocess.run(self.command(*words, "--", *command_of([], workers=0)), input=text,
+                              stdout=subprocess.PIPE, check=True).stdout
+
+    def requests(self) -> list[tuple[str, int, bytes]]:
+        """All requests in the stream in order: client, number of the line, and the line."""
+        printed = subprocess.run(["redis-cli", "-p", str(self.redis.port), "--raw", "XRANGE",
+                                  "pressclip:grid:requests", "-", "+"], stdout=subprocess.PIPE, check=True).stdout
+        lines = printed.split(b"\n")
+        found = []
+        for at in range(0, len(lines) - 10, 11):
+            fields = dict(zip(lines[at + 1:at + 11:2], lines[at + 2:at + 11:2]))
+            found.append((fields[b"c"].decode(), int(fields[b"n"]), fields[b"l"]))
+        return found
+
+    def told(self) -> str:
+        """What its processes told, and which of them have ended."""
+        texts = [path.name + ":\n" + path.read_text() for path in sorted(self.folder.glob("*.told"))]
+        roles = (*self.workers, *self.others)
+        ended = [role.words for role in roles if role.process and role.process.poll() is not None]
+        return "\n".join(texts) + f"\nended: {ended}"
+
+    def needs_all(self) -> None:
+        """`Failed` where one of its processes ended by itself."""
+        for role in (*self.workers, *self.others):
+            if role.process and role.process.poll() is not None:
+                raise Failed(f"{role.words} ended\n{self.told()}")
+
+    def close(self) -> None:
+        """Ends all of it."""
+        for role in (*self.workers, *self.others):
+            role.kill()
+            role.told.close()
+        self.redis.kill()
+        if self.way:
+            self.way.close()
+
+    def __enter__(self) -> Grid:
+        return self
+
+    def __exit__(self, *_: object) -> None:
+        self.close()
+
+
+class Chaos:
+    """One input through a grid, with a process ended at each of some places in it, and started again."""
+
+    def __init__(self, grid: Grid, due: Due, dice: Random, name: str) -> None:
+        self.grid = grid
+        self.due = due
+        self.dice = dice
+        self.name = name
+        self.answered = self.sent = 0
+        self.got: list[bytes] = []
+        self.ended: list[str] = []
+        self.kinds: list[str] = []
+        self.client = self._client()
+
+    def _client(self) -> Spoken:
+        """A client that prints what is not printed yet, of the whole input."""
+        self.sent = 0
+        return Spoken(self.grid.command("submit", "--name", self.name, "--from", str(self.answered + 1), "--",
+                                        *command_of([], workers=0)))
+
+    def run(self, places: Sequence[int]) -> bytes:
+        """The replies to the whole input."""
+        left = sorted(places)
+        while self.answered < len(self.due.lines):
+            while self.sent < min(len(self.due.lines), self.answered + WINDOW):
+                self.client.send(self.due.lines[self.sent])
+                self.sent += 1
+            if left and self.answered >= left[0]:
+                left.pop(0)
+                self._end_one()
+                if left and self.dice.random() < TWO_AT_ONCE:
+                    left.pop(0)
+                    self._end_one()
+                continue
+            self._take(self.client.wait_for_replies())
+        self.client.close()
+        return b"".join(reply + b"\n" for reply in self.got)
+
+    def _take(self, replies: list[bytes]) -> None:
+        if not replies:
+            raise Failed(f"no reply to line {self.answered + 1}; the client told {self.client.told()}\n"
+                         f"{self.grid.told()}")
+        self._count(replies)
+
+    def _count(self, replies: list[bytes]) -> None:
+        for reply in replies:
+            self.got.append(reply)
+            self._pass_blank()
+            self.answered += 1
+        self._pass_blank()
+
+    def _pass_blank(self) -> None:
+        while self.answered < len(self.due.lines) and self.due.replies[self.answered] is None:
+            self.answered += 1
+
+    def _end_one(self) -> None:
+        """Ends a process of some kind by SIGKILL, and starts it again."""
+        kind = self._next_kind()
+        self.client.turn(self.dice.choice([0, 0.005, 0.02]))
+        if kind == "client":
+            self.client.kill()
+            self._count(self.client.replies())
+            self.client = self._client()
+        elif kind == "redis":
+            self.grid.redis.kill()
+            self.grid.redis.start()
+        elif kind == "engine":
+            if not self._end_engine(self.dice.choice(self.grid.workers)):
+                return
+        else:
+            role = (self.dice.choice(self.grid.workers) if kind == "worker" else
+                    self.grid.others[0 if kind == "gatherer" else 1])
+            role.kill()
+            role.start()
+        self.ended.append(kind)
+        ENDED.append(kind)
+
+    def _next_kind(self) -> str:
+        """What is ended next: each kind as often as the others, in a random order."""
+        if not self.kinds:
+            self.kinds = self.dice.sample(KINDS, len(KINDS))
+        return self.kinds.pop()
+
+    def _end_engine(self, role: Role) -> bool:
+        """Ends the engine of a worker, where it has one already."""
+        assert role.process
+        start = time.monotonic()
+        while time.monotonic() - start < 5:
+            engine = engine_of(role.process.pid)
+            if engine is not None:
+                os.kill(engine, signal.SIGKILL)
+                return True
+            time.sleep(0.02)
+        return False

@@ -1,0 +1,142 @@
+"""`keep` under test: one process of it, and a client that goes on where one was ended."""
+
+from __future__ import annotations
+
+import os
+import signal
+import subprocess
+from pathlib import Path
+from random import Random
+from typing import Callable, Sequence
+
+from pressclip_service.engine import command_of
+
+from .judge import KEEP, Due, need
+from .processes import ENDED, Spoken
+
+MOST_OWED = 40
+
+
+def command(journal: Path, *options: str) -> list[str]:
+    """The command of `keep`, with an engine without threads."""
+    return [str(KEEP), "--journal", str(journal), *options, "--", *command_of([], workers=0)]
+
+
+def run_keep(journal: Path, text: bytes, *options: str,
+             before: Callable[[], None] | None = None) -> tuple[int, bytes, str]:
+    """Status, replies and what was told, of a run over a whole input."""
+    done = subprocess.run(command(journal, *options), input=text, stdout=subprocess.PIPE, stderr=subprocess.PIPE,
+                          preexec_fn=before, check=False)
+    return done.returncode, done.stdout, done.stderr.decode()
+
+
+def dump_of(journal: Path, word: str = "--dump") -> bytes:
+    """What `keep` prints of a journal."""
+    return subprocess.run([str(KEEP), "--journal", str(journal), word], stdout=subprocess.PIPE, check=True).stdout
+
+
+def changes_in(journal: Path) -> int:
+    """How many changes a journal has."""
+    return int(dump_of(journal, "--changes")) if (journal / "journal").exists() else 0
+
+
+class Keep(Spoken):
+    """A process of `keep`."""
+
+    def __init__(self, journal: Path, *options: str, before: Callable[[], None] | None = None) -> None:
+        super().__init__(command(journal, *options), before)
+
+
+class Client:
+    """Sends the lines of an input to one `keep` after another, each ended at some place, and judges each reply."""
+
+    def __init__(self, due: Due, journal: Path, dice: Random, options: Sequence[str]) -> None:
+        self.due = due
+        self.journal = journal
+        self.dice = dice
+        self.options = options
+        self.at = 0
+        self.kills = 0
+
+    def run(self, kills: int) -> None:
+        """Goes through the whole input, with so many ends on the way."""
+        places = sorted(self.dice.sample(range(1, len(self.due.lines)), kills))
+        for place in places:
+            self._run_to(max(place, self.at + 1))
+        self._run_to(None)
+
+    def _run_to(self, place: int | None) -> None:
+        """Serves from where things stand; ends `keep` once lines up to a place, if any, are on their way."""
+        keep = Keep(self.journal, *self.options)
+        start = at = self.at
+        window = self.dice.choice([1, 1, 4, 60])
+        stop = len(self.due.lines) if place is None else min(place, len(self.due.lines))
+        answered = start
+        while answered < stop:
+            while at < stop and at - answered < window:
+                keep.send(self.due.lines[at])
+                at += 1
+            answered = self._judge([], start, answered, at)
+            if place is not None and at == stop:
+                break
+            if at > answered:
+                replies = keep.wait_for_replies()
+                need(bool(replies), f"keep ended: {keep.told()}")
+                answered = self._judge(replies, start, answered, at)
+        if place is None:
+            keep.close()
+            self.at = answered
+            return
+        for _ in range(self.dice.randint(0, 3)):
+            keep.turn(self.dice.choice([0, 0.001, 0.01]))
+        keep.kill()
+        self.kills += 1
+        ENDED.append("keep")
+        answered = self._judge(keep.replies(), start, answered, at)
+        self.at = self._kept(answered, at)
+
+    def _judge(self, replies: list[bytes], start: int, answered: int, sent: int) -> int:
+        """The place behind the last answered line, where each reply that came is the one that is due."""
+        for reply in replies:
+            while answered < sent and self.due.replies[answered] is None:
+                answered += 1
+            due = self.due.numbered_from(start, answered)
+            need(answered < sent and reply == due, f"line {answered + 1}: got {reply[:300]!r}, due {due!r:.300}")
+            answered += 1
+        while answered < sent and self.due.replies[answered] is None:
+            answered += 1
+        return answered
+
+    def _kept(self, answered: int, sent: int) -> int:
+        """Where the next client goes on: behind the last change that is kept, which was sent and maybe not answered."""
+        kept = changes_in(self.journal)
+        least = sum(self.due.changes[:answered])
+        most = sum(self.due.changes[:sent])
+        need(least <= kept <= most, f"{kept} changes are kept, and {least} were answered and {most} sent")
+        place = answered
+        while sum(self.due.changes[:place]) < kept:
+            place += 1
+        return place
+
+
+def kill_engines(keep: Keep, dice: Random, due: Due, kills: int) -> bytes:
+    """The replies of one `keep` to a whole input, whose engine is ended so many times on the way."""
+    places = set(dice.sample(range(1, len(due.lines)), kills))
+    out: list[bytes] = []
+    owed = done = 0
+    for number, line in enumerate(due.lines):
+        keep.send(line)
+        owed += due.replies[number] is not None
+        if number in places:
+            keep.turn(dice.choice([0, 0.002]))
+            engine = keep.engine()
+            if engine is not None:
+                os.kill(engine, signal.SIGKILL)
+                done += 1
+                ENDED.append("engine of keep")
+        while owed - len(out) > MOST_OWED or (number + 1 == len(due.lines) and len(out) < owed):
+            replies = keep.wait_for_replies()
+            need(bool(replies), f"keep ended: {keep.told()}")
+            out += replies
+    need(done > kills * 3 // 4, f"only {done} engines were ended")
+    return b"".join(reply + b"\n" for reply in out)
