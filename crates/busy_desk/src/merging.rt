@@ -1,6 +1,6 @@
 //! A desk at which one thread commits, a second merges, and a third takes looks, with the times that calls took.
 ghost use Rattle.std.specs.Prelude.{◌≡◌};
-ghost use Rattle.clip_desk.specs.Updates.{heard_at};
+ghost use Rattle.clip_desk.specs.Updates.{all_heard};
 ghost use Rattle.clip_desk.specs.Locked.{IsSeatOf};
 
 use crate::commands::{Change, change_one};
@@ -247,7 +247,7 @@ pub fn measure<N: DeskName + Send + Sync, R: Threads + Wait + Clock + Sync>(
     commits: u64,
     merger: Merger,
 ) -> Result<Report>
-    requires { (parts.book ≡ N.book) × (parts.callers ≡ N.callers) × (N.heard_before ≡ heard_at parts.updates) }
+    requires { (parts.book ≡ N.book) × (parts.callers ≡ N.callers) × (N.heard_before ≡ all_heard parts.updates) }
 {
     let (desk, mut seats) = Desk::<N, UpdateLog>::open(parts);
     let (Some(reader), Some(writer), Ok((sender, nudges))) = (

@@ -1,9 +1,9 @@
 -- Listeners follow a history that goes on.
-use Rattle.std.proofs.Common.{◌≡◌, ℕ, List, [], ◌∷◌, ◌++◌, length, slice_get, Some, refl, sym, ap, subst, ◌∙◌, arith, inl, inr, append_assoc, append-nil}
+use Rattle.std.proofs.Common.{◌≡◌, ℕ, zero, suc, List, [], ◌∷◌, ◌++◌, length, slice_get, Some, refl, sym, ap, subst, ◌∙◌, arith, inl, inr, append_assoc, append-nil}
 use Rattle.std.proofs.lemmas.Option.{slice_get_within, slice_get_cases}
 use mathlib.Core.List.{IsPrefix}
 use Rattle.clip_model.specs.History.{Command, Register, Delete, Clear, History, HistoryEntry}
-use Rattle.clip_desk.specs.Updates.{Event, Updated, Deleted, Cleared, Purged, event_of, events_of, without_purges, Heard, IsTold, hears, misses, is_passed, AreTold, Follows, AllFollow, heard_at}
+use Rattle.clip_desk.specs.Updates.{Event, Updated, Deleted, Cleared, Purged, event_of, events_of, without_purges, Heard, IsTold, hears, misses, is_passed, AreTold, Follows, AllFollow, all_heard}
 
 prefix_of_same : {A : Type 0} (xs ys : List A) → xs ≡ ys → IsPrefix xs ys
 prefix_of_same [] ys e = (ys, refl)
@@ -64,24 +64,33 @@ stood all new k w same now =
     let within = slice_get_within new k w now in
     elim ((slice_get_cases all k).1) [ inl there ↦ (there.0, there.2) | inr past ↦ absurd (let p = past.0 in omega arith) ]
 
-module _ (before : ℕ → List Event) (history : History) (all new : List Heard) (follow : AllFollow before history all) where
+module _ (before : List (List Event)) (history : History) (all new : List Heard) (follow : AllFollow before history all) where
   -- each listener is told what an entry's command did
   pub all_follow_entry : (e : HistoryEntry) → AreTold (event_of e.command) all new → AllFollow before (history ++ e ∷ []) new
   all_follow_entry e told = record {
-    each = λ k w now. let h = stood all new k w told.same now in one_more (before k) history h.0 w (follow.each k h.0 h.1) e (told.each k h.0 w h.1 now);
+    same = told.same ∙ follow.same;
+    each = λ k b w had now. let h = stood all new k w told.same now in one_more b history h.0 w (follow.each k b h.0 had h.1) e (told.each k h.0 w h.1 now);
   }
 
   -- each listener is told of a purge
   pub all_follow_purge : AreTold Purged all new → AllFollow before history new
   all_follow_purge told = record {
-    each = λ k w now. let h = stood all new k w told.same now in none_more (before k) history h.0 w (follow.each k h.0 h.1) (told.each k h.0 w h.1 now);
+    same = told.same ∙ follow.same;
+    each = λ k b w had now. let h = stood all new k w told.same now in none_more b history h.0 w (follow.each k b h.0 had h.1) (told.each k h.0 w h.1 now);
   }
 
--- listeners follow a history that is still empty
-first_heard : (all : List Heard) (k : ℕ) (h : Heard) → slice_get all k ≡ Some h → without_purges h.events ≡ heard_at all k ++ events_of []
-first_heard all k h at = let here : heard_at all k ≡ without_purges h.events = rw (at, heard_at) refl in sym (append-nil (heard_at all k) ∙ here)
+as_many_heard : (all : List Heard) → length all ≡ length (all_heard all)
+as_many_heard [] = refl
+as_many_heard (h ∷ all) = ap suc (as_many_heard all)
 
-pub all_follow_first : (all : List Heard) → AllFollow (heard_at all) [] all
+heard_there : (all : List Heard) (k : ℕ) (b : List Event) (h : Heard) → slice_get (all_heard all) k ≡ Some b → slice_get all k ≡ Some h → without_purges h.events ≡ b
+heard_there [] k b h had at = absurd (cc at)
+heard_there (g ∷ all) zero b h had at = cc (had, at)
+heard_there (g ∷ all) (suc k) b h had at = heard_there all k b h had at
+
+-- listeners follow a history that is still empty
+pub all_follow_first : (all : List Heard) → AllFollow (all_heard all) [] all
 all_follow_first all = record {
-  each = λ k h at. let same = first_heard all k h at in record { whole = λ _. same; front = prefix_of_same _ _ same };
+  same = as_many_heard all;
+  each = λ k b h had at. let same = heard_there all k b h had at ∙ sym (append-nil b) in record { whole = λ _. same; front = prefix_of_same _ _ same };
 }

@@ -1,5 +1,7 @@
 -- What update listeners are told of the registry, and what they have heard.
-use Rattle.std.specs.Prelude.{◌≡◌, ℕ, List, [], ◌∷◌, ◌++◌, length, map, filter, slice_get, Some, None, Bool, true, false}
+use Rattle.std.specs.Prelude.{◌≡◌, ℕ, List, [], ◌∷◌, ◌++◌, length, map, filter, slice_get, Some, Bool, true, false, ◌⊎◌, refl}
+use Rattle.std.specs.Coded.{Coded, code_by, coded×, coded⊎, coded_ℕ, coded_bool, coded_list}
+use Rattle.std.proofs.Common.{inl, inr}
 use mathlib.Core.List.{IsPrefix}
 use Rattle.clip_model.specs.History.{Command, Register, Delete, Clear, History}
 
@@ -58,13 +60,14 @@ pub record Follows (before : List Event) (history : History) (h : Heard) : Type 
   pub whole : h.missed ≡ false → without_purges h.events ≡ before ++ events_of history
   pub front : IsPrefix (without_purges h.events) (before ++ events_of history)
 
--- each listener follows, where before has what the one in each place had heard
-pub record AllFollow (before : ℕ → List Event) (history : History) (all : List Heard) : Type 0 where
-  pub each : (k : ℕ) (h : Heard) → slice_get all k ≡ Some h → Follows (before k) history h
+-- There are as many listeners as before, and each follows, where before has what the one in each place had heard.
+pub record AllFollow (before : List (List Event)) (history : History) (all : List Heard) : Type 0 where
+  pub same : length all ≡ length before
+  pub each : (k : ℕ) (b : List Event) (h : Heard) → slice_get before k ≡ Some b → slice_get all k ≡ Some h → Follows b history h
 
--- what the listener in each place has heard, purges left out; nothing where none is
-abbrev pub heard_at : List Heard → ℕ → List Event
-heard_at all k = elim (slice_get all k) [ None ↦ [] | Some h ↦ without_purges h.events ]
+-- what each listener has heard, purges left out
+abbrev pub all_heard : List Heard → List (List Event)
+all_heard all = map (λ h. without_purges h.events) all
 
 -- ---- what the values of the code say
 
@@ -75,3 +78,30 @@ heard_by heard part = record { events = heard part.0; missed = part.1 }
 -- listeners that missed nothing yet
 abbrev pub unmarked : {L : Type 0} → (L → List Event) → List L → List Heard
 unmarked heard listeners = map (λ l. record { events = heard l; missed = false }) listeners
+
+-- ---- codes
+
+abbrev event_parts : Event → List (List ℕ) ⊎ (List (List ℕ) ⊎ Bool)
+event_parts (Updated ids) = inl ids
+event_parts (Deleted ids) = inr (inl ids)
+event_parts Cleared = inr (inr true)
+event_parts Purged = inr (inr false)
+
+abbrev event_made : List (List ℕ) ⊎ (List (List ℕ) ⊎ Bool) → Event
+event_made (inl ids) = Updated ids
+event_made (inr (inl ids)) = Deleted ids
+event_made (inr (inr true)) = Cleared
+event_made (inr (inr false)) = Purged
+
+pub event_again : (e : Event) → event_made (event_parts e) ≡ e
+event_again (Updated ids) = refl
+event_again (Deleted ids) = refl
+event_again Cleared = refl
+event_again Purged = refl
+
+abbrev pub event_code : Coded Event
+event_code =
+    code_by (List (List ℕ) ⊎ (List (List ℕ) ⊎ Bool)) (coded⊎ (coded_list (coded_list coded_ℕ)) (coded⊎ (coded_list (coded_list coded_ℕ)) coded_bool)) event_parts event_made event_again
+
+abbrev pub heard_code : Coded Heard
+heard_code = code_by (List Event × Bool) (coded× (coded_list event_code) coded_bool) (λ h. (h.events, h.missed)) (λ p. record { events = p.0; missed = p.1 }) (λ _. refl)

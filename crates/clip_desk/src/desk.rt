@@ -5,7 +5,7 @@ ghost use Rattle.clip_model.specs.History.{own, fits, has_room, applied, with_co
 ghost use Rattle.clip_model.specs.History as model;
 ghost use Rattle.clip_standing.specs.Command.{command_of, answer_of};
 ghost use Rattle.clip_chronicle.specs.Callers.{IsBy};
-ghost use Rattle.clip_desk.specs.Updates.{AllFollow, heard_at, heard_by};
+ghost use Rattle.clip_desk.specs.Updates.{AllFollow, all_heard, heard_by};
 ghost use Rattle.clip_desk.specs.Seats.{SeatIs, AreSeated, IsAccounted, AreAll};
 ghost use Rattle.clip_desk.specs.Locked.{IsSeatOf, AreSeatsOf};
 
@@ -57,7 +57,7 @@ pub struct SeatMissing<N: DeskName, L: UpdateListener> {
 impl<N: DeskName, L: UpdateListener> Desk<N, L> {
     /// A desk, and the seats of callers 1, 2, .. Its name says what its listeners had heard. Constant time.
     pub fn open(parts: DeskParts<L>) -> (Desk<N, L>, Vec<Seat>)
-        requires { (parts.book ≡ N.book) × (parts.callers ≡ N.callers) × (N.heard_before ≡ heard_at parts.updates) }
+        requires { (parts.book ≡ N.book) × (parts.callers ≡ N.callers) × (N.heard_before ≡ all_heard parts.updates) }
         ensures desk { (result.0.tag ≡ parts.tag) × (result.0.callers ≡ parts.callers) }
         ensures seats { AreSeated parts.tag parts.callers parts.book result.1.items
             × (vec_len result.1 ≡ parts.callers) }
@@ -182,7 +182,7 @@ fn all_agree<N: DeskName, L: UpdateListener>(
 ) -> bool
     requires { (k : ℕ) (s : SeatIs) → slice_get seats.now k ≡ Some s → s.tag ≡ tag → IsSeatOf N.book N.callers s }
     ensures { IsTrue result → (k : ℕ) (s : SeatIs) → slice_get seats.now k ≡ Some s
-        → IsAccounted tag locked.now.history s }
+        → IsAccounted tag locked.now.registry.history s }
 {
     for seat in seats {
         if !locked.agrees(seat, tag) {

@@ -21,8 +21,8 @@ use std::alloc::Global;
 use std::marker::{Brand, Model, PhantomData};
 use std::sync::Wait;
 
-/// Names one desk, in contracts only: its book, how many callers it has, and what the listener in each place had heard
-/// before it.
+/// Names one desk, in contracts only: its book, how many callers it has, and what each of its listeners had heard before
+/// it.
 pub trait DeskName {
     ghost use Rattle.std.specs.Prelude.{ℕ, List};
     ghost use Rattle.logbook.specs.Pages.{Book};
@@ -32,7 +32,7 @@ pub trait DeskName {
 
     ghost callers: { ℕ };
 
-    ghost heard_before: { ℕ → List Event };
+    ghost heard_before: { List (List Event) };
 }
 
 impl DeskName for Brand {
@@ -43,11 +43,11 @@ impl DeskName for Brand {
 
     ghost callers = { 0 };
 
-    ghost heard_before = { λ k. [] };
+    ghost heard_before = { [] };
 }
 
-/// What a desk's lock keeps, seen as the registry. What was published last is that registry too, and the listeners have
-/// heard of its history.
+/// What a desk's lock keeps, seen as the registry and what each listener has heard. What was published last is that
+/// registry too, and the listeners have heard of its history.
 pub struct Locked<N: DeskName, L: UpdateListener> {
     pub(crate) registrar: Registrar,
     pub(crate) writer: WriterEnd,
@@ -59,15 +59,14 @@ pub struct Locked<N: DeskName, L: UpdateListener> {
 }
 
 impl<N: DeskName, L: UpdateListener> Model for Locked<N, L> {
-    ghost use Rattle.clip_registry.specs.RegistryState.{RegistryState, state_code};
     ghost use Rattle.clip_desk.specs.Updates.{AllFollow};
-    ghost use Rattle.clip_desk.specs.Locked.{IsSettled};
+    ghost use Rattle.clip_desk.specs.Locked.{LockedIs, locked_code, IsSettled};
 
-    ghost Value = { RegistryState };
+    ghost Value = { LockedIs };
 
-    ghost coded = { state_code };
+    ghost coded = { locked_code };
 
-    ghost view = { λ s. s.registrar };
+    ghost view = { λ s. record { registry = s.registrar; updates = s.updates } };
 
     ghost invariant = { λ s. IsSettled N.book N.callers s.registrar s.head s.front
         s.writer.desk.shown.value × AllFollow N.heard_before s.registrar.history s.updates };
@@ -99,7 +98,7 @@ impl<N: DeskName, L: UpdateListener> Locked<N, L> {
     ) -> Locked<N, L>
         requires settled { IsSettled N.book N.callers registrar head front writer.desk.shown.value }
         requires follow { AllFollow N.heard_before registrar.history updates }
-        ensures { result ≡ registrar }
+        ensures { result ≡ record { registry = registrar; updates = updates } }
     {
         Locked {
             registrar,
@@ -113,7 +112,7 @@ impl<N: DeskName, L: UpdateListener> Locked<N, L> {
     }
 
     /// Accepts a command as the next of the seat's caller, publishes the registry after it, tells the listeners of it, and
-    /// answers the receipt of the history that ends with it; or leaves the registry, tells nothing, and hands the command
+    /// answers the receipt of the history that ends with it; or leaves all as it was, tells nothing, and hands the command
     /// back: `Full` where it has no room, and `NoMemory` where an allocation failed. It may wait for readers that look. It
     /// costs that of `Registrar::apply` while a view is held, and what each listener takes.
     pub fn commit<R: Wait>(
@@ -125,10 +124,12 @@ impl<N: DeskName, L: UpdateListener> Locked<N, L> {
         requires desk { IsSeatOf N.book N.callers seat.old }
         requires fits { IsTrue (fits (command_of command)) }
         ensures entry { IfOk result (λ r. r.history
-            ≡ with_command self.old.history seat.old.caller (command_of command)) }
-        ensures locked { OnOk result (self.new ≡ state_after self.old seat.old.caller (command_of command)) }
+            ≡ with_command self.old.registry.history seat.old.caller (command_of command)) }
+        ensures locked { OnOk result (self.new.registry
+            ≡ state_after self.old.registry seat.old.caller (command_of command)) }
+        ensures told { OnOk result (AreTold (event_of (command_of command)) self.old.updates self.new.updates) }
         ensures applied { IfOk result (λ r. r.applied
-            ≡ answer_of (command_of command) (applied self.old.history (command_of command))) }
+            ≡ answer_of (command_of command) (applied self.old.registry.history (command_of command))) }
         ensures legal { IfOk result (λ r. IsLegal r.history × IsBy N.callers r.history) }
         ensures seen { IfOk result (λ r. IsPrefix seat.old.seen r.history × (seat.new.seen ≡ r.history)) }
         ensures mine { IfOk result (λ r. (own r.history seat.old.caller ≡ seat.new.mine)
@@ -138,7 +139,7 @@ impl<N: DeskName, L: UpdateListener> Locked<N, L> {
         ensures back { IfErr result (λ e. e.0 ≡ command) }
         ensures stays { OnErr result ((self.new ≡ self.old) × (seat.new.mine ≡ seat.old.mine)) }
         ensures later { IsPrefix seat.old.seen seat.new.seen }
-        ensures full { IfErr result (λ e. e.1 ≡ Refused.Full → (seat.new.seen ≡ self.old.history)
+        ensures full { IfErr result (λ e. e.1 ≡ Refused.Full → (seat.new.seen ≡ self.old.registry.history)
             × IsFalse (has_room seat.new.seen (command_of command)) × IsLegal seat.new.seen
             × IsBy N.callers seat.new.seen × (own seat.new.seen seat.old.caller ≡ seat.old.mine)) }
         ensures seat { seat.new ≡ record seat.old { seen = seat.new.seen; mine = seat.new.mine } }
@@ -179,8 +180,8 @@ impl<N: DeskName, L: UpdateListener> Locked<N, L> {
     /// Whether two numbers agree at a seat, and it is of this tag. It costs that of `Registrar::number_of`.
     pub(crate) fn agrees(&self, seat: &Seat, tag: u64) -> bool
         requires { seat.now.tag ≡ tag → IsSeatOf N.book N.callers seat.now }
-        ensures { IsTrue result → (seat.now.tag ≡ tag) × IsPrefix seat.now.seen self.now.history
-            × (own self.now.history seat.now.caller ≡ seat.now.mine) }
+        ensures { IsTrue result → (seat.now.tag ≡ tag) × IsPrefix seat.now.seen self.now.registry.history
+            × (own self.now.registry.history seat.now.caller ≡ seat.now.mine) }
     {
         if seat.tag() != tag {
             return false;
@@ -190,8 +191,9 @@ impl<N: DeskName, L: UpdateListener> Locked<N, L> {
 
     /// Ends the writer, and gives the registrar, and the listeners with their marks. It may wait for readers that look.
     pub(crate) fn end<R: Wait>(self, rt: &R) -> (Registrar, Vec<(L, bool)>)
-        ensures same { result.0 ≡ self }
+        ensures same { result.0 ≡ self.registry }
         ensures legal { IsLegal result.0.history × IsBy N.callers result.0.history }
+        ensures heard { map (heard_by L.heard) result.1.items ≡ self.updates }
         ensures follow { AllFollow N.heard_before result.0.history (map (heard_by L.heard) result.1.items) }
     {
         let Self {

@@ -2,6 +2,7 @@
 ghost use Rattle.std.specs.Prelude.{◌≡◌, ℕ, Ok, None, IfOk, IfSome, OnOk, OnErr};
 ghost use Rattle.clip_registry.specs.Plan.{IsRun};
 ghost use Rattle.clip_registry.specs.Merging.{IsBegun, IsInstalled, IsStale, purged};
+ghost use Rattle.clip_desk.specs.Updates.{AreTold, Purged};
 
 use crate::events::Update;
 use crate::locked::{DeskName, Locked};
@@ -15,8 +16,8 @@ impl<N: DeskName, L: UpdateListener> Locked<N, L> {
     /// Publishes a registry of the same history, and keeps it. `NoMemory` where an allocation failed, with nothing
     /// changed. It may wait for readers that look.
     fn put<R: Wait>(&mut self, rt: &R, registrar: Registrar) -> Result<(), NoMemory>
-        requires { registrar.history ≡ self.old.history }
-        ensures there { OnOk result (self.new ≡ registrar) }
+        requires { registrar.history ≡ self.old.registry.history }
+        ensures there { OnOk result (self.new ≡ record self.old { registry = registrar }) }
         ensures unchanged { OnErr result (self.new ≡ self.old) }
     {
         let view = registrar.view()?;
@@ -30,7 +31,8 @@ impl<N: DeskName, L: UpdateListener> Locked<N, L> {
     /// The history is kept, and so is what is registered. `NoMemory` where an allocation failed, with nothing changed and
     /// nothing told. It may wait for readers that look, and costs that of `Registrar::purge` and what each listener takes.
     pub fn purge<R: Wait>(&mut self, rt: &R) -> Result<(), NoMemory>
-        ensures purged { OnOk result (self.new ≡ purged self.old) }
+        ensures purged { OnOk result (self.new.registry ≡ purged self.old.registry) }
+        ensures told { OnOk result (AreTold Purged self.old.updates self.new.updates) }
         ensures unchanged { OnErr result (self.new ≡ self.old) }
     {
         let mut next = self.registrar.copy()?;
@@ -43,8 +45,8 @@ impl<N: DeskName, L: UpdateListener> Locked<N, L> {
     /// Begins a merge: a job over the oldest four neighbouring segments of one level, or `None` where there are no such
     /// four. `NoMemory` where an allocation failed. It costs that of `Registrar::begin`.
     pub fn begin(&self) -> Result<Option<MergeJob>, NoMemory>
-        ensures begun { IfOk result (λ job. IfSome job (IsBegun self.now)) }
-        ensures nothing { result ≡ Ok None → (first : ℕ) → IsRun self.now.segments first → ⊥ }
+        ensures begun { IfOk result (λ job. IfSome job (IsBegun self.now.registry)) }
+        ensures nothing { result ≡ Ok None → (first : ℕ) → IsRun self.now.registry.segments first → ⊥ }
     {
         self.registrar.begin()
     }
@@ -53,8 +55,9 @@ impl<N: DeskName, L: UpdateListener> Locked<N, L> {
     /// nothing. The history is kept, and so is what is registered. `NoMemory` where an allocation failed, with nothing
     /// changed and the merge dropped. It may wait for readers that look, and costs that of `Registrar::install`.
     pub fn install<R: Wait>(&mut self, rt: &R, merged: Merged) -> Result<Installed, NoMemory>
-        ensures done { result ≡ Ok Installed.Done → IsInstalled self.old self.new merged }
-        ensures stale { result ≡ Ok Installed.Stale → IsStale self.old merged }
+        ensures done { result ≡ Ok Installed.Done → IsInstalled self.old.registry self.new.registry merged }
+        ensures stale { result ≡ Ok Installed.Stale → IsStale self.old.registry merged }
+        ensures quiet { self.new.updates ≡ self.old.updates }
         ensures unchanged { (result ≡ Ok Installed.Done → ⊥) → self.new ≡ self.old }
     {
         let mut next = self.registrar.copy()?;

@@ -2,7 +2,7 @@
 ghost use Rattle.std.specs.Prelude.{◌≡◌, ◌≤◌, ◌⊎◌, [], length, true, false, IfOk, OnOk, OnErr, IfSome, Err};
 ghost use Rattle.std.specs.Thread.{IsSync, IsSend};
 ghost use Rattle.clip_stream.specs.Lines.{lines_of};
-ghost use Rattle.clip_desk.specs.Updates.{heard_at};
+ghost use Rattle.clip_desk.specs.Updates.{all_heard};
 ghost use Rattle.clip_front.specs.Outcome.{GivesAll, GivesFront};
 ghost use Rattle.clip_run.specs.Ran.{told, IsFresh, Ran};
 ghost use Rattle.clip_run.specs.Seated.{IsOnly};
@@ -149,7 +149,7 @@ fn run_desk<
     parts: DeskParts<UpdateLog>,
 ) -> Result<Ended, RunFault>
     requires fresh { IsFresh (told S.Source W.Sink A.Audience reader.old writer.old audience.old) }
-    requires named { (parts.book ≡ N.book) × (parts.callers ≡ N.callers) × (N.heard_before ≡ heard_at parts.updates) }
+    requires named { (parts.book ≡ N.book) × (parts.callers ≡ N.callers) × (N.heard_before ≡ all_heard parts.updates) }
     requires one { parts.callers ≡ 1 }
     ensures { Ran (λ ended. ended.lines) (λ ended. ended.ledger) settings
         (told S.Source W.Sink A.Audience reader.old writer.old audience.old)

@@ -1,6 +1,6 @@
 //! Two callers at a desk: what one committed the other looks at, with its receipt and without.
 ghost use Rattle.std.specs.Prelude.{◌≡◌};
-ghost use Rattle.clip_desk.specs.Updates.{heard_at};
+ghost use Rattle.clip_desk.specs.Updates.{all_heard};
 ghost use Rattle.clip_desk.specs.Locked.{IsSeatOf};
 
 use crate::desk::making::{commit, parts_of, pop_seat, register, sees};
@@ -21,7 +21,7 @@ fn a_caller_sees_what_another_committed(rt: HostRuntime) -> Result<(), Fail> {
 
 fn run_both<N: DeskName, R: Wait + Abort>(rt: &R, alloc: Global, parts: DeskParts<UpdateLog>)
     requires book { (parts.book ≡ N.book) × (parts.callers ≡ N.callers) }
-    requires heard { N.heard_before ≡ heard_at parts.updates }
+    requires heard { N.heard_before ≡ all_heard parts.updates }
 {
     let (desk, mut seats) = Desk::<N, UpdateLog>::open(parts);
     match (pop_seat::<N>(&mut seats), pop_seat::<N>(&mut seats)) {

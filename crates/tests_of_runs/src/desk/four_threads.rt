@@ -1,6 +1,6 @@
 //! Two callers that commit, one that purges, and a merger, in four threads.
 ghost use Rattle.std.specs.Prelude.{◌≡◌, IsTrue};
-ghost use Rattle.clip_desk.specs.Updates.{heard_at};
+ghost use Rattle.clip_desk.specs.Updates.{all_heard};
 ghost use Rattle.clip_model.specs.History.{fits};
 ghost use Rattle.clip_standing.specs.Command.{command_of};
 ghost use Rattle.clip_desk.specs.Locked.{IsSeatOf};
@@ -234,7 +234,7 @@ fn run_four<N: DeskName + Send + Sync, R: Threads + Wait + Abort + Sync>(
     parts: DeskParts<UpdateLog>,
 )
     requires book { (parts.book ≡ N.book) × (parts.callers ≡ N.callers) }
-    requires heard { N.heard_before ≡ heard_at parts.updates }
+    requires heard { N.heard_before ≡ all_heard parts.updates }
 {
     let (desk, mut seats) = Desk::<N, UpdateLog>::open(parts);
     let (sender, nudges) = match unbounded(alloc) {

@@ -1,6 +1,6 @@
 //! What update listeners of a desk hear.
 ghost use Rattle.std.specs.Prelude.{◌≡◌};
-ghost use Rattle.clip_desk.specs.Updates.{heard_at};
+ghost use Rattle.clip_desk.specs.Updates.{all_heard};
 ghost use Rattle.clip_desk.specs.Locked.{IsSeatOf};
 
 use crate::desk::making::{commit_four, parts_with, pop_seat, purge};
@@ -22,7 +22,7 @@ fn a_log_hears_four_commits_and_a_purge(rt: HostRuntime) -> Result<(), Fail> {
 
 fn run_purge<N: DeskName, R: Wait + Abort>(rt: &R, alloc: Global, parts: DeskParts<UpdateLog>)
     requires book { (parts.book ≡ N.book) × (parts.callers ≡ N.callers) }
-    requires heard { N.heard_before ≡ heard_at parts.updates }
+    requires heard { N.heard_before ≡ all_heard parts.updates }
 {
     let (desk, mut seats) = Desk::<N, UpdateLog>::open(parts);
     let Some(mut seat) = pop_seat::<N>(&mut seats) else {

@@ -3,7 +3,7 @@
 //! Where memory is ample no commit is refused, so this is to be run with an allocation that fails
 //! (`rt try --test --fail-alloc N`).
 ghost use Rattle.std.specs.Prelude.{◌≡◌};
-ghost use Rattle.clip_desk.specs.Updates.{heard_at};
+ghost use Rattle.clip_desk.specs.Updates.{all_heard};
 ghost use Rattle.clip_desk.specs.Locked.{IsSeatOf};
 
 use crate::desk::making::{parts_of, pop_seat, registering};
@@ -22,7 +22,7 @@ fn a_refused_commit_is_accepted_when_tried_again(rt: HostRuntime) {
 
 fn run_again<N: DeskName, R: Wait + Abort>(rt: &R, alloc: Global, parts: DeskParts<UpdateLog>)
     requires book { (parts.book ≡ N.book) × (parts.callers ≡ N.callers) }
-    requires heard { N.heard_before ≡ heard_at parts.updates }
+    requires heard { N.heard_before ≡ all_heard parts.updates }
 {
     let (desk, mut seats) = Desk::<N, UpdateLog>::open(parts);
     if let Some(mut seat) = pop_seat::<N>(&mut seats) {

@@ -1,6 +1,6 @@
 //! Merges and purges of a shared desk, as looks show them.
 ghost use Rattle.std.specs.Prelude.{◌≡◌};
-ghost use Rattle.clip_desk.specs.Updates.{heard_at};
+ghost use Rattle.clip_desk.specs.Updates.{all_heard};
 ghost use Rattle.clip_desk.specs.Locked.{IsSeatOf};
 
 use crate::desk::making::{commit, commit_four, parts_of, pop_seat, purge, register};
@@ -45,7 +45,7 @@ fn four_segments_become_one_and_a_purge_leaves_no_dead_entry(rt: HostRuntime) ->
 
 fn run_merge<N: DeskName, R: Wait + Abort>(rt: &R, alloc: Global, parts: DeskParts<UpdateLog>)
     requires book { (parts.book ≡ N.book) × (parts.callers ≡ N.callers) }
-    requires heard { N.heard_before ≡ heard_at parts.updates }
+    requires heard { N.heard_before ≡ all_heard parts.updates }
 {
     let (desk, mut seats) = Desk::<N, UpdateLog>::open(parts);
     match pop_seat::<N>(&mut seats) {
@@ -74,7 +74,7 @@ fn nudges_are_served_until_stop(rt: HostRuntime) -> Result<(), Fail> {
 
 fn run_nudges<N: DeskName, R: Wait + Abort>(rt: &R, alloc: Global, parts: DeskParts<UpdateLog>)
     requires book { (parts.book ≡ N.book) × (parts.callers ≡ N.callers) }
-    requires heard { N.heard_before ≡ heard_at parts.updates }
+    requires heard { N.heard_before ≡ all_heard parts.updates }
 {
     let (desk, mut seats) = Desk::<N, UpdateLog>::open(parts);
     match pop_seat::<N>(&mut seats) {

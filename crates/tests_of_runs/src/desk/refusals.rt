@@ -2,7 +2,7 @@
 ghost use Rattle.std.specs.Prelude.{◌≡◌, ◌≢◌, IfOk, IsTrue};
 ghost use Rattle.clip_model.specs.History.{fits};
 ghost use Rattle.clip_standing.specs.Command.{command_of};
-ghost use Rattle.clip_desk.specs.Updates.{heard_at};
+ghost use Rattle.clip_desk.specs.Updates.{all_heard};
 ghost use Rattle.clip_desk.specs.Locked.{IsSeatOf, AreSeatsOf};
 
 use crate::desk::making::{commit, parts_of, pop_seat, register};
@@ -34,7 +34,7 @@ fn a_desk_is_closed_with_all_its_seats(rt: HostRuntime) -> Result<(), Fail> {
 
 fn run_close<N: DeskName, R: Wait + Abort>(rt: &R, alloc: Global, parts: DeskParts<UpdateLog>)
     requires book { (parts.book ≡ N.book) × (parts.callers ≡ N.callers) }
-    requires heard { N.heard_before ≡ heard_at parts.updates }
+    requires heard { N.heard_before ≡ all_heard parts.updates }
 {
     let none = Vec::new(alloc);
     let (desk, mut seats) = Desk::<N, UpdateLog>::open(parts);
@@ -104,9 +104,9 @@ fn run_foreign<N: DeskName, M: DeskName, R: Wait + Abort>(
     others: DeskParts<UpdateLog>,
 )
     requires book { (parts.book ≡ N.book) × (parts.callers ≡ N.callers) }
-    requires heard { N.heard_before ≡ heard_at parts.updates }
+    requires heard { N.heard_before ≡ all_heard parts.updates }
     requires other_book { (others.book ≡ M.book) × (others.callers ≡ M.callers) }
-    requires other_heard { M.heard_before ≡ heard_at others.updates }
+    requires other_heard { M.heard_before ≡ all_heard others.updates }
 {
     let (desk, _) = Desk::<N, UpdateLog>::open(parts);
     let (other, mut strangers) = Desk::<M, UpdateLog>::open(others);

@@ -16,7 +16,7 @@ returns-clause-seats g c =
     let same = ap (λ s. s.history) c.end-registrar.ensures.same in
     let tag = ap (λ d. d.tag) c.self.view_is in
     record {
-      each = λ k s at. subst (λ (h : History). IsAccounted c.args.self.tag h s) (sym same) (subst (λ (t : ℕ). IsAccounted t c.into_inner-locked.result.history s) tag (c.if-not-all_agree.ensures refl k s (ap (λ l. slice_get l k) c.as_slice.ensures.value ∙ at)));
+      each = λ k s at. subst (λ (h : History). IsAccounted c.args.self.tag h s) (sym same) (subst (λ (t : ℕ). IsAccounted t c.into_inner-locked.result.registry.history s) tag (c.if-not-all_agree.ensures refl k s (ap (λ l. slice_get l k) c.as_slice.ensures.value ∙ at)));
       none_missing = λ caller low high.
           let callers = ap (λ d. d.callers) c.self.view_is in
           let one = c.if-not-has_all.ensures refl caller low (subst (λ (n : ℕ). caller ≤ n) (sym callers) high) in

@@ -8,7 +8,7 @@ use Rattle.clip_desk.proofs.desk.Desk.commit.Goals as goal
 
 pub returns-clause-last : goal.returns-clause-last
 returns-clause-last g c =
-    let before = c.deref_mut.result.now.history in
+    let before = c.deref_mut.result.now.registry.history in
     let caller = c.args.seat.now.caller in
     let command = command_of c.args.command in
     both_ok

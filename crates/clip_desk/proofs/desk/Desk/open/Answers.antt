@@ -1,6 +1,6 @@
-use Rattle.std.proofs.Common.{◌∙◌, ℕ, List, ap, sym, subst}
+use Rattle.std.proofs.Common.{◌∙◌, List, ap, sym, subst}
 use Rattle.clip_model.specs.History.{History}
-use Rattle.clip_desk.specs.Updates.{Event, AllFollow, heard_at}
+use Rattle.clip_desk.specs.Updates.{Event, AllFollow, all_heard}
 use Rattle.clip_desk.proofs.Following.{all_follow_first}
 use Rattle.clip_desk.proofs.Seating.{seated_of}
 use Rattle.clip_desk.proofs.desk.Desk.open.Goals as goal
@@ -13,6 +13,6 @@ returns-clause-all g c =
 pub new-requires-clause-follow : goal.new-requires-clause-follow
 new-requires-clause-follow g c =
     let p = c.parts.inside in
-    let heard = ap heard_at (ap (λ x. x.updates) c.parts.view_is) ∙ sym c.requires.2 in
-    subst (λ (before : ℕ → List Event). AllFollow before p.registrar.history p.updates) heard
-    (subst (λ (h : History). AllFollow (heard_at p.updates) h p.updates) (sym c.parts.invariant.1) (all_follow_first p.updates))
+    let heard = ap all_heard (ap (λ x. x.updates) c.parts.view_is) ∙ sym c.requires.2 in
+    subst (λ (before : List (List Event)). AllFollow before p.registrar.history p.updates) heard
+    (subst (λ (h : History). AllFollow (all_heard p.updates) h p.updates) (sym c.parts.invariant.1) (all_follow_first p.updates))

@@ -1,8 +1,8 @@
-use Rattle.std.proofs.Common.{◌≡◌, ◌<◌, ◌≤◌, ◌∙◌, ℕ, [], ◌∷◌, ◌++◌, ap, sym, refl, subst, arith, rules}
+use Rattle.std.proofs.Common.{◌≡◌, ◌<◌, ◌≤◌, ◌∙◌, ℕ, List, [], ◌∷◌, ◌++◌, ap, sym, refl, subst, arith, rules}
 use Rattle.clip_model.specs.History.{History, next_entry, own, with_command, IsLegal}
 use Rattle.clip_standing.specs.Command.{command_of}
 use Rattle.clip_chronicle.specs.Callers.{IsBy}
-use Rattle.clip_desk.specs.Updates.{AllFollow}
+use Rattle.clip_desk.specs.Updates.{AllFollow, AreTold, Heard, event_of}
 use Rattle.clip_desk.proofs.Following.{all_follow_entry}
 use Rattle.clip_desk.proofs.Commits.{followed, own_grown, mine_grown, own_fits, seen_grown, by_grown}
 use Rattle.clip_desk.proofs.locked.Locked.commit.Goals as goal
@@ -42,6 +42,14 @@ add-requires-clause-own g c =
     let after = c.follow.new.self.seen.log in
     let is : after ≡ with_command seen caller command = followed c.self.inside.registrar c.in-Ok.grown.registrar seen after caller c.caller-caller.result command c.if-not-follow.ensures.added c.in-Ok.ensures.registrar c.self.invariant.0.log c.caller-caller.ensures.caller in
     own_fits seen after c.args.seat.now.mine caller command is (c.if-not-agrees.ensures refl).1
+
+pub returns-clause-told : goal.returns-clause-told
+returns-clause-told g c =
+    let before = c.self.inside.registrar.history in
+    let command = command_of c.args.command in
+    let e = next_entry before c.caller-caller.result command in
+    let history : c.in-Ok.grown.registrar.history ≡ before ++ e ∷ [] = ap (λ s. s.history) c.in-Ok.ensures.registrar in
+    subst (λ (h : List Heard). AreTold (event_of command) h c.tell_last.new.updates) (ap (λ s. s.updates) c.self.view_is) (c.tell_last.ensures before e history)
 
 pub returns-clause-legal : goal.returns-clause-legal
 returns-clause-legal g c =

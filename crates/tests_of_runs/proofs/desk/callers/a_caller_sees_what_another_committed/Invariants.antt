@@ -1,6 +1,6 @@
-use Rattle.clip_desk.specs.Updates.{heard_at}
+use Rattle.clip_desk.specs.Updates.{all_heard}
 use Rattle.tests_of_runs.proofs.desk.callers.a_caller_sees_what_another_committed.Given as goal
 
 -- the desk whose parts were just made
 abbrev pub ghosts-run_both : goal.ghosts-run_both
-ghosts-run_both g a = record { book = a.parts.book; callers = a.parts.callers; heard_before = heard_at a.parts.updates }
+ghosts-run_both g a = record { book = a.parts.book; callers = a.parts.callers; heard_before = all_heard a.parts.updates }

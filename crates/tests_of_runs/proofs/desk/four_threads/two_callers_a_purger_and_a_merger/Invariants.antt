@@ -1,6 +1,6 @@
-use Rattle.clip_desk.specs.Updates.{heard_at}
+use Rattle.clip_desk.specs.Updates.{all_heard}
 use Rattle.tests_of_runs.proofs.desk.four_threads.two_callers_a_purger_and_a_merger.Given as goal
 
 -- the desk whose parts were just made
 abbrev pub ghosts-run_four : goal.ghosts-run_four
-ghosts-run_four g a = record { book = a.parts.book; callers = a.parts.callers; heard_before = heard_at a.parts.updates }
+ghosts-run_four g a = record { book = a.parts.book; callers = a.parts.callers; heard_before = all_heard a.parts.updates }

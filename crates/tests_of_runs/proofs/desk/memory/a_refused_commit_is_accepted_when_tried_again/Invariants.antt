@@ -1,6 +1,6 @@
-use Rattle.clip_desk.specs.Updates.{heard_at}
+use Rattle.clip_desk.specs.Updates.{all_heard}
 use Rattle.tests_of_runs.proofs.desk.memory.a_refused_commit_is_accepted_when_tried_again.Given as goal
 
 -- the desk whose parts were just made
 abbrev pub ghosts-run_again : goal.ghosts-run_again
-ghosts-run_again g a = record { book = a.parts.book; callers = a.parts.callers; heard_before = heard_at a.parts.updates }
+ghosts-run_again g a = record { book = a.parts.book; callers = a.parts.callers; heard_before = all_heard a.parts.updates }

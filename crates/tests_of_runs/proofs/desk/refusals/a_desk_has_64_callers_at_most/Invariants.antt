@@ -1,6 +1,6 @@
-use Rattle.clip_desk.specs.Updates.{heard_at}
+use Rattle.clip_desk.specs.Updates.{all_heard}
 use Rattle.tests_of_runs.proofs.desk.refusals.a_desk_has_64_callers_at_most.Given as goal
 
 -- the desk whose parts were just made
 abbrev pub ghosts-run_close : goal.ghosts-run_close
-ghosts-run_close g a = record { book = a.parts.book; callers = a.parts.callers; heard_before = heard_at a.parts.updates }
+ghosts-run_close g a = record { book = a.parts.book; callers = a.parts.callers; heard_before = all_heard a.parts.updates }

@@ -1,9 +1,9 @@
-use Rattle.clip_desk.specs.Updates.{heard_at}
+use Rattle.clip_desk.specs.Updates.{all_heard}
 use Rattle.tests_of_runs.proofs.desk.refusals.a_foreign_seat_is_refused.Given as goal
 
 -- the desks whose parts were just made
 abbrev pub ghosts-run_foreign-N-DeskName : goal.ghosts-run_foreign-N-DeskName
-ghosts-run_foreign-N-DeskName g a = record { book = a.parts.book; callers = a.parts.callers; heard_before = heard_at a.parts.updates }
+ghosts-run_foreign-N-DeskName g a = record { book = a.parts.book; callers = a.parts.callers; heard_before = all_heard a.parts.updates }
 
 abbrev pub ghosts-run_foreign-M-DeskName : goal.ghosts-run_foreign-M-DeskName
-ghosts-run_foreign-M-DeskName g a = record { book = a.others.book; callers = a.others.callers; heard_before = heard_at a.others.updates }
+ghosts-run_foreign-M-DeskName g a = record { book = a.others.book; callers = a.others.callers; heard_before = all_heard a.others.updates }
