@@ -249,7 +249,7 @@ breaks_paid s t u n line a b p front = breaks_turned s t u n line p.0 p.1 front
 -- ---- what is pending
 
 -- a course by what is pending
-abbrev pub course_by : History → List Hearer → List RowValue → Bool → List Pending → Course
+abbrev pub course_by : History → List Hearer → List RowValue → Settings → List Pending → Course
 course_by h hearers rows settings items = record { history = h; hearers = hearers; rows = rows; settings = settings; owed = map owed_by items }
 
 pub pays_same : (h : History) (hearers : List Hearer) (rows : List RowValue) (settings : Settings) (xs ys : List Pending) (a : List ℕ) → xs ≡ ys → PaysInto (course_by h hearers rows settings xs) (course_by h hearers rows settings ys) a a

@@ -44,11 +44,11 @@ owed_again (matched n h articles) = refl
 abbrev owed_code : Coded Owed
 owed_code = code_by (List ℕ ⊎ (ℕ × (History × List ArticleValue))) (coded⊎ bytes_code (coded× coded_ℕ (coded× history_code (coded_list article_code)))) owed_parts owed_made owed_again
 
-shows_hits : Form → Bool
+abbrev shows_hits : Form → Bool
 shows_hits Plain = false
 shows_hits WithHits = true
 
-form_made : Bool → Form
+abbrev form_made : Bool → Form
 form_made false = Plain
 form_made true = WithHits
 

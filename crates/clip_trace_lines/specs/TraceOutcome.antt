@@ -1,6 +1,7 @@
 -- What the lines of a trace give: events with the answers that are due, and the replies.
 use Rattle.std.specs.Prelude.{◌≡◌, ℕ, suc, List, [], ◌∷◌, ◌++◌, map, codes, Option}
 use Rattle.std.specs.Io.KnownBytes.{Appends}
+use Rattle.clip_model.specs.Alerts.{Alert}
 use Rattle.clip_standing.specs.declared.command.Applied.TheVariants as applied
 use Rattle.clip_stream.specs.Device.{AppendsFront}
 use Rattle.clip_stream.specs.Lines.{lines_of}
@@ -14,7 +15,7 @@ use Rattle.clip_trace_lines.specs.TraceLine.{Said, nothing, refusal, refusal_at,
 
 -- ---- replies
 
--- the article's id, and the ids of its alerts
+-- the article's id, and its alerts
 abbrev pub found_shown : Found → List ℕ × List Alert
 found_shown f = (f.article, f.alerts)
 
