@@ -6,8 +6,7 @@ use std::alloc::Global;
 
 /// Whether one of the hits is at this position of the field.
 fn is_hit(hits: &[Hit], field: &str, position: u64) -> bool {
-    hits.iter()
-        .any(|hit| hit.position == position && hit.field.as_str() == field)
+    hits.iter().any(|hit| hit.position == position && hit.field.as_str() == field)
 }
 
 /// Adds a word, in brackets where it is marked, and before it a space where there is a word before.
@@ -28,11 +27,7 @@ pub fn marked(alloc: Global, alert: &Alert, field: &str) -> Result<String, NoMem
     let hits = alert.hits(alloc)?;
     let mut text = String::new(alloc);
     for (position, word) in alert.article().field(field).iter().enumerate() {
-        add_word(
-            &mut text,
-            word,
-            is_hit(&hits, field, position as u64),
-        )?;
+        add_word(&mut text, word, is_hit(&hits, field, position as u64))?;
     }
     Ok(text)
 }
