@@ -1,4 +1,3 @@
 pub mod Chronicle
 pub mod Callers
 pub mod Ends
-pub mod Rights
