@@ -1,0 +1,47 @@
+"""Tests of the words of the program, which no proof names: what it prints is known by running it."""
+
+from __future__ import annotations
+
+import subprocess
+from pathlib import Path
+from typing import Callable
+
+from pressclip_service.engine import program
+
+from .judge import need, same
+
+DATA = Path(__file__).resolve().parents[2] / "crates" / "examples" / "data"
+USAGE = b"usage: pressclip run [workers] [hits] | pressclip trace\n"
+
+
+def run(words: list[str], text: bytes) -> subprocess.CompletedProcess[bytes]:
+    """The program with these words, on this input."""
+    return subprocess.run([str(program()), *words], input=text, capture_output=True, check=False)
+
+
+def plays(words: list[str], name: str, ending: str) -> None:
+    """The program with these words answers an example as the file beside it says."""
+    done = run(words, (DATA / f"{name}.jsonl").read_bytes())
+    need(done.returncode == 0, f"{words} ended with status {done.returncode}")
+    same(done.stdout, (DATA / f"{name}.{ending}").read_bytes(), f"{words} on {name}")
+
+
+def hits_are_shown_where_the_words_ask() -> None:
+    """With the word, and a number or none before it; and not without."""
+    for words in (["run", "hits"], ["run", "0", "hits"], ["run", "2", "hits"]):
+        plays(words, "hits", "hits")
+        plays(words, "random_queries", "hits")
+    for words in (["run"], ["run", "0"], ["run", "2"]):
+        plays(words, "random_queries", "out")
+
+
+def other_words_are_refused() -> None:
+    """With what there is on standard error, status 2, and nothing read."""
+    for words in ([], ["run", "hits", "4"], ["run", "65", "hits"], ["trace", "hits"], ["hits"]):
+        done = run(words, b'{"op":"count"}\n')
+        need(done.returncode == 2, f"{words} ended with status {done.returncode}")
+        same(done.stderr, USAGE, f"{words} on standard error")
+        same(done.stdout, b"", f"{words} on standard output")
+
+
+TESTS: tuple[Callable[[], None], ...] = (hits_are_shown_where_the_words_ask, other_words_are_refused)
