@@ -9,7 +9,7 @@ import subprocess
 import tempfile
 import time
 from dataclasses import dataclass
-from typing import Sequence
+from typing import Optional, Sequence
 
 PATIENCE_SECONDS = 600.0
 TICKS_PER_SECOND = os.sysconf("SC_CLK_TCK")
@@ -44,6 +44,11 @@ class Engine:
         self._output = self._process.stdout.fileno()
         os.set_blocking(self._input, False)
 
+    @property
+    def pid(self) -> int:
+        """The number of the process."""
+        return self._process.pid
+
     def close(self) -> None:
         """Ends the process."""
         self._process.kill()
@@ -64,13 +69,14 @@ class Engine:
                     return int(line.split()[1]) * 1_024
         return 0
 
-    def exchange(self, lines: Sequence[bytes]) -> Exchange:
-        """Sends the lines at full speed and takes their replies, timed from the first byte to the last reply."""
+    def exchange(self, lines: Sequence[bytes], replies: Optional[int] = None) -> Exchange:
+        """Sends the lines at full speed and takes their replies, timed from the first byte to the last reply: one for
+        each line, or as many as are said."""
         left = memoryview(b"".join(lines))
         held: list[bytes] = []
-        missing = len(lines)
+        missing = len(lines) if replies is None else replies
         cpu, start = self.cpu_seconds(), time.perf_counter()
-        while missing > 0:
+        while missing > 0 or left:
             readable, writable, _ = select.select([self._output], [self._input] if left else [], [], PATIENCE_SECONDS)
             if readable:
                 held.append(self._read())

@@ -5,7 +5,7 @@ from __future__ import annotations
 import argparse
 import json
 from pathlib import Path
-from typing import Callable, Iterable
+from typing import Callable, Iterable, Union
 
 DATA = Path(__file__).resolve().parent.parent / "crates" / "examples" / "data"
 
@@ -15,7 +15,12 @@ def line_of(value: object) -> str:
     return json.dumps(value, ensure_ascii=False, separators=(",", ":"), sort_keys=True) + "\n"
 
 
-def write(name: str, about: str, turns: Callable[[int], Iterable[tuple[dict, ...]]]) -> None:
+def written(line: Union[dict, str]) -> str:
+    """A request as a line, or a text as it stands."""
+    return f"{line}\n" if isinstance(line, str) else line_of(line)
+
+
+def write(name: str, about: str, turns: Callable[[int], Iterable[tuple]]) -> None:
     """Writes NAME.jsonl and NAME.out: what `turns` gives for the seed of the command line, each line with its reply,
     which gets its number here; and NAME.hits, where a third value is the reply with hits."""
     parser = argparse.ArgumentParser(description=about, formatter_class=argparse.RawDescriptionHelpFormatter)
@@ -23,7 +28,7 @@ def write(name: str, about: str, turns: Callable[[int], Iterable[tuple[dict, ...
     parser.add_argument("--into", type=Path, default=DATA, help="the folder of the files")
     options = parser.parse_args()
     lines = list(turns(options.seed))
-    (options.into / f"{name}.jsonl").write_text("".join(line_of(line) for line, *_ in lines))
+    (options.into / f"{name}.jsonl").write_text("".join(written(line) for line, *_ in lines))
     for place, ending in enumerate(("out", "hits"), 1):
         replies = [{**turn[place], "line": number} for number, turn in enumerate(lines, 1) if place < len(turn)]
         if replies:

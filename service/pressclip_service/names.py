@@ -12,11 +12,7 @@ CHANGES = frozenset({REGISTER, DELETE, CLEAR})
 
 # Fields of a request: the client, the number of the line in its input, the request's number, its kind, and the line.
 CLIENT, LINE_NUMBER, NUMBER, KIND, LINE = b"c", b"n", b"m", b"k", b"l"
-# The field of an answer, and the one of a reply beside LINE_NUMBER.
-ANSWER, REPLY = b"a", b"r"
-
-# Under this name the gatherer's position stands among those of the workers.
-GATHERER = "gatherer"
+# Beside LINE_NUMBER and KIND a reply that is kept has under each shard's number the shard's answer.
 
 
 class Id(NamedTuple):
@@ -36,6 +32,10 @@ class Id(NamedTuple):
     def text(self) -> str:
         """As Redis reads it."""
         return f"{self.milliseconds}-{self.sequence}"
+
+    def before(self) -> Id:
+        """The highest id below it."""
+        return Id(self.milliseconds, self.sequence - 1) if self.sequence else Id(self.milliseconds - 1, (1 << 64) - 1)
 
 
 @dataclass(frozen=True)
@@ -78,8 +78,13 @@ class Names:
 
     @property
     def answered(self) -> str:
-        """A hash: of each worker and of the gatherer up to which request it has answered."""
+        """A hash: of each worker up to which request it has told its answers. It stands in memory alone."""
         return self._key("answered")
+
+    @property
+    def kept(self) -> str:
+        """A hash: up to which request all replies are kept, by its id and its number."""
+        return self._key("kept")
 
     @property
     def needs(self) -> str:
@@ -96,11 +101,15 @@ class Names:
         return self._key("ids", shard)
 
     def answers(self, shard: int, replica: int) -> str:
-        """The stream of a worker's answers."""
+        """The stream of a worker's answers that are told and not kept. It stands in memory alone."""
         return self._key("answers", shard, replica)
 
+    def told(self, client: str) -> str:
+        """The channel on which workers tell a client their answers."""
+        return self._key("told", client)
+
     def replies(self, client: str) -> str:
-        """The stream of the replies to a client."""
+        """The stream of the replies to a client that are kept."""
         return self._key("replies", client)
 
     def snapshot(self, shard: int, version: str) -> str:

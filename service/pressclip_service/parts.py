@@ -1,14 +1,19 @@
-"""Answers of shards, and how the parts of an answer are put together.
+"""Answers of shards, and how the parts of a reply are put together, mostly by their bytes alone.
 
 The answer to a change or a count is a number. That to a `show` is the query's text as JSON from the shard of its id,
-and nothing from another. That to a `match` is JSON: for each article its id, the ids of the queries that hold in
-order, and what listeners said, each with the place of its query in that list.
+and nothing from another. That to a `match` is the list of alerts as the engine wrote it, without its brackets; where
+listeners said something there follow a line feed and, as JSON, for each article what they said, each with the place of
+its query in the article's list.
+
+A quotation mark inside a text is written with a backslash, so `]},{"article":`, `,"queries":[` and `],"line":` occur
+where members stand and nowhere else; and where there is no backslash at all, `","` stands between two ids.
 """
 
 from __future__ import annotations
 
 import json
 from heapq import merge
+from itertools import chain
 from typing import Sequence
 
 from .errors import EngineFailed
@@ -18,6 +23,8 @@ from .replies import count_in
 _ENCODER = json.JSONEncoder(ensure_ascii=False, separators=(",", ":"))
 _COUNTS = {REGISTER: b'{"line":%d,"registered":%d}', DELETE: b'{"deleted":%d,"line":%d}',
            CLEAR: b'{"cleared":%d,"line":%d}', COUNT: b'{"count":%d,"line":%d}'}
+_ALERTS, _AFTER_ALERTS, _NOTES = b'{"alerts":[', b'],"line":', b',"notes":'
+_ARTICLE, _NEXT_ARTICLE, _QUERIES, _HITS = b'{"article":', b']},{"article":', b',"queries":[', b',"hits":['
 
 
 class Heard:
@@ -45,20 +52,45 @@ class Heard:
         places = [place for place, name in enumerate(found) if name in self.names]
         return [[place, note] for place, note in zip(places, notes[said:])]
 
+    def notes_by_article(self, alerts: Sequence[Sequence[str]], notes: Sequence[str]) -> list[list]:
+        """The notes of each article, by the ids of the queries that hold of it."""
+        said = 0
+        articles = []
+        for found in alerts:
+            articles.append(self.notes_by_place(found, notes, said))
+            said += len(articles[-1])
+        if said != len(notes):
+            raise EngineFailed(f"the engine gave {len(notes)} notes where {said} are due")
+        return articles
+
+
+def _listed(ids: bytes) -> list[str]:
+    """The ids of a list without its brackets."""
+    return json.loads(b"[%b]" % ids)
+
+
+def _articles(alerts: bytes) -> list[tuple[bytes, bytes]]:
+    """Of a list of alerts without its brackets: each article's id as JSON, and its queries, without brackets too."""
+    if not alerts:
+        return []
+    found = []
+    for alert in alerts[len(_ARTICLE):-len(b"]}")].split(_NEXT_ARTICLE):
+        article, _, ids = alert.partition(_QUERIES)
+        found.append((article, ids))
+    return found
+
 
 def match_answer(reply: bytes, heard: Heard) -> bytes:
     """A shard's answer, from its engine's reply to a match."""
-    value = json.loads(reply)
-    notes = value["notes"]
-    said = 0
-    articles = []
-    for found in value["alerts"]:
-        own = heard.notes_by_place(found["queries"], notes, said)
-        said += len(own)
-        articles.append([found["article"], found["queries"], own])
-    if said != len(notes):
-        raise EngineFailed(f"the engine gave {len(notes)} notes where {said} are due")
-    return _ENCODER.encode(articles).encode()
+    end = reply.index(_AFTER_ALERTS)
+    alerts = reply[len(_ALERTS):end]
+    if _HITS in alerts:
+        raise EngineFailed("the engine shows hits, which a grid does not put together")
+    notes = reply[reply.index(_NOTES, end) + len(_NOTES):-1]
+    if notes == b"[]":
+        return alerts
+    said = heard.notes_by_article([_listed(ids) for _, ids in _articles(alerts)], json.loads(notes))
+    return b"%b\n%b" % (alerts, _ENCODER.encode(said).encode())
 
 
 def answer_of(kind: bytes, reply: bytes, is_owner: bool, heard: Heard) -> bytes:
@@ -67,17 +99,49 @@ def answer_of(kind: bytes, reply: bytes, is_owner: bool, heard: Heard) -> bytes:
         return match_answer(reply, heard)
     if kind == SHOW:
         return _ENCODER.encode(json.loads(reply)["query"]).encode() if is_owner else b""
-    return b"%d" % (0 if kind == PURGE else count_in(reply))
+    return b"%d" % (0 if kind in (PURGE, FULL) else count_in(reply))
+
+
+def merged(lists: Sequence[bytes]) -> bytes:
+    """One list of ids in byte order, from lists in that order, all without brackets."""
+    found = [ids for ids in lists if ids]
+    if len(found) < 2:
+        return b"".join(found)
+    if any(b"\\" in ids for ids in found):
+        return _ENCODER.encode(sorted(chain(*map(_listed, found))))[1:-1].encode()
+    # A character for each byte: these sort as the bytes do, and faster.
+    names: list[str] = []
+    for ids in found:
+        names += ids[1:-1].decode("latin-1").split('","')
+    # Sorting finds the parts, each of which is in order, and merges them.
+    names.sort()
+    return b'"%b"' % '","'.join(names).encode("latin-1")
+
+
+def _notes(shards: Sequence[Sequence[tuple[bytes, bytes]]], said: Sequence[bytes]) -> bytes:
+    """What listeners said, in the order of the articles and of their queries' ids, by what each shard's did."""
+    if not any(said):
+        return b"[]"
+    speaking = [(articles, json.loads(text)) for articles, text in zip(shards, said) if text]
+    notes: list[str] = []
+    for place in range(len(shards[0])):
+        own = []
+        for articles, by_article in speaking:
+            names = _listed(articles[place][1])
+            own.append([(names[at], note) for at, note in by_article[place]])
+        notes += [note for _, note in merge(*own)]
+    return _ENCODER.encode(notes).encode()
 
 
 def _matched(number: int, parts: Sequence[bytes]) -> bytes:
     """The reply to a match."""
-    alerts, notes = [], []
-    for articles in zip(*(json.loads(part) for part in parts)):
-        alerts.append({"article": articles[0][0], "queries": sorted(name for found in articles for name in found[1])})
-        said = ([(found[1][place], note) for place, note in found[2]] for found in articles if found[2])
-        notes += [note for _, note in merge(*said)]
-    return _ENCODER.encode({"alerts": alerts, "line": number, "notes": notes}).encode()
+    cut = [part.partition(b"\n") for part in parts]
+    shards = [_articles(alerts) for alerts, _, _ in cut]
+    if any(len(articles) != len(shards[0]) for articles in shards):
+        raise EngineFailed("the shards answered for different numbers of articles")
+    alerts = b",".join(b'{"article":%b,"queries":[%b]}' % (found[0][0], merged([ids for _, ids in found]))
+                       for found in zip(*shards))
+    return b'{"alerts":[%b],"line":%d,"notes":%b}' % (alerts, number, _notes(shards, [said for _, _, said in cut]))
 
 
 def reply_of(kind: bytes, number: int, parts: Sequence[bytes]) -> bytes:

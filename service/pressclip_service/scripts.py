@@ -1,6 +1,7 @@
-"""What Redis does at once: a request enters, a snapshot takes the place of another."""
+"""What Redis does at once: a request enters, answers are told, replies are kept, a snapshot takes another's place."""
 
-# A line enters, or is seen to have entered, or is refused its turn where the line before it did not enter.
+# A line enters, or is seen to have entered, or is refused its turn where the line before it did not enter. Gives the id
+# of the request, `seen`, or `gap`.
 # KEYS: the prefix of the grid. ARGV: client, line's number, number of the client's line before it, checksum, kind,
 # line, and for each shard that it names ids of: shard, how many, the ids, each once.
 # The sets of live ids say whether there is room, so that a line that is full changes no shard.
@@ -13,13 +14,13 @@ if number <= at then return 'seen' end
 if before ~= at then return 'gap' end
 local settings = redis.call('HMGET', prefix .. ':settings', 'shards', 'limit')
 local shards, limit = tonumber(settings[1]), tonumber(settings[2])
-local parts, place = {}, 7
-while ARGV[place] do
-  local count = tonumber(ARGV[place + 1])
+local parts, next = {}, 7
+while ARGV[next] do
+  local count = tonumber(ARGV[next + 1])
   local ids = {}
-  for index = 1, count do ids[index] = ARGV[place + 1 + index] end
-  parts[#parts + 1] = {key = prefix .. ':ids:' .. ARGV[place], ids = ids}
-  place = place + 2 + count
+  for index = 1, count do ids[index] = ARGV[next + 1 + index] end
+  parts[#parts + 1] = {key = prefix .. ':ids:' .. ARGV[next], ids = ids}
+  next = next + 2 + count
 end
 if kind == 'r' then
   local total, is_full = 0, false
@@ -40,10 +41,79 @@ elseif kind == 'c' then
   for shard = 0, shards - 1 do redis.call('DEL', prefix .. ':ids:' .. shard) end
 end
 local count = redis.call('INCR', prefix .. ':number')
-redis.call('XADD', prefix .. ':requests', '*', 'c', client, 'n', ARGV[2], 'm', count, 'k', kind, 'l',
+local place = redis.call('XADD', prefix .. ':requests', '*', 'c', client, 'n', ARGV[2], 'm', count, 'k', kind, 'l',
   kind == 'f' and '' or line)
 redis.call('HSET', prefix .. ':clients', client, ARGV[2] .. ':' .. ARGV[4])
-return 'entered'
+return place
+"""
+
+# A worker tells answers: they stand in Redis's memory and are sent to the clients that listen, and the file of Redis
+# hears of none of it, so that nobody waits for the disk. Where Redis has other answers of the worker than it says,
+# nothing is told. Gives up to where the worker has told, and up to where all is kept.
+# KEYS: the prefix of the grid. ARGV: worker, shard, up to where the worker told before, up to where it has now, and for
+# each answer: the request's id, the client, the number of its line, the request's number, its kind, and the answer.
+TELL = """
+redis.set_repl(redis.REPL_NONE)
+local prefix, worker, shard = KEYS[1], ARGV[1], ARGV[2]
+local told = redis.call('HGET', prefix .. ':answered', worker) or '0-0'
+local kept = redis.call('HGET', prefix .. ':kept', 'at') or '0-0'
+if told ~= ARGV[3] then return {told, kept} end
+for at = 5, #ARGV, 6 do
+  local place, client, kind, answer = ARGV[at], ARGV[at + 1], ARGV[at + 4], ARGV[at + 5]
+  redis.call('XADD', prefix .. ':answers:' .. worker, place, 'c', client, 'n', ARGV[at + 2], 'm', ARGV[at + 3],
+    'k', kind, 'a', answer)
+  redis.call('PUBLISH', prefix .. ':told:' .. client, place .. ' ' .. shard .. ' ' .. kind .. '\\n' .. answer)
+end
+redis.call('HSET', prefix .. ':answered', worker, ARGV[4])
+return {ARGV[4], kept}
+"""
+
+# What was told of the next requests is kept, as far as all shards have told it: each reply in its parts, under its
+# request's id, and at once with them up to where all is kept. A client that was forgotten needs no replies. Answers
+# that are kept are dropped from memory. Gives whether there may be more.
+# KEYS: the prefix of the grid. ARGV: how many requests at most, how many bytes about.
+KEEP = """
+local prefix, most, room = KEYS[1], tonumber(ARGV[1]), tonumber(ARGV[2])
+local settings = redis.call('HMGET', prefix .. ':settings', 'shards', 'replicas')
+local shards, replicas = tonumber(settings[1]), tonumber(settings[2])
+local kept = redis.call('HMGET', prefix .. ':kept', 'at', 'number')
+local at, number, count = kept[1] or '0-0', tonumber(kept[2] or '0'), 0
+
+local function answers(shard, first, last)
+  local key = prefix .. ':answers:' .. shard .. ':' .. (number + 1) % replicas
+  return redis.call('XRANGE', key, first, last, 'COUNT', 1)[1]
+end
+
+local function keep_next()
+  local first = answers(0, '(' .. at, '+')
+  if not first or tonumber(first[2][6]) ~= number + 1 then return false end
+  local client = first[2][2]
+  local fields = {'n', first[2][4], 'k', first[2][8]}
+  for shard = 0, shards - 1 do
+    local told = shard == 0 and first or answers(shard, first[1], first[1])
+    if not told then return false end
+    fields[#fields + 1] = shard
+    fields[#fields + 1] = told[2][10]
+    room = room - #told[2][10]
+  end
+  if redis.call('HEXISTS', prefix .. ':clients', client) == 1 then
+    redis.call('XADD', prefix .. ':replies:' .. client, first[1], unpack(fields))
+  end
+  at, number, count = first[1], number + 1, count + 1
+  return true
+end
+
+while count < most and room > 0 and keep_next() do end
+if count == 0 then return 0 end
+local has_more = (count == most or room <= 0) and 1 or 0
+redis.call('HSET', prefix .. ':kept', 'at', at, 'number', number)
+redis.set_repl(redis.REPL_NONE)
+for shard = 0, shards - 1 do
+  for replica = 0, replicas - 1 do
+    redis.call('XTRIM', prefix .. ':answers:' .. shard .. ':' .. replica, 'MINID', at)
+  end
+end
+return has_more
 """
 
 # A snapshot takes the place of the one that it was made from, and of no other.

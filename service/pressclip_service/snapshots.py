@@ -8,7 +8,7 @@ from dataclasses import dataclass
 from typing import Iterator
 
 from .errors import ServiceError
-from .live import LiveQueries, text_of, value_of
+from .live import LiveQueries, even_lines, text_of, value_of
 from .names import CHANGES, CLEAR, DELETE, KIND, LINE, NUMBER, Id, shard_of
 from .scripts import REPLACE
 from .store import Store
@@ -63,17 +63,17 @@ def lines_of(store: Store, snapshot: Snapshot) -> Iterator[bytes]:
         place += len(lines)
 
 
-def part_of(kind: bytes, line: bytes, shard: int, shards: int) -> tuple[bytes | None, list[dict], list[str]]:
-    """What is a shard's own of a change: the line for it, or None where it has no part, and the queries and the ids
-    that the line names."""
+def part_of(kind: bytes, line: bytes, shard: int, shards: int) -> tuple[list[bytes], list[dict], list[str]]:
+    """What is a shard's own of a change: the lines for it, none where it has no part, and the queries and the ids that
+    they name."""
     if kind == CLEAR:
-        return line, [], []
+        return [line], [], []
     value = value_of(line)
     if kind == DELETE:
         ids = [name for name in value["ids"] if shard_of(name, shards) == shard]
-        return (text_of({"op": "delete", "ids": ids}) if ids else None), [], ids
+        return ([text_of({"op": "delete", "ids": ids})] if ids else []), [], ids
     queries = [listing for listing in value["queries"] if shard_of(listing["id"], shards) == shard]
-    return (text_of({"op": "register", "queries": queries}) if queries else None), queries, []
+    return (even_lines(queries) if queries else []), queries, []
 
 
 def live_at(store: Store, shard: int, shards: int, snapshot: Snapshot, target: Id | None) -> tuple[LiveQueries, int]:
@@ -91,9 +91,8 @@ def live_at(store: Store, shard: int, shards: int, snapshot: Snapshot, target: I
                 raise Replaced()
             number += 1
             if fields[KIND] in CHANGES:
-                line, _, _ = part_of(fields[KIND], fields[LINE], shard, shards)
-                if line is not None:
-                    live.take(line)
+                for part in part_of(fields[KIND], fields[LINE], shard, shards)[0]:
+                    live.take(part)
             after = place
     return live, number
 

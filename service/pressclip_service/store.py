@@ -2,6 +2,7 @@
 
 from __future__ import annotations
 
+import threading
 import time
 from typing import Callable, Mapping, Sequence, TypeVar
 
@@ -12,13 +13,13 @@ from redis.exceptions import TimeoutError as TimedOut
 
 from .errors import ServiceError, tell
 from .names import Id, Names, Settings
+from .wire import Channel, Wire
 
 PAUSE_SECONDS = 0.1
 BLOCK_MILLISECONDS = 1_000
 TIMEOUT_SECONDS = 30.0
 # Errors that pass: Redis is loading, has no memory, can't write its file, is a replica, or runs a script.
 _PASSING = ("LOADING", "OOM", "MISCONF", "READONLY", "BUSY", "MASTERDOWN", "TRYAGAIN")
-_NOT_GREATER = "equal or smaller than the target stream top item"
 
 Entry = tuple[Id, Mapping[bytes, bytes]]
 Result = TypeVar("Result")
@@ -39,7 +40,7 @@ def is_passing(error: Exception) -> bool:
 
 def entries_of(raw: Sequence) -> list[Entry]:
     """Entries of a stream as Redis gave them."""
-    return [(Id.of(key), fields) for key, fields in raw]
+    return [(Id.of(key), dict(zip(fields[::2], fields[1::2]))) for key, fields in raw]
 
 
 class Store:
@@ -48,8 +49,10 @@ class Store:
     def __init__(self, url: str, grid: str, program: str) -> None:
         self.names = Names(grid)
         self.program = program
-        self._redis = redis.Redis.from_url(url, socket_timeout=TIMEOUT_SECONDS, socket_connect_timeout=5.0,
-                                           health_check_interval=0)
+        self._pool = redis.ConnectionPool.from_url(url, socket_timeout=TIMEOUT_SECONDS, socket_connect_timeout=5.0,
+                                                   health_check_interval=0)
+        self._redis = redis.Redis(connection_pool=self._pool)
+        self._wires = threading.local()
         self.last_read = Id(0, 0)
         self._shas: dict[str, str] = {}
 
@@ -99,9 +102,10 @@ class Store:
     def read(self, after: Mapping[str, Id], count: int,
              block: int | None = BLOCK_MILLISECONDS) -> dict[str, list[Entry]]:
         """The next entries of some streams, after a wait where there are none; none where that was too long."""
-        wanted = {key: place.text() for key, place in after.items()}
-        found = self.do(lambda client: client.xread(wanted, count=count, block=block))
-        return {key.decode(): entries_of(raw) for key, raw in found}
+        words = ["XREAD", "COUNT", count, *(() if block is None else ("BLOCK", block)), "STREAMS", *after]
+        words += [place.text() for place in after.values()]
+        [found] = self.do(lambda _: self._ask([words]))
+        return {key.decode(): entries_of(raw) for key, raw in found or ()}
 
     def read_requests(self, after: Id, count: int, block: int | None = BLOCK_MILLISECONDS) -> list[Entry]:
         """The next requests."""
@@ -114,38 +118,40 @@ class Store:
         """The positions in a hash."""
         return {name.decode(): Id.of(text) for name, text in self.do(lambda client: client.hgetall(key)).items()}
 
-    def add_once(self, entries: Sequence[tuple[str, Id, Mapping[bytes, bytes]]],
-                 position: tuple[str, Id] | None) -> None:
-        """Adds entries under their ids, each of which is there once however often it is added; before them a position
-        up to which all was added before."""
-        def call(client: redis.Redis) -> list:
-            pipe = client.pipeline(transaction=False)
-            if position:
-                pipe.hset(self.names.answered, position[0], position[1].text())
-            for key, place, fields in entries:
-                pipe.xadd(key, fields, id=place.text())
-            results = pipe.execute(raise_on_error=False)
-            for result in results:
-                if isinstance(result, Exception) and _NOT_GREATER not in str(result):
-                    raise result
-            return results
-        self.do(call)
+    def kept(self) -> Id:
+        """Up to which request all replies are kept."""
+        return Id.of(self.do(lambda client: client.hget(self.names.kept, "at")))
+
+    def hear(self, channel: str) -> Channel:
+        """A connection that hears what is told on a channel from now on."""
+        heard = Channel(self._pool, channel)
+        self.do(lambda _: heard.open())
+        return heard
+
+    @property
+    def _wire(self) -> Wire:
+        """This thread's own connection."""
+        if not hasattr(self._wires, "own"):
+            self._wires.own = Wire(self._pool)
+        return self._wires.own
+
+    def _ask(self, calls: Sequence[Sequence[object]]) -> list:
+        """What Redis answers to the calls; the first error is raised."""
+        results = self._wire.ask(calls)
+        for result in results:
+            if isinstance(result, ResponseError):
+                raise result
+        return results
 
     def scripted(self, script: str, calls: Sequence[tuple[Sequence[str], Sequence[object]]]) -> list:
-        """The results of calls of a script, each with keys and arguments; an error stands in its place."""
+        """The results of calls of a script, each with keys and arguments. All are made again where one has to be."""
         def call(client: redis.Redis) -> list:
             sha = self._shas.get(script)
             if sha is None:
                 sha = self._shas[script] = client.script_load(script)
-            pipe = client.pipeline(transaction=False)
-            for keys, arguments in calls:
-                pipe.evalsha(sha, len(keys), *keys, *arguments)
-            results = pipe.execute(raise_on_error=False)
-            if any(isinstance(result, NoScriptError) for result in results):
+            try:
+                return self._ask([["EVALSHA", sha, len(keys), *keys, *arguments] for keys, arguments in calls])
+            except NoScriptError:
                 del self._shas[script]
-                raise Unreachable("Redis was started anew and has no scripts")
-            for result in results:
-                if isinstance(result, Exception):
-                    raise result
-            return results
+                raise Unreachable("Redis was started anew and has no scripts") from None
         return self.do(call)

@@ -18,20 +18,19 @@ from typing import Sequence
 
 from .engine import Engine
 from .errors import EngineDied, ServiceError, tell, write_all
+from .hearing import Hearing
 from .lines import BLOCK_BYTES, LineCutter, is_blank
 from .live import value_of
-from .names import (CLEAR, COUNT, DELETE, LINE_NUMBER, MATCH, PURGE, REGISTER, REPLY, SHOW, Id, shard_of)
+from .names import CLEAR, COUNT, DELETE, MATCH, PURGE, REGISTER, SHOW, Id, shard_of
 from .replies import Kind, kind_of, renumbered
 from .scripts import ENTER
-from .store import BLOCK_MILLISECONDS, Store
+from .store import Store
 
 INPUT, OUTPUT = 0, 1
-LINES_AT_ONCE = 128
+LINES_AT_ONCE = 32
 MOST_LINES_IN_FLIGHT = 1_024
 MOST_BYTES_IN_FLIGHT = 16 << 20
-REPLIES_AT_ONCE = 256
 TRIMMED_AFTER = 1_000
-FORGOTTEN_AFTER_SECONDS = 3_600
 PROBE_BYTES = 64 << 20
 MOST_DEATHS_IN_A_ROW = 5
 _CLEAR = b'{"op":"clear"}'
@@ -97,12 +96,15 @@ def ids_by_shard(kind: bytes, line: bytes, shards: int) -> list[object]:
 
 @dataclass
 class Slot:
-    """A line that is owed a reply, which is there already where the line was refused."""
+    """A line that is owed a reply, which is there already where the line was refused; as which request it entered, once
+    that is known; and whether that was in an earlier life, or can't be known."""
 
     number: int
     size: int
     reply: bytes | None
     is_printed: bool
+    is_earlier: bool
+    place: Id | None = None
 
 
 class Submitter:
@@ -114,6 +116,7 @@ class Submitter:
         self.probe = probe
         self.kept = kept
         self.shards = store.settings().shards
+        self.hearing = Hearing(store, client, self.shards)
         told = store.do(lambda redis: redis.hget(store.names.clients, client))
         last, _, checksum = (told or b"0:0").partition(b":")
         self.entered = self.entered_before = int(last)
@@ -166,11 +169,11 @@ class Submitter:
         for (number, line), reply in zip(numbered, self.probe.judge([line for _, line in numbered])):
             is_refused = kind_of(reply) is Kind.REFUSED
             answered = renumbered(reply, number) if is_refused else None
-            slots.append(Slot(number, len(line), answered, number >= self.first))
+            slots.append(Slot(number, len(line), answered, number >= self.first, number <= self.entered_before))
             if number > self.entered_before and not is_refused:
                 calls.append(self._call(number, line, kind_of_line(reply)))
         self._wait_for_room(slots)
-        self._enter(calls)
+        self._enter(calls, [slot for slot in slots if slot.reply is None and not slot.is_earlier])
 
     def _compare(self, line: bytes) -> None:
         """`ServiceError` where the last line that entered under this name was another."""
@@ -194,20 +197,26 @@ class Submitter:
             self.bytes_in_flight += sum(slot.size for slot in slots)
             self.changed.notify_all()
 
-    def _enter(self, calls: list[tuple[list[str], list[object]]]) -> None:
+    def _enter(self, calls: list[tuple[list[str], list[object]]], slots: list[Slot]) -> None:
+        """Lets lines enter, and notes as which requests they did."""
         if not calls:
             return
-        if b"gap" in self.store.scripted(ENTER, calls):
+        entered = self.store.scripted(ENTER, calls)
+        if b"gap" in entered:
             raise ServiceError(f"another program submits under the name {self.client}")
+        with self.changed:
+            for slot, place in zip(slots, entered):
+                slot.is_earlier = place == b"seen"
+                slot.place = None if slot.is_earlier else Id.of(place)
+            self.changed.notify_all()
 
     def _print(self) -> None:
         """Prints replies in the order of the lines, in a thread of its own."""
         try:
-            after, arrived = self._print_earlier()
+            self._print_earlier()
             while self._is_owed():
-                self._print_arrived(arrived)
-                if self.slots and self.slots[0].reply is None:
-                    after = self._read(after, arrived)
+                self._print_arrived()
+                self._wait()
         except Exception as error:
             self.failure = error
 
@@ -218,44 +227,50 @@ class Submitter:
                 self.changed.wait(1.0)
             return bool(self.slots)
 
-    def _read(self, after: Id, arrived: deque[tuple[int, bytes]]) -> Id:
-        """Takes the next replies that came, and gives the place of the last."""
-        key = self.store.names.replies(self.client)
-        for place, fields in self.store.read({key: after}, REPLIES_AT_ONCE, BLOCK_MILLISECONDS).get(key, []):
-            arrived.append((int(fields[LINE_NUMBER]), fields[REPLY]))
-            after = place
-        return after
+    def _wait(self) -> None:
+        """Waits for the oldest reply that is owed, for a short while: until its line entered, or until answers come."""
+        if not self.slots:
+            return
+        oldest = self.slots[0]
+        if oldest.is_earlier:
+            self.hearing.wait_for_kept()
+        elif oldest.place is not None:
+            self.hearing.wait_for(oldest.place)
+        elif oldest.reply is None:
+            with self.changed:
+                self.changed.wait_for(lambda: oldest.place is not None or oldest.is_earlier, 0.1)
 
-    def _print_earlier(self) -> tuple[Id, deque[tuple[int, bytes]]]:
+    def _print_earlier(self) -> None:
         """Where the input goes on behind an earlier one: prints the replies of that one from the first on, as far as
         lines of it entered."""
-        after: Id = Id(0, 0)
-        arrived: deque[tuple[int, bytes]] = deque()
         if not self.goes_on or self.entered_before == 0:
-            return after, arrived
+            return
+        kept = self.hearing.kept
         while True:
-            after = self._read(after, arrived)
-            while arrived:
-                number, reply = arrived.popleft()
-                if number >= self.first:
-                    write_all(OUTPUT, reply + b"\n")
-                if number >= self.entered_before:
-                    return after, arrived
+            self.hearing.wait_for_kept()
+            while kept:
+                earlier = kept.popleft()
+                if earlier.line_number >= self.first:
+                    write_all(OUTPUT, earlier.reply() + b"\n")
+                if earlier.line_number >= self.entered_before:
+                    return
 
-    def _print_arrived(self, arrived: deque[tuple[int, bytes]]) -> None:
+    def _reply_to(self, slot: Slot) -> bytes | None:
+        """The reply to a line, where it came."""
+        if slot.reply is not None:
+            return slot.reply
+        if slot.is_earlier:
+            return self.hearing.reply_to_earlier(slot.number)
+        return self.hearing.reply_to(slot.number, slot.place) if slot.place is not None else None
+
+    def _print_arrived(self) -> None:
         """Prints what can be printed: refusals, and replies that came."""
         out: list[bytes] = []
         done = size = 0
         for slot in list(self.slots):
-            reply = slot.reply
+            reply = self._reply_to(slot)
             if reply is None:
-                while arrived and arrived[0][0] < slot.number:
-                    arrived.popleft()
-                if not arrived:
-                    break
-                number, reply = arrived.popleft()
-                if number != slot.number:
-                    raise ServiceError(f"the reply to line {slot.number} is not kept any more")
+                break
             if slot.is_printed:
                 out += (reply, b"\n")
             done += 1
@@ -280,11 +295,9 @@ class Submitter:
 
 
 def forget(store: Store, client: str) -> None:
-    """Forgets a client. What the gatherer may still add to its replies is dropped after a while."""
-    names = store.names
-    store.do(lambda redis: redis.hdel(names.clients, client))
-    store.do(lambda redis: redis.xtrim(names.replies(client), maxlen=0, approximate=False))
-    store.do(lambda redis: redis.expire(names.replies(client), FORGOTTEN_AFTER_SECONDS))
+    """Forgets a client, and its replies; none are kept for it from here on."""
+    store.do(lambda redis: redis.hdel(store.names.clients, client))
+    store.do(lambda redis: redis.delete(store.names.replies(client)))
 
 
 def submit(store: Store, name: str | None, command: Sequence[str], first: int | None, goes_on: bool, kept: int) -> None:

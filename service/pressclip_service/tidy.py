@@ -5,7 +5,7 @@ from __future__ import annotations
 import time
 
 from .errors import tell
-from .names import GATHERER, Id, worker_name
+from .names import Id, worker_name
 from .snapshots import Replaced, live_at, replace, snapshot_of
 from .store import PAUSE_SECONDS, Store
 
@@ -28,12 +28,12 @@ class Tidier:
             time.sleep(PAUSE_SECONDS * 5)
 
     def passed(self) -> Id:
-        """Up to which request all have answered, and need the stream no more."""
+        """Up to which request all have answered, all replies are kept, and nobody needs the stream."""
         answered = self.store.positions(self.store.names.answered)
         needs = self.store.positions(self.store.names.needs)
         lowest = Id(0, 0)
-        return min(min(answered.get(name, lowest), needs.get(name, answered.get(name, lowest)))
-                   for name in (*self.workers, GATHERER))
+        told = (min(answered.get(name, lowest), needs.get(name, answered.get(name, lowest))) for name in self.workers)
+        return min(self.store.kept(), *told)
 
     def tidy(self) -> bool:
         """A snapshot of each shard at what all have passed, and what stands before it dropped; False where another
@@ -54,13 +54,8 @@ class Tidier:
         return True
 
     def _trim(self, up_to: Id) -> None:
-        """Drops requests and answers before a place; that one itself may stay."""
-        names = self.store.names
-        gathered = self.store.positions(names.answered).get(GATHERER, Id(0, 0))
-        dropped = self.store.do(lambda client: client.xtrim(names.requests, minid=up_to.text(), approximate=False))
-        for shard in range(self.settings.shards):
-            for replica in range(self.settings.replicas):
-                key = names.answers(shard, replica)
-                self.store.do(lambda client: client.xtrim(key, minid=gathered.text(), approximate=False))
+        """Drops requests before a place; that one itself may stay."""
+        requests = self.store.names.requests
+        dropped = self.store.do(lambda client: client.xtrim(requests, minid=up_to.text(), approximate=False))
         if dropped:
             tell(self.store.program, f"snapshots stand at {up_to.text()}; {dropped} requests dropped")

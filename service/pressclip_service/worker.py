@@ -1,8 +1,8 @@
 """A worker: beside one engine, for one shard and one replica of it.
 
-It reads all requests in their order, hands its engine the part that is its own, and adds the answers that are its own
-to its stream, under the ids of the requests. One thread reads requests and feeds the engine, the other takes its
-replies. Started anew it builds the engine from the shard's snapshot and the requests behind it.
+It reads all requests in their order, hands its engine the part that is its own, and tells the answers that are its own
+under the ids of the requests. One thread reads requests and feeds the engine, the other takes its replies. Started anew
+it builds the engine from the shard's snapshot and the requests behind it, and answers again what is not kept.
 """
 
 from __future__ import annotations
@@ -12,21 +12,24 @@ import threading
 import time
 from collections import deque
 from dataclasses import dataclass, field
-from typing import Sequence
+from typing import Mapping, Sequence
 
 from .engine import Engine
 from .errors import EngineDied, EngineFailed, ServiceError, tell
 from .live import value_of
-from .names import (ANSWER, CHANGES, CLEAR, COUNT, DELETE, KIND, LINE, MATCH, NUMBER, PURGE, REGISTER, SHOW, Id,
-                    Settings, shard_of, worker_name)
+from .names import (CHANGES, CLEAR, CLIENT, COUNT, DELETE, KIND, LINE, LINE_NUMBER, MATCH, NUMBER, PURGE, REGISTER,
+                    SHOW, Id, Settings, shard_of, worker_name)
 from .parts import Heard, answer_of
-from .replies import Kind, kind_of
+from .replies import Kind, count_in, kind_of
 from .snapshots import Replaced, Snapshot, lines_of, part_of, snapshot_of
 from .store import Entry, Store
+from .teller import Answer, NotHeld, Teller
 
 MOST_OWED = 1_024
 REQUESTS_AT_ONCE = 64
 IDLE_SECONDS = 1.0
+# So soon a worker that holds answers looks whether Redis has them still.
+LOOK_SECONDS = 0.2
 MOST_DEATHS_IN_A_ROW = 5
 # Before an engine has taken as many changes as it can (4,294,967,295) another is built from the live queries.
 MOST_LINES_OF_AN_ENGINE = 4_000_000_000
@@ -35,15 +38,26 @@ _NOTHING = b'{"op":"count"}'
 
 @dataclass
 class Owed:
-    """A request that was read. Where `is_sent` the engine owes a reply, and where `is_own` the worker an answer."""
+    """A request that was read. The engine owes so many `replies` to its parts, and where `is_own` the worker an
+    answer."""
 
     place: Id
-    kind: bytes
+    fields: Mapping[bytes, bytes]
     is_own: bool
-    is_sent: bool = False
+    replies: int = 0
+    registered: int = 0
     is_owner: bool = False
     queries: list[dict] = field(default_factory=list)
     ids: list[str] = field(default_factory=list)
+
+    @property
+    def kind(self) -> bytes:
+        """The kind of the request."""
+        return self.fields[KIND]
+
+    def answered(self, text: bytes) -> Answer:
+        """The answer to it."""
+        return Answer(self.place, *(self.fields[name] for name in (CLIENT, LINE_NUMBER, NUMBER, KIND)), text)
 
 
 class Session:
@@ -56,19 +70,21 @@ class Session:
         self.replica = replica
         self.engine = engine
         self.name = worker_name(shard, replica)
-        self.stream = store.names.answers(shard, replica)
         self.heard = Heard()
         self.owed: deque[Owed] = deque()
         self.room = threading.Semaphore(MOST_OWED)
         self.stop = threading.Event()
         self.failure: Exception | None = None
-        self.told = self.answered = store.positions(store.names.answered).get(self.name, Id(0, 0))
+        self.kept = store.kept()
+        self.teller = Teller(store, shard, replica, self.kept)
+        # Up to there an earlier life has answered, so that requests behind it may be dropped.
+        self.answered = max(self.kept, store.positions(store.names.answered).get(self.name, Id(0, 0)))
         self.is_behind = True
 
     def run(self) -> None:
         """Answers requests; ends by an error alone."""
         snapshot = self._load()
-        feeder = threading.Thread(target=self._feed, args=(snapshot, self.answered), daemon=True)
+        feeder = threading.Thread(target=self._feed, args=(snapshot,), daemon=True)
         feeder.start()
         try:
             while True:
@@ -97,7 +113,7 @@ class Session:
             self.heard.register(value_of(line)["queries"])
             yield line
 
-    def _feed(self, snapshot: Snapshot, answered: Id) -> None:
+    def _feed(self, snapshot: Snapshot) -> None:
         """Reads requests and sends the engine its parts, in a thread of its own."""
         after, number = snapshot.at, snapshot.number
         try:
@@ -106,14 +122,14 @@ class Session:
                     number += 1
                     if int(entry[1][NUMBER]) != number:
                         raise Replaced()
-                    if not self._feed_one(entry, answered):
+                    if not self._feed_one(entry):
                         return
                     after = entry[0]
                 self.engine.push_all()
         except Exception as error:
             self.failure = error
 
-    def _feed_one(self, entry: Entry, answered: Id) -> bool:
+    def _feed_one(self, entry: Entry) -> bool:
         """Sends the engine its part of a request; False where the session is over."""
         while not self.room.acquire(timeout=0.001):
             self.engine.push_all()
@@ -122,89 +138,93 @@ class Session:
                     return False
                 continue
             break
-        owed, line = self._part(entry, answered)
+        owed, parts = self._parts(entry)
         if self.engine.sent >= MOST_LINES_OF_AN_ENGINE:
             raise EngineDied("the engine has taken as many lines as it may")
-        owed.is_sent = line is not None
+        owed.replies = len(parts)
         self.owed.append(owed)
-        if line is not None:
-            self.engine.send(line)
+        for part in parts:
+            self.engine.send(part)
             if len(self.engine.unsent) > 1 << 16:
                 self.engine.push_all()
         return True
 
-    def _part(self, entry: Entry, answered: Id) -> tuple[Owed, bytes | None]:
-        """What is owed for a request, and the line for the engine, if any."""
+    def _parts(self, entry: Entry) -> tuple[Owed, list[bytes]]:
+        """What is owed for a request, and the lines for the engine."""
         place, fields = entry
         kind, line = fields[KIND], fields[LINE]
-        is_own = int(fields[NUMBER]) % self.settings.replicas == self.replica and place > answered
-        owed = Owed(place, kind, is_own)
-        part: bytes | None = None
+        is_own = int(fields[NUMBER]) % self.settings.replicas == self.replica and place > self.kept
+        owed = Owed(place, fields, is_own)
+        parts: list[bytes] = []
         if kind in CHANGES:
-            part, owed.queries, owed.ids = part_of(kind, line, self.shard, self.settings.shards)
+            parts, owed.queries, owed.ids = part_of(kind, line, self.shard, self.settings.shards)
         elif kind == SHOW and is_own:
             owed.is_owner = shard_of(value_of(line)["id"], self.settings.shards) == self.shard
-            part = line if owed.is_owner else None
+            parts = [line] if owed.is_owner else []
         elif kind == PURGE or (is_own and kind in (MATCH, COUNT)):
-            part = line
-        else:
-            owed.is_own = False
-        if part is None and owed.is_own:
-            part = _NOTHING
-        return owed, part
+            parts = [line]
+        return owed, parts or ([_NOTHING] if is_own else [])
 
     def _take_replies(self) -> None:
-        """Takes what the engine answered, and adds the answers that are due."""
-        readable, _, _ = select.select([self.engine.output], [], [], IDLE_SECONDS)
+        """Takes what the engine answered, and tells the answers that are due."""
+        wait = LOOK_SECONDS if self.teller.is_holding else IDLE_SECONDS
+        readable, _, _ = select.select([self.engine.output], [], [], wait)
         if self.failure:
             raise self.failure
-        answers: list[tuple[str, Id, dict[bytes, bytes]]] = []
+        answers: list[Answer] = []
         handled = self._skip()
         if readable:
             replies = self.engine.read()
             if replies is None:
                 raise EngineDied(f"the engine ended with status {self.engine.wait()}")
             for reply in replies:
-                owed = self.owed.popleft()
+                owed = self.owed[0]
+                if self._awaits(owed, reply):
+                    continue
+                self.owed.popleft()
                 self.room.release()
                 answer = self._follow(owed, reply)
                 if owed.is_own:
-                    answers.append((self.stream, owed.place, {ANSWER: answer}))
+                    answers.append(owed.answered(answer))
                 handled = self._skip() or owed.place
-        self._add(answers, handled, idle=not readable)
+        if answers or not readable:
+            self.teller.tell(answers)
+        self._catch_up(handled)
 
     def _skip(self) -> Id | None:
         """Passes by requests that nothing is owed for, and gives the last of them."""
         place = None
-        while self.owed and not self.owed[0].is_sent:
+        while self.owed and not self.owed[0].replies:
             place = self.owed.popleft().place
             self.room.release()
         return place
 
-    def _follow(self, owed: Owed, reply: bytes) -> bytes:
-        """The answer to a request, by the engine's reply to a part of it."""
+    def _awaits(self, owed: Owed, reply: bytes) -> bool:
+        """Whether the engine owes more replies to a request than this one."""
         if kind_of(reply) is Kind.REFUSED:
             raise EngineFailed(f"the engine refuses what was judged before: {reply[:200]!r}")
+        if kind_of(reply) is Kind.REGISTERED:
+            owed.registered += count_in(reply)
+        owed.replies -= 1
+        return owed.replies > 0
+
+    def _follow(self, owed: Owed, reply: bytes) -> bytes:
+        """The answer to a request, by the engine's last reply to its parts."""
         if owed.is_own and owed.kind in CHANGES and kind_of(reply) is Kind.COUNTED:
             return b"0"
-        answer = answer_of(owed.kind, reply, owed.is_owner, self.heard) if owed.is_own else b""
         if owed.kind == REGISTER:
             self.heard.register(owed.queries)
-        elif owed.kind == DELETE:
+            return b"%d" % owed.registered
+        answer = answer_of(owed.kind, reply, owed.is_owner, self.heard) if owed.is_own else b""
+        if owed.kind == DELETE:
             self.heard.delete(owed.ids)
         elif owed.kind == CLEAR:
             self.heard.names.clear()
         return answer
 
-    def _add(self, answers: Sequence[tuple[str, Id, dict[bytes, bytes]]], handled: Id | None, idle: bool) -> None:
-        """Adds the answers, and tells up to where those before them went."""
-        if answers or (idle and self.answered > self.told):
-            position = (self.name, self.answered) if self.answered > self.told else None
-            self.store.add_once(answers, position)
-            self.told = self.answered
-        if handled is not None and handled > self.answered:
-            self.answered = handled
-        if self.is_behind and handled is not None and handled >= self.told:
+    def _catch_up(self, handled: Id | None) -> None:
+        """Says that no old requests are needed, once the engine is where an earlier life was."""
+        if self.is_behind and handled is not None and handled >= self.answered:
             self.is_behind = False
             self.store.do(lambda client: client.hdel(self.store.names.needs, self.name))
 
@@ -221,6 +241,8 @@ def work(store: Store, shard: int, replica: int, command: Sequence[str]) -> None
             Session(store, settings, shard, replica, Engine(command)).run()
         except Replaced:
             tell(store.program, "the snapshot that it began with was replaced; it begins anew")
+        except NotHeld as why:
+            tell(store.program, f"{why}; it begins anew")
         except EngineDied as error:
             deaths = deaths + 1 if time.monotonic() - start < IDLE_SECONDS else 1
             if deaths > MOST_DEATHS_IN_A_ROW:

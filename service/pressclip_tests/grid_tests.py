@@ -199,9 +199,16 @@ def tidying_drops_what_is_passed() -> None:
         count = grid.run("submit", text=b'{"op":"count"}\n')
         same(count, replies_of_engine(joined(due.lines) + b'{"op":"count"}\n').splitlines()[-1].replace(
             b'"line":1201', b'"line":1') + b"\n", "the count after a start from snapshots")
-        told = [path.read_text() for path in Path(name).glob("worker*.told")]
-        need(all("has the snapshot of 0-0" in text and text.rstrip().splitlines()[-1].find(" 0-0 ") < 0
-                 for text in told), grid.told())
+        deadline = time.monotonic() + 30
+        while not all(begin_with_a_snapshot(name)) and time.monotonic() < deadline:
+            time.sleep(0.2)
+        need(all(begin_with_a_snapshot(name)), grid.told())
+
+
+def begin_with_a_snapshot(name: str) -> list[bool]:
+    """Of each worker whether it began with nothing first, and with a snapshot the last time."""
+    told = [path.read_text() for path in Path(name).glob("worker*.told")]
+    return ["has the snapshot of 0-0" in text and text.rstrip().splitlines()[-1].find(" 0-0 ") < 0 for text in told]
 
 
 def clients_at_once() -> None:

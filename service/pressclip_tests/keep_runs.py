@@ -120,14 +120,16 @@ class Client:
 
 
 def kill_engines(keep: Keep, dice: Random, due: Due, kills: int) -> bytes:
-    """The replies of one `keep` to a whole input, whose engine is ended so many times on the way."""
+    """The replies of one `keep` to a whole input, whose engine is ended so many times on the way: at random places, or
+    as soon after them as there is an engine again."""
     places = set(dice.sample(range(1, len(due.lines)), kills))
     out: list[bytes] = []
-    owed = done = 0
+    owed = done = wanted = 0
     for number, line in enumerate(due.lines):
         keep.send(line)
         owed += due.replies[number] is not None
-        if number in places:
+        wanted += number in places
+        if wanted > done:
             keep.turn(dice.choice([0, 0.002]))
             engine = keep.engine()
             if engine is not None:

@@ -1,3 +1,4 @@
 pub mod Chronicle
 pub mod Callers
 pub mod Ends
+pub mod Rights

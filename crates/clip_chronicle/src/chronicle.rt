@@ -4,8 +4,10 @@ ghost use mathlib.Core.List.{IsPrefix};
 ghost use Rattle.clip_chronicle.specs.Chronicle.{head_of};
 ghost use Rattle.clip_model.specs.History as model;
 ghost use Rattle.clip_model.specs.History.{IsLegal};
+ghost use Rattle.clip_model.specs.declared.limits.TheConstants.{MOST_ENTRIES};
 ghost use Rattle.clip_standing.specs.Command.{entry_of};
 
+use crate::rights::{Right, Rights};
 use clip_registry::Registrar;
 use clip_standing::HistoryEntry;
 use logbook::{Gain, Offer, Plain, Play, Rule, Seen, Start, Word};
@@ -77,8 +79,21 @@ impl Plain<HistoryEntry, Line, u64> for Add {
     ghost state = { λ e. None };
 }
 
-/// The word of a chronicle: the length of its history.
-pub type Head = Word<Line, u64, Law>;
+/// The word of a chronicle: the length of its history. Only `Front::follow` changes it.
+#[derive(Drop)]
+pub struct Head {
+    word: Word<Line, u64, Law>,
+}
+
+impl Model for Head {
+    ghost use Rattle.logbook.specs.Pages.{Named, named_coded};
+
+    ghost Value = { Named };
+
+    ghost coded = { named_coded };
+
+    ghost view = { λ h. h.word };
+}
 
 /// A beginning of the history, which any later history begins with, and its length.
 #[derive(Drop)]
@@ -90,14 +105,18 @@ pub struct Front {
     pub ghost counted: { count ≡ length seen.log },
 }
 
-/// The word of a new chronicle, and its empty history. Constant time.
-pub fn open_chronicle() -> (Head, Front)
+/// The word of a new chronicle, its empty history, and the rights to add to it. Constant time.
+pub fn open_chronicle() -> (Head, Front, Rights)
     ensures head { result.0 ≡ head_of result.1.seen.book }
     ensures empty { result.1.seen.log ≡ [] }
+    ensures rights { result.2 ≡ record { book = result.1.seen.book; given = 0 } }
 {
     let (seen, mut first, _second) = Seen::open(Start::alone(), 0, 0);
-    let head = Word::tracked(0, &mut first);
-    (head, Front { count: 0, seen })
+    let head = Head {
+        word: Word::tracked(0, &mut first),
+    };
+    let rights = Rights::new(&seen);
+    (head, Front { count: 0, seen }, rights)
 }
 
 impl Front {
@@ -123,45 +142,54 @@ impl Front {
         both.learn(&other.seen);
     }
 
-    /// Adds an entry to all that was seen, and says whether it did: it did not where the history is longer. Constant time.
-    pub fn add(&mut self, head: &Head, entry: &HistoryEntry) -> bool
+    /// Adds an entry to all that was seen, and says whether it did: it did not where the history is longer. It asks for the
+    /// right of the entry's caller. Constant time.
+    fn add(&mut self, head: &Head, entry: &HistoryEntry, right: &mut Right) -> bool
         requires head { head.now ≡ head_of self.old.seen.book }
         requires room { length self.old.seen.log < 2 ^ 62 }
+        requires right { (right.old.book ≡ self.old.seen.book)
+            × (right.old.caller ≡ (entry_of entry.now).caller) }
+        requires counted { right.old.made < MOST_ENTRIES }
         ensures book { self.new.seen.book ≡ self.old.seen.book }
         ensures added { MatchBool result (self.new.seen.log ≡ self.old.seen.log
             ++ entry_of entry.now ∷ []) (IsPrefix self.old.seen.log self.new.seen.log) }
+        ensures right { MatchBool result (right.new ≡ record right.old { made = right.old.made + 1 })
+            (right.new ≡ right.old) }
     {
         let mut offer: Offer<Line, u64, Law, Nothing> = self
             .seen
             .plain::<Nothing, HistoryEntry, Add>(entry);
         let mut pen = self.seen.no_pen();
         let old = self.count as u64;
-        let found = head.compare_exchange::<Add, Nothing>(
-            old,
-            old + 1,
-            &mut self.seen,
-            &mut offer,
-            &mut pen,
-        );
-        self.count = if found == old {
-            self.count + 1
-        } else {
-            found as usize
-        };
-        found == old
+        let found = head
+            .word
+            .compare_exchange::<Add, Nothing>(old, old + 1, &mut self.seen, &mut offer, &mut pen);
+        if found != old {
+            self.count = found as usize;
+            return false;
+        }
+        self.count += 1;
+        right.count();
+        true
     }
 
-    /// Adds the newest command of a registrar to all that was seen, and says whether it did. Constant time.
-    pub fn follow(&mut self, head: &Head, registrar: &Registrar) -> bool
+    /// Adds the newest command of a registrar to all that was seen, by the right of its caller, and says whether it did.
+    /// Constant time.
+    pub fn follow(&mut self, head: &Head, registrar: &Registrar, right: &mut Right) -> bool
         requires head { head.now ≡ head_of self.old.seen.book }
-        requires one_more { (e : model.HistoryEntry) × (registrar.now.history ≡ self.old.seen.log ++ e ∷ []) }
+        requires one_more { (e : model.HistoryEntry) × (registrar.now.history ≡ self.old.seen.log ++ e ∷ [])
+            × (e.caller ≡ right.old.caller) }
+        requires book { right.old.book ≡ self.old.seen.book }
+        requires counted { right.old.made ≤ length self.old.seen.log }
         ensures book { self.new.seen.book ≡ self.old.seen.book }
         ensures added { MatchBool result (self.new.seen.log ≡ registrar.now.history)
             (IsPrefix self.old.seen.log self.new.seen.log) }
+        ensures right { MatchBool result (right.new ≡ record right.old { made = right.old.made + 1 })
+            (right.new ≡ right.old) }
         ensures legal { IsLegal registrar.now.history }
     {
         match registrar.history().last() {
-            Some(entry) => self.add(head, entry),
+            Some(entry) => self.add(head, entry, right),
             None => false,
         }
     }

@@ -55,6 +55,39 @@ pub fn publish<R: Wait>(
     writer.publish_as::<Sight, R>(rt)
 }
 
+/// Publishes a copy of a value that goes on from the one before; after an `AllocError` that one stays published.
+fn publish_copy<R: Wait>(
+    rt: &R,
+    writer: WriterEnd,
+    next: &Published,
+) -> (WriterEnd, Result<(), AllocError>)
+    requires { Continues writer.desk.shown.value next.now }
+    ensures { MatchResult result.1 (λ _. result.0.desk.shown.value ≡ next.now)
+        (λ _. result.0.desk.shown.value ≡ writer.desk.shown.value) }
+{
+    match next.copy() {
+        Ok(copy) => publish(rt, writer, copy),
+        Err(AllocError) => (writer, Err(AllocError)),
+    }
+}
+
+/// Publishes a value that goes on from the one before. Where that is refused it tries again, and so waits until a count of
+/// holders falls or memory comes; it may wait for readers that read.
+fn publish_surely<R: Wait>(rt: &R, writer: WriterEnd, next: &Published) -> WriterEnd
+    requires { Continues writer.desk.shown.value next.now }
+    ensures { result.desk.shown.value ≡ next.now }
+{
+    let mut writer = writer;
+    for _ in rt.forever() {
+        let (tried, shown) = publish_copy(rt, writer, next);
+        writer = tried;
+        if shown.is_ok() {
+            return writer;
+        }
+    }
+    unreachable!()
+}
+
 /// Publishes a view whose history is the front's and goes on from the one before; after an `AllocError` that one stays
 /// published. It may wait for readers that read. Constant time.
 pub fn show<R: Wait>(
@@ -78,6 +111,35 @@ pub fn show<R: Wait>(
         callers,
     };
     publish_here(rt, writer, next)
+}
+
+/// The same, and it is never refused: it tries again, and so waits until a count of holders falls or memory comes.
+pub fn show_surely<R: Wait>(rt: &R, writer: &mut WriterEnd, view: View, front: Front)
+    requires log { front.seen.log ≡ view.history }
+    requires book { front.seen.book ≡ writer.old.desk.shown.value.front.seen.book }
+    requires later { IsPrefix writer.old.desk.shown.value.view.history view.history }
+    requires callers { IsBy writer.old.desk.shown.value.callers view.history }
+    ensures { Shows writer.old.desk.shown.value view writer.new.desk.shown.value }
+{
+    let callers = writer.published().callers;
+    let next = Published {
+        view,
+        front,
+        callers,
+    };
+    publish_surely_here(rt, writer, next);
+}
+
+/// The same for any value that goes on from the one before.
+fn publish_surely_here<R: Wait>(rt: &R, writer: &mut WriterEnd, next: Published)
+    requires { Continues writer.old.desk.shown.value next }
+    ensures { writer.new.desk.shown.value ≡ next }
+{
+    replace_with(
+        writer,
+        (rt, next),
+        |writer, (rt, next)| (publish_surely(rt, writer, &next), ()),
+    )
 }
 
 /// The same for any value that goes on from the one before.

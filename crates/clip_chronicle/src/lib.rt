@@ -5,7 +5,9 @@
 mod chronicle;
 mod ends;
 mod published;
+mod rights;
 
 pub use chronicle::{Front, Head, Line, open_chronicle};
-pub use ends::{publish, read_here, show};
+pub use ends::{publish, read_here, show, show_surely};
 pub use published::{Notes, Published, ReaderEnd, WriterEnd};
+pub use rights::{Right, Rights};

@@ -1,4 +1,5 @@
-//! The listeners of the program: each says its alerts in its style and keeps nothing.
+//! The listeners of the program: each says its alerts in its style and keeps nothing. What they hear is in contracts
+//! all the same.
 ghost use Rattle.std.specs.Prelude.{◌≡◌, [], ◌∷◌, codes, IfOk};
 ghost use Rattle.clip_listen.specs.Heard.{names_of};
 
@@ -6,19 +7,21 @@ use clip_listen::{Listener, Named, Render, Style, Teller};
 use clip_words::NoMemory;
 use std::alloc::Global;
 
-/// The listener `mail`, which says `mail: `, the query's id, ` in ` and the article's.
+/// The listener `mail`, which says `mail: `, the query's id, ` in ` and the article's. It has heard nothing.
 pub fn mail(alloc: Global) -> Result<Teller<Style>, NoMemory>
-    ensures { IfOk result (λ teller. ⟦<Teller<Style> as Listener>⟧.style teller
+    ensures style { IfOk result (λ teller. ⟦<Teller<Style> as Listener>⟧.style teller
         ≡ record { head = codes "mail: "; middle = codes " in " }) }
+    ensures heard { IfOk result (λ teller. ⟦<Teller<Style> as Listener>⟧.heard teller ≡ []) }
 {
     let style = Style::new(alloc, "mail: ", " in ")?;
     Ok(Teller::new(Render::in_style(style)?))
 }
 
-/// The listener `feed`, which says `feed `, the query's id, `/` and the article's.
+/// The listener `feed`, which says `feed `, the query's id, `/` and the article's. It has heard nothing.
 pub fn feed(alloc: Global) -> Result<Teller<Style>, NoMemory>
-    ensures { IfOk result (λ teller. ⟦<Teller<Style> as Listener>⟧.style teller
+    ensures style { IfOk result (λ teller. ⟦<Teller<Style> as Listener>⟧.style teller
         ≡ record { head = codes "feed "; middle = codes "/" }) }
+    ensures heard { IfOk result (λ teller. ⟦<Teller<Style> as Listener>⟧.heard teller ≡ []) }
 {
     let style = Style::new(alloc, "feed ", "/")?;
     Ok(Teller::new(Render::in_style(style)?))

@@ -131,9 +131,9 @@ impl<N: DeskName, L: UpdateListener> Desk<N, L> {
         answer
     }
 
-    /// Ends the desk with all its seats, and gives the registry and the listeners. Each unmarked listener has heard, purges
-    /// left out, what it had heard before and then one event for each entry of the history, in order; a marked one some
-    /// first ones of these. `SeatMissing` where a caller's seat isn't there or one is of another tag, and then desk and
+    /// Ends the desk with all its seats, and gives the registry and as many listeners as it was opened with. Each unmarked
+    /// one has heard, purges left out, what the one in its place had heard before and then one event for each entry of the
+    /// history, in order; a marked one some first ones of these. `SeatMissing` where a caller's seat isn't there or one is of another tag, and then desk and
     /// seats come back. It may wait for readers that look. It costs a search among the seats for each caller, and
     /// that of `Registrar::number_of` for each seat.
     pub fn close<R: Wait>(self, rt: &R, seats: Vec<Seat>) -> Result<Closed<L>, SeatMissing<N, L>>

@@ -14,7 +14,7 @@ use crate::refused::Refused;
 use crate::seat::{Receipt, Seat};
 use crate::update_listener::UpdateListener;
 use crate::update_listeners::UpdateListeners;
-use clip_chronicle::{Front, Head, WriterEnd, show};
+use clip_chronicle::{Front, Head, WriterEnd, show_surely};
 use clip_registry::Registrar;
 use clip_standing::Command;
 use std::alloc::Global;
@@ -51,7 +51,7 @@ impl DeskName for Brand {
 pub struct Locked<N: DeskName, L: UpdateListener> {
     pub(crate) registrar: Registrar,
     pub(crate) writer: WriterEnd,
-    head: Head,
+    pub(crate) head: Head,
     pub(crate) front: Front,
     pub(crate) updates: UpdateListeners<L>,
     pub(crate) alloc: Global,
@@ -113,8 +113,9 @@ impl<N: DeskName, L: UpdateListener> Locked<N, L> {
 
     /// Accepts a command as the next of the seat's caller, publishes the registry after it, tells the listeners of it, and
     /// answers the receipt of the history that ends with it; or leaves all as it was, tells nothing, and hands the command
-    /// back: `Full` where it has no room, and `NoMemory` where an allocation failed. It may wait for readers that look. It
-    /// costs that of `Registrar::apply` while a view is held, and what each listener takes.
+    /// back: `Full` where it has no room, and `NoMemory` where an allocation failed. Nothing is refused once its entry
+    /// stands in the chronicle, so the same call can be made again. It may wait for readers that look. It costs that of
+    /// `Registrar::apply` while a view is held, and what each listener takes.
     pub fn commit<R: Wait>(
         &mut self,
         rt: &R,
@@ -164,16 +165,13 @@ impl<N: DeskName, L: UpdateListener> Locked<N, L> {
             applied,
         } = grown;
         let mut front = self.front.again();
-        if !front.follow(&self.head, &registrar) {
+        if !seat.add(&mut front, &self.head, &registrar) {
             return Err((command, Refused::NoMemory));
         }
-        let Ok(()) = show(rt, &mut self.writer, view, front.again()) else {
-            return Err((command, Refused::NoMemory));
-        };
+        show_surely(rt, &mut self.writer, view, front.again());
         self.registrar = registrar;
         self.front = front;
         tell_last(self.alloc, &self.registrar, &mut self.updates);
-        seat.add(&self.front);
         Ok(Receipt::new(seat.tag(), self.front.again(), applied))
     }
 

@@ -9,7 +9,9 @@ use crate::refused::NewRefused;
 use crate::seat::Seat;
 use crate::update_listener::UpdateListener;
 use crate::update_listeners::UpdateListeners;
-use clip_chronicle::{Front, Head, Notes, Published, WriterEnd, open_chronicle, publish};
+use clip_chronicle::{
+    Front, Head, Notes, Published, Right, Rights, WriterEnd, open_chronicle, publish,
+};
 use clip_model::MOST_CALLERS;
 use clip_registry::Registrar;
 use clip_words::NoMemory;
@@ -51,19 +53,20 @@ fn seat_one(
     writer: &mut WriterEnd,
     front: &Front,
     tag: u64,
-    caller: u32,
+    right: Right,
     callers: u32,
 ) -> Result<Seat, NoMemory>
     requires told { IsOf front.now.seen.book callers (view writer.old.desk.place) }
-    requires caller { (0 < caller) × (caller ≤ callers) × (callers ≤ MOST_CALLERS) }
+    requires caller { (0 < right.caller) × (right.caller ≤ callers) × (callers ≤ MOST_CALLERS) }
+    requires right { (right.book ≡ front.now.seen.book) × (right.made ≡ 0) }
     requires empty { front.now.seen.log ≡ [] }
-    ensures seat { IfOk result (λ s. s ≡ new_seat tag callers front.now.seen.book caller) }
+    ensures seat { IfOk result (λ s. s ≡ new_seat tag callers front.now.seen.book right.caller) }
     ensures kept { (view writer.new.desk.place ≡ view writer.old.desk.place)
         × (writer.new.desk.shown ≡ writer.old.desk.shown) }
 {
     let mut end = writer.factory().reader()?;
     end.learn::<Notes>(writer.tell::<Notes>());
-    Ok(Seat::new(end, front.again(), tag, caller, callers))
+    Ok(Seat::new(end, front.again(), tag, right, callers))
 }
 
 /// The seats of callers 1, 2, ..
@@ -71,9 +74,11 @@ fn seat_all(
     alloc: Global,
     writer: &mut WriterEnd,
     front: &Front,
+    rights: Rights,
     tag: u64,
     callers: u32,
 ) -> Result<Vec<Seat>, NoMemory>
+    requires rights { (rights.book ≡ front.now.seen.book) × (rights.given ≡ 0) }
     requires told { IsOf front.now.seen.book callers (view writer.old.desk.place) }
     requires few { callers ≤ MOST_CALLERS }
     requires empty { front.now.seen.log ≡ [] }
@@ -81,8 +86,9 @@ fn seat_all(
     ensures kept { writer.new.desk.shown ≡ writer.old.desk.shown }
 {
     let mut seats = Vec::new(alloc);
+    let mut left = rights;
     for number in 0..callers {
-        let seat = seat_one(writer, front, tag, number + 1, callers)?;
+        let seat = seat_one(writer, front, tag, left.give(), callers)?;
         seats.push(seat)?;
     }
     Ok(seats)
@@ -152,12 +158,12 @@ impl<L: UpdateListener> DeskParts<L> {
         if callers > MOST_CALLERS {
             return Err((updates, NewRefused::TooMany));
         }
-        let (head, front) = open_chronicle();
+        let (head, front, rights) = open_chronicle();
         let registrar = Registrar::new(alloc);
         let Ok(mut writer) = open_ends(rt, alloc, &registrar, &front, callers) else {
             return Err((updates, NewRefused::NoMemory));
         };
-        let Ok(seats) = seat_all(alloc, &mut writer, &front, tag, callers) else {
+        let Ok(seats) = seat_all(alloc, &mut writer, &front, rights, tag, callers) else {
             writer.take(rt);
             return Err((updates, NewRefused::NoMemory));
         };

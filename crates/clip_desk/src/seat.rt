@@ -1,28 +1,30 @@
 //! A caller's seat, and the receipt of a commit.
-ghost use Rattle.std.specs.Prelude.{◌≡◌, ◌+◌, ◌<◌, ◌≤◌, ◌⊎◌, [], ◌∷◌, ◌++◌, length, take, IsTrue, IfOk};
+ghost use Rattle.std.specs.Prelude.{◌≡◌, ◌+◌, ◌<◌, ◌≤◌, ◌⊎◌, [], ◌∷◌, ◌++◌, length, take, IsTrue, IfOk, MatchBool};
 ghost use mathlib.Core.List.{IsPrefix};
 ghost use Rattle.left_right.specs.Sides.{view};
+ghost use Rattle.clip_model.specs.History as model;
 ghost use Rattle.clip_model.specs.History.{own, IsLegal};
 ghost use Rattle.clip_chronicle.specs.Callers.{IsBy};
+ghost use Rattle.clip_chronicle.specs.Chronicle.{head_of};
 ghost use Rattle.clip_chronicle.specs.Ends.{IsOf};
 ghost use Rattle.clip_desk.specs.Seats.{longer};
 
-use clip_chronicle::{Front, Published, ReaderEnd, read_here};
-use clip_model::{MOST_CALLERS, MOST_ENTRIES};
-use clip_registry::View;
+use clip_chronicle::{Front, Head, Published, ReaderEnd, Right, read_here};
+use clip_model::MOST_CALLERS;
+use clip_registry::{Registrar, View};
 use clip_standing::Applied;
 use clip_words::NoMemory;
 use std::marker::Model;
 
-/// One caller's place at a desk, seen as the longest history that it got and the commands that were committed with it.
+/// One caller's place at a desk, seen as the longest history that it got and the commands that were committed with it. It
+/// has the right to add entries of its caller to the desk's history, which nothing else has.
 #[derive(Drop)]
 pub struct Seat {
     end: ReaderEnd,
     front: Front,
     tag: u64,
-    caller: u32,
     callers: u32,
-    made: u32,
+    right: Right,
 }
 
 impl Model for Seat {
@@ -39,18 +41,19 @@ impl Model for Seat {
 
     ghost view = { λ s. record {
       tag = s.tag;
-      caller = s.caller;
+      caller = s.right.caller;
       callers = s.callers;
       book =
           s.front.seen.book;
       seen = s.front.seen.log;
-      mine = mine_of s.front.seen.log s.caller
-          s.made;
+      mine = mine_of s.front.seen.log s.right.caller
+          s.right.made;
     } };
 
     ghost invariant = { λ s. IsOf s.front.seen.book s.callers (known_at s.end.place)
-        × (s.made ≤ length (own s.front.seen.log s.caller)) × (0 < s.caller)
-        × (s.caller ≤ s.callers) × (s.callers ≤ MOST_CALLERS) };
+        × (s.right.made ≤ length (own s.front.seen.log s.right.caller)) × (0 < s.right.caller)
+        × (s.right.caller ≤ s.callers) × (s.callers ≤ MOST_CALLERS)
+        × (s.right.book ≡ s.front.seen.book) };
 }
 
 /// What a commit answers, seen as the history that ends with its command, and the answer.
@@ -105,13 +108,14 @@ impl Receipt {
 
 impl Seat {
     /// The seat of a caller, which has seen nothing. Constant time.
-    pub(crate) fn new(end: ReaderEnd, front: Front, tag: u64, caller: u32, callers: u32) -> Seat
+    pub(crate) fn new(end: ReaderEnd, front: Front, tag: u64, right: Right, callers: u32) -> Seat
         requires end { IsOf front.seen.book callers (view end.place) }
-        requires caller { (0 < caller) × (caller ≤ callers) × (callers ≤ MOST_CALLERS) }
+        requires caller { (0 < right.caller) × (right.caller ≤ callers) × (callers ≤ MOST_CALLERS) }
+        requires right { (right.book ≡ front.seen.book) × (right.made ≡ 0) }
         requires empty { front.seen.log ≡ [] }
         ensures { result ≡ record {
           tag = tag;
-          caller = caller;
+          caller = right.caller;
           callers = callers;
           book =
               front.seen.book;
@@ -123,9 +127,8 @@ impl Seat {
             end,
             front,
             tag,
-            caller,
             callers,
-            made: 0,
+            right,
         }
     }
 
@@ -141,7 +144,7 @@ impl Seat {
         ensures caller { result ≡ self.now.caller }
         ensures known { (0 < result) × (result ≤ self.now.callers) × (self.now.callers ≤ MOST_CALLERS) }
     {
-        self.caller
+        self.right.caller()
     }
 
     /// The registry as it was last published, whose history goes on from all that the seat has seen, with the commands
@@ -162,9 +165,9 @@ impl Seat {
             return Err(NoMemory);
         }
         self.front.meet(&front);
-        let there = view.number_of(self.caller);
+        let there = view.number_of(self.right.caller());
         self.front = front;
-        if there != self.made {
+        if there != self.right.made() {
             return Err(NoMemory);
         }
         Ok(view)
@@ -193,7 +196,7 @@ impl Seat {
             × (own front.now.seen.log self.now.caller ≡ self.now.mine) }
     {
         self.front.meet(front);
-        self.front.count <= front.count && self.made == there
+        self.front.count <= front.count && self.right.made() == there
     }
 
     /// Sees a history that goes on from what was seen. Constant time.
@@ -205,16 +208,26 @@ impl Seat {
         self.front = front.again();
     }
 
-    /// Sees a history that goes on from what was seen, in which the caller's next command is its own. Constant time.
-    pub(crate) fn add(&mut self, front: &Front)
-        requires desk { front.now.seen.book ≡ self.old.book }
-        requires own { IsPrefix self.old.mine (own front.now.seen.log self.old.caller)
-            × (length self.old.mine + 1 ≤ length (own front.now.seen.log self.old.caller)) }
-        requires short { length front.now.seen.log ≤ MOST_ENTRIES }
-        ensures seen { self.new ≡ record self.old { seen = front.now.seen.log; mine = self.new.mine } }
-        ensures mine { self.new.mine ≡ take (length self.old.mine + 1) (own front.now.seen.log self.old.caller) }
+    /// Adds the newest command of a registrar, which is its caller's next, to the history by the seat's right, and sees the
+    /// history with it; or says that it did not, where the history is longer than was seen. Constant time.
+    pub(crate) fn add(&mut self, front: &mut Front, head: &Head, registrar: &Registrar) -> bool
+        requires desk { (front.old.seen.book ≡ self.old.book) × (head.now ≡ head_of self.old.book) }
+        requires one_more { (e : model.HistoryEntry) × (registrar.now.history ≡ front.old.seen.log ++ e ∷ [])
+            × (e.caller ≡ self.old.caller) }
+        requires own { length self.old.mine + 1 ≤ length (own registrar.now.history self.old.caller) }
+        ensures book { front.new.seen.book ≡ front.old.seen.book }
+        ensures added { MatchBool result (front.new.seen.log ≡ registrar.now.history)
+            (IsPrefix front.old.seen.log front.new.seen.log) }
+        ensures legal { IsLegal registrar.now.history }
+        ensures seat { MatchBool result
+            ((self.new ≡ record self.old { seen = registrar.now.history; mine = self.new.mine })
+            × (self.new.mine ≡ take (length self.old.mine + 1) (own registrar.now.history self.old.caller)))
+            (self.new ≡ self.old) }
     {
+        if !front.follow(head, registrar, &mut self.right) {
+            return false;
+        }
         self.front = front.again();
-        self.made += 1;
+        true
     }
 }

@@ -6,33 +6,26 @@ use Rattle.std.proofs.lemmas.List.{append-nil, take-append-drop, take_more, leng
 use Rattle.std.proofs.lemmas.List.Elements.{filter-append, filter_map-append}
 use Rattle.std.proofs.lemmas.Slice.Eq.{bytes_eq-Decides}
 use Rattle.clip_model.specs.Alerts.{Alert}
-use Rattle.clip_listen.specs.Heard.{Hearer, NoteValue, heard_then, is_for, told, told_all, note_by, note_of, notes_of, names_of, distinct, HearsFront}
+use Rattle.clip_listen.specs.Heard.{Hearer, NoteValue, is_for, told, told_all, note_by, note_of, notes_of, names_of, distinct, HearsFront}
 
 -- the names of listeners are those that they stand under
 pub names_kept : {L : Type 0} (f : String Global × L → Hearer) → ((part : String Global × L) → (f part).name ≡ string_bytes part.0) → (parts : List (String Global × L)) → map (λ l. l.name) (map f parts) ≡ names_of parts
 names_kept f same [] = refl
 names_kept f same (part ∷ parts) = ap (λ n. n ∷ map (λ l. l.name) (map f parts)) (same part) ∙ ap (λ ns. string_bytes part.0 ∷ ns) (names_kept f same parts)
 
+-- a listener that heard this
+abbrev with_heard : Hearer → List Alert → Hearer
+with_heard l heard = record { name = l.name; style = l.style; heard = heard; keeps = l.keeps }
+
 -- a listener that heard one more
 abbrev pub heard_more : Alert → Hearer → Hearer
-heard_more alert l = record { name = l.name; style = l.style; heard = heard_then l.heard (alert ∷ []) }
-
-abbrev with_heard : Hearer → Option (List Alert) → Hearer
-with_heard l heard = record { name = l.name; style = l.style; heard = heard }
-
-then_nothing : (heard : Option (List Alert)) → heard_then heard [] ≡ heard
-then_nothing None = refl
-then_nothing (Some alerts) = ap Some (append-nil alerts)
-
-then_more : (heard : Option (List Alert)) (first more : List Alert) → heard_then (heard_then heard first) more ≡ heard_then heard (first ++ more)
-then_more None first more = refl
-then_more (Some alerts) first more = ap Some (append_assoc alerts first more)
+heard_more alert l = with_heard l (l.heard ++ alert ∷ [])
 
 -- one alert at one listener
 told_one : (alert : Alert) (l : Hearer) (b : Bool) → is_for l.name alert ≡ b → told (alert ∷ []) l ≡ cond b (heard_more alert l) l
 told_one alert l b e =
-    ap (λ v. with_heard l (heard_then l.heard (cond v (alert ∷ []) []))) e
-    ∙ elim b as (λ v. with_heard l (heard_then l.heard (cond v (alert ∷ []) [])) ≡ cond v (heard_more alert l) l) [ true ↦ refl | false ↦ ap (with_heard l) (then_nothing l.heard) ]
+    ap (λ v. with_heard l (l.heard ++ cond v (alert ∷ []) [])) e
+    ∙ elim b as (λ v. with_heard l (l.heard ++ cond v (alert ∷ []) []) ≡ cond v (heard_more alert l) l) [ true ↦ refl | false ↦ ap (with_heard l) (append-nil l.heard) ]
 
 for_name : (alert : Alert) (n name : List ℕ) → alert.listener ≡ Some n → is_for name alert ≡ bytes_eq n name
 for_name alert n name e = ap (λ (o : Option (List ℕ)). elim o [ None ↦ false | Some m ↦ bytes_eq m name ]) e
@@ -112,7 +105,7 @@ somebody alert n (x ∷ xs) (suc k) l e once h at name is =
 pub told_more : (front more : List Alert) (hearers : List Hearer) → told_all more (told_all front hearers) ≡ told_all (front ++ more) hearers
 told_more front more [] = refl
 told_more front more (l ∷ ls) =
-    ap (λ x. x ∷ told_all more (told_all front ls)) (ap (with_heard l) (then_more l.heard (filter (is_for l.name) front) (filter (is_for l.name) more) ∙ ap (heard_then l.heard) (sym (filter-append (is_for l.name) front more))))
+    ap (λ x. x ∷ told_all more (told_all front ls)) (ap (with_heard l) (append_assoc l.heard (filter (is_for l.name) front) (filter (is_for l.name) more) ∙ ap (λ xs. l.heard ++ xs) (sym (filter-append (is_for l.name) front more))))
     ∙ ap (λ xs. told (front ++ more) l ∷ xs) (told_more front more ls)
 
 -- what was heard changes no note
@@ -137,7 +130,7 @@ notes_more hearers front alert = filter_map-append (note_of hearers) front (aler
 -- no alert
 pub told_none : (hearers : List Hearer) → told_all [] hearers ≡ hearers
 told_none [] = refl
-told_none (l ∷ ls) = ap (λ x. x ∷ told_all [] ls) (ap (with_heard l) (then_nothing l.heard)) ∙ ap (λ xs. l ∷ xs) (told_none ls)
+told_none (l ∷ ls) = ap (λ x. x ∷ told_all [] ls) (ap (with_heard l) (append-nil l.heard)) ∙ ap (λ xs. l ∷ xs) (told_none ls)
 
 -- the alert at a place, after those before it
 pub told_next : (alerts : List Alert) (i : ℕ) (alert : Alert) (old now : List Hearer) → i < length alerts → alert ≡ get_or alerts i alert → now ≡ told_all (take i alerts) old → told_all (alert ∷ []) now ≡ told_all (take (i + 1) alerts) old

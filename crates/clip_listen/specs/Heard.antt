@@ -1,5 +1,5 @@
 -- What listeners hear of alerts, and the notes that they answer.
-use Rattle.std.specs.Prelude.{◌≡◌, ℕ, List, [], ◌∷◌, ◌++◌, map, filter, filter_map, find, Bool, true, false, Option, Some, None, option_map, bytes_eq, not, ◌&&◌, String, string_bytes}
+use Rattle.std.specs.Prelude.{◌≡◌, ℕ, List, [], ◌∷◌, ◌++◌, map, filter, filter_map, find, Bool, true, false, Option, Some, None, option_map, bytes_eq, not, cond, ◌&&◌, String, string_bytes}
 use Rattle.std.specs.List.{list_any}
 use Rattle.std.specs.Arc.{arc_str_bytes}
 use Rattle.std.specs.declared.alloc.Global.{Global}
@@ -28,15 +28,16 @@ pub record NoteValue : Type 0 where
 
 -- ---- listeners
 
--- the alerts that were heard, where the listener tells them, and then these
-abbrev pub heard_then : Option (List Alert) → List Alert → Option (List Alert)
-heard_then heard alerts = option_map (λ earlier. earlier ++ alerts) heard
-
--- a listener under its name: its style, and the alerts that it has heard, where it tells them
+-- a listener under its name: its style, the alerts that it has heard, in order, and whether it keeps them
 pub record Hearer : Type 0 where
   pub name : List ℕ
   pub style : StyleValue
-  pub heard : Option (List Alert)
+  pub heard : List Alert
+  pub keeps : Bool
+
+-- what a listener tells of what it heard: all of it, where it keeps that
+abbrev pub tells : Bool → List Alert → Option (List Alert)
+tells keeps heard = cond keeps (Some heard) None
 
 -- the alert's query has the listener of this name
 abbrev pub is_for : List ℕ → Alert → Bool
@@ -44,7 +45,7 @@ is_for name alert = elim alert.listener [ None ↦ false | Some n ↦ bytes_eq n
 
 -- A listener after these alerts: it has heard its own, in order, and no other.
 abbrev pub told : List Alert → Hearer → Hearer
-told alerts l = record { name = l.name; style = l.style; heard = heard_then l.heard (filter (is_for l.name) alerts) }
+told alerts l = record { name = l.name; style = l.style; heard = l.heard ++ filter (is_for l.name) alerts; keeps = l.keeps }
 
 abbrev pub told_all : List Alert → List Hearer → List Hearer
 told_all alerts hearers = map (told alerts) hearers
@@ -89,9 +90,9 @@ note_value n = record { listener = arc_str_bytes n.listener; query = arc_str_byt
 abbrev pub alerts_of : Alerts → List Alert
 alerts_of found = map alert_value found.alerts.items
 
--- a listener under its name, by what the listener tells
-abbrev pub hearer : {L : Type 0} → (L → StyleValue) → (L → Option (List Alert)) → String Global × L → Hearer
-hearer style heard part = record { name = string_bytes part.0; style = style part.1; heard = heard part.1 }
+-- a listener under its name
+abbrev pub hearer : {L : Type 0} → (L → StyleValue) → (L → List Alert) → (L → Bool) → String Global × L → Hearer
+hearer style heard keeps part = record { name = string_bytes part.0; style = style part.1; heard = heard part.1; keeps = keeps part.1 }
 
 abbrev pub names_of : {L : Type 0} → List (String Global × L) → List (List ℕ)
 names_of parts = map (λ part. string_bytes part.0) parts

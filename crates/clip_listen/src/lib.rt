@@ -7,9 +7,11 @@ mod note;
 mod places;
 mod render;
 mod style;
+mod told;
 
 pub use listener::{Folder, Listener, Teller};
 pub use listeners::{Audience, Listeners, Named, Twice, deliver_to};
 pub use note::Note;
 pub use render::{Render, Wording};
 pub use style::Style;
+pub use told::Told;

@@ -4,7 +4,7 @@ ghost use Rattle.std.specs.Arc.{arc_str_bytes};
 ghost use Rattle.std.specs.List.{position_from, cons_option};
 ghost use Rattle.std.specs.Option.{ForSome};
 ghost use Rattle.clip_standing.specs.Alerts.{alert_value};
-ghost use Rattle.clip_listen.specs.Heard.{hearer, text_of, told_all, note_of, notes_of, note_value, alerts_of, HearsFront, distinct, names_of, heard_then};
+ghost use Rattle.clip_listen.specs.Heard.{hearer, text_of, told_all, note_of, notes_of, note_value, alerts_of, HearsFront, distinct, names_of};
 ghost use Rattle.clip_listen.specs.Steps.Index.{Indexes};
 
 use crate::listener::Listener;
@@ -96,6 +96,7 @@ impl Audience for Listeners {
       style =
           (Listener-box p.1).style p.1.value;
       heard = (Listener-box p.1).heard p.1.value;
+      keeps = (Listener-box p.1).keeps p.1.value;
     })
         l.parts.items };
 
@@ -144,16 +145,16 @@ fn hear_at(
         ≡ Some at }
     requires own { (alert_value alert.now).listener ≡ Some (arc_str_bytes name.now) }
     ensures names { names_of parts.new.items ≡ names_of parts.old.items }
-    ensures text { IfOk result (λ said. note_of (map (hearer style heard) parts.old.items) (alert_value alert.now)
+    ensures text { IfOk result (λ said. note_of (map (hearer style heard keeps) parts.old.items) (alert_value alert.now)
         ≡ Some (record {
           listener = arc_str_bytes name.now;
           query = (alert_value alert.now).query;
           text = string_bytes said;
         })) }
-    ensures ok { OnOk result (map (hearer style heard) parts.new.items
-        ≡ told_all (alert_value alert.now ∷ []) (map (hearer style heard) parts.old.items)) }
-    ensures err { OnErr result (map (hearer style heard) parts.new.items
-        ≡ map (hearer style heard) parts.old.items) }
+    ensures ok { OnOk result (map (hearer style heard keeps) parts.new.items
+        ≡ told_all (alert_value alert.now ∷ []) (map (hearer style heard keeps) parts.old.items)) }
+    ensures err { OnErr result (map (hearer style heard keeps) parts.new.items
+        ≡ map (hearer style heard keeps) parts.old.items) }
 {
     hear_by(alloc, &mut parts[at].1, alert)
 }
@@ -167,8 +168,9 @@ fn hear_by(
     ensures text { IfOk result (λ said. string_bytes said
         ≡ text_of (style listener.old) (alert_value alert.now)) }
     ensures style { style listener.new ≡ style listener.old }
+    ensures keeps { keeps listener.new ≡ keeps listener.old }
     ensures ok { OnOk result (heard listener.new
-        ≡ heard_then (heard listener.old) (alert_value alert.now ∷ [])) }
+        ≡ heard listener.old ++ alert_value alert.now ∷ []) }
     ensures err { OnErr result (heard listener.new ≡ heard listener.old) }
 {
     listener.hear(alloc, alert)
@@ -182,7 +184,7 @@ impl Listeners {
     /// memory was refused, each name is compared with those after it.
     pub fn new(parts: Vec<Named>) -> Result<Listeners, Twice>
         ensures ok { IfOk result (λ it. ⟦<Listeners as Audience>⟧.hearers it
-            ≡ map (hearer style heard) parts.items) }
+            ≡ map (hearer style heard keeps) parts.items) }
         ensures once { OnOk result (distinct (names_of parts.items) ≡ true) }
         ensures twice { OnErr result (distinct (names_of parts.items) ≡ false) }
         ensures back { IfErr result (λ e. e.parts.items ≡ parts.items) }
@@ -227,7 +229,7 @@ impl Listeners {
 
     /// The listeners under their names, in order.
     pub fn into_parts(self) -> Vec<Named>
-        ensures { map (hearer style heard) result.items ≡ ⟦<Listeners as Audience>⟧.hearers self }
+        ensures { map (hearer style heard keeps) result.items ≡ ⟦<Listeners as Audience>⟧.hearers self }
     {
         let Listeners { parts, index: _ } = self;
         parts

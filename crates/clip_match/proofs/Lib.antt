@@ -1,4 +1,5 @@
 pub mod Due
 pub mod Positions
+pub mod Sent
 pub mod Sorted
 pub mod Whole

@@ -10,7 +10,8 @@ use Rattle.clip_grammar.specs.declared.query.Query.{Query}
 use Rattle.clip_grammar.specs.Tree.{clauses_of, tree_of}
 use Rattle.clip_meaning.specs.Hits.{HitValue, asks, covers, is_named, is_named_by, is_within}
 use Rattle.clip_meaning.specs.Index.{numbered}
-use Rattle.clip_meaning.specs.Steps.Marks.{raised}
+use Rattle.memchr.specs.Find.{places_from}
+use Rattle.clip_meaning.specs.Steps.Marks.{hit_at, is_up, raised}
 use Rattle.clip_meaning.proofs.Numbered.{any_filter, rest_dropped}
 use Rattle.clip_meaning.proofs.Postings.{Place}
 
@@ -114,27 +115,27 @@ named_by field k (c ∷ cs) = ap (λ b. asked field k c || b) (named_by field k 
 
 -- ---- hits
 
--- the flags that are up give the words that pass
-pub raised_hits : (t : Place → Bool) (name : List ℕ) (ws : List (List ℕ)) (n : ℕ) (flags : List Bool) → length flags ≡ length ws → ((k : ℕ) → k < length ws → get_or flags k false ≡ t (get_or ws k [], n + k)) → raised name n flags ≡ map (λ (w : Place). (name, w.1)) (filter t (numbered n ws))
-raised_hits t name [] n [] long up = refl
-raised_hits t name [] n (flag ∷ flags) long up = absurd (omega arith)
-raised_hits t name (w ∷ ws) n [] long up = absurd (omega arith)
-raised_hits t name (w ∷ ws) n (flag ∷ flags) long up =
-    let rest : raised name (n + 1) flags ≡ map (λ (p : Place). (name, p.1)) (filter t (numbered (n + 1) ws)) =
-    raised_hits t name ws (n + 1) flags (omega arith) (λ k lt. up (suc k) (omega arith) ∙ ap (λ (m : ℕ). t (get_or ws k [], m)) (omega arith)) in
-    let here : flag ≡ t (w, n) = up 0 (omega arith) ∙ ap (λ (m : ℕ). t (w, m)) (omega arith) in
-    let kept : HitValue = (name, n) in
-    (λ i. cond (here i) (kept ∷ rest i) (rest i)) ∙ by_test (t (w, n))
+-- the flags that are up from a position on give the words that pass
+raised_from : (t : Place → Bool) (name : List ℕ) (ws : List (List ℕ)) (flags : List ℕ) (n : ℕ) → ((k : ℕ) → k < length ws → is_up (get_or flags (n + k) 0) ≡ t (get_or ws k [], n + k)) → map (hit_at name) (places_from is_up flags n (length ws)) ≡ map (λ (w : Place). (name, w.1)) (filter t (numbered n ws))
+unfolding places_from
+raised_from t name [] flags n up = refl
+raised_from t name (w ∷ ws) flags n up =
+    let rest : map (hit_at name) (places_from is_up flags (n + 1) (length ws)) ≡ map at (filter t (numbered (n + 1) ws)) =
+    raised_from t name ws flags (n + 1) (λ k lt. ap (λ (m : ℕ). is_up (get_or flags m 0)) (omega arith) ∙ up (suc k) (omega arith) ∙ ap (λ (m : ℕ). t (get_or ws k [], m)) (omega arith)) in
+    let here : is_up (get_or flags n 0) ≡ t (w, n) = ap (λ (m : ℕ). is_up (get_or flags m 0)) (omega arith) ∙ up 0 (omega arith) ∙ ap (λ (m : ℕ). t (w, m)) (omega arith) in
+    ap (λ b. map (hit_at name) (cond b (n ∷ places_from is_up flags (n + 1) (length ws)) (places_from is_up flags (n + 1) (length ws)))) here ∙ by_test (t (w, n)) rest
   where
     at : Place → HitValue
     at p = (name, p.1)
 
-    put : HitValue → List HitValue
-    put h = h ∷ map at (filter t (numbered (n + 1) ws))
+    by_test : (b : Bool) → map (hit_at name) (places_from is_up flags (n + 1) (length ws)) ≡ map at (filter t (numbered (n + 1) ws))
+        → map (hit_at name) (cond b (n ∷ places_from is_up flags (n + 1) (length ws)) (places_from is_up flags (n + 1) (length ws))) ≡ map at (cond b ((w, n) ∷ filter t (numbered (n + 1) ws)) (filter t (numbered (n + 1) ws)))
+    by_test true e = ap (λ hs. (name, n) ∷ hs) e
+    by_test false e = e
 
-    by_test : (b : Bool) → cond b (put (name, n)) (map at (filter t (numbered (n + 1) ws))) ≡ map at (cond b ((w, n) ∷ filter t (numbered (n + 1) ws)) (filter t (numbered (n + 1) ws)))
-    by_test true = refl
-    by_test false = refl
+-- the flags that are up give the words that pass
+pub raised_hits : (t : Place → Bool) (name : List ℕ) (ws : List (List ℕ)) (flags : List ℕ) → length flags ≡ length ws → ((k : ℕ) → k < length ws → is_up (get_or flags k 0) ≡ t (get_or ws k [], k)) → raised name flags ≡ map (λ (w : Place). (name, w.1)) (filter t (numbered 0 ws))
+raised_hits t name ws flags long up = ap (λ n. map (hit_at name) (places_from is_up flags 0 n)) (omega (arith, long)) ∙ raised_from t name ws flags 0 (λ k lt. ap (λ (m : ℕ). is_up (get_or flags m 0)) (omega arith) ∙ up k lt ∙ ap (λ (m : ℕ). t (get_or ws k [], m)) (omega arith))
 
 -- ---- fields
 

@@ -120,7 +120,7 @@ impl Field {
 
     /// Raises the flags of a word's positions. Compares about the logarithm of the number of words, and takes a step for
     /// each position.
-    pub(crate) fn mark_word(&self, word: &str, flags: &mut Vec<bool>)
+    pub(crate) fn mark_word(&self, word: &str, flags: &mut Vec<u8>)
         requires { length flags.old.items ≡ length self.now.1 }
         ensures long { length flags.new.items ≡ length flags.old.items }
         ensures raised { AreRaised flags.old.items flags.new.items
@@ -131,7 +131,7 @@ impl Field {
 
     /// Raises the flags of the positions that a phrase covers. Looks only where the phrase's first word stands: at worst
     /// these places times the words of the phrase.
-    pub(crate) fn mark_phrase(&self, phrase: &[ArcStr], flags: &mut Vec<bool>)
+    pub(crate) fn mark_phrase(&self, phrase: &[ArcStr], flags: &mut Vec<u8>)
         ensures long { length flags.new.items ≡ length flags.old.items }
         ensures raised { AreRaised flags.old.items flags.new.items
             (λ k. list_any (λ start. covers self.now.1 (map arc_str_bytes phrase.now) k start.1)
@@ -144,7 +144,7 @@ impl Field {
 
     /// Raises the flags of the words that begin with a front. Compares about the logarithm of the number of words, and
     /// takes a step for each such word.
-    pub(crate) fn mark_front(&self, front: &str, flags: &mut Vec<bool>)
+    pub(crate) fn mark_front(&self, front: &str, flags: &mut Vec<u8>)
         requires { length flags.old.items ≡ length self.now.1 }
         ensures long { length flags.new.items ≡ length flags.old.items }
         ensures raised { AreRaised flags.old.items flags.new.items
@@ -155,7 +155,7 @@ impl Field {
 
     /// Raises the flags of the words between the bounds. Compares about the logarithm of the number of words, and takes a
     /// step for each such word.
-    pub(crate) fn mark_between(&self, low: &Bound, high: &Bound, flags: &mut Vec<bool>)
+    pub(crate) fn mark_between(&self, low: &Bound, high: &Bound, flags: &mut Vec<u8>)
         requires { length flags.old.items ≡ length self.now.1 }
         ensures long { length flags.new.items ≡ length flags.old.items }
         ensures raised { AreRaised flags.old.items flags.new.items
@@ -196,7 +196,7 @@ fn stands_at_any(words: &[ArcStr], postings: &[Posting], phrase: &[ArcStr]) -> b
 }
 
 /// Raises the flags of the words of a phrase at those of the postings where it stands.
-fn mark_runs(words: &[ArcStr], postings: &[Posting], phrase: &[ArcStr], flags: &mut Vec<bool>)
+fn mark_runs(words: &[ArcStr], postings: &[Posting], phrase: &[ArcStr], flags: &mut Vec<u8>)
     ensures long { length flags.new.items ≡ length flags.old.items }
     ensures raised { AreRaised flags.old.items flags.new.items
         (λ k. list_any (λ p. covers (map arc_str_bytes words.now) (map arc_str_bytes phrase.now) k p.1) postings.now) }

@@ -11,8 +11,10 @@ ghost use Rattle.clip_meaning.specs.Steps.Marks.{AreRaised, raised};
 
 use crate::article::Article;
 use crate::field::Field;
+use crate::marking::{DOWN, UP};
 use clip_grammar::query::{Bound, Occur, Query};
 use clip_words::NoMemory;
+use memchr::memchr_iter;
 use std::alloc::Global;
 use std::sync::ArcStr;
 
@@ -33,7 +35,7 @@ fn is_called(field: &Field, name: &str) -> bool
 }
 
 /// Raises the flags of a word's positions, where the field has the name.
-fn mark_word(field: &Field, name: &str, word: &str, flags: &mut Vec<bool>)
+fn mark_word(field: &Field, name: &str, word: &str, flags: &mut Vec<u8>)
     requires { length flags.old.items ≡ length field.now.1 }
     ensures long { length flags.new.items ≡ length flags.old.items }
     ensures raised { AreRaised flags.old.items flags.new.items
@@ -45,7 +47,7 @@ fn mark_word(field: &Field, name: &str, word: &str, flags: &mut Vec<bool>)
 }
 
 /// Raises the flags of the positions that a phrase covers, where the field has the name.
-fn mark_phrase(field: &Field, name: &str, phrase: &[ArcStr], flags: &mut Vec<bool>)
+fn mark_phrase(field: &Field, name: &str, phrase: &[ArcStr], flags: &mut Vec<u8>)
     ensures long { length flags.new.items ≡ length flags.old.items }
     ensures raised { AreRaised flags.old.items flags.new.items (λ k. bytes_eq name.now field.now.0
         && list_any (λ start. covers field.now.1 (map arc_str_bytes phrase.now) k start.1) (numbered 0 field.now.1)) }
@@ -56,7 +58,7 @@ fn mark_phrase(field: &Field, name: &str, phrase: &[ArcStr], flags: &mut Vec<boo
 }
 
 /// Raises the flags of the words that begin with a front, where the field has the name.
-fn mark_front(field: &Field, name: &str, front: &str, flags: &mut Vec<bool>)
+fn mark_front(field: &Field, name: &str, front: &str, flags: &mut Vec<u8>)
     requires { length flags.old.items ≡ length field.now.1 }
     ensures long { length flags.new.items ≡ length flags.old.items }
     ensures raised { AreRaised flags.old.items flags.new.items
@@ -68,7 +70,7 @@ fn mark_front(field: &Field, name: &str, front: &str, flags: &mut Vec<bool>)
 }
 
 /// Raises the flags of the words between the bounds, where the field has the name.
-fn mark_between(field: &Field, name: &str, low: &Bound, high: &Bound, flags: &mut Vec<bool>)
+fn mark_between(field: &Field, name: &str, low: &Bound, high: &Bound, flags: &mut Vec<u8>)
     requires { length flags.old.items ≡ length field.now.1 }
     ensures long { length flags.new.items ≡ length flags.old.items }
     ensures raised { AreRaised flags.old.items flags.new.items (λ k. bytes_eq name.now field.now.0
@@ -91,7 +93,7 @@ fn asks(occur: Occur) -> bool
 }
 
 /// Raises the flags of the words of a field that a leaf of the query names, leaving out MustNot clauses.
-fn mark(query: &Query, field: &Field, flags: &mut Vec<bool>)
+fn mark(query: &Query, field: &Field, flags: &mut Vec<u8>)
     requires { length flags.old.items ≡ length field.now.1 }
     ensures long { length flags.new.items ≡ length flags.old.items }
     ensures raised { AreRaised flags.old.items flags.new.items
@@ -130,14 +132,12 @@ fn add_hit(name: &ArcStr, position: usize, found: &mut Vec<Hit>) -> Result<(), N
 }
 
 /// Adds a hit for each flag that is up.
-fn add_raised(name: &ArcStr, flags: &[bool], found: &mut Vec<Hit>) -> Result<(), NoMemory>
+fn add_raised(name: &ArcStr, flags: &[u8], found: &mut Vec<Hit>) -> Result<(), NoMemory>
     ensures { OnOk result (map hit_value found.new.items
-        ≡ map hit_value found.old.items ++ raised (arc_str_bytes name.now) 0 flags.now) }
+        ≡ map hit_value found.old.items ++ raised (arc_str_bytes name.now) flags.now) }
 {
-    for position in 0..flags.len() {
-        if flags[position] {
-            add_hit(name, position, found)?;
-        }
+    for position in memchr_iter(UP, flags) {
+        add_hit(name, position, found)?;
     }
     Ok(())
 }
@@ -152,7 +152,7 @@ fn add_hits(
     ensures { OnOk result (map hit_value found.new.items
         ≡ map hit_value found.old.items ++ hits_in (tree_of query.now) field.now) }
 {
-    let mut flags = vec![in alloc; false; field.words().len()]?;
+    let mut flags = vec![in alloc; DOWN; field.words().len()]?;
     mark(query, field, &mut flags);
     add_raised(field.name(), &flags, found)
 }

@@ -1,4 +1,3 @@
-pub mod Floats
 pub mod Meanings
 pub mod ObjectMembers
 pub mod RequestLaw

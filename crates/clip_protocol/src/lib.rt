@@ -5,6 +5,7 @@ mod form;
 mod line;
 mod listing;
 mod members;
+mod printing;
 mod refusal;
 mod reply;
 mod request;

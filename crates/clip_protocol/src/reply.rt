@@ -1,24 +1,24 @@
 //! Replies, and their text.
-ghost use Rattle.std.specs.Prelude.{◌≡◌, false, codes, IfOk, map};
+ghost use Rattle.std.specs.Prelude.{◌≡◌, [], ◌∷◌, ◌++◌, codes, IfOk, map, option_map, string_bytes};
 ghost use Rattle.std.specs.Arc.{arc_str_bytes};
-ghost use Rattle.serde_json.specs.Data.{string, array, object, put, member, no_members};
-ghost use Rattle.serde_json.specs.View.{view};
-ghost use Rattle.serde_json.specs.Written.{has_float};
-ghost use Rattle.clip_meaning.specs.Hits.{hit_value};
-ghost use Rattle.clip_standing.specs.Alerts.{alert_value, alerts_value};
+ghost use Rattle.json.specs.Token.{begin_object, end_object};
+ghost use Rattle.serde_json.specs.Data.{Data, string};
+ghost use Rattle.clip_standing.specs.Alerts.{alerts_value};
 ghost use Rattle.clip_protocol.specs.Reply as reply;
-ghost use Rattle.clip_protocol.specs.Request.{array_of};
-ghost use Rattle.clip_protocol.specs.Reply.{printed as printed_text, alerts_data, hit_data, number_of, reply_value};
-ghost use Rattle.clip_protocol.specs.declared.form.Form.TheVariants as form;
+ghost use Rattle.clip_protocol.specs.Reply.{number_of, printed, reply_value};
+ghost use Rattle.clip_protocol.specs.Request.{object_of};
+ghost use Rattle.clip_protocol.specs.Steps.Printing.{data_tokens};
 ghost use Rattle.clip_protocol.specs.Steps.Views.{alerts_by_id, applied_view, reply_view};
 
 use crate::form::Form;
+use crate::printing::{
+    write_alerts_of_all, write_notes, write_number, write_text, write_text_or_null,
+};
 use crate::refusal::Refusal;
 use clip_listen::Note;
-use clip_meaning::Hit;
-use clip_standing::{Alert, Alerts, Applied};
+use clip_standing::{Alerts, Applied};
 use clip_words::NoMemory;
-use serde_json::{Value, json};
+use json::Writer;
 use std::alloc::Global;
 
 /// What is answered to a line.
@@ -50,161 +50,140 @@ pub enum Reply {
     Finished(Vec<Alerts>),
 }
 
-/// The value as compact JSON, and a line feed.
-#[tactic(auto, unfolding(crate::specs::Reply::printed))]
-fn printed(alloc: Global, value: &Value) -> Result<Vec<u8>, NoMemory>
-    requires { has_float (view value.now) ≡ false }
-    ensures { IfOk result (λ text. text.items ≡ printed_text (view value.now)) }
+/// A reply whose object has begun.
+fn begun(alloc: Global) -> Result<Writer, NoMemory>
+    ensures before { IfOk result (λ out. out.before ≡ []) }
+    ensures tokens { IfOk result (λ out. out.tokens ≡ begin_object ∷ []) }
 {
-    let mut text = value.to_vec(alloc)?;
+    let mut out = Writer::new(Vec::with_capacity(alloc, 128)?);
+    out.begin_object()?;
+    Ok(out)
+}
+
+/// The text of a reply, of which all but the end of its object is written: compact JSON, and a line feed.
+fn ended(mut out: Writer) -> Result<Vec<u8>, NoMemory>
+    ensures { (d : Data) → out.before ≡ [] → out.tokens ++ end_object ∷ [] ≡ data_tokens d
+        → IfOk result (λ text. text.items ≡ printed d) }
+{
+    out.end_object()?;
+    let mut text = out.into_inner();
     text.push(b'\n')?;
     Ok(text)
 }
 
-/// The ids of the queries, as JSON.
-fn query_ids(alloc: Global, alerts: &[Alert]) -> Result<Vec<Value>, NoMemory>
-    ensures { IfOk result (λ ids. map view ids.items
-        ≡ map string (map (λ a. a.query) (map alert_value alerts.now))) }
+/// The reply to the line of this number that gives a word under this name, which comes after `line`.
+fn word_text(alloc: Global, number: u64, name: &str, word: &str) -> Result<Vec<u8>, NoMemory>
+    ensures { IfOk result (λ text. text.items ≡ printed (object_of
+        ((codes "line", number_of number) ∷ (name.now, string word.now) ∷ []))) }
 {
-    let mut ids = Vec::with_capacity(alloc, alerts.len())?;
-    for alert in alerts {
-        ids.push(Value::String(String::from_str(alloc, alert.query().as_str())?))?;
-    }
-    Ok(ids)
-}
-
-/// The name of a field and a position in it, as JSON.
-fn hit_json(alloc: Global, hit: &Hit) -> Result<Value, NoMemory>
-    ensures { IfOk result (λ v. view v ≡ hit_data (hit_value hit.now)) }
-{
-    Ok(json!(in alloc; {"field": hit.field.as_str(), "position": hit.position})?)
-}
-
-/// Where a query holds, as JSON.
-fn hits_json(alloc: Global, found: &[Hit]) -> Result<Vec<Value>, NoMemory>
-    ensures { IfOk result (λ hits. map view hits.items ≡ map hit_data (map hit_value found.now)) }
-{
-    let mut hits = Vec::with_capacity(alloc, found.len())?;
-    for hit in found {
-        hits.push(hit_json(alloc, hit)?)?;
-    }
-    Ok(hits)
-}
-
-/// For each alert where its query holds, as JSON.
-fn all_hits_json(alloc: Global, alerts: &[Alert]) -> Result<Vec<Value>, NoMemory>
-    ensures { IfOk result (λ all. map view all.items
-        ≡ map (λ a. array_of (map hit_data a.hits)) (map alert_value alerts.now)) }
-{
-    let mut all = Vec::with_capacity(alloc, alerts.len())?;
-    for alert in alerts {
-        let hits = alert.hits(alloc)?;
-        all.push(Value::Array(hits_json(alloc, &hits)?))?;
-    }
-    Ok(all)
-}
-
-/// An article's alerts in a form, as JSON.
-fn alerts_json(alloc: Global, form: Form, found: &Alerts) -> Result<Value, NoMemory>
-    ensures { IfOk result (λ v. view v ≡ alerts_data form (alerts_by_id (alerts_value found.now))) }
-{
-    let article = found.article.as_str();
-    let queries = query_ids(alloc, &found.alerts)?;
-    match form {
-        Form::Plain => Ok(json!(in alloc; {"article": article, "queries": queries})?),
-        Form::WithHits => {
-            let hits = all_hits_json(alloc, &found.alerts)?;
-            Ok(json!(in alloc; {"article": article, "hits": hits, "queries": queries})?)
-        }
-    }
-}
-
-/// The alerts of each article in a form, as JSON.
-fn all_alerts_json(alloc: Global, form: Form, found: &[Alerts]) -> Result<Vec<Value>, NoMemory>
-    ensures { IfOk result (λ all. map view all.items
-        ≡ map (alerts_data form) (map alerts_by_id (map alerts_value found.now))) }
-{
-    let mut all = Vec::with_capacity(alloc, found.len())?;
-    for alerts in found {
-        all.push(alerts_json(alloc, form, alerts)?)?;
-    }
-    Ok(all)
-}
-
-/// What the listeners said, as JSON.
-fn notes_json(alloc: Global, notes: &[Note]) -> Result<Vec<Value>, NoMemory>
-    ensures { IfOk result (λ texts. map view texts.items
-        ≡ map string (map (λ n. arc_str_bytes n.text) notes.now)) }
-{
-    let mut texts = Vec::with_capacity(alloc, notes.len())?;
-    for note in notes {
-        texts.push(Value::String(String::from_str(alloc, note.text.as_str())?))?;
-    }
-    Ok(texts)
-}
-
-/// The reply to the line of this number that gives a word under this name.
-fn word_json(alloc: Global, number: u64, name: &str, word: &str) -> Result<Value, NoMemory>
-    ensures { IfOk result (λ v. view v ≡ object (put name.now (string word.now)
-        (member (codes "line") (number_of number) no_members))) }
-{
-    Ok(json!(in alloc; {"line": number, name: word})?)
+    let mut out = begun(alloc)?;
+    out.key("line")?;
+    write_number(&mut out, number)?;
+    out.key(name)?;
+    write_text(&mut out, word)?;
+    ended(out)
 }
 
 /// The reply to a line that is refused for what its list has at a place.
 #[tactic(auto, unfolding(crate::specs::Reply::reply_value))]
-fn refused_at_json(
+fn refused_at_text(
     alloc: Global,
     number: u64,
     reason: Refusal,
     place: u64,
-) -> Result<Value, NoMemory>
-    ensures { IfOk result (λ v. view v ≡ reply_value number (reply.refused_at reason place)) }
+) -> Result<Vec<u8>, NoMemory>
+    ensures { IfOk result (λ text. text.items ≡ printed (reply_value number (reply.refused_at reason place))) }
 {
-    Ok(json!(in alloc; {"line": number, "refused": reason.word(), "which": place})?)
+    let mut out = begun(alloc)?;
+    out.key("line")?;
+    write_number(&mut out, number)?;
+    out.key("refused")?;
+    write_text(&mut out, reason.word())?;
+    out.key("which")?;
+    write_number(&mut out, place)?;
+    ended(out)
 }
 
-/// The reply to the line of this number that gives a count under this name.
-fn count_json(alloc: Global, number: u64, name: &str, count: u64) -> Result<Value, NoMemory>
-    ensures { IfOk result (λ v. view v ≡ object (put name.now (number_of count)
-        (member (codes "line") (number_of number) no_members))) }
+/// The reply that gives two numbers under these names, which are in byte order.
+fn numbers_text(
+    alloc: Global,
+    first: &str,
+    one: u64,
+    second: &str,
+    other: u64,
+) -> Result<Vec<u8>, NoMemory>
+    ensures { IfOk result (λ text. text.items ≡ printed (object_of
+        ((first.now, number_of one) ∷ (second.now, number_of other) ∷ []))) }
 {
-    Ok(json!(in alloc; {"line": number, name: count})?)
+    let mut out = begun(alloc)?;
+    out.key(first)?;
+    write_number(&mut out, one)?;
+    out.key(second)?;
+    write_number(&mut out, other)?;
+    ended(out)
 }
 
-/// The reply to the line of this number that gives a value under this name.
-fn value_json(alloc: Global, number: u64, name: &str, value: Value) -> Result<Value, NoMemory>
-    ensures { IfOk result (λ v. view v ≡ object (put name.now (view value)
-        (member (codes "line") (number_of number) no_members))) }
+/// The reply to a purge.
+#[tactic(auto, unfolding(crate::specs::Reply::reply_value))]
+fn purged_text(alloc: Global, number: u64) -> Result<Vec<u8>, NoMemory>
+    ensures { IfOk result (λ text. text.items ≡ printed (reply_value number reply.purged)) }
 {
-    Ok(json!(in alloc; {"line": number, name: value})?)
+    let mut out = begun(alloc)?;
+    out.key("line")?;
+    write_number(&mut out, number)?;
+    out.key("purged")?;
+    out.boolean(true)?;
+    ended(out)
+}
+
+/// The reply that shows a query's text, or that there is none.
+#[tactic(auto, unfolding(crate::specs::Reply::reply_value))]
+fn shown_text(alloc: Global, number: u64, text: &Option<String>) -> Result<Vec<u8>, NoMemory>
+    ensures { IfOk result (λ shown. shown.items
+        ≡ printed (reply_value number (reply.shown (option_map string_bytes text.now)))) }
+{
+    let mut out = begun(alloc)?;
+    out.key("line")?;
+    write_number(&mut out, number)?;
+    out.key("query")?;
+    write_text_or_null(&mut out, text)?;
+    ended(out)
 }
 
 /// The reply to a match.
 #[tactic(auto, unfolding(crate::specs::Reply::reply_value))]
-fn matched_json(
+fn matched_text(
     alloc: Global,
     form: Form,
     number: u64,
     found: &[Alerts],
     notes: &[Note],
-) -> Result<Value, NoMemory>
-    ensures { IfOk result (λ v. view v ≡ reply_value number
-        (reply.matched form (map alerts_by_id (map alerts_value found.now)) (map (λ n. arc_str_bytes n.text) notes.now))) }
+) -> Result<Vec<u8>, NoMemory>
+    ensures { IfOk result (λ text. text.items ≡ printed (reply_value number
+        (reply.matched form (map alerts_by_id (map alerts_value found.now)) (map (λ n. arc_str_bytes n.text) notes.now)))) }
 {
-    let alerts = all_alerts_json(alloc, form, found)?;
-    let notes = notes_json(alloc, notes)?;
-    Ok(json!(in alloc; {"alerts": alerts, "line": number, "notes": notes})?)
+    let mut out = begun(alloc)?;
+    out.key("alerts")?;
+    write_alerts_of_all(&mut out, alloc, form, found)?;
+    out.key("line")?;
+    write_number(&mut out, number)?;
+    out.key("notes")?;
+    write_notes(&mut out, notes)?;
+    ended(out)
 }
 
 /// The reply to the finish of a batch.
 #[tactic(auto, unfolding(crate::specs::Reply::reply_value))]
-fn finished_json(alloc: Global, number: u64, found: &[Alerts]) -> Result<Value, NoMemory>
-    ensures { IfOk result (λ v. view v ≡ reply_value number
-        (reply.finished (map alerts_by_id (map alerts_value found.now)))) }
+fn finished_text(alloc: Global, number: u64, found: &[Alerts]) -> Result<Vec<u8>, NoMemory>
+    ensures { IfOk result (λ text. text.items ≡ printed (reply_value number
+        (reply.finished (map alerts_by_id (map alerts_value found.now))))) }
 {
-    let alerts = all_alerts_json(alloc, Form::Plain, found)?;
-    Ok(json!(in alloc; {"alerts": alerts, "line": number})?)
+    let mut out = begun(alloc)?;
+    out.key("alerts")?;
+    write_alerts_of_all(&mut out, alloc, Form::Plain, found)?;
+    out.key("line")?;
+    write_number(&mut out, number)?;
+    ended(out)
 }
 
 /// The reply to a command that was accepted.
@@ -220,44 +199,32 @@ pub fn accepted(applied: Applied) -> Reply
 
 impl Reply {
     ghost use Rattle.std.specs.Prelude.{◌≡◌, IfOk};
-    ghost use Rattle.serde_json.specs.View.{view};
-    ghost use Rattle.clip_protocol.specs.Reply.{reply_value, reply_text};
+    ghost use Rattle.clip_protocol.specs.Reply.{reply_text};
     ghost use Rattle.clip_protocol.specs.Steps.Views.{reply_view};
-
-    /// The JSON value of the reply to the line of this number.
-    #[tactic(auto, unfolding(crate::specs::Reply::reply_value))]
-    fn value(self, alloc: Global, number: u64) -> Result<Value, NoMemory>
-        ensures { IfOk result (λ v. view v ≡ reply_value number (reply_view self)) }
-    {
-        match self {
-            Reply::Nothing => Ok(Value::Null),
-            Reply::Refused(reason) => word_json(alloc, number, "refused", reason.word()),
-            Reply::RefusedAt(reason, place) => refused_at_json(alloc, number, reason, place),
-            Reply::Registered(count) => count_json(alloc, number, "registered", count),
-            Reply::Deleted(count) => count_json(alloc, number, "deleted", count),
-            Reply::Cleared(count) => count_json(alloc, number, "cleared", count),
-            Reply::Purged => value_json(alloc, number, "purged", Value::Bool(true)),
-            Reply::Counted(count) => count_json(alloc, number, "count", count),
-            Reply::Shown(Some(text)) => value_json(alloc, number, "query", Value::String(text)),
-            Reply::Shown(None) => value_json(alloc, number, "query", Value::Null),
-            Reply::Matched(form, found, notes) => {
-                matched_json(alloc, form, number, &found, &notes)
-            }
-            Reply::Stepped(word) => word_json(alloc, number, "step", word),
-            Reply::Finished(found) => finished_json(alloc, number, &found),
-        }
-    }
 
     /// The text of the reply to the line of this number: compact JSON and a line feed, or nothing.
     ///
-    /// `NoMemory` where an allocation failed. Its cost is linear in the text, and with hits that of `Alert::hits` for each
-    /// alert.
+    /// `NoMemory` where an allocation failed. Its cost is linear in the text, which is written token by token and allocates
+    /// only as it grows; with hits there is that of `Alert::hits` for each alert beside it.
+    #[tactic(auto, unfolding(crate::specs::Reply::reply_value))]
     pub fn text(self, alloc: Global, number: u64) -> Result<Vec<u8>, NoMemory>
         ensures { IfOk result (λ text. text.items ≡ reply_text number (reply_view self)) }
     {
         match self {
             Reply::Nothing => Ok(Vec::new(alloc)),
-            reply => printed(alloc, &reply.value(alloc, number)?),
+            Reply::Refused(reason) => word_text(alloc, number, "refused", reason.word()),
+            Reply::RefusedAt(reason, place) => refused_at_text(alloc, number, reason, place),
+            Reply::Registered(count) => numbers_text(alloc, "line", number, "registered", count),
+            Reply::Deleted(count) => numbers_text(alloc, "deleted", count, "line", number),
+            Reply::Cleared(count) => numbers_text(alloc, "cleared", count, "line", number),
+            Reply::Purged => purged_text(alloc, number),
+            Reply::Counted(count) => numbers_text(alloc, "count", count, "line", number),
+            Reply::Shown(text) => shown_text(alloc, number, &text),
+            Reply::Matched(form, found, notes) => {
+                matched_text(alloc, form, number, &found, &notes)
+            }
+            Reply::Stepped(word) => word_text(alloc, number, "step", word),
+            Reply::Finished(found) => finished_text(alloc, number, &found),
         }
     }
 }

@@ -8,6 +8,10 @@ use Rattle.std.proofs.sync.ArcStr.TheSendSync as arc_str_sent
 use Rattle.std.proofs.option.Option.TheSendSync as option_sent
 use Rattle.std.proofs.sync.Arc.TheSendSync as arc_sent
 use Rattle.std.proofs.vec.Vec.TheSendSync as vec_sent
+use Rattle.once_cell.proofs.race.once_box.OnceBox.TheSendSync as once_sent
+use Rattle.clip_grammar.proofs.Sent.{query_send, query_sync}
+use Rattle.clip_standing.specs.contracts.reading.Reading as reading
+use Rattle.clip_standing.specs.contracts.reading.Reading.TheInside as reading_inside
 use Rattle.clip_standing.specs.contracts.standing.Standing as standing
 use Rattle.clip_standing.specs.contracts.standing.Standing.TheInside as standing_inside
 use Rattle.clip_standing.specs.contracts.entry.Entry as entry
@@ -19,11 +23,17 @@ ruleset global = (sendable, global_sent.the_send, global_sent.the_sync, allocato
 
 ruleset parts = (global, vec_sent.the_send, vec_sent.the_sync, arc_sent.the_send, arc_sent.the_sync, string_sent.the_send, string_sent.the_sync)
 
+reading_send : IsSend reading.the_row
+reading_send = view_send reading_inside.the_row _ _ _ _ (declared_send reading_inside.the_type (search (global, arc_str_sent.the_send), (query_send, tt)))
+
+reading_sync : IsSync reading.the_row
+reading_sync = view_sync reading_inside.the_row _ _ _ _ (declared_sync reading_inside.the_type (search (global, arc_str_sent.the_sync), (query_sync, tt)))
+
 pub standing_send : IsSend standing.the_row
-standing_send = view_send standing_inside.the_row _ _ _ _ (declared_send standing_inside.the_type (search (global, arc_str_sent.the_send), (search (global, arc_str_sent.the_send), (search (global, arc_str_sent.the_send, option_sent.the_send), tt))))
+standing_send = view_send standing_inside.the_row _ _ _ _ (declared_send standing_inside.the_type (search (global, arc_str_sent.the_send), (search (global, arc_str_sent.the_send), (search (global, arc_str_sent.the_send, option_sent.the_send), (once_sent.the_send reading.the_row reading_send, tt)))))
 
 pub standing_sync : IsSync standing.the_row
-standing_sync = view_sync standing_inside.the_row _ _ _ _ (declared_sync standing_inside.the_type (search (global, arc_str_sent.the_sync), (search (global, arc_str_sent.the_sync), (search (global, arc_str_sent.the_sync, option_sent.the_sync), tt))))
+standing_sync = view_sync standing_inside.the_row _ _ _ _ (declared_sync standing_inside.the_type (search (global, arc_str_sent.the_sync), (search (global, arc_str_sent.the_sync), (search (global, arc_str_sent.the_sync, option_sent.the_sync), (once_sent.the_sync reading.the_row reading_send reading_sync, tt)))))
 
 pub entry_send : IsSend entry.the_row
 entry_send = view_send entry_inside.the_row _ _ _ _ (declared_send entry_inside.the_type (search global, (search (global, arc_sent.the_send, standing_send, standing_sync), tt)))

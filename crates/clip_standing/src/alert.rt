@@ -7,7 +7,7 @@ ghost use Rattle.clip_model.specs.Alerts.{alert_for};
 ghost use Rattle.clip_standing.specs.Alerts.{alert_value};
 
 use crate::standing::Standing;
-use clip_meaning::{Article, Hit, hits};
+use clip_meaning::{Article, Hit};
 use clip_words::NoMemory;
 use std::alloc::Global;
 use std::sync::{Arc, ArcStr};
@@ -25,7 +25,8 @@ impl Alert {
     ///
     /// `NoMemory` where the count of holders of one of the two is at its end.
     pub fn of(standing: &Arc<Standing>, article: &Article) -> Result<Alert, NoMemory>
-        ensures { IfOk result (λ alert. alert_value alert ≡ alert_for standing.now.value article.now) }
+        ensures value { IfOk result (λ alert. alert_value alert ≡ alert_for standing.now.value article.now) }
+        ensures article { IfOk result (λ alert. alert.article ≡ article.now) }
     {
         Ok(Alert {
             standing: standing.clone()?,
@@ -42,7 +43,8 @@ impl Alert {
 
     /// The article. Takes constant time.
     pub fn article(&self) -> &Article
-        ensures { result.now.id ≡ (alert_value self.now).article }
+        ensures id { result.now.id ≡ (alert_value self.now).article }
+        ensures article { result.now ≡ self.now.article }
     {
         &self.article
     }
@@ -57,18 +59,19 @@ impl Alert {
     /// Where in the article the query holds: the positions of the words that its leaves name, by the bytes of their
     /// fields' names and then by position. They are found at each call.
     ///
-    /// `NoMemory` where an allocation failed. Cost: the reading of the query's text, and that of `clip_meaning::hits`.
+    /// `NoMemory` where an allocation failed. Cost: that of `Standing::hits_in`.
     pub fn hits(&self, alloc: Global) -> Result<Vec<Hit>, NoMemory>
         ensures { IfOk result (λ hits. map hit_value hits.items ≡ (alert_value self.now).hits) }
     {
-        hits(alloc, &self.standing.query(alloc)?, &self.article)
+        self.standing.hits_in(alloc, &self.article)
     }
 
     /// The same alert once more. It shares the query and the article. Takes constant time.
     ///
     /// `NoMemory` where the count of holders of one of the two is at its end.
     pub fn copy(&self) -> Result<Alert, NoMemory>
-        ensures { IfOk result (λ alert. alert_value alert ≡ alert_value self.now) }
+        ensures value { IfOk result (λ alert. alert_value alert ≡ alert_value self.now) }
+        ensures article { IfOk result (λ alert. alert.article ≡ self.now.article) }
     {
         Alert::of(&self.standing, &self.article)
     }

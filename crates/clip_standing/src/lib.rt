@@ -4,6 +4,7 @@
 mod alert;
 mod command;
 mod entry;
+mod reading;
 mod standing;
 
 pub use alert::{Alert, Alerts};

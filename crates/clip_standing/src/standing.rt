@@ -1,5 +1,5 @@
 //! Standing queries: a query under an id, with the name of a listener or none.
-ghost use Rattle.std.specs.Prelude.{◌≡◌, IfOk, IfErr, option_map, string_bytes};
+ghost use Rattle.std.specs.Prelude.{◌≡◌, IfOk, IfErr, map, option_map, string_bytes};
 ghost use Rattle.std.specs.Arc.{arc_str_bytes};
 ghost use Rattle.std.specs.Option.{option_copied};
 ghost use Rattle.clip_standing.specs.Standing.{IsStanding, IsStandingFault};
@@ -7,13 +7,18 @@ ghost use Rattle.clip_standing.specs.Steps.KeptReading.{KeptReading, one_tree_of
 ghost use Rattle.clip_grammar.specs.Laws.{IsRead};
 ghost use Rattle.clip_grammar.specs.Reading.{IsFault};
 ghost use Rattle.clip_grammar.specs.Tree.{tree_of};
+ghost use Rattle.clip_meaning.specs.Hits.{hit_value, hits};
 
+use crate::reading::Reading;
 use clip_grammar::fault::QueryFault;
 use clip_grammar::laws::one_reading;
 use clip_grammar::query::Query;
+use clip_meaning::{Article, Hit, hits};
 use clip_syntax::read_query;
 use clip_words::{NoMemory, is_id};
+use once_cell::race::OnceBox;
 use std::alloc::{AllocError, Global};
+use std::fmt;
 use std::marker::Model;
 use std::sync::ArcStr;
 use thiserror::Error;
@@ -67,13 +72,15 @@ impl From<QueryFault> for StandingFault {
 
 /// A standing query: a query under an id, with the name of a listener or none.
 ///
-/// Its query is the reading of its text; it isn't kept, since a query's tree takes far more memory than its text.
-/// Its texts are shared by clones. No reader but `query` takes memory, and each takes constant time.
-#[derive(Debug, Drop)]
+/// Its query is the reading of its text; it isn't kept until hits are asked for, since a query's tree takes far more
+/// memory than its text. Its texts are shared by clones. No reader but `query` and `hits_in` takes memory, and each
+/// other takes constant time.
+#[derive(Drop)]
 pub struct Standing {
     id: ArcStr,
     text: ArcStr,
     listener: Option<ArcStr>,
+    kept: OnceBox<Reading>,
     ghost reading: { KeptReading (arc_str_bytes text) } by { one_tree_of _ },
 }
 
@@ -90,6 +97,16 @@ impl Model for Standing {
     ghost view = { standing_of };
 
     ghost invariant = { λ s. IsStanding (standing_of s) };
+}
+
+impl fmt::Debug for Standing {
+    fn fmt<W: fmt::Write>(&self, f: &mut fmt::Formatter<W>) -> fmt::Result {
+        f.debug_struct("Standing")
+            .field("id", &self.id)
+            .field("text", &self.text)
+            .field("listener", &self.listener)
+            .finish()
+    }
 }
 
 /// The name of a listener, as a text that a `clone` shares.
@@ -152,7 +169,12 @@ impl Standing {
         }
         check_text(alloc, text.as_str())?;
         let (id, text, listener) = shared_texts(id, text, listener)?;
-        Ok(Standing { id, text, listener })
+        Ok(Standing {
+            id,
+            text,
+            listener,
+            kept: OnceBox::new(alloc),
+        })
     }
 
     /// The id, 1 to 256 bytes.
@@ -188,6 +210,31 @@ impl Standing {
             Err(QueryFault::NoMemory) => Err(NoMemory),
             Err(_) => unreachable!(),
         }
+    }
+
+    /// The reading of the text, which is made at the first call and kept.
+    fn reading(&self, alloc: Global) -> Result<&Reading, NoMemory> {
+        if let Some(reading) = self.kept.get() {
+            return Ok(reading);
+        }
+        let query = self.query(alloc)?;
+        let made = Box::new(alloc, Reading::new(self.text.clone()?, query))?;
+        Ok(self.kept.get_or_init(move || made))
+    }
+
+    /// Where in the article the query holds, as `clip_meaning::hits` gives it. The query's tree is made at the first call
+    /// and kept as long as the standing query is.
+    ///
+    /// `NoMemory` where an allocation failed. Cost: that of `clip_meaning::hits`, and at the first call the reading of the
+    /// text.
+    pub fn hits_in(&self, alloc: Global, article: &Article) -> Result<Vec<Hit>, NoMemory>
+        ensures { IfOk result (λ found. map hit_value found.items ≡ hits self.now.tree article.now.fields) }
+    {
+        let reading = self.reading(alloc)?;
+        if reading.is_of(self.text.as_str()) {
+            return hits(alloc, reading.query(), article);
+        }
+        hits(alloc, &self.query(alloc)?, article)
     }
 
     /// The law that every standing query keeps. Takes no memory. Constant time.

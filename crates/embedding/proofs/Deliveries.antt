@@ -1,22 +1,18 @@
 -- What two deliveries do together.
-use Rattle.std.proofs.Common.{◌≡◌, ℕ, ◌+◌, ◌<◌, List, [], ◌∷◌, ◌++◌, length, get_or, take, flat_map, map, refl, sym, ap, ◌∙◌, Option, Some, None, append_assoc, filter}
+use Rattle.std.proofs.Common.{◌≡◌, ℕ, ◌+◌, ◌<◌, List, [], ◌∷◌, ◌++◌, length, get_or, take, flat_map, map, refl, sym, ap, ◌∙◌, append_assoc, filter}
 use Rattle.std.specs.List.{cons_option}
 use Rattle.std.proofs.lemmas.List.{flat_map_more, map-append, take_more}
 use Rattle.std.proofs.lemmas.List.Elements.{filter-append, filter_map-append}
 use Rattle.clip_model.specs.Alerts.{Alert}
-use Rattle.clip_listen.specs.Heard.{Hearer, NoteValue, heard_then, is_for, told, told_all, note_of, notes_of}
+use Rattle.clip_listen.specs.Heard.{Hearer, NoteValue, is_for, told, told_all, note_of, notes_of}
 use Rattle.clip_listen.proofs.Hearing.{notes_kept}
 
-heard_both : (heard : Option (List Alert)) (first more : List Alert) → heard_then (heard_then heard first) more ≡ heard_then heard (first ++ more)
-heard_both None first more = refl
-heard_both (Some alerts) first more = ap Some (append_assoc alerts first more)
-
-abbrev with_heard : Hearer → Option (List Alert) → Hearer
-with_heard l heard = record { name = l.name; style = l.style; heard = heard }
+abbrev with_heard : Hearer → List Alert → Hearer
+with_heard l heard = record { name = l.name; style = l.style; heard = heard; keeps = l.keeps }
 
 told_both : (first more : List Alert) (l : Hearer) → told more (told first l) ≡ told (first ++ more) l
 told_both first more l =
-    ap (with_heard l) (heard_both l.heard (filter (is_for l.name) first) (filter (is_for l.name) more) ∙ ap (heard_then l.heard) (sym (filter-append (is_for l.name) first more)))
+    ap (with_heard l) (append_assoc l.heard (filter (is_for l.name) first) (filter (is_for l.name) more) ∙ ap (λ xs. l.heard ++ xs) (sym (filter-append (is_for l.name) first more)))
 
 -- telling some alerts and then more is telling them all
 all_told : (first more : List Alert) (hearers : List Hearer) → told_all more (told_all first hearers) ≡ told_all (first ++ more) hearers

@@ -1,5 +1,5 @@
 //! A listener of the program's own.
-ghost use Rattle.std.specs.Prelude.{◌≡◌, [], Some, IfOk};
+ghost use Rattle.std.specs.Prelude.{◌≡◌, [], IfOk};
 ghost use Rattle.clip_listen.specs.Heard.{style_value};
 
 use clip_listen::{Listener, Render, Style};
@@ -18,7 +18,7 @@ impl Desk {
     /// A desk that has heard nothing, with room for so many alerts; for more it takes memory as it hears them.
     pub fn new(alloc: Global, render: Render<Style>, room: usize) -> Result<Desk, NoMemory>
         ensures style { IfOk result (λ desk. ⟦<Desk as Listener>⟧.style desk ≡ style_value render.style) }
-        ensures heard { IfOk result (λ desk. ⟦<Desk as Listener>⟧.heard desk ≡ Some []) }
+        ensures heard { IfOk result (λ desk. ⟦<Desk as Listener>⟧.heard desk ≡ []) }
     {
         let kept = Vec::with_capacity(alloc, room)?;
         Ok(Desk { render, kept })
@@ -26,13 +26,15 @@ impl Desk {
 }
 
 impl Listener for Desk {
-    ghost use Rattle.std.specs.Prelude.{Some, map};
+    ghost use Rattle.std.specs.Prelude.{true, map};
     ghost use Rattle.clip_standing.specs.Alerts.{alert_value};
     ghost use Rattle.clip_listen.specs.Heard.{style_value};
 
     ghost style = { λ desk. style_value desk.render.style };
 
-    ghost heard = { λ desk. Some (map alert_value desk.kept.items) };
+    ghost heard = { λ desk. map alert_value desk.kept.items };
+
+    ghost keeps = { λ desk. true };
 
     fn hear(&mut self, alloc: Global, alert: &Alert) -> Result<String, NoMemory> {
         let text = self.render.text(alloc, alert)?;

@@ -3,39 +3,53 @@ ghost use Rattle.std.specs.Prelude.{◌≡◌, IfOk};
 ghost use Rattle.clip_listen.specs.Heard.{style_value};
 
 use crate::making::{alert, alerts};
-use clip_listen::{Folder, Listener, Listeners, Named, Note, Render, Style, Teller, Wording};
+use clip_listen::{Folder, Listener, Listeners, Named, Note, Render, Style, Teller, Told, Wording};
 use clip_samples::{add_listener, folder, teller};
 use clip_standing::Alert;
 use clip_words::NoMemory;
 use std::alloc::{AllocError, Global};
 use std::cell::Cell;
+use std::sync::Arc;
+use std::sync::atomic::AtomicU64;
+use std::sync::atomic::Ordering::SeqCst;
 use std::test::Fail;
 
-/// A listener of the test's own, which keeps nothing.
+/// A listener of the test's own, which keeps nothing and counts what it sends.
 #[derive(Drop)]
 struct Postcard {
-    sent: bool,
+    sent: Arc<AtomicU64>,
+    told: Told,
 }
 
 impl Listener for Postcard {
-    ghost use Rattle.std.specs.Prelude.{codes, None};
+    ghost use Rattle.std.specs.Prelude.{codes, false};
 
     ghost style = { λ p. record { head = codes "card "; middle = codes " on " } };
 
-    ghost heard = { λ p. None };
+    ghost heard = { λ p. p.told.alerts };
+
+    ghost keeps = { λ p. false };
 
     fn hear(&mut self, alloc: Global, alert: &Alert) -> Result<String, NoMemory> {
         let mut text = String::from_str(alloc, "card ")?;
         text.push_str(alert.query())?;
         text.push_str(" on ")?;
         text.push_str(alert.article().id())?;
-        self.sent = true;
+        self.sent.fetch_add(1, SeqCst);
+        self.told = self.told.then(alert);
         Ok(text)
     }
 
     fn heard(&self) -> Option<&[Alert]> {
         None
     }
+}
+
+/// A postcard that counts here what it sends.
+fn card(alloc: Global, sent: &Arc<AtomicU64>) -> Result<Box<Postcard>, NoMemory> {
+    let sent = sent.clone()?;
+    let told = Told::new();
+    Ok(Box::new(alloc, Postcard { sent, told })?)
 }
 
 /// A wording that refuses its second call.
@@ -149,14 +163,39 @@ fn among_listeners_of_each_kind_each_alert_is_heard_by_its_own(
     let mut parts: Vec<Named> = Vec::new(alloc);
     add_listener(alloc, &mut parts, "mail", folder(alloc, "mail: ", " in ")?)?;
     add_listener(alloc, &mut parts, "feed", teller(alloc, "feed ", "/")?)?;
-    let card = Box::new(alloc, Postcard { sent: false })?;
-    add_listener(alloc, &mut parts, "card", card)?;
+    let sent = Arc::new(alloc, AtomicU64::new(0))?;
+    add_listener(alloc, &mut parts, "card", card(alloc, &sent)?)?;
     for number in 0..300u32 {
         let (name, teller) = desk(alloc, number)?;
         parts.push((name, teller))?;
     }
     let told = told(alloc, parts, &QUERIES)?;
     assert!(rt; told.as_str() == TOLD, "{told}");
+    Ok(())
+}
+
+/// Queries, three of which have the listener `card`.
+static CARDS: [(&str, Option<&str>); 5] = [
+    ("q1", Some("card")),
+    ("q2", Some("mail")),
+    ("q3", Some("card")),
+    ("q4", None),
+    ("q5", Some("card")),
+];
+
+#[test]
+fn a_listener_that_keeps_nothing_sends_each_of_its_alerts_once(
+    rt: HostRuntime,
+) -> Result<(), Fail> {
+    let alloc = rt.alloc();
+    let sent = Arc::new(alloc, AtomicU64::new(0))?;
+    let mut parts: Vec<Named> = Vec::new(alloc);
+    add_listener(alloc, &mut parts, "mail", teller(alloc, "mail: ", " in ")?)?;
+    add_listener(alloc, &mut parts, "card", card(alloc, &sent)?)?;
+    let mut listeners = Listeners::new(parts).ok().ok_or("a name repeats")?;
+    listeners.deliver(alloc, &alerts(alloc, &CARDS)?)?;
+    let sent = sent.load(SeqCst);
+    assert!(rt; sent == 3, "{sent}");
     Ok(())
 }
 

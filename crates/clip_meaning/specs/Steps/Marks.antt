@@ -1,12 +1,20 @@
 -- Flags, one for each word of a field, that are raised where leaves name the word.
-use Rattle.std.specs.Prelude.{◌≡◌, ℕ, ◌+◌, ◌<◌, Bool, false, cond, ◌||◌, List, [], ◌∷◌, length, get_or}
+use Rattle.std.specs.Prelude.{◌≡◌, ℕ, ◌<◌, Bool, ◌||◌, List, map, length, get_or}
+use Rattle.memchr.specs.Find.{is_byte, places}
 use Rattle.clip_meaning.specs.Hits.{HitValue}
 
--- a flag is up afterwards where it was before, and where its position passes the test
-abbrev pub AreRaised : (old new : List Bool) → (ℕ → Bool) → Type 0
-AreRaised old new t = (k : ℕ) → k < length old → get_or new k false ≡ (get_or old k false || t k)
+-- the flag is up
+abbrev pub is_up : ℕ → Bool
+is_up = is_byte 1
 
--- a hit in the field of this name for each flag that is up, of which the first is at `start`
-abbrev pub raised : (name : List ℕ) (start : ℕ) → List Bool → List HitValue
-raised name start [] = []
-raised name start (flag ∷ flags) = cond flag ((name, start) ∷ raised name (start + 1) flags) (raised name (start + 1) flags)
+-- a flag is up afterwards where it was before, and where its position passes the test
+abbrev pub AreRaised : (old new : List ℕ) → (ℕ → Bool) → Type 0
+AreRaised old new t = (k : ℕ) → k < length old → is_up (get_or new k 0) ≡ (is_up (get_or old k 0) || t k)
+
+-- the hit at a position of the field of this name
+abbrev pub hit_at : (name : List ℕ) → ℕ → HitValue
+hit_at name position = (name, position)
+
+-- a hit in the field of this name for each flag that is up
+abbrev pub raised : (name : List ℕ) → List ℕ → List HitValue
+raised name flags = map (hit_at name) (places is_up flags)

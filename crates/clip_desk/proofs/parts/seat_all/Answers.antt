@@ -1,6 +1,6 @@
-use Rattle.std.proofs.Common.{◌∙◌, subst, sym, arith, List}
+use Rattle.std.proofs.Common.{◌∙◌, ◌+◌, ap, subst, sym, arith, List}
 use Rattle.std.proofs.lemmas.Grind.{common_steps}
-use Rattle.clip_desk.specs.Seats.{SeatIs, AreSeated}
+use Rattle.clip_desk.specs.Seats.{SeatIs, AreSeated, new_seat}
 use Rattle.clip_desk.proofs.Seating.{seated_more}
 use Rattle.clip_desk.proofs.parts.seat_all.Goals as goal
 
@@ -8,10 +8,14 @@ pub loop-number-preserved : goal.loop-number-preserved
 loop-number-preserved c =
     let i = c.loop-number.invariant in
     let kept = c.seat_one.ensures.kept in
+    let next = ap (λ n. n + 1) i.left_given in
+    let caller = c.give.ensures.right.1 ∙ next in
     record {
       seated = subst (λ (l : List SeatIs). AreSeated c.args.tag c.args.callers c.args.front.now.seen.book l) (sym c.in_ok-push.ensures.items)
-          (seated_more c.args.tag c.args.callers c.args.front.now.seen.book c.loop-number.seats.items c.in_ok-seat.seat c.loop-number.number i.seated (grind (arith, common_steps)) c.in_ok-seat.ensures.seat);
+          (seated_more c.args.tag c.args.callers c.args.front.now.seen.book c.loop-number.seats.items c.in_ok-seat.seat c.loop-number.number i.seated (grind (arith, common_steps)) (c.in_ok-seat.ensures.seat ∙ ap (new_seat c.args.tag c.args.callers c.args.front.now.seen.book) caller));
       count = grind (arith, common_steps);
+      left_given = ap (λ r. r.given) c.give.ensures.given ∙ next;
+      left_book = ap (λ r. r.book) c.give.ensures.given ∙ i.left_book;
       view_same = kept.0 ∙ i.view_same;
       shown_same = kept.1 ∙ i.shown_same;
     }

@@ -8,5 +8,7 @@ invariant-loop-number l = record {
   seated : AreSeated l.tag l.callers l.front.seen.book l.seats.items;
   count : vec_len l.seats ≡ l.number;
   view_same : view l.writer.desk.place ≡ view l.initial.writer.desk.place;
+  left_given : l.left.given ≡ l.number;
+  left_book : l.left.book ≡ l.front.seen.book;
   shown_same : l.writer.desk.shown ≡ l.initial.writer.desk.shown;
 }

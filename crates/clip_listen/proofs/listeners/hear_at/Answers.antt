@@ -13,12 +13,12 @@ returns-clause-names g c = names_stay c.args.parts.now.items c.args.at c.index_m
 
 pub returns-clause-text : goal.returns-clause-text
 returns-clause-text g c =
-    IfOk-weaker c.hear_by.result _ _ (λ said h. notes_one _ _ c.args.parts.now.items c.args.at c.index_mut.result.now c.index_mut.ensures.value (alert_value c.args.alert.now) _ c.requires.own c.requires.once c.requires.place _ h) c.hear_by.ensures.text
+    IfOk-weaker c.hear_by.result _ _ (λ said h. notes_one _ _ _ c.args.parts.now.items c.args.at c.index_mut.result.now c.index_mut.ensures.value (alert_value c.args.alert.now) _ c.requires.own c.requires.once c.requires.place _ h) c.hear_by.ensures.text
 
 pub returns-clause-ok : goal.returns-clause-ok
 returns-clause-ok g c =
-    on_ok_then c.hear_by.result (hears_one _ _ c.args.parts.now.items c.args.at c.index_mut.result.now c.index_mut.ensures.value (alert_value c.args.alert.now) _ c.requires.own c.requires.once c.requires.place _ c.hear_by.ensures.style) c.hear_by.ensures.ok
+    on_ok_then c.hear_by.result (hears_one _ _ _ c.args.parts.now.items c.args.at c.index_mut.result.now c.index_mut.ensures.value (alert_value c.args.alert.now) _ c.requires.own c.requires.once c.requires.place _ c.hear_by.ensures.style c.hear_by.ensures.keeps) c.hear_by.ensures.ok
 
 pub returns-clause-err : goal.returns-clause-err
 returns-clause-err g c =
-    on_err_then c.hear_by.result (hears_nothing _ _ c.args.parts.now.items c.args.at c.index_mut.result.now c.index_mut.ensures.value _ c.hear_by.ensures.style) c.hear_by.ensures.err
+    on_err_then c.hear_by.result (hears_nothing _ _ _ c.args.parts.now.items c.args.at c.index_mut.result.now c.index_mut.ensures.value _ c.hear_by.ensures.style c.hear_by.ensures.keeps) c.hear_by.ensures.err

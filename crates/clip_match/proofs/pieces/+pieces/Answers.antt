@@ -10,11 +10,18 @@ use denote.Struct.Field.{row_field, shr_ref_field, shr_slice_field, u64-field, u
 use denote.Param.{param}
 use denote.Struct.Tuple.{TupleAt, type_at}
 use Rattle.std.specs.contracts.alloc.Global as global
+use Rattle.std.specs.contracts.impls.GlobalAllocator.TheImpl as global_allocator
 use Rattle.std.proofs.alloc.Global.TheSendSync as global_sent
+use Rattle.std.below.std_heap.proofs.GlobalAllocator.TheSendSync as allocator_sent
+use Rattle.std.proofs.result.Result.TheSendSync as result_sent
+use Rattle.std.proofs.vec.Vec.TheSendSync as vec_sent
+use Rattle.clip_words.proofs.NoMemory.TheSendSync as no_memory_sent
+use Rattle.clip_standing.specs.contracts.alert.Alerts as alerts
 use Rattle.clip_registry.specs.contracts.view.View as view
 use Rattle.clip_registry.proofs.Sent.{view_is_sync}
 use Rattle.clip_meaning.specs.contracts.article.Article as article
 use Rattle.clip_meaning.proofs.article.Article.TheSendSync as article_sent
+use Rattle.clip_match.proofs.Sent.{alerts_send}
 use Rattle.clip_match.proofs.pieces.+pieces.Goals as goal
 
 -- a closure of eight captures
@@ -49,3 +56,8 @@ join-first-requires-send-F g t c κs within =
     (captures_send name rt global.the_row looked front u64-field.row number number gate
     (shr_send _ _ _ (param_sync 0 _ r)) global_sent.the_send (shr_send _ _ _ view_is_sync) (shr_slice_send _ _ _ article_sent.the_sync)
     (search sendable) (search sendable) (search sendable) (shr_send _ _ _ (param_sync 1 _ s))))
+
+pub join-first-requires-send-A : goal.join-first-requires-send-A
+join-first-requires-send-A g t c κs within =
+    let found = vec_sent.the_send alerts.the_row global.the_row global_allocator.ghosts alerts_send global_sent.the_send allocator_sent.the_frees in
+    param_send 3 _ (arg_send _ no _ (result_sent.the_send _ _ found no_memory_sent.the_send))

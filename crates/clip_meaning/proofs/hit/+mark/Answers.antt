@@ -1,13 +1,14 @@
-use Rattle.std.proofs.Common.{◌∙◌, ◌||◌, [], ap, sym, false, get_or, map}
+use Rattle.std.proofs.Common.{◌∙◌, ◌||◌, [], ap, sym, get_or, map}
 use Rattle.clip_grammar.specs.Tree.{clauses_of, tree_of}
 use Rattle.clip_grammar.proofs.Trees.{tree_of_group}
 use Rattle.clip_meaning.specs.Hits.{is_named, is_named_by}
+use Rattle.clip_meaning.specs.Steps.Marks.{is_up}
 use Rattle.clip_meaning.proofs.Marks.{asked, named_by, raise_end}
 use Rattle.clip_meaning.proofs.hit.+mark.Goals as goal
 
 pub returns-after-loop-occur-clause-raised : goal.returns-after-loop-occur-clause-raised
 returns-after-loop-occur-clause-raised t c k lt =
-    let old = get_or c.args.flags.now.items k false in
+    let old = is_up (get_or c.args.flags.now.items k 0) in
     let field = c.args.field.now in
     let cs = c.deref-occur-items.result.now in
     raise_end (asked field k) cs c.loop-occur.occur-index _ _ c.loop-occur-test.false (c.loop-occur.invariant.raised k lt)

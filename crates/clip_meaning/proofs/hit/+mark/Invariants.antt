@@ -1,10 +1,11 @@
-use Rattle.std.proofs.Common.{◌≡◌, ℕ, ◌<◌, ◌||◌, false, length, get_or, drop}
+use Rattle.std.proofs.Common.{◌≡◌, ℕ, ◌<◌, ◌||◌, length, get_or, drop}
 use Rattle.std.specs.List.{list_any}
+use Rattle.clip_meaning.specs.Steps.Marks.{is_up}
 use Rattle.clip_meaning.proofs.Marks.{asked}
 use Rattle.clip_meaning.proofs.hit.+mark.Given as goal
 
 abbrev pub invariant-loop-occur : goal.invariant-loop-occur
 invariant-loop-occur l = record {
   long : length l.flags.items ≡ length l.fn.flags.items;
-  raised : (k : ℕ) → k < length l.fn.flags.items → (get_or l.flags.items k false || list_any (asked l.field k) (drop l.occur-index l.occur-items)) ≡ (get_or l.fn.flags.items k false || list_any (asked l.field k) l.occur-items);
+  raised : (k : ℕ) → k < length l.fn.flags.items → (is_up (get_or l.flags.items k 0) || list_any (asked l.field k) (drop l.occur-index l.occur-items)) ≡ (is_up (get_or l.fn.flags.items k 0) || list_any (asked l.field k) l.occur-items);
 }

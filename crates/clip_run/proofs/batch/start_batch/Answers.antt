@@ -9,7 +9,9 @@ use denote.Struct.Field.{row_field, u64-field}
 use denote.Struct.Tuple.{TupleAt, type_at}
 use Rattle.std.proofs.alloc.Global.TheSendSync as global_sent
 use Rattle.std.below.std_heap.proofs.GlobalAllocator.TheSendSync as allocator_sent
+use Rattle.std.proofs.result.Result.TheSendSync as result_sent
 use Rattle.std.proofs.vec.Vec.TheSendSync as vec_sent
+use Rattle.clip_words.proofs.NoMemory.TheSendSync as no_memory_sent
 use Rattle.clip_meaning.proofs.article.Article.TheSendSync as article_sent
 use Rattle.clip_meaning.specs.contracts.article.Article as article
 use Rattle.clip_registry.proofs.Sent.{view_is_send}
@@ -17,6 +19,8 @@ use Rattle.clip_registry.specs.contracts.view.View as view
 use Rattle.std.specs.contracts.alloc.Global as global
 use Rattle.std.specs.contracts.impls.GlobalAllocator.TheImpl as global_allocator
 use Rattle.std.specs.contracts.vec.Vec as vec
+use Rattle.clip_standing.specs.contracts.alert.Alerts as alerts
+use Rattle.clip_match.proofs.Sent.{alerts_send}
 use Rattle.clip_run.proofs.batch.start_batch.Goals as goal
 
 ruleset lists = (sendable, global_sent.the_send, global_sent.the_sync, allocator_sent.the_frees, vec_sent.the_send, article_sent.the_send)
@@ -30,3 +34,8 @@ pub spawn_with-requires-send-F : goal.spawn_with-requires-send-F
 spawn_with-requires-send-F g c κs within =
     let articles = vec.the_row article.the_row global.the_row global_allocator.ghosts in
     param_send 2 _ (arg_send _ no _ (captures_send _ global.the_row view.the_row articles (u64-field).row (param 1 g.row.G) (search lists) view_is_send (search lists) (search sendable) (search (sendable, c.type_bounds.send-G))))
+
+pub spawn_with-requires-send-T : goal.spawn_with-requires-send-T
+spawn_with-requires-send-T g c κs within =
+    let found = vec_sent.the_send alerts.the_row global.the_row global_allocator.ghosts alerts_send global_sent.the_send allocator_sent.the_frees in
+    param_send 3 _ (arg_send _ no _ (result_sent.the_send _ _ found no_memory_sent.the_send))

@@ -5,7 +5,7 @@ use Rattle.clip_chronicle.proofs.chronicle.Front.add.Goals as goal
 
 pub compare_exchange-found-requires : goal.compare_exchange-found-requires
 compare_exchange-found-requires c =
-    let h = c.requires.head in
+    let h = c.head.view_is ∙ c.requires.head in
     let offer = c.plain-offer.ensures in
     let pen = c.no_pen-pen.ensures in (
       ap (λ w. w.tracked) h,

@@ -2,13 +2,17 @@ use Rattle.std.proofs.Common.{◌≡◌, ◌<◌, ◌≤◌, ◌∙◌, ℕ, Lis
 use Rattle.clip_model.specs.History.{History, next_entry, own, with_command, IsLegal}
 use Rattle.clip_standing.specs.Command.{command_of}
 use Rattle.clip_chronicle.specs.Callers.{IsBy}
+use Rattle.clip_chronicle.specs.Chronicle.{head_of}
 use Rattle.clip_desk.specs.Updates.{AllFollow, AreTold, Heard, event_of}
+use mathlib.Core.List.{IsPrefix}
+use Rattle.clip_chronicle.proofs.Fronts.{prefix_self}
+use Rattle.clip_desk.specs.Seats.{SeatIs}
 use Rattle.clip_desk.proofs.Following.{all_follow_entry}
 use Rattle.clip_desk.proofs.Commits.{followed, own_grown, mine_grown, own_fits, seen_grown, by_grown}
 use Rattle.clip_desk.proofs.locked.Locked.commit.Goals as goal
 
-pub invariant_of-self-2 : goal.invariant_of-self-2
-invariant_of-self-2 g c =
+pub invariant_of-self : goal.invariant_of-self
+invariant_of-self g c =
     let before = c.self.inside.registrar.history in
     let next = c.in-Ok.grown.registrar in
     let e = next_entry before c.caller-caller.result (command_of c.args.command) in
@@ -19,8 +23,8 @@ invariant_of-self-2 g c =
           (all_follow_entry g.N.DeskName.heard_before before c.self.inside.updates told c.self.invariant.1 e (c.tell_last.ensures before e history)),
     )
 
-pub show-requires-clause-callers : goal.show-requires-clause-callers
-show-requires-clause-callers g c =
+pub show_surely-requires-clause-callers : goal.show_surely-requires-clause-callers
+show_surely-requires-clause-callers g c =
     let i = c.self.invariant.0 in
     let seen = c.self.inside.front.seen.log in
     let caller = c.args.seat.now.caller in
@@ -34,14 +38,27 @@ show-requires-clause-callers g c =
     let high : caller ≤ g.N.DeskName.callers = omega (arith, known.1, same, c.requires.desk.1) in
     by_grown shown.callers g.N.DeskName.callers caller shown.view.history seen view command shown.callers_are (ap (λ v. v.history) i.shown_is ∙ sym i.log) is low high i.shown_callers
 
+pub add-requires-clause-desk : goal.add-requires-clause-desk
+add-requires-clause-desk g c =
+    let i = c.self.invariant.0 in
+    (ap (λ f. f.seen.book) c.again-front.ensures ∙ (i.book_is ∙ sym c.requires.desk.0), i.head_is ∙ ap head_of (sym c.requires.desk.0))
+
+pub add-requires-clause-one_more : goal.add-requires-clause-one_more
+add-requires-clause-one_more g c =
+    let before = c.self.inside.registrar.history in
+    let e = next_entry before c.caller-caller.result (command_of c.args.command) in
+    let history : c.in-Ok.grown.registrar.history ≡ before ++ e ∷ [] = ap (λ s. s.history) c.in-Ok.ensures.registrar in
+    let front = ap (λ f. f.seen.log) c.again-front.ensures ∙ c.self.invariant.0.log in
+    (e, history ∙ ap (λ l. l ++ e ∷ []) (sym front), c.caller-caller.ensures.caller)
+
 pub add-requires-clause-own : goal.add-requires-clause-own
 add-requires-clause-own g c =
     let seen = c.self.inside.front.seen.log in
     let caller = c.args.seat.now.caller in
     let command = command_of c.args.command in
-    let after = c.follow.new.self.seen.log in
-    let is : after ≡ with_command seen caller command = followed c.self.inside.registrar c.in-Ok.grown.registrar seen after caller c.caller-caller.result command c.if-not-follow.ensures.added c.in-Ok.ensures.registrar c.self.invariant.0.log c.caller-caller.ensures.caller in
-    own_fits seen after c.args.seat.now.mine caller command is (c.if-not-agrees.ensures refl).1
+    let after = c.in-Ok.grown.registrar.history in
+    let is : after ≡ with_command seen caller command = followed c.self.inside.registrar c.in-Ok.grown.registrar seen after caller c.caller-caller.result command refl c.in-Ok.ensures.registrar c.self.invariant.0.log c.caller-caller.ensures.caller in
+    (own_fits seen after c.args.seat.now.mine caller command is (c.if-not-agrees.ensures refl).1).1
 
 pub returns-clause-told : goal.returns-clause-told
 returns-clause-told g c =
@@ -59,7 +76,7 @@ returns-clause-legal g c =
     let command = command_of c.args.command in
     let after = c.new.result.history in
     let next = c.in-Ok.grown.registrar in
-    let told : after ≡ next.history = ap (λ r. r.history) c.new.ensures ∙ ap (λ f. f.seen.log) c.again-2.ensures ∙ c.if-not-follow.ensures.added in
+    let told : after ≡ next.history = ap (λ r. r.history) c.new.ensures ∙ ap (λ f. f.seen.log) c.again-2.ensures ∙ c.if-not-add.ensures.added in
     let is : after ≡ with_command seen caller command = followed c.self.inside.registrar next seen after caller c.caller-caller.result command told c.in-Ok.ensures.registrar i.log c.caller-caller.ensures.caller in
     let known = c.caller-caller.ensures.known in
     let same = c.caller-caller.ensures.caller in
@@ -67,7 +84,7 @@ returns-clause-legal g c =
     let low : 0 < caller = omega (arith, known.0, same) in
     let high : caller ≤ g.N.DeskName.callers = omega (arith, known.1, same, c.requires.desk.1) in
     let by : IsBy shown.callers after = by_grown shown.callers g.N.DeskName.callers caller shown.view.history seen after command shown.callers_are (ap (λ v. v.history) i.shown_is ∙ sym i.log) is low high i.shown_callers in
-    (subst IsLegal (sym told) c.follow.ensures.legal, subst (λ (n : ℕ). IsBy n after) i.shown_callers by)
+    (subst IsLegal (sym told) c.add.ensures.legal, subst (λ (n : ℕ). IsBy n after) i.shown_callers by)
 
 pub returns-clause-seen : goal.returns-clause-seen
 returns-clause-seen g c =
@@ -75,9 +92,9 @@ returns-clause-seen g c =
     let caller = c.args.seat.now.caller in
     let command = command_of c.args.command in
     let after = c.new.result.history in
-    let front : after ≡ c.follow.new.self.seen.log = ap (λ r. r.history) c.new.ensures ∙ ap (λ f. f.seen.log) c.again-2.ensures in
-    let is : after ≡ with_command seen caller command = followed c.self.inside.registrar c.in-Ok.grown.registrar seen after caller c.caller-caller.result command (front ∙ c.if-not-follow.ensures.added) c.in-Ok.ensures.registrar c.self.invariant.0.log c.caller-caller.ensures.caller in
-    (seen_grown c.args.seat.now.seen seen after caller command (c.if-not-agrees.ensures refl).0 is, ap (λ s. s.seen) c.add.ensures.seen ∙ sym front)
+    let told = ap (λ r. r.history) c.new.ensures ∙ ap (λ f. f.seen.log) c.again-2.ensures ∙ c.if-not-add.ensures.added in
+    let is : after ≡ with_command seen caller command = followed c.self.inside.registrar c.in-Ok.grown.registrar seen after caller c.caller-caller.result command told c.in-Ok.ensures.registrar c.self.invariant.0.log c.caller-caller.ensures.caller in
+    (seen_grown c.args.seat.now.seen seen after caller command (c.if-not-agrees.ensures refl).0 is, ap (λ s. s.seen) c.if-not-add.ensures.seat.0 ∙ sym told)
 
 pub returns-clause-mine : goal.returns-clause-mine
 returns-clause-mine g c =
@@ -85,12 +102,12 @@ returns-clause-mine g c =
     let caller = c.args.seat.now.caller in
     let command = command_of c.args.command in
     let mine = c.args.seat.now.mine in
-    let after = c.follow.new.self.seen.log in
-    let front : c.new.result.history ≡ after = ap (λ r. r.history) c.new.ensures ∙ ap (λ f. f.seen.log) c.again-2.ensures in
-    let is : after ≡ with_command seen caller command = followed c.self.inside.registrar c.in-Ok.grown.registrar seen after caller c.caller-caller.result command c.if-not-follow.ensures.added c.in-Ok.ensures.registrar c.self.invariant.0.log c.caller-caller.ensures.caller in
+    let after = c.in-Ok.grown.registrar.history in
+    let told : c.new.result.history ≡ after = ap (λ r. r.history) c.new.ensures ∙ ap (λ f. f.seen.log) c.again-2.ensures ∙ c.if-not-add.ensures.added in
+    let is : after ≡ with_command seen caller command = followed c.self.inside.registrar c.in-Ok.grown.registrar seen after caller c.caller-caller.result command refl c.in-Ok.ensures.registrar c.self.invariant.0.log c.caller-caller.ensures.caller in
     let own_is = (c.if-not-agrees.ensures refl).1 in
-    let more = c.add.ensures.mine ∙ mine_grown seen after mine caller command is own_is in
-    (ap (λ h. own h caller) front ∙ own_grown seen after mine caller command is own_is ∙ sym more, more)
+    let more = c.if-not-add.ensures.seat.1 ∙ mine_grown seen after mine caller command is own_is in
+    (ap (λ h. own h caller) told ∙ own_grown seen after mine caller command is own_is ∙ sym more, more)
 
 pub returns-clause-later : goal.returns-clause-later
 returns-clause-later g c =
@@ -98,6 +115,11 @@ returns-clause-later g c =
     let caller = c.args.seat.now.caller in
     let command = command_of c.args.command in
     let after = c.add.new.self.seen in
-    let front : after ≡ c.follow.new.self.seen.log = ap (λ s. s.seen) c.add.ensures.seen in
-    let is : after ≡ with_command seen caller command = followed c.self.inside.registrar c.in-Ok.grown.registrar seen after caller c.caller-caller.result command (front ∙ c.if-not-follow.ensures.added) c.in-Ok.ensures.registrar c.self.invariant.0.log c.caller-caller.ensures.caller in
+    let told = ap (λ s. s.seen) c.if-not-add.ensures.seat.0 in
+    let is : after ≡ with_command seen caller command = followed c.self.inside.registrar c.in-Ok.grown.registrar seen after caller c.caller-caller.result command told c.in-Ok.ensures.registrar c.self.invariant.0.log c.caller-caller.ensures.caller in
     seen_grown c.args.seat.now.seen seen after caller command (c.if-not-agrees.ensures refl).0 is
+
+pub returns-then-not-add-clause-later : goal.returns-then-not-add-clause-later
+returns-then-not-add-clause-later g c =
+    let seen = c.args.seat.now.seen in
+    subst (λ (s : SeatIs). IsPrefix seen s.seen) (sym c.if-not-add.ensures.seat) (prefix_self seen)

@@ -8,13 +8,13 @@ use Rattle.clip_desk.proofs.seat.Seat.learn.Goals as goal
 
 pub returns-then-self-receipt-clause-mine : goal.returns-then-self-receipt-clause-mine
 returns-then-self-receipt-clause-mine c =
-    let all = own c.again.result.seen.log c.self.inside.caller in (drop c.self.inside.made all, take-append-drop c.self.inside.made all)
+    let all = own c.again.result.seen.log c.self.inside.right.caller in (drop c.self.inside.right.made all, take-append-drop c.self.inside.right.made all)
 
 pub returns-else-self-receipt-clause-mine : goal.returns-else-self-receipt-clause-mine
 returns-else-self-receipt-clause-mine c =
     let s = c.self.inside in
-    let all = own s.front.seen.log s.caller in
-    let begins : IsPrefix (take s.made all) all = (drop s.made all, take-append-drop s.made all) in
+    let all = own s.front.seen.log s.right.caller in
+    let begins : IsPrefix (take s.right.made all) all = (drop s.right.made all, take-append-drop s.right.made all) in
     subst (λ (v : SeatIs). IsPrefix v.mine (own v.seen v.caller)) c.self.view_is begins
 
 -- proved by search alone: they stand here so that a wrong body is refused at once

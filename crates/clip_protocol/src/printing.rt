@@ -1,0 +1,160 @@
+//! The values in replies, written token by token.
+ghost use Rattle.std.specs.Prelude.{map, option_map, string_bytes};
+ghost use Rattle.std.specs.Arc.{arc_str_bytes};
+ghost use Rattle.serde_json.specs.Data.{string};
+ghost use Rattle.clip_meaning.specs.Hits.{hit_value};
+ghost use Rattle.clip_standing.specs.Alerts.{alert_value, alerts_value};
+ghost use Rattle.clip_protocol.specs.Reply.{alerts_data, hit_data, hits_data, number_of, queries_data, text_or_null};
+ghost use Rattle.clip_protocol.specs.Request.{array_of};
+ghost use Rattle.clip_protocol.specs.Steps.Printing.{Appends, data_tokens, hits_tokens};
+ghost use Rattle.clip_protocol.specs.Steps.Views.{alerts_by_id};
+
+use crate::form::Form;
+use clip_listen::Note;
+use clip_meaning::Hit;
+use clip_standing::{Alert, Alerts};
+use clip_words::NoMemory;
+use json::Writer;
+use std::alloc::Global;
+
+/// Writes a number.
+pub fn write_number(out: &mut Writer, number: u64) -> Result<(), NoMemory>
+    ensures { Appends result out.old out.new (data_tokens (number_of number)) }
+{
+    out.u64(number)?;
+    Ok(())
+}
+
+/// Writes a text.
+pub fn write_text(out: &mut Writer, text: &str) -> Result<(), NoMemory>
+    ensures { Appends result out.old out.new (data_tokens (string text.now)) }
+{
+    out.string(text)?;
+    Ok(())
+}
+
+/// Writes a text, or `null` where there is none.
+pub fn write_text_or_null(out: &mut Writer, text: &Option<String>) -> Result<(), NoMemory>
+    ensures { Appends result out.old out.new (data_tokens (text_or_null (option_map string_bytes text.now))) }
+{
+    match text {
+        Some(text) => out.string(text)?,
+        None => out.null()?,
+    }
+    Ok(())
+}
+
+/// Writes the name of a field and a position in it.
+fn write_hit(out: &mut Writer, hit: &Hit) -> Result<(), NoMemory>
+    ensures { Appends result out.old out.new (data_tokens (hit_data (hit_value hit.now))) }
+{
+    out.begin_object()?;
+    out.key("field")?;
+    out.string(hit.field.as_str())?;
+    out.key("position")?;
+    out.u64(hit.position)?;
+    out.end_object()?;
+    Ok(())
+}
+
+/// Writes where a query holds.
+fn write_hits(out: &mut Writer, hits: &[Hit]) -> Result<(), NoMemory>
+    ensures { Appends result out.old out.new
+        (data_tokens (array_of (map hit_data (map hit_value hits.now)))) }
+{
+    out.begin_array()?;
+    for hit in hits {
+        write_hit(out, hit)?;
+    }
+    out.end_array()?;
+    Ok(())
+}
+
+/// Writes for each alert where its query holds.
+fn write_hits_of_all(out: &mut Writer, alloc: Global, alerts: &[Alert]) -> Result<(), NoMemory>
+    ensures { Appends result out.old out.new (data_tokens (hits_data (map alert_value alerts.now))) }
+{
+    out.begin_array()?;
+    for alert in alerts {
+        let hits = alert.hits(alloc)?;
+        write_hits(out, &hits)?;
+    }
+    out.end_array()?;
+    Ok(())
+}
+
+/// Writes the ids of the queries.
+fn write_queries(out: &mut Writer, alerts: &[Alert]) -> Result<(), NoMemory>
+    ensures { Appends result out.old out.new (data_tokens (queries_data (map alert_value alerts.now))) }
+{
+    out.begin_array()?;
+    for alert in alerts {
+        out.string(alert.query().as_str())?;
+    }
+    out.end_array()?;
+    Ok(())
+}
+
+/// Writes the member that tells where the queries hold, if the form shows it.
+fn write_hits_member(
+    out: &mut Writer,
+    alloc: Global,
+    form: Form,
+    alerts: &[Alert],
+) -> Result<(), NoMemory>
+    ensures { Appends result out.old out.new (hits_tokens form (map alert_value alerts.now)) }
+{
+    match form {
+        Form::Plain => Ok(()),
+        Form::WithHits => {
+            out.key("hits")?;
+            write_hits_of_all(out, alloc, alerts)
+        }
+    }
+}
+
+/// Writes an article's alerts in a form.
+fn write_alerts(out: &mut Writer, alloc: Global, form: Form, found: &Alerts) -> Result<(), NoMemory>
+    ensures { Appends result out.old out.new
+        (data_tokens (alerts_data form (alerts_by_id (alerts_value found.now)))) }
+{
+    out.begin_object()?;
+    out.key("article")?;
+    out.string(found.article.as_str())?;
+    write_hits_member(out, alloc, form, &found.alerts)?;
+    out.key("queries")?;
+    write_queries(out, &found.alerts)?;
+    out.end_object()?;
+    Ok(())
+}
+
+/// Writes the alerts of each article in a form.
+pub fn write_alerts_of_all(
+    out: &mut Writer,
+    alloc: Global,
+    form: Form,
+    found: &[Alerts],
+) -> Result<(), NoMemory>
+    ensures { Appends result out.old out.new (data_tokens (array_of
+        (map (alerts_data form) (map alerts_by_id (map alerts_value found.now))))) }
+{
+    out.begin_array()?;
+    for alerts in found {
+        write_alerts(out, alloc, form, alerts)?;
+    }
+    out.end_array()?;
+    Ok(())
+}
+
+/// Writes what the listeners said.
+pub fn write_notes(out: &mut Writer, notes: &[Note]) -> Result<(), NoMemory>
+    ensures { Appends result out.old out.new
+        (data_tokens (array_of (map string (map (λ n. arc_str_bytes n.text) notes.now)))) }
+{
+    out.begin_array()?;
+    for note in notes {
+        out.string(note.text.as_str())?;
+    }
+    out.end_array()?;
+    Ok(())
+}
