@@ -76,7 +76,9 @@ class Store:
                 time.sleep(PAUSE_SECONDS)
 
     def _see_that_nothing_is_lost(self) -> None:
-        if self.last_read > Id(0, 0) and self.last_id(self._redis) < self.last_read:
+        # Looked at before Redis is asked, since another thread may read on meanwhile.
+        last_read = self.last_read
+        if last_read > Id(0, 0) and self.last_id(self._redis) < last_read:
             raise RequestsLost("Redis came back without requests that it had given out; its file is not synced always")
 
     def last_id(self, client: redis.Redis) -> Id:

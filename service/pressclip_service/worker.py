@@ -229,6 +229,14 @@ class Session:
             self.store.do(lambda client: client.hdel(self.store.names.needs, self.name))
 
 
+def _answer(store: Store, settings: Settings, shard: int, replica: int, engine: Engine) -> None:
+    """Answers with one engine, which is gone at the end."""
+    try:
+        Session(store, settings, shard, replica, engine).run()
+    finally:
+        engine.kill()
+
+
 def work(store: Store, shard: int, replica: int, command: Sequence[str]) -> None:
     """Answers for a shard and a replica, with one engine after another where they end."""
     settings = store.settings()
@@ -238,7 +246,7 @@ def work(store: Store, shard: int, replica: int, command: Sequence[str]) -> None
     while True:
         start = time.monotonic()
         try:
-            Session(store, settings, shard, replica, Engine(command)).run()
+            _answer(store, settings, shard, replica, Engine(command))
         except Replaced:
             tell(store.program, "the snapshot that it began with was replaced; it begins anew")
         except NotHeld as why:

@@ -14,9 +14,9 @@ from pressclip_service.parts import Heard, match_answer, merged, reply_of
 from pressclip_service.replies import Kind, kind_of
 from pressclip_service.teller import Answer, NotHeld, Teller
 
-from .grid_runs import Chaos, Grid
+from .grid_runs import DEBIAN_PYTHON, Chaos, Grid
 from .inputs import Source, joined
-from .judge import Due, folder, need, same
+from .judge import SERVICE, Due, folder, need, same
 from .processes import ENDED
 
 PREFIX = "pressclip:grid:"
@@ -66,6 +66,44 @@ def notes_are_merged_by_their_queries() -> None:
     same(reply_of(MATCH, 1, parts),
          b'{"alerts":[{"article":"x","queries":["a","c","d"]},{"article":"y","queries":["b","c","d"]}],"line":1,'
          b'"notes":["feed a/x","feed c/x","feed d/x","feed b/y","feed c/y","feed d/y"]}', "notes")
+
+
+# A program of the grid whose other thread has read a request by the time that Redis says its last one.
+BUSY_PROGRAM = """
+from pressclip_service.names import Id
+from pressclip_service.store import RequestsLost, Store, Unreachable
+
+
+class Busy(Store):
+    def last_id(self, client):
+        self.last_read = Id(7, 0)
+        return Id(6, 0)
+
+
+def after_an_end_of_redis(read):
+    store, ends = Busy("redis://127.0.0.1:1/0", "grid", "busy"), [Unreachable("closed")]
+    store.last_read = Id(read, 0)
+
+    def call(_):
+        if ends:
+            raise ends.pop()
+        return "answered"
+    try:
+        return store.do(call)
+    except RequestsLost:
+        return "lost"
+
+
+print(after_an_end_of_redis(5), after_an_end_of_redis(6), after_an_end_of_redis(7))
+"""
+
+
+def requests_that_are_read_meanwhile_are_not_lost() -> None:
+    """A Redis that comes back and says 6 as its last request has lost none of those up to 5 or 6 that were read, also
+    where 7 is read while it says so, and has lost one where 7 was read before."""
+    done = subprocess.run([DEBIAN_PYTHON, "-c", BUSY_PROGRAM], cwd=SERVICE, stdout=subprocess.PIPE,
+                          stderr=subprocess.PIPE, check=True)
+    same(done.stdout, b"answered answered lost\n", "what came back")
 
 
 class Memory:
@@ -273,6 +311,7 @@ def replies_to_a_forgotten_client_are_not_kept() -> None:
 
 
 TESTS = (lists_are_merged_in_byte_order, replies_are_cut_by_their_bytes, notes_are_merged_by_their_queries,
-         what_was_forgotten_is_told_again, redis_ends_between_told_and_kept, all_end_between_told_and_kept,
-         a_worker_ends_between_told_and_kept, a_file_is_rewritten_between_told_and_kept,
-         what_a_client_missed_is_kept_for_it, replies_to_a_forgotten_client_are_not_kept)
+         what_was_forgotten_is_told_again, requests_that_are_read_meanwhile_are_not_lost,
+         redis_ends_between_told_and_kept, all_end_between_told_and_kept, a_worker_ends_between_told_and_kept,
+         a_file_is_rewritten_between_told_and_kept, what_a_client_missed_is_kept_for_it,
+         replies_to_a_forgotten_client_are_not_kept)
