@@ -29,7 +29,15 @@ struct Owned {
 }
 
 impl Registry for Owned {
+    ghost use Rattle.std.specs.Prelude.{◌≡◌};
+    ghost use Rattle.clip_registry.specs.Merging.{purged};
+    ghost use Rattle.clip_run.specs.Unpurged.{GoesOnUnpurged};
+
     ghost history_in = { λ o. o.registrar.history };
+
+    ghost purges = { λ old new. new.registrar ≡ purged old.registrar };
+
+    ghost goes_on = { λ old new. GoesOnUnpurged old.registrar new.registrar };
 
     /// Accepts a command, and takes a merge turn then. A turn that is refused memory is dropped.
     fn accept(&mut self, command: Command) -> Result<Option<Applied>, NoMemory> {
