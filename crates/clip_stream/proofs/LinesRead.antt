@@ -1,6 +1,7 @@
 -- Lines that were read.
-use Rattle.std.proofs.Common.{◌≡◌, ℕ, ◌<◌, ◌==◌, ◌||◌, List, [], ◌∷◌, ◌++◌, length, Bool, true, false, cond, refl, sym, ap, ap₂, ◌∙◌, arith, append-nil, true≢false, inl, inr}
-use Rattle.clip_stream.specs.Lines.{lines_of, onto_first, ended_lines, onto_ended, lines_read, LinesReadComeFirst}
+use Rattle.std.proofs.Common.{◌≡◌, ℕ, ◌<◌, ◌==◌, ◌||◌, List, [], ◌∷◌, ◌++◌, length, Bool, true, false, cond, refl, sym, ap, ap₂, ◌∙◌, arith, append-nil, true≢false, Option, Some, None, subst, inl, inr}
+use Rattle.std.specs.Io.KnownBytes.{Consumes, IsAtEnd}
+use Rattle.clip_stream.specs.Lines.{lines_of, onto_first, ended_lines, onto_ended, lines_read, LinesReadComeFirst, OfInput, OfLinesRead}
 use Rattle.clip_stream.specs.Steps.Reading.{has_feed, first_line, after_line, HasLine}
 use Rattle.clip_stream.proofs.Cuts.{first_line-feed, after_line-feed, some_feed}
 
@@ -67,3 +68,18 @@ ended_come_first (b ∷ bytes) rest = let more = ended_come_first bytes rest in 
 pub come_first : LinesReadComeFirst
 come_first true bytes rest last = ([], ap (λ xs. lines_of (bytes ++ xs)) (last refl) ∙ ap lines_of (append-nil bytes) ∙ sym (append-nil (lines_of bytes)))
 come_first false bytes rest last = ended_come_first bytes rest
+
+-- ---- by what a reader tells
+
+-- where nothing is left, what was given is the input
+pub of_input : (old new : Option (List ℕ)) (bytes : List ℕ) (P : List ℕ → Type 0) → Consumes old new bytes → IsAtEnd new → P bytes → OfInput old P
+of_input None new bytes P given end p = (bytes, p)
+of_input (Some input) None bytes P given end p = absurd given
+of_input (Some input) (Some rest) bytes P given end p = subst P (sym (given ∙ ap (λ r. bytes ++ r) end ∙ append-nil bytes)) p
+
+pub of_input_weaker : (left : Option (List ℕ)) (P Q : List ℕ → Type 0) → ((input : List ℕ) → P input → Q input) → OfInput left P → OfInput left Q
+of_input_weaker None P Q f p = (p.0, f p.0 p.1)
+of_input_weaker (Some input) P Q f p = f input p
+
+pub of_lines_read_weaker : (old new : Option (List ℕ)) (met_end : Bool) (P Q : List (List ℕ) → Type 0) → ((lines : List (List ℕ)) → P lines → Q lines) → OfLinesRead old new met_end P → OfLinesRead old new met_end Q
+of_lines_read_weaker old new met_end P Q f p = (p.0, p.1, f (lines_read met_end p.0) p.2)
