@@ -1,5 +1,5 @@
 -- A merge turn behind a command.
-use Rattle.std.proofs.Common.{◌≡◌, ◌∙◌, refl, subst, inl, inr}
+use Rattle.std.proofs.Common.{◌≡◌, refl, subst, inl, inr}
 use Rattle.std.specs.Prelude.{Result, Ok, Err}
 use Rattle.clip_model.specs.History.{Command}
 use Rattle.clip_words.specs.declared.NoMemory.{NoMemory}

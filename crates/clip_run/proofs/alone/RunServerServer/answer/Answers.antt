@@ -1,6 +1,6 @@
 use Rattle.std.proofs.Common.{refl, ap}
 use Rattle.std.proofs.lemmas.Result.{IfOk-weaker, IfErr-weaker}
-use Rattle.clip_front.proofs.Progress.{on_err}
+use Rattle.clip_stream.proofs.Faults.{on_err}
 use Rattle.clip_front.proofs.Responses.{answers_quiet, answers_matched, breaks_untold, breaks_matched}
 use Rattle.clip_run.proofs.alone.RunServerServer.answer.Goals as goal
 

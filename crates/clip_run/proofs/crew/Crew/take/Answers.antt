@@ -1,9 +1,8 @@
 use Rattle.std.proofs.Common.{refl, subst}
-use Rattle.clip_front.proofs.Progress.{on_err}
+use Rattle.clip_stream.proofs.Faults.{on_err}
 use Rattle.clip_front.specs.Outcome.{names_in}
 use Rattle.clip_front.specs.Steps.Taking.{Takes}
 use Rattle.clip_run.specs.Crews.{course}
-use Rattle.clip_run.specs.Pending.{owed_by}
 use Rattle.clip_run.specs.declared.batch.Pending.TheVariants as pending
 use Rattle.clip_run.proofs.Owing.{breaks_owed, hears_none, turns_ready, turns_begun, on_ok_more, on_err_more}
 use Rattle.clip_run.proofs.crew.Crew.take.Goals as goal
