@@ -106,8 +106,8 @@ is_trace view s t lines text start p =
 
 pub trace_gives : {S : Type 0} (view : S → Stand) (s t : S) (left taken_first taken : Option (List ℕ)) (count : ℕ) → view s ≡ nothing_open → OfInput left (ServesAll (AnswersIn view) s t taken_first taken count) → OfInput left (TracesAll taken_first taken count)
 trace_gives view s t left taken_first taken count start p =
-    of_input_weaker left _ _ (λ input served. record { text = served.text; is = is_trace view s t (lines_of input) served.text start served.served; replies = served.written; counted = served.counted }) p
+    of_input_weaker left (ServesAll (AnswersIn view) s t taken_first taken count) (TracesAll taken_first taken count) (λ input served. record { text = served.text; is = is_trace view s t (lines_of input) served.text start served.served; replies = served.written; counted = served.counted }) p
 
 pub trace_gives_front : {S : Type 0} (view : S → Stand) (s t : S) (left left_new : Option (List ℕ)) (met_end : Bool) (taken_first taken : Option (List ℕ)) → view s ≡ nothing_open → OfLinesRead left left_new met_end (ServesFront (AnswersIn view) BreaksIn s t taken_first taken) → OfLinesRead left left_new met_end (TracesFront taken_first taken)
 trace_gives_front view s t left left_new met_end taken_first taken start p =
-    of_lines_read_weaker left left_new met_end _ _ (λ lines served. record { front = served.front; later = served.later; text = served.text; cut = served.parts; is = is_trace view s served.between served.front served.text start served.served; replies = served.written }) p
+    of_lines_read_weaker left left_new met_end (ServesFront (AnswersIn view) BreaksIn s t taken_first taken) (TracesFront taken_first taken) (λ lines served. record { front = served.front; later = served.later; text = served.text; cut = served.parts; is = is_trace view s served.between served.front served.text start served.served; replies = served.written }) p
