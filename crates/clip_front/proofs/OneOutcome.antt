@@ -1,5 +1,5 @@
 -- An input has one outcome.
-use Rattle.std.proofs.Common.{◌≡◌, ◌⊎◌, ℕ, zero, suc, List, [], ◌∷◌, Bool, true, false, refl, sym, ap, ap₂, ◌∙◌, subst, inl, inr}
+use Rattle.std.proofs.Common.{◌≡◌, ◌⊎◌, ℕ, zero, suc, List, [], ◌∷◌, ◌++◌, Bool, true, false, refl, sym, ap, ap₂, ◌∙◌, subst, inl, inr}
 use Rattle.std.proofs.lemmas.Str.{IsUtf8-from_is_utf8}
 use Rattle.std.specs.Str.{is_utf8}
 use Rattle.std.specs.Prelude.{Option}
@@ -17,6 +17,7 @@ use Rattle.clip_listen.specs.Heard.{Hearer}
 use Rattle.clip_front.specs.Outcome.{Outcome, nothing_given, followed_by, given, names_in, Gives}
 use Rattle.clip_protocol.specs.Steps.Outline.{Outline, blank, refused, registers, deletes, clears, purges, counts, shows, matches, outline, MeansOutline}
 use Rattle.clip_protocol.proofs.Meanings.{means_from, means_to}
+use Rattle.clip_front.proofs.Outcomes.{followed_assoc}
 use Rattle.clip_front.proofs.Readings.{no_query}
 
 -- ---- a text is a query or none
@@ -188,3 +189,12 @@ gives_some hearers n h (line ∷ lines) =
     let m = outline_some (names_in hearers) h (outline line) in
     let rest = gives_some hearers (suc n) (after h m.0) lines in
     (followed_by (given hearers n h m.0) rest.0, (m.0, rest.0, means_from (names_in hearers) h line m.0 m.1, refl, rest.1))
+
+-- what more lines give stands behind what the first ones give
+pub gives_on : (hearers : List Hearer) (n : ℕ) (h : History) (lines later : List (List ℕ)) (first : Outcome) → Gives hearers n h lines first → (more : Outcome) × Gives hearers n h (lines ++ later) (followed_by first more)
+gives_on hearers n h [] later first g =
+    let more = gives_some hearers n h later in
+    (more.0, subst (λ o. Gives hearers n h later (followed_by o more.0)) (sym g) more.1)
+gives_on hearers n h (line ∷ lines) later first g =
+    let more = gives_on hearers (suc n) (after h g.0) lines later g.1 g.4 in
+    (more.0, (g.0, followed_by g.1 more.0, g.2, ap (λ o. followed_by o more.0) g.3 ∙ followed_assoc (given hearers n h g.0) g.1 more.0, more.1))

@@ -1,5 +1,5 @@
 -- What each kind of line leaves.
-use Rattle.std.proofs.Common.{◌≡◌, ℕ, List, [], ◌++◌, map, Bool, true, false, cond, refl, sym, ap, ap₂, ◌∙◌, subst, append-nil}
+use Rattle.std.proofs.Common.{◌≡◌, ℕ, List, [], ◌++◌, Bool, true, false, cond, refl, sym, ap, ap₂, ◌∙◌, subst, append-nil}
 use Rattle.std.specs.Prelude.{Some, None}
 use Rattle.clip_model.specs.History.{History, Command, Register, Delete, Clear, has_room}
 use Rattle.clip_listen.specs.Heard.{Hearer, told_all, HearsFront}
@@ -12,7 +12,7 @@ use Rattle.clip_front.specs.declared.books.Books.{Books}
 use Rattle.clip_front.specs.declared.settings.Settings.{Settings}
 use Rattle.clip_protocol.specs.declared.refusal.Refusal.TheVariants.{Full}
 use Rattle.clip_protocol.specs.LineMeaning.{Meaning, Means, nothing, refusal, refusal_at, command, purging, counting, showing, matching, judged, after}
-use Rattle.clip_front.specs.Outcome.{alerts_told, rows_posted, kept_rows, given, names_in}
+use Rattle.clip_front.specs.Outcome.{alerts_told, rows_posted, kept_rows, names_in}
 use Rattle.clip_protocol.specs.Reply.{Reply, accepted, alerts_of_all, refused, reply_text}
 use Rattle.clip_front.specs.Steps.Answers.{Held, held, Replies, Settles, GoesOn, Answers, Breaks}
 use Rattle.clip_protocol.specs.Steps.Outline.{Outline, outline, matches, MeansOutline}
@@ -24,7 +24,7 @@ use Rattle.clip_front.proofs.OneOutcome.{outline_some}
 
 -- ---- commands
 
-judged-room : (h : History) (c : Command) (b : Bool) → has_room h c ≡ b → judged h c ≡ cond b (command c) (refusal Full)
+pub judged-room : (h : History) (c : Command) (b : Bool) → has_room h c ≡ b → judged h c ≡ cond b (command c) (refusal Full)
 judged-room h c b room = ap (λ x. cond x (command c) (refusal Full)) room
 
 applied_view-answer_of : (c : Command) (n : ℕ) → applied_view (answer_of c n) ≡ accepted c n

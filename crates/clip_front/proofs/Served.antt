@@ -1,18 +1,19 @@
 -- What a run gives, by the answers to its lines.
-use Rattle.std.proofs.Common.{◌≡◌, ℕ, zero, suc, ◌≤◌, List, [], ◌∷◌, ◌++◌, length, take, drop, Bool, true, false, cond, Option, Some, None, refl, sym, ap, ap₂, ◌∙◌, subst, arith, append_assoc, append-nil, true≢false, if◌then◌else◌, inl, inr}
-use Rattle.std.specs.Prelude.{IfSome, nat_lt}
+use Rattle.std.proofs.Common.{◌≡◌, ℕ, zero, suc, ◌≤◌, List, [], ◌∷◌, ◌++◌, length, take, drop, Bool, true, false, cond, Option, refl, sym, ap, ap₂, ◌∙◌, subst, arith, append_assoc, append-nil, true≢false, if◌then◌else◌, inl, inr}
+use Rattle.std.specs.Prelude.{nat_lt}
 use Rattle.std.specs.Io.KnownBytes.{Appends}
 use Rattle.std.proofs.Math.Seq.{take-append_seam}
 use Rattle.std.proofs.lemmas.Bool.Decides.{nat_tests}
 use Rattle.std.proofs.lemmas.List.{length-take, take-append-drop}
 use Rattle.clip_stream.specs.Device.{AppendsFront}
-use Rattle.clip_stream.specs.Lines.{lines_of}
+use Rattle.clip_stream.proofs.LinesRead.{of_input_weaker, of_lines_read_weaker}
+use Rattle.clip_stream.specs.Lines.{lines_of, OfInput, OfLinesRead}
 use Rattle.clip_stream.specs.Steps.Reading.{cut}
 use Rattle.clip_stream.specs.declared.limits.TheConstants.{MOST_LINE_BYTES}
 use Rattle.clip_model.specs.Alerts.{Alert}
 use Rattle.clip_model.specs.History.{History}
 use Rattle.clip_listen.specs.Heard.{Hearer, told_all, HearsFront}
-use Rattle.clip_listen.proofs.Hearing.{told_none, told_more, names_told, front_after}
+use Rattle.clip_listen.proofs.Hearing.{told_none, told_more, names_told, front_after, front_of_more}
 use Rattle.clip_protocol.specs.LineMeaning.{Meaning, is_long, is_blank, json_of, Means, after}
 use Rattle.clip_front.specs.Outcome.{Outcome, nothing_given, followed_by, given, names_in, kept_rows, Gives, GivesAll, GivesFront}
 use Rattle.clip_front.specs.declared.settings.Settings.{Settings}
@@ -21,6 +22,7 @@ use Rattle.clip_protocol.specs.Steps.Outline.{outline, blank, outline_of_value, 
 use Rattle.clip_front.specs.Steps.Serving.{Serves, StopsAt, ServesAll, ServesFront}
 use Rattle.clip_front.proofs.Delivering.{none_posted}
 use Rattle.clip_protocol.proofs.Meanings.{means_from, means_to}
+use Rattle.clip_front.proofs.OneOutcome.{gives_on}
 use Rattle.clip_front.proofs.Outcomes.{followed_nothing, kept_append, given_kept}
 
 -- ---- a line that is cut says no other thing
@@ -118,10 +120,9 @@ given_by view s t n [] text p = record {
 }
 given_by view s t n (line ∷ lines) text p = given_first (view s) (view p.0) (view t) n line p.1 p.2 text lines p.3 p.4 (given_by view p.0 t (suc n) lines p.2 p.5)
 
-pub run_gives : {S : Type 0} (view : S → Held) (s t : S) (settings : Settings) (input taken_first taken : Option (List ℕ)) → (view s).history ≡ [] → (view s).rows ≡ [] → (view s).settings ≡ settings → IfSome input (ServesAll (AnswersIn view) s t taken_first taken)
-    → IfSome input (GivesAll (view s).hearers (view t).hearers settings taken_first taken (view t).rows)
-run_gives view s t settings None taken_first taken start none same p = tt
-run_gives view s t settings (Some input) taken_first taken start none same p =
+gives_all : {S : Type 0} (view : S → Held) (s t : S) (settings : Settings) (taken_first taken : Option (List ℕ)) (count : ℕ) (input : List ℕ) → (view s).history ≡ [] → (view s).rows ≡ [] → (view s).settings ≡ settings → ServesAll (AnswersIn view) s t taken_first taken count input
+    → GivesAll (view s).hearers (view t).hearers settings taken_first taken count (view t).rows input
+gives_all view s t settings taken_first taken count input start none same p =
     let g = given_by view s t 1 (lines_of input) p.text p.served in
     record {
       outcome = g.outcome;
@@ -129,7 +130,13 @@ run_gives view s t settings (Some input) taken_first taken start none same p =
       replies = subst (Appends taken_first taken) (sym g.printed ∙ ap (λ k. g.outcome.text k.form) same) p.written;
       told = g.heard;
       rows = g.rows ∙ ap₂ (λ xs k. xs ++ kept_rows k.keeps_rows g.outcome.rows) none same;
+      counted = p.counted;
     }
+
+pub run_gives : {S : Type 0} (view : S → Held) (s t : S) (settings : Settings) (left taken_first taken : Option (List ℕ)) (count : ℕ) → (view s).history ≡ [] → (view s).rows ≡ [] → (view s).settings ≡ settings → OfInput left (ServesAll (AnswersIn view) s t taken_first taken count)
+    → OfInput left (GivesAll (view s).hearers (view t).hearers settings taken_first taken count (view t).rows)
+run_gives view s t settings left taken_first taken count start none same p =
+    of_input_weaker left _ _ (λ input served. gives_all view s t settings taken_first taken count input start none same served) p
 
 -- ---- some first lines were answered, and the next was begun at most
 
@@ -173,36 +180,48 @@ ended_by view s t n lines text p =
     let g = given_by view s t n lines text p in
     record { outcome = g.outcome; gives = g.gives; more = []; printed = g.printed ∙ sym (append-nil text); heard = record { front = g.outcome.alerts; rest = []; cut = sym (append-nil g.outcome.alerts); heard = g.heard } }
 
+-- lines that were not begun
+begun_more : (s t : Held) (n : ℕ) (lines later : List (List ℕ)) (text : List ℕ) → BegunBy s t n lines text → BegunBy s t n (lines ++ later) text
+begun_more s t n lines later text b =
+    let on = gives_on s.hearers n s.history lines later b.outcome b.gives in
+    record {
+      outcome = followed_by b.outcome on.0;
+      gives = on.1;
+      more = b.more ++ on.0.text s.settings.form;
+      printed = ap (λ x. x ++ on.0.text s.settings.form) b.printed ∙ append_assoc text b.more (on.0.text s.settings.form);
+      heard = front_of_more b.outcome.alerts on.0.alerts s.hearers t.hearers b.heard;
+    }
+
 -- a front of a text is one of a longer text
-front_longer : (old new : Option (List ℕ)) (text more : List ℕ) → AppendsFront old new text → AppendsFront old new (text ++ more)
+pub front_longer : (old new : Option (List ℕ)) (text more : List ℕ) → AppendsFront old new text → AppendsFront old new (text ++ more)
 front_longer old new text more f =
     let there : take f.0 text ++ (drop f.0 text ++ more) ≡ text ++ more = sym (append_assoc (take f.0 text) (drop f.0 text) more) ∙ ap (λ x. x ++ more) (take-append-drop f.0 text) in
     (length (take f.0 text), subst (Appends old new) (sym (take-append_seam (take f.0 text) (drop f.0 text ++ more)) ∙ ap (take (length (take f.0 text))) there) f.1)
 
-front_given : (s t : Held) (taken_first taken : Option (List ℕ)) (input text : List ℕ) (lines later : List (List ℕ)) → s.history ≡ [] → lines_of input ≡ lines ++ later → BegunBy s t 1 lines text → AppendsFront taken_first taken text
-    → GivesFront s.hearers t.hearers s.settings.form taken_first taken input
-front_given s t taken_first taken input text lines later start parts b written = record {
-  lines = lines;
-  later = later;
+front_given : (s t : Held) (taken_first taken : Option (List ℕ)) (text : List ℕ) (lines : List (List ℕ)) → s.history ≡ [] → BegunBy s t 1 lines text → AppendsFront taken_first taken text → GivesFront s.hearers t.hearers s.settings.form taken_first taken lines
+front_given s t taken_first taken text lines start b written = record {
   outcome = b.outcome;
-  cut = parts;
   gives = subst (λ h. Gives s.hearers 1 h lines b.outcome) start b.gives;
   replies = subst (AppendsFront taken_first taken) (sym b.printed) (front_longer taken_first taken text b.more written);
   told = b.heard;
 }
 
-front_at : {S : Type 0} (view : S → Held) (s t u : S) (taken_first taken : Option (List ℕ)) (input text : List ℕ) (lines later : List (List ℕ)) → (view s).history ≡ [] → lines_of input ≡ lines ++ later → Serves (AnswersIn view) s t 1 lines text
-    → StopsAt (BreaksIn view) t u (suc (length lines)) later → AppendsFront taken_first taken text → GivesFront (view s).hearers (view u).hearers (view s).settings.form taken_first taken input
-front_at view s t u taken_first taken input text lines [] start parts p same written =
-    front_given (view s) (view u) taken_first taken input text lines [] start parts (ended_by view s u 1 lines text (subst (λ x. Serves (AnswersIn view) s x 1 lines text) (sym same) p)) written
-front_at view s t u taken_first taken input text lines (line ∷ later) start parts p (inl same) written =
-    front_given (view s) (view u) taken_first taken input text lines (line ∷ later) start parts (ended_by view s u 1 lines text (subst (λ x. Serves (AnswersIn view) s x 1 lines text) (sym same) p)) written
-front_at view s t u taken_first taken input text lines (line ∷ later) start parts p (inr broken) written =
-    front_given (view s) (view u) taken_first taken input text (lines ++ line ∷ []) later start (parts ∙ sym (append_assoc lines (line ∷ []) later)) (begun_by view s t u 1 (suc (length lines)) lines line text p broken) written
+begun_at : {S : Type 0} (view : S → Held) (s t u : S) (text : List ℕ) (lines later : List (List ℕ)) → Serves (AnswersIn view) s t 1 lines text → StopsAt (BreaksIn view) t u (suc (length lines)) later → BegunBy (view s) (view u) 1 (lines ++ later) text
+begun_at view s t u text lines [] p same =
+    begun_more (view s) (view u) 1 lines [] text (ended_by view s u 1 lines text (subst (λ x. Serves (AnswersIn view) s x 1 lines text) (sym same) p))
+begun_at view s t u text lines (line ∷ later) p (inl same) =
+    begun_more (view s) (view u) 1 lines (line ∷ later) text (ended_by view s u 1 lines text (subst (λ x. Serves (AnswersIn view) s x 1 lines text) (sym same) p))
+begun_at view s t u text lines (line ∷ later) p (inr broken) =
+    subst (λ ls. BegunBy (view s) (view u) 1 ls text) (append_assoc lines (line ∷ []) later)
+    (begun_more (view s) (view u) 1 (lines ++ line ∷ []) later text (begun_by view s t u 1 (suc (length lines)) lines line text p broken))
 
-pub run_gives_front : {S : Type 0} (view : S → Held) (s t : S) (settings : Settings) (input taken_first taken : Option (List ℕ)) → (view s).history ≡ [] → (view s).settings ≡ settings → IfSome input (ServesFront (AnswersIn view) (BreaksIn view) s t taken_first taken)
-    → IfSome input (GivesFront (view s).hearers (view t).hearers settings.form taken_first taken)
-run_gives_front view s t settings None taken_first taken start same p = tt
-run_gives_front view s t settings (Some input) taken_first taken start same p =
-    subst (λ k. GivesFront (view s).hearers (view t).hearers k.form taken_first taken input) same
-    (front_at view s p.between t taken_first taken input p.text p.lines p.later start p.parts p.served p.stops p.written)
+gives_front : {S : Type 0} (view : S → Held) (s t : S) (settings : Settings) (taken_first taken : Option (List ℕ)) (lines : List (List ℕ)) → (view s).history ≡ [] → (view s).settings ≡ settings → ServesFront (AnswersIn view) (BreaksIn view) s t taken_first taken lines
+    → GivesFront (view s).hearers (view t).hearers settings.form taken_first taken lines
+gives_front view s t settings taken_first taken lines start same p =
+    let begun = subst (λ ls. BegunBy (view s) (view t) 1 ls p.text) (sym p.parts) (begun_at view s p.between t p.text p.front p.later p.served p.stops) in
+    subst (λ k. GivesFront (view s).hearers (view t).hearers k.form taken_first taken lines) same (front_given (view s) (view t) taken_first taken p.text lines start begun p.written)
+
+pub run_gives_front : {S : Type 0} (view : S → Held) (s t : S) (settings : Settings) (left left_new : Option (List ℕ)) (met_end : Bool) (taken_first taken : Option (List ℕ)) → (view s).history ≡ [] → (view s).settings ≡ settings
+    → OfLinesRead left left_new met_end (ServesFront (AnswersIn view) (BreaksIn view) s t taken_first taken) → OfLinesRead left left_new met_end (GivesFront (view s).hearers (view t).hearers settings.form taken_first taken)
+run_gives_front view s t settings left left_new met_end taken_first taken start same p =
+    of_lines_read_weaker left left_new met_end _ _ (λ lines served. gives_front view s t settings taken_first taken lines start same served) p

@@ -1,5 +1,5 @@
 -- What a run gives for its input: the replies, the alerts that are told, and the ledger.
-use Rattle.std.specs.Prelude.{◌≡◌, ℕ, suc, map, flat_map, List, [], ◌∷◌, ◌++◌, Option, Bool, if◌then◌else◌}
+use Rattle.std.specs.Prelude.{◌≡◌, ℕ, suc, map, flat_map, List, [], ◌∷◌, ◌++◌, length, Option, Bool, if◌then◌else◌}
 use Rattle.std.specs.Io.KnownBytes.{Appends}
 use Rattle.clip_model.specs.History.{History}
 use Rattle.clip_model.specs.Alerts.{Alert, alerts}
@@ -75,20 +75,18 @@ IsOutcome hearers input outcome = Gives hearers 1 [] (lines_of input) outcome
 abbrev pub kept_rows : Bool → List RowValue → List RowValue
 kept_rows keeps rows = if keeps then rows else []
 
--- All that is due was written in the form that is set, each listener has heard just its own alerts, in order, and the ledger has its rows.
-pub record GivesAll (hearers heard : List Hearer) (settings : Settings) (old new : Option (List ℕ)) (ledger : List RowValue) (input : List ℕ) : Type 0 where
+-- All that is due was written in the form that is set, each listener has heard just its own alerts, in order, the ledger has its rows, and there were so many lines.
+pub record GivesAll (hearers heard : List Hearer) (settings : Settings) (old new : Option (List ℕ)) (lines : ℕ) (ledger : List RowValue) (input : List ℕ) : Type 0 where
   pub outcome : Outcome
   pub is : IsOutcome hearers input outcome
   pub replies : Appends old new (outcome.text settings.form)
   pub told : heard ≡ told_all outcome.alerts hearers
   pub rows : ledger ≡ kept_rows settings.keeps_rows outcome.rows
+  pub counted : lines ≡ length (lines_of input)
 
--- For some of the first lines, what was written is a front of their replies, and the listeners have heard a front of their alerts.
-pub record GivesFront (hearers heard : List Hearer) (form : Form) (old new : Option (List ℕ)) (input : List ℕ) : Type 0 where
-  pub lines : List (List ℕ)
-  pub later : List (List ℕ)
+-- What was written is a front of the replies to these lines, and the listeners have heard a front of their alerts.
+pub record GivesFront (hearers heard : List Hearer) (form : Form) (old new : Option (List ℕ)) (lines : List (List ℕ)) : Type 0 where
   pub outcome : Outcome
-  pub cut : lines_of input ≡ lines ++ later
   pub gives : Gives hearers 1 [] lines outcome
   pub replies : AppendsFront old new (outcome.text form)
   pub told : HearsFront outcome.alerts hearers heard

@@ -1,16 +1,16 @@
 //! Lines taken: what each comes to, before any alert is told.
-ghost use Rattle.std.specs.Prelude.{◌≡◌, IfOk, IsTrue, List, map, string_bytes, option_map, true};
+ghost use Rattle.std.specs.Prelude.{◌≡◌, IfOk, OnOk, IsTrue, List, map, string_bytes, option_map, true};
 ghost use Rattle.std.specs.List.{list_all};
 ghost use Rattle.clip_listen.specs.Heard.{Hearer};
 ghost use Rattle.clip_model.specs.History.{fits};
 ghost use Rattle.clip_standing.specs.Command.{command_of};
 ghost use Rattle.clip_words.specs.Ids.{is_id};
-ghost use Rattle.clip_protocol.specs.LineMeaning.{is_here, showing, judged};
+ghost use Rattle.clip_protocol.specs.LineMeaning.{Means, is_here, showing, judged, purging};
 ghost use Rattle.clip_front.specs.Outcome.{names_in};
 ghost use Rattle.clip_protocol.specs.Reply.{answer_to};
 ghost use Rattle.clip_front.specs.Steps.Answers.{TakesListing, TakesList, Replies, Settles, Comes};
-ghost use Rattle.clip_protocol.specs.Steps.Outline.{is_within, registers};
-ghost use Rattle.clip_front.specs.Steps.Taking.{Takes};
+ghost use Rattle.clip_protocol.specs.Steps.Outline.{is_within, purges, registers};
+ghost use Rattle.clip_front.specs.Steps.Taking.{PurgesIf, Takes, Unpurged};
 ghost use Rattle.clip_protocol.specs.Steps.Views.{line_view, listing_view, reply_view};
 
 use crate::registry::Registry;
@@ -74,8 +74,9 @@ fn take_all<A: Audience>(
 /// Accepts a command, where there is room for it.
 fn apply<H: Registry>(registry: &mut H, command: Command) -> Result<Reply, NoMemory>
     requires { IsTrue (fits (command_of command)) }
-    ensures { IfOk result (λ reply. Replies (H.history_in registry.old) (H.history_in registry.new)
+    ensures replies { IfOk result (λ reply. Replies (H.history_in registry.old) (H.history_in registry.new)
         (judged (H.history_in registry.old) (command_of command)) (reply_view reply)) }
+    ensures unpurged { OnOk result (Unpurged H.goes_on registry.old registry.new) }
 {
     match registry.accept(command)? {
         Some(applied) => Ok(accepted(applied)),
@@ -91,8 +92,9 @@ fn register<A: Audience, H: Registry>(
     listings: Vec<Listing>,
 ) -> Result<Reply, NoMemory>
     requires { is_within (registers (map listing_view listings.items)) ≡ true }
-    ensures { IfOk result (λ reply. Settles (names_in (A.hearers audience.now)) (H.history_in registry.old)
+    ensures settles { IfOk result (λ reply. Settles (names_in (A.hearers audience.now)) (H.history_in registry.old)
         (H.history_in registry.new) (registers (map listing_view listings.items)) (reply_view reply)) }
+    ensures unpurged { OnOk result (Unpurged H.goes_on registry.old registry.new) }
 {
     match take_all(alloc, audience, listings) {
         Ok(standings) => apply(registry, Command::Register(standings)),
@@ -118,8 +120,9 @@ fn respond<A: Audience, H: Registry>(
     line: Line,
 ) -> Result<Response, NoMemory>
     requires { is_within (line_view line) ≡ true }
-    ensures { IfOk result (λ response. Comes (names_in (A.hearers audience.now)) (H.history_in registry.old)
+    ensures comes { IfOk result (λ response. Comes (names_in (A.hearers audience.now)) (H.history_in registry.old)
         (H.history_in registry.new) (line_view line) response) }
+    ensures purged { OnOk result (PurgesIf (line_view line ≡ purges) H.purges H.goes_on registry.old registry.new) }
 {
     match line {
         Line::Blank => Ok(Response::Reply(Reply::Nothing)),
@@ -148,8 +151,8 @@ pub enum Taken {
     Articles(Vec<Article>),
 }
 
-/// Takes the line of this number: a change applies to the registry, and all else but a match is answered by it.
-/// No alert is told.
+/// Takes the line of this number: a change applies to the registry, a purge purges it, and all else but a match is
+/// answered by it. No alert is told.
 ///
 /// `NoMemory` where an allocation failed. A change costs that of `Registry::accept` after the reading of its queries; a
 /// purge costs that of `Registry::purge_dead`; a count takes that of `Registry::count`, and a show that of
@@ -161,8 +164,12 @@ pub fn take_line<A: Audience, H: Registry>(
     number: u64,
     bytes: &[u8],
 ) -> Result<Taken, NoMemory>
-    ensures { IfOk result (λ taken. Takes (names_in (A.hearers audience.now)) (H.history_in registry.old)
+    ensures taken { IfOk result (λ taken. Takes (names_in (A.hearers audience.now)) (H.history_in registry.old)
         (H.history_in registry.new) number bytes.now taken) }
+
+    // A line that means a purge purges the registry, once, and no other line does.
+    ensures purged { OnOk result (PurgesIf (Means (names_in (A.hearers audience.now)) (H.history_in registry.old)
+        bytes.now purging) H.purges H.goes_on registry.old registry.new) }
 {
     let line = Line::of_bytes(alloc, bytes)?;
     match respond(alloc, registry, audience, line)? {

@@ -1,6 +1,6 @@
 //! The loop over the lines of an input, whatever answers them.
-ghost use Rattle.std.specs.Prelude.{◌≡◌, ◌≤◌, ◌⊎◌, length, true, false, IfOk, OnOk, OnErr, IfSome, Err};
-ghost use Rattle.clip_stream.specs.Lines.{lines_of};
+ghost use Rattle.std.specs.Prelude.{◌≡◌, ◌≤◌, ◌⊎◌, true, false, IfOk, OnOk, OnErr, Err};
+ghost use Rattle.clip_stream.specs.Lines.{OfInput, OfLinesRead};
 ghost use Rattle.clip_front.specs.Steps.Serving.{ServesAll, ServesFront};
 
 use clip_stream::{LineReader, MOST_READS, Outbox, RunFault, Sink, Source};
@@ -56,28 +56,30 @@ pub fn serve<R: Source, W: Sink, L, S: Server<L>>(
     server: &mut S,
 ) -> Result<u64, RunFault>
     requires unread { R.reads reader.old ≡ 0 }
+    requires unended { R.met_end reader.old ≡ false }
     requires reader_well { R.has_failed reader.old ≡ false }
     requires writer_well { W.has_failed writer.old ≡ false }
     requires settled { S.is_settled (server.old, lent.old) }
 
-    // Where the bytes are known, the server has answered just their lines, in order, and the writer has taken the answers.
-    ensures served { OnOk result (IfSome (R.left reader.old) (ServesAll S.answers
-        (server.old, lent.old) (server.new, lent.new) (W.taken writer.old) (W.taken writer.new))) }
+    // The server has answered just the lines of the input, in order, of which there were so many, and the writer has taken
+    // the answers. Where the reader doesn't tell its bytes, there is some input of which this holds.
+    ensures served { IfOk result (λ count. OfInput (R.left reader.old) (ServesAll S.answers
+        (server.old, lent.old) (server.new, lent.new) (W.taken writer.old) (W.taken writer.new) count)) }
     ensures settled { OnOk result (S.is_settled (server.new, lent.new)) }
     ensures flushed { OnOk result (W.is_flushed writer.new ≡ true) }
-    ensures lines { IfOk result (λ count. IfSome (R.left reader.old) (λ input. count ≡ length (lines_of input))) }
 
     // No device has failed, where all went well, and each fault has its reason.
     ensures ok { OnOk result ((R.has_failed reader.new ≡ false) × (W.has_failed writer.new ≡ false)) }
     ensures read { result ≡ Err RunFault.Read → (R.has_failed reader.new ≡ true)
-        ⊎ ((R.reads reader.new ≡ MOST_READS) × (R.met_end reader.new ≡ R.met_end reader.old)) }
+        ⊎ ((R.reads reader.new ≡ MOST_READS) × (R.met_end reader.new ≡ false)) }
     ensures write { result ≡ Err RunFault.Write → W.has_failed writer.new ≡ true }
     ensures reads { R.reads reader.new ≤ MOST_READS }
 
-    // After a fault, the server has answered some first lines and begun one more at most, and the writer has taken a front
-    // of the answers.
-    ensures front { OnErr result (IfSome (R.left reader.old) (ServesFront S.answers S.breaks_off
-        (server.old, lent.old) (server.new, lent.new) (W.taken writer.old) (W.taken writer.new))) }
+    // After a fault, the server has answered some first ones of the lines that were read and begun one more of them at
+    // most, and the writer has taken a front of the answers.
+    ensures front { OnErr result (OfLinesRead (R.left reader.old) (R.left reader.new) (R.met_end reader.new)
+        (ServesFront S.answers S.breaks_off (server.old, lent.old) (server.new, lent.new)
+        (W.taken writer.old) (W.taken writer.new))) }
 {
     let mut lines = LineReader::new(alloc)?;
     let mut outbox = Outbox::new(alloc);

@@ -1,25 +1,24 @@
 -- What a run gives that may owe answers meanwhile: just what its lines give.
-use Rattle.std.proofs.Common.{◌≡◌, ℕ, suc, List, [], ◌∷◌, ◌++◌, length, take, drop, Bool, false, Option, Some, None, refl, sym, ap, ap₂, ◌∙◌, subst, append_assoc, append-nil, inl, inr, if◌then◌else◌}
-use Rattle.std.specs.Prelude.{IfSome}
+use Rattle.std.proofs.Common.{◌≡◌, ℕ, suc, List, [], ◌∷◌, ◌++◌, length, Bool, Option, refl, sym, ap, ap₂, ◌∙◌, subst, append_assoc, append-nil, inl, inr, if◌then◌else◌}
 use Rattle.std.specs.Io.KnownBytes.{Appends}
-use Rattle.std.proofs.Math.Seq.{take-append_seam}
-use Rattle.std.proofs.lemmas.List.{take-append-drop}
 use Rattle.clip_stream.specs.Device.{AppendsFront}
-use Rattle.clip_stream.specs.Lines.{lines_of}
+use Rattle.clip_stream.specs.Lines.{lines_of, OfInput, OfLinesRead}
+use Rattle.clip_stream.proofs.LinesRead.{of_input_weaker, of_lines_read_weaker}
 use Rattle.clip_stream.specs.Steps.Reading.{cut}
 use Rattle.clip_model.specs.Alerts.{Alert}
 use Rattle.clip_model.specs.History.{History}
 use Rattle.clip_listen.specs.Heard.{Hearer, told_all, HearsFront}
-use Rattle.clip_listen.proofs.Hearing.{no_front, front_after, names_told}
+use Rattle.clip_listen.proofs.Hearing.{no_front, front_after, front_of_more, names_told}
 use Rattle.clip_protocol.specs.LineMeaning.{Meaning, Means, after, is_blank, json_of}
 use Rattle.clip_front.specs.Outcome.{Outcome, nothing_given, followed_by, given, names_in, kept_rows, Gives, GivesAll, GivesFront}
 use Rattle.clip_protocol.specs.Steps.Outline.{outline, blank, outline_of_value, MeansOutline}
 use Rattle.clip_front.specs.Steps.Serving.{Serves, StopsAt, ServesAll, ServesFront}
 use Rattle.clip_protocol.proofs.Meanings.{means_from, means_to}
 use Rattle.clip_front.proofs.Outcomes.{followed_assoc, followed_nothing, given_kept}
-use Rattle.clip_front.proofs.Served.{choose, cut_is_long, cut_is_whole}
+use Rattle.clip_front.proofs.OneOutcome.{gives_on}
+use Rattle.clip_front.proofs.Served.{choose, cut_is_long, cut_is_whole, front_longer}
 use Rattle.clip_front.specs.declared.settings.Settings.{Settings}
-use Rattle.clip_run.specs.Owed.{Owed, owes, Course, Gave, Turns, BreaksOff, TurnsIn, BreaksIn}
+use Rattle.clip_run.specs.Owed.{owes, Course, Gave, Turns, BreaksOff, TurnsIn, BreaksIn}
 use Rattle.clip_run.proofs.Owing.{owes_told, gave_nothing, gave_more}
 
 -- ---- a line that is cut means no other thing
@@ -95,10 +94,9 @@ settled : (s t : Course) (out outcome : Outcome) → s.owed ≡ [] → t.owed �
 settled s t out outcome none_before none e =
     sym (followed_nothing out) ∙ ap (λ os. followed_by out (owes t.hearers os)) (sym none) ∙ sym e ∙ ap (λ os. followed_by (owes s.hearers os) outcome) none_before
 
-pub run_gives : {S : Type 0} (view : S → Course) (s t : S) (settings : Settings) (input taken_old taken : Option (List ℕ)) → (view s).history ≡ [] → (view s).rows ≡ [] → (view s).settings ≡ settings → (view s).owed ≡ [] → (view t).owed ≡ []
-    → IfSome input (ServesAll (TurnsIn view) s t taken_old taken) → IfSome input (GivesAll (view s).hearers (view t).hearers settings taken_old taken (view t).rows)
-run_gives view s t settings None taken_old taken start no_rows same none_before none p = tt
-run_gives view s t settings (Some input) taken_old taken start no_rows same none_before none p =
+gives_all : {S : Type 0} (view : S → Course) (s t : S) (settings : Settings) (taken_old taken : Option (List ℕ)) (count : ℕ) (input : List ℕ) → (view s).history ≡ [] → (view s).rows ≡ [] → (view s).settings ≡ settings → (view s).owed ≡ [] → (view t).owed ≡ []
+    → ServesAll (TurnsIn view) s t taken_old taken count input → GivesAll (view s).hearers (view t).hearers settings taken_old taken count (view t).rows input
+gives_all view s t settings taken_old taken count input start no_rows same none_before none p =
     let g = taken_by view s t 1 (lines_of input) p.text p.served in
     let whole = settled (view s) (view t) g.out g.outcome none_before none g.rest in
     record {
@@ -107,7 +105,13 @@ run_gives view s t settings (Some input) taken_old taken start no_rows same none
       replies = subst (Appends taken_old taken) (sym g.printed ∙ ap (λ k. g.out.text k.form) same ∙ ap (λ o. o.text settings.form) whole) p.written;
       told = g.gave.heard ∙ ap (λ o. told_all o.alerts (view s).hearers) whole;
       rows = g.gave.rows ∙ ap₂ (λ xs k. xs ++ kept_rows k.keeps_rows g.out.rows) no_rows same ∙ ap (λ o. kept_rows settings.keeps_rows o.rows) whole;
+      counted = p.counted;
     }
+
+pub run_gives : {S : Type 0} (view : S → Course) (s t : S) (settings : Settings) (left taken_old taken : Option (List ℕ)) (count : ℕ) → (view s).history ≡ [] → (view s).rows ≡ [] → (view s).settings ≡ settings → (view s).owed ≡ [] → (view t).owed ≡ []
+    → OfInput left (ServesAll (TurnsIn view) s t taken_old taken count) → OfInput left (GivesAll (view s).hearers (view t).hearers settings taken_old taken count (view t).rows)
+run_gives view s t settings left taken_old taken count start no_rows same none_before none p =
+    of_input_weaker left _ _ (λ input served. gives_all view s t settings taken_old taken count input start no_rows same none_before none served) p
 
 -- ---- some first lines were taken, and the next was begun at most
 
@@ -161,21 +165,25 @@ begun_by view s t u n (line ∷ lines) last text p here = begun_first (view s) (
 renumbered : (s t : Course) (n k : ℕ) (line : List ℕ) → BreaksOff s t n line → BreaksOff s t k line
 renumbered s t n k line b = record { meaning = b.meaning; means = b.means; heard = b.heard }
 
--- a front of a text is one of a longer text
-front_longer : (old new : Option (List ℕ)) (text more : List ℕ) → AppendsFront old new text → AppendsFront old new (text ++ more)
-front_longer old new text more f =
-    let there : take f.0 text ++ (drop f.0 text ++ more) ≡ text ++ more = sym (append_assoc (take f.0 text) (drop f.0 text) more) ∙ ap (λ x. x ++ more) (take-append-drop f.0 text) in
-    (length (take f.0 text), subst (Appends old new) (sym (take-append_seam (take f.0 text) (drop f.0 text ++ more)) ∙ ap (take (length (take f.0 text))) there) f.1)
+-- lines that were not begun
+begun_more : (s t : Course) (n : ℕ) (lines later : List (List ℕ)) (text : List ℕ) → BegunBy s t n lines text → BegunBy s t n (lines ++ later) text
+begun_more s t n lines later text b =
+    let on = gives_on s.hearers n s.history lines later b.outcome b.gives in
+    let owed = owes s.hearers s.owed in
+    let all : followed_by owed (followed_by b.outcome on.0) ≡ followed_by (followed_by owed b.outcome) on.0 = sym (followed_assoc owed b.outcome on.0) in
+    record {
+      outcome = followed_by b.outcome on.0;
+      gives = on.1;
+      more = b.more ++ on.0.text s.settings.form;
+      printed = ap (λ o. o.text s.settings.form) all ∙ ap (λ x. x ++ on.0.text s.settings.form) b.printed ∙ append_assoc text b.more (on.0.text s.settings.form);
+      heard = subst (λ o. HearsFront o.alerts s.hearers t.hearers) (sym all) (front_of_more (followed_by owed b.outcome).alerts on.0.alerts s.hearers t.hearers b.heard);
+    }
 
-front_given : (s t : Course) (taken_old taken : Option (List ℕ)) (input text : List ℕ) (lines later : List (List ℕ)) → s.history ≡ [] → s.owed ≡ [] → lines_of input ≡ lines ++ later → BegunBy s t 1 lines text → AppendsFront taken_old taken text
-    → GivesFront s.hearers t.hearers s.settings.form taken_old taken input
-front_given s t taken_old taken input text lines later start none parts b written =
+front_given : (s t : Course) (taken_old taken : Option (List ℕ)) (text : List ℕ) (lines : List (List ℕ)) → s.history ≡ [] → s.owed ≡ [] → BegunBy s t 1 lines text → AppendsFront taken_old taken text → GivesFront s.hearers t.hearers s.settings.form taken_old taken lines
+front_given s t taken_old taken text lines start none b written =
     let whole : followed_by (owes s.hearers s.owed) b.outcome ≡ b.outcome = ap (λ os. followed_by (owes s.hearers os) b.outcome) none in
     record {
-      lines = lines;
-      later = later;
       outcome = b.outcome;
-      cut = parts;
       gives = subst (λ h. Gives s.hearers 1 h lines b.outcome) start b.gives;
       replies = subst (AppendsFront taken_old taken) (sym b.printed ∙ ap (λ o. o.text s.settings.form) whole) (front_longer taken_old taken text b.more written);
       told = subst (λ o. HearsFront o.alerts s.hearers t.hearers) whole b.heard;
@@ -186,19 +194,20 @@ stopped : {S : Type 0} (view : S → Course) (s t u : S) (lines : List (List ℕ
 stopped view s t u lines text p same =
     subst (λ ls. BegunBy (view s) (view u) 1 ls text) (append-nil lines) (begun_by view s t u 1 lines [] text p (λ k. subst (λ x. BegunBy (view t) (view x) k [] []) (sym same) (begun_none (view t) k)))
 
-front_at : {S : Type 0} (view : S → Course) (s t u : S) (taken_old taken : Option (List ℕ)) (input text : List ℕ) (lines later : List (List ℕ)) → (view s).history ≡ [] → (view s).owed ≡ [] → lines_of input ≡ lines ++ later → Serves (TurnsIn view) s t 1 lines text
-    → StopsAt (BreaksIn view) t u (suc (length lines)) later → AppendsFront taken_old taken text → GivesFront (view s).hearers (view u).hearers (view s).settings.form taken_old taken input
-front_at view s t u taken_old taken input text lines [] start none parts p same written =
-    front_given (view s) (view u) taken_old taken input text lines [] start none parts (stopped view s t u lines text p same) written
-front_at view s t u taken_old taken input text lines (line ∷ later) start none parts p (inl same) written =
-    front_given (view s) (view u) taken_old taken input text lines (line ∷ later) start none parts (stopped view s t u lines text p same) written
-front_at view s t u taken_old taken input text lines (line ∷ later) start none parts p (inr broken) written =
-    front_given (view s) (view u) taken_old taken input text (lines ++ line ∷ []) later start none (parts ∙ sym (append_assoc lines (line ∷ []) later))
-    (begun_by view s t u 1 lines (line ∷ []) text p (λ k. begun_here (view t) (view u) k line (renumbered (view t) (view u) (suc (length lines)) k (cut line) broken))) written
+begun_at : {S : Type 0} (view : S → Course) (s t u : S) (text : List ℕ) (lines later : List (List ℕ)) → Serves (TurnsIn view) s t 1 lines text → StopsAt (BreaksIn view) t u (suc (length lines)) later → BegunBy (view s) (view u) 1 (lines ++ later) text
+begun_at view s t u text lines [] p same = begun_more (view s) (view u) 1 lines [] text (stopped view s t u lines text p same)
+begun_at view s t u text lines (line ∷ later) p (inl same) = begun_more (view s) (view u) 1 lines (line ∷ later) text (stopped view s t u lines text p same)
+begun_at view s t u text lines (line ∷ later) p (inr broken) =
+    subst (λ ls. BegunBy (view s) (view u) 1 ls text) (append_assoc lines (line ∷ []) later)
+    (begun_more (view s) (view u) 1 (lines ++ line ∷ []) later text (begun_by view s t u 1 lines (line ∷ []) text p (λ k. begun_here (view t) (view u) k line (renumbered (view t) (view u) (suc (length lines)) k (cut line) broken))))
 
-pub run_gives_front : {S : Type 0} (view : S → Course) (s t : S) (settings : Settings) (input taken_old taken : Option (List ℕ)) → (view s).history ≡ [] → (view s).settings ≡ settings → (view s).owed ≡ []
-    → IfSome input (ServesFront (TurnsIn view) (BreaksIn view) s t taken_old taken) → IfSome input (GivesFront (view s).hearers (view t).hearers settings.form taken_old taken)
-run_gives_front view s t settings None taken_old taken start same none p = tt
-run_gives_front view s t settings (Some input) taken_old taken start same none p =
-    subst (λ k. GivesFront (view s).hearers (view t).hearers k.form taken_old taken input) same
-    (front_at view s p.between t taken_old taken input p.text p.lines p.later start none p.parts p.served p.stops p.written)
+gives_front : {S : Type 0} (view : S → Course) (s t : S) (settings : Settings) (taken_old taken : Option (List ℕ)) (lines : List (List ℕ)) → (view s).history ≡ [] → (view s).settings ≡ settings → (view s).owed ≡ [] → ServesFront (TurnsIn view) (BreaksIn view) s t taken_old taken lines
+    → GivesFront (view s).hearers (view t).hearers settings.form taken_old taken lines
+gives_front view s t settings taken_old taken lines start same none p =
+    let begun = subst (λ ls. BegunBy (view s) (view t) 1 ls p.text) (sym p.parts) (begun_at view s p.between t p.text p.front p.later p.served p.stops) in
+    subst (λ k. GivesFront (view s).hearers (view t).hearers k.form taken_old taken lines) same (front_given (view s) (view t) taken_old taken p.text lines start none begun p.written)
+
+pub run_gives_front : {S : Type 0} (view : S → Course) (s t : S) (settings : Settings) (left left_new : Option (List ℕ)) (met_end : Bool) (taken_old taken : Option (List ℕ)) → (view s).history ≡ [] → (view s).settings ≡ settings → (view s).owed ≡ []
+    → OfLinesRead left left_new met_end (ServesFront (TurnsIn view) (BreaksIn view) s t taken_old taken) → OfLinesRead left left_new met_end (GivesFront (view s).hearers (view t).hearers settings.form taken_old taken)
+run_gives_front view s t settings left left_new met_end taken_old taken start same none p =
+    of_lines_read_weaker left left_new met_end _ _ (λ lines served. gives_front view s t settings taken_old taken lines start same none served) p

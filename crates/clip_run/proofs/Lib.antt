@@ -4,3 +4,4 @@ pub mod OnlyCaller
 pub mod Outcomes
 pub mod Owing
 pub mod Seats
+pub mod Turns

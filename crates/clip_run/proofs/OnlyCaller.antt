@@ -2,8 +2,8 @@
 use Rattle.std.proofs.Common.{◌≡◌, ℕ, suc, ◌+◌, ◌<◌, ◌≤◌, ◌==◌, List, [], ◌∷◌, ◌++◌, length, map, filter, Bool, true, false, refl, sym, ap, subst, ◌∙◌, arith, append_assoc, append-nil, length-append, eq-eqb, if◌then◌else◌, IsTrue, IsFalse}
 use Rattle.std.specs.Prelude.{Some, None}
 use Rattle.std.specs.FinMap as finite
-use Rattle.clip_model.specs.History.{History, HistoryEntry, Command, IsLegal, own, next_entry, with_command, has_room, applied, listed, after_command, replay}
-use Rattle.clip_model.specs.declared.limits.TheConstants.{MOST_LIVE, MOST_ENTRIES}
+use Rattle.clip_model.specs.History.{History, HistoryEntry, Command, IsLegal, own, next_entry, with_command, has_room, applied, replay}
+use Rattle.clip_model.specs.declared.limits.TheConstants.{MOST_LIVE}
 use Rattle.clip_model.proofs.Legal.{room_from}
 use Rattle.clip_model.proofs.Replay.{replays_on}
 use Rattle.clip_standing.specs.Command.{answer_of}

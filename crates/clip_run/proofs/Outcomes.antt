@@ -1,9 +1,10 @@
 -- What a run leaves at its end, and after a fault.
-use Rattle.std.proofs.Common.{◌≡◌, ℕ, List, [], ◌++◌, length, Bool, Option, Some, None, refl, sym, ap, subst, ◌∙◌, arith, append-nil}
-use Rattle.std.specs.Prelude.{IfSome, Result, Ok, Err, IfOk, OnOk, OnErr}
+use Rattle.std.proofs.Common.{◌≡◌, ℕ, List, [], Bool, true, false, Option, refl, sym, ap, subst, arith}
+use Rattle.std.specs.Prelude.{Result, Ok, Err, IfOk, OnOk, OnErr}
 use Rattle.core.specs.Result.{IsErrAnd}
-use Rattle.std.specs.Io.KnownBytes.{Appends}
-use Rattle.clip_stream.specs.Lines.{lines_of}
+use Rattle.clip_stream.specs.Lines.{lines_read, OfInput, OfLinesRead}
+use Rattle.clip_stream.proofs.Bytes.{consumes_none}
+use Rattle.clip_front.proofs.Progress.{appends_none}
 use Rattle.clip_stream.specs.declared.fault.RunFault.{RunFault}
 use Rattle.clip_stream.specs.declared.fault.RunFault.TheVariants as fault
 use Rattle.clip_listen.specs.Heard.{Hearer}
@@ -19,37 +20,39 @@ use Rattle.clip_run.specs.Ran.{Told, Ran}
 use Rattle.clip_run.proofs.Headline.{run_gives, run_gives_front}
 use Rattle.clip_run.proofs.Owing.{on_err_more}
 
-module _ {A : Type 0} (hearers : A → List Hearer) (c d : CrewIs) (a b : A) (input taken_old taken : Option (List ℕ)) (result : Result ℕ RunFault) (start : c.history ≡ []) (none_owed : c.owed ≡ []) where
-  pub ended_err : OnErr result (IfSome input (ServesFront (TurnsIn (course_at hearers)) (BreaksIn (course_at hearers)) (c, a) (d, b) taken_old taken)) → OnErr result (IfSome input (GivesFront (hearers a) (hearers b) c.settings.form taken_old taken))
-  ended_err front = on_err_more result front (run_gives_front (course_at hearers) (c, a) (d, b) c.settings input taken_old taken start refl none_owed)
+pub ended_err : {A : Type 0} (hearers : A → List Hearer) (c d : CrewIs) (a b : A) (left left_new : Option (List ℕ)) (met_end : Bool) (taken_old taken : Option (List ℕ)) (result : Result ℕ RunFault) → c.history ≡ [] → c.owed ≡ []
+    → OnErr result (OfLinesRead left left_new met_end (ServesFront (TurnsIn (course_at hearers)) (BreaksIn (course_at hearers)) (c, a) (d, b) taken_old taken)) → OnErr result (OfLinesRead left left_new met_end (GivesFront (hearers a) (hearers b) c.settings.form taken_old taken))
+ended_err hearers c d a b left left_new met_end taken_old taken result start none_owed front =
+    on_err_more result front (run_gives_front (course_at hearers) (c, a) (d, b) c.settings left left_new met_end taken_old taken start refl none_owed)
 
-pub ended_ok : {A : Type 0} (hearers : A → List Hearer) (c d : CrewIs) (rows : List RowValue) (a b : A) (input taken_old taken : Option (List ℕ)) (result : Result ℕ RunFault) → c.history ≡ [] → c.rows ≡ [] → c.owed ≡ [] → rows ≡ d.rows → OnOk result (d.owed ≡ [])
-    → OnOk result (IfSome input (ServesAll (TurnsIn (course_at hearers)) (c, a) (d, b) taken_old taken)) → IfOk result (λ n. IfSome input (GivesAll (hearers a) (hearers b) c.settings taken_old taken rows))
-ended_ok hearers c d rows a b input taken_old taken (Ok n) start no_rows none_owed same settled served =
-    subst (λ rs. IfSome input (GivesAll (hearers a) (hearers b) c.settings taken_old taken rs)) (sym same) (run_gives (course_at hearers) (c, a) (d, b) c.settings input taken_old taken start no_rows refl none_owed settled served)
-ended_ok hearers c d rows a b input taken_old taken (Err e) start no_rows none_owed same settled served = tt
+pub ended_ok : {A : Type 0} (hearers : A → List Hearer) (c d : CrewIs) (rows : List RowValue) (a b : A) (left taken_old taken : Option (List ℕ)) (result : Result ℕ RunFault) → c.history ≡ [] → c.rows ≡ [] → c.owed ≡ [] → rows ≡ d.rows → OnOk result (d.owed ≡ [])
+    → IfOk result (λ n. OfInput left (ServesAll (TurnsIn (course_at hearers)) (c, a) (d, b) taken_old taken n)) → IfOk result (λ n. OfInput left (GivesAll (hearers a) (hearers b) c.settings taken_old taken n rows))
+ended_ok hearers c d rows a b left taken_old taken (Ok n) start no_rows none_owed same settled served =
+    subst (λ rs. OfInput left (GivesAll (hearers a) (hearers b) c.settings taken_old taken n rs)) (sym same) (run_gives (course_at hearers) (c, a) (d, b) c.settings left taken_old taken n start no_rows refl none_owed settled served)
+ended_ok hearers c d rows a b left taken_old taken (Err e) start no_rows none_owed same settled served = tt
 
 -- ---- a run that was refused memory before it began
 
-appends_none : (old : Option (List ℕ)) → Appends old old []
-appends_none None = tt
-appends_none (Some xs) = sym (append-nil xs)
+no_lines : (met_end : Bool) → lines_read met_end [] ≡ []
+no_lines true = refl
+no_lines false = refl
 
-pub gives_none : (form : Form) (hearers : List Hearer) (input taken : Option (List ℕ)) → IfSome input (GivesFront hearers hearers form taken taken)
-gives_none form hearers None taken = tt
-gives_none form hearers (Some input) taken =
-    record { lines = []; later = lines_of input; outcome = nothing_given; cut = refl; gives = refl; replies = (0, appends_none taken); told = no_front [] hearers }
+pub gives_none : (form : Form) (hearers : List Hearer) (left : Option (List ℕ)) (met_end : Bool) (taken : Option (List ℕ)) → OfLinesRead left left met_end (GivesFront hearers hearers form taken taken)
+gives_none form hearers left met_end taken = (
+  [],
+  consumes_none left,
+  subst (GivesFront hearers hearers form taken taken) (sym (no_lines met_end)) (record { outcome = nothing_given; gives = refl; replies = (0, appends_none taken); told = no_front [] hearers }),
+)
 
 ran_refused : {T : Type 0} (lines : T → ℕ) (rows : T → List RowValue) (settings : Settings) (told : Told) → told.reads ≡ 0 → Ran lines rows settings told told (Err fault.NoMemory)
 ran_refused lines rows settings told unread = record {
   outcome = tt;
   flushed = tt;
-  counted = tt;
   ok = tt;
   read = λ e. absurd (cc e);
   write = λ e. absurd (cc e);
   reads = omega (arith, unread);
-  front = gives_none settings.form told.hearers told.left told.taken;
+  front = gives_none settings.form told.hearers told.left told.met_end told.taken;
 }
 
 pub ran_none : {T : Type 0} (lines : T → ℕ) (rows : T → List RowValue) (settings : Settings) (told : Told) (result : Result T RunFault) → result ≡ Err fault.NoMemory → told.reads ≡ 0 → Ran lines rows settings told told result
@@ -59,9 +62,8 @@ ran_none lines rows settings told result is unread = subst (Ran lines rows setti
 
 pub ran_ended : {T : Type 0} (lines : T → ℕ) (rows : T → List RowValue) (t : T) (n : ℕ) (given : List RowValue) (settings : Settings) (old new : Told) → Ran (λ n. n) (λ n. given) settings old new (Ok n) → n ≡ lines t → given ≡ rows t → Ran lines rows settings old new (Ok t)
 ran_ended lines rows t n given settings old new ran counted kept = record {
-  outcome = subst (λ rs. IfSome old.left (GivesAll old.hearers new.hearers settings old.taken new.taken rs)) kept ran.outcome;
+  outcome = subst (λ k. OfInput old.left (GivesAll old.hearers new.hearers settings old.taken new.taken k (rows t))) counted (subst (λ rs. OfInput old.left (GivesAll old.hearers new.hearers settings old.taken new.taken n rs)) kept ran.outcome);
   flushed = ran.flushed;
-  counted = subst (λ k. IfSome old.left (λ input. k ≡ length (lines_of input))) counted ran.counted;
   ok = ran.ok;
   read = λ e. absurd (cc e);
   write = λ e. absurd (cc e);
@@ -73,7 +75,6 @@ failed_as : {T : Type 0} (lines : T → ℕ) (rows : T → List RowValue) (given
 failed_as lines rows given settings old new e ran = record {
   outcome = tt;
   flushed = tt;
-  counted = tt;
   ok = tt;
   read = λ is. ran.read (cc is);
   write = λ is. ran.write (cc is);

@@ -1,5 +1,5 @@
 -- What is owed, and what was given.
-use Rattle.std.proofs.Common.{◌≡◌, ℕ, List, [], ◌∷◌, ◌++◌, map, Bool, true, false, refl, sym, ap, ap₂, ◌∙◌, subst, append_assoc, append-nil}
+use Rattle.std.proofs.Common.{◌≡◌, ℕ, List, [], ◌∷◌, ◌++◌, map, refl, sym, ap, ap₂, ◌∙◌, subst, append_assoc, append-nil}
 use Rattle.std.specs.Prelude.{Result, Ok, Err, OnOk, OnErr}
 use Rattle.std.proofs.lemmas.List.{map-append}
 use Rattle.clip_model.specs.Alerts.{Alert}
@@ -26,7 +26,7 @@ use Rattle.clip_front.proofs.Outcomes.{followed_assoc, followed_nothing, kept_ap
 use Rattle.clip_front.specs.declared.settings.Settings.{Settings}
 use Rattle.clip_run.specs.Pending.{owed_by}
 use Rattle.clip_run.specs.declared.batch.Pending.{Pending}
-use Rattle.clip_run.specs.Owed.{Owed, ready, matched, owed_of, owes, Course, Gave, Pays, Turns, BreaksOff, HearsOwed, PaysInto, TakesBatch, TurnsInto, owing}
+use Rattle.clip_run.specs.Owed.{Owed, ready, matched, owed_of, owes, Course, Gave, Pays, Turns, BreaksOff, HearsOwed, PaysInto, TakesBatch, TurnsInto}
 
 -- ---- what was heard changes nothing that is owed
 

@@ -1,5 +1,5 @@
 -- The only seat of a desk of one caller.
-use Rattle.std.proofs.Common.{◌≡◌, ℕ, ◌+◌, List, [], ◌∷◌, ◌++◌, length, Some, slice_get, refl, sym, ap, ◌∙◌, subst, arith, length-append}
+use Rattle.std.proofs.Common.{◌≡◌, ℕ, ◌+◌, List, [], ◌∷◌, ◌++◌, length, Some, slice_get, refl, sym, ap, ◌∙◌, arith, length-append}
 use Rattle.logbook.specs.Pages.{Book}
 use Rattle.clip_desk.specs.Seats.{SeatIs, DeskIs, AreSeated, new_seat}
 use Rattle.clip_run.specs.Seated.{IsOnly}

@@ -5,3 +5,4 @@ pub mod Pending
 pub mod Ran
 pub mod Seated
 pub mod RunServer
+pub mod Unpurged

@@ -1,6 +1,6 @@
 -- What a run leaves, by what its reader, its writer and its audience tell.
-use Rattle.std.specs.Prelude.{◌≡◌, ◌≤◌, ◌⊎◌, ℕ, List, length, Bool, true, false, Option, IfSome, Result, Err, IfOk, OnOk, OnErr}
-use Rattle.clip_stream.specs.Lines.{lines_of}
+use Rattle.std.specs.Prelude.{◌≡◌, ◌≤◌, ◌⊎◌, ℕ, List, Bool, true, false, Option, Result, Err, IfOk, OnOk, OnErr}
+use Rattle.clip_stream.specs.Lines.{OfInput, OfLinesRead}
 use Rattle.clip_stream.specs.declared.device.Source as source
 use Rattle.clip_stream.specs.declared.device.Sink as sink
 use Rattle.clip_stream.specs.declared.limits.TheConstants.{MOST_READS}
@@ -36,19 +36,19 @@ told reads writes hears reader writer listeners = record {
   hearers = hears.hearers listeners;
 }
 
--- Nothing was read yet, and no call has failed.
+-- Nothing was read yet, the end was not met, and no call has failed.
 pub record IsFresh (t : Told) : Type 0 where
   pub unread : t.reads ≡ 0
+  pub unended : t.met_end ≡ false
   pub reader_well : t.read_failed ≡ false
   pub writer_well : t.write_failed ≡ false
 
 -- A run of these settings went from the first to the second, and gave so many lines and these rows, or a fault.
 pub record Ran {T : Type 0} (lines : T → ℕ) (rows : T → List RowValue) (settings : Settings) (old new : Told) (result : Result T RunFault) : Type 0 where
-  pub outcome : IfOk result (λ t. IfSome old.left (GivesAll old.hearers new.hearers settings old.taken new.taken (rows t)))
+  pub outcome : IfOk result (λ t. OfInput old.left (GivesAll old.hearers new.hearers settings old.taken new.taken (lines t) (rows t)))
   pub flushed : OnOk result (new.is_flushed ≡ true)
-  pub counted : IfOk result (λ t. IfSome old.left (λ input. lines t ≡ length (lines_of input)))
   pub ok : OnOk result ((new.read_failed ≡ false) × (new.write_failed ≡ false))
-  pub read : result ≡ Err fault.Read → (new.read_failed ≡ true) ⊎ ((new.reads ≡ MOST_READS) × (new.met_end ≡ old.met_end))
+  pub read : result ≡ Err fault.Read → (new.read_failed ≡ true) ⊎ ((new.reads ≡ MOST_READS) × (new.met_end ≡ false))
   pub write : result ≡ Err fault.Write → new.write_failed ≡ true
   pub reads : new.reads ≤ MOST_READS
-  pub front : OnErr result (IfSome old.left (GivesFront old.hearers new.hearers settings.form old.taken new.taken))
+  pub front : OnErr result (OfLinesRead old.left new.left new.met_end (GivesFront old.hearers new.hearers settings.form old.taken new.taken))

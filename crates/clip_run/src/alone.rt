@@ -1,7 +1,7 @@
 //! A run on one thread: a registrar of its own, its books, and merge turns between the lines.
 ghost use Rattle.std.specs.Prelude.{◌≡◌, ◌≤◌, ◌⊎◌, length, true, false, IfOk, OnOk, OnErr, IfSome, Err};
 ghost use Rattle.clip_listen.specs.Heard.{HearsFront};
-ghost use Rattle.clip_stream.specs.Lines.{lines_of};
+ghost use Rattle.clip_stream.specs.Lines.{OfInput, OfLinesRead};
 ghost use Rattle.clip_protocol.specs.LineMeaning.{matching};
 ghost use Rattle.clip_protocol.specs.Reply.{alerts_of_all};
 ghost use Rattle.clip_front.specs.Outcome.{GivesAll, GivesFront};
@@ -29,7 +29,15 @@ struct Owned {
 }
 
 impl Registry for Owned {
+    ghost use Rattle.std.specs.Prelude.{◌≡◌};
+    ghost use Rattle.clip_registry.specs.Merging.{purged};
+    ghost use Rattle.clip_run.specs.Unpurged.{GoesOnUnpurged};
+
     ghost history_in = { λ o. o.registrar.history };
+
+    ghost purges = { λ old new. new.registrar ≡ purged old.registrar };
+
+    ghost goes_on = { λ old new. GoesOnUnpurged old.registrar new.registrar };
 
     /// Accepts a command, and takes a merge turn then. A turn that is refused memory is dropped.
     fn accept(&mut self, command: Command) -> Result<Option<Applied>, NoMemory> {
@@ -143,27 +151,28 @@ pub fn run_alone<R: Source, W: Sink, A: Audience>(
     settings: Settings,
 ) -> Result<Ended, RunFault>
     requires unread { R.reads reader.old ≡ 0 }
+    requires unended { R.met_end reader.old ≡ false }
     requires reader_well { R.has_failed reader.old ≡ false }
     requires writer_well { W.has_failed writer.old ≡ false }
 
-    // Where the bytes are known, what was written and flushed is their reply text, each listener has heard just its own
-    // alerts, in order, and the ledger has a row for each alert, or none where none are kept.
-    ensures outcome { IfOk result (λ ended. IfSome (R.left reader.old)
+    // What was written and flushed is the reply text of the input, each listener has heard just its own alerts, in order,
+    // the ledger has a row for each alert, or none where none are kept, and the lines are counted. Where the reader doesn't
+    // tell its bytes, there is some input of which this holds.
+    ensures outcome { IfOk result (λ ended. OfInput (R.left reader.old)
         (GivesAll (A.hearers audience.old) (A.hearers audience.new) settings
-        (W.taken writer.old) (W.taken writer.new) ended.ledger)) }
+        (W.taken writer.old) (W.taken writer.new) ended.lines ended.ledger)) }
     ensures flushed { OnOk result (W.is_flushed writer.new ≡ true) }
-    ensures lines { IfOk result (λ ended. IfSome (R.left reader.old) (λ input.
-        ended.lines ≡ length (lines_of input))) }
 
     // No device has failed, where the run ended well, and each fault has its reason.
     ensures ok { OnOk result ((R.has_failed reader.new ≡ false) × (W.has_failed writer.new ≡ false)) }
     ensures read { result ≡ Err RunFault.Read → (R.has_failed reader.new ≡ true)
-        ⊎ ((R.reads reader.new ≡ MOST_READS) × (R.met_end reader.new ≡ R.met_end reader.old)) }
+        ⊎ ((R.reads reader.new ≡ MOST_READS) × (R.met_end reader.new ≡ false)) }
     ensures write { result ≡ Err RunFault.Write → W.has_failed writer.new ≡ true }
     ensures reads { R.reads reader.new ≤ MOST_READS }
 
-    // After a fault, what was written and heard is a front of what some of the first lines give.
-    ensures front { OnErr result (IfSome (R.left reader.old)
+    // After a fault, what was written and heard is a front of what the lines give that were read: the first of the input,
+    // or of some input, where the reader doesn't tell its bytes.
+    ensures front { OnErr result (OfLinesRead (R.left reader.old) (R.left reader.new) (R.met_end reader.new)
         (GivesFront (A.hearers audience.old) (A.hearers audience.new) settings.form
         (W.taken writer.old) (W.taken writer.new))) }
 {

@@ -86,7 +86,13 @@ impl<'r, 'd, R: Wait, N: DeskName> Caller<'r, 'd, R, N> {
 }
 
 impl<'r, 'd, R: Wait, N: DeskName> Registry for Caller<'r, 'd, R, N> {
+    ghost use Rattle.std.specs.Prelude.{◌≡◌, ⊤};
+
     ghost history_in = { λ h. h };
+
+    ghost purges = { λ old new. new ≡ old };
+
+    ghost goes_on = { λ old new. ⊤ };
 
     fn accept(&mut self, command: Command) -> Result<Option<Applied>, NoMemory> {
         match self.desk.commit(self.rt, &mut self.seat, command) {

@@ -1,6 +1,6 @@
 //! The lines of a run with workers, one after the other.
 ghost use Rattle.std.specs.Prelude.{◌≡◌, ◌≤◌, ◌⊎◌, [], length, true, false, IfOk, OnOk, OnErr, IfSome, Err};
-ghost use Rattle.clip_stream.specs.Lines.{lines_of};
+ghost use Rattle.clip_stream.specs.Lines.{OfInput, OfLinesRead};
 ghost use Rattle.clip_front.specs.Steps.Serving.{ServesAll, ServesFront};
 ghost use Rattle.clip_run.specs.Crews.{course_at};
 ghost use Rattle.clip_run.specs.Owed.{TurnsIn, BreaksIn};
@@ -40,28 +40,28 @@ pub fn serve_crew<
     crew: &mut Crew<'_, '_, '_, R, N, G>,
 ) -> Result<u64, RunFault>
     requires unread { S.reads reader.old ≡ 0 }
+    requires unended { S.met_end reader.old ≡ false }
     requires reader_well { S.has_failed reader.old ≡ false }
     requires writer_well { W.has_failed writer.old ≡ false }
     requires settled { crew.old.owed ≡ [] }
 
-    // Where the bytes are known, the crew has answered just their lines, in order, and the writer has taken the
-    // answers.
-    ensures served { OnOk result (IfSome (S.left reader.old) (ServesAll (TurnsIn (course_at A.hearers))
-        (crew.old, audience.old) (crew.new, audience.new) (W.taken writer.old) (W.taken writer.new))) }
+    // The crew has answered just the lines of the input, in order, of which there were so many, and the writer has taken
+    // the answers. Where the reader doesn't tell its bytes, there is some input of which this holds.
+    ensures served { IfOk result (λ count. OfInput (S.left reader.old) (ServesAll (TurnsIn (course_at A.hearers))
+        (crew.old, audience.old) (crew.new, audience.new) (W.taken writer.old) (W.taken writer.new) count)) }
     ensures settled { OnOk result (crew.new.owed ≡ []) }
     ensures flushed { OnOk result (W.is_flushed writer.new ≡ true) }
-    ensures lines { IfOk result (λ count. IfSome (S.left reader.old) (λ input. count ≡ length (lines_of input))) }
 
     // No device has failed, where all went well, and each fault has its reason.
     ensures ok { OnOk result ((S.has_failed reader.new ≡ false) × (W.has_failed writer.new ≡ false)) }
     ensures read { result ≡ Err RunFault.Read → (S.has_failed reader.new ≡ true)
-        ⊎ ((S.reads reader.new ≡ MOST_READS) × (S.met_end reader.new ≡ S.met_end reader.old)) }
+        ⊎ ((S.reads reader.new ≡ MOST_READS) × (S.met_end reader.new ≡ false)) }
     ensures write { result ≡ Err RunFault.Write → W.has_failed writer.new ≡ true }
     ensures reads { S.reads reader.new ≤ MOST_READS }
 
-    // After a fault, the crew has answered some first lines and begun one more at most, and the writer has taken a
-    // front of the answers.
-    ensures front { OnErr result (IfSome (S.left reader.old)
+    // After a fault, the crew has answered some first ones of the lines that were read and begun one more of them at
+    // most, and the writer has taken a front of the answers.
+    ensures front { OnErr result (OfLinesRead (S.left reader.old) (S.left reader.new) (S.met_end reader.new)
         (ServesFront (TurnsIn (course_at A.hearers)) (BreaksIn (course_at A.hearers))
         (crew.old, audience.old) (crew.new, audience.new) (W.taken writer.old) (W.taken writer.new))) }
 {

@@ -1,7 +1,7 @@
 //! The run with workers.
 ghost use Rattle.std.specs.Prelude.{◌≡◌, ◌≤◌, ◌⊎◌, [], length, true, false, IfOk, OnOk, OnErr, IfSome, Err};
 ghost use Rattle.std.specs.Thread.{IsSync, IsSend};
-ghost use Rattle.clip_stream.specs.Lines.{lines_of};
+ghost use Rattle.clip_stream.specs.Lines.{OfInput, OfLinesRead};
 ghost use Rattle.clip_desk.specs.Updates.{all_heard};
 ghost use Rattle.clip_front.specs.Outcome.{GivesAll, GivesFront};
 ghost use Rattle.clip_run.specs.Ran.{told, IsFresh, Ran};
@@ -203,28 +203,29 @@ pub fn run<
     gate: &G,
 ) -> Result<Ended, RunFault>
     requires unread { S.reads reader.old ≡ 0 }
+    requires unended { S.met_end reader.old ≡ false }
     requires reader_well { S.has_failed reader.old ≡ false }
     requires writer_well { W.has_failed writer.old ≡ false }
     requires workers { settings.workers ≤ MOST_WORKERS }
 
-    // Where the bytes are known, what was written and flushed is their reply text, each listener has heard just its own
-    // alerts, in order, and the ledger has a row for each alert, or none where none are kept.
-    ensures outcome { IfOk result (λ ended. IfSome (S.left reader.old)
+    // What was written and flushed is the reply text of the input, each listener has heard just its own alerts, in order,
+    // the ledger has a row for each alert, or none where none are kept, and the lines are counted. Where the reader doesn't
+    // tell its bytes, there is some input of which this holds.
+    ensures outcome { IfOk result (λ ended. OfInput (S.left reader.old)
         (GivesAll (A.hearers audience.old) (A.hearers audience.new) settings
-        (W.taken writer.old) (W.taken writer.new) ended.ledger)) }
+        (W.taken writer.old) (W.taken writer.new) ended.lines ended.ledger)) }
     ensures flushed { OnOk result (W.is_flushed writer.new ≡ true) }
-    ensures lines { IfOk result (λ ended. IfSome (S.left reader.old) (λ input.
-        ended.lines ≡ length (lines_of input))) }
 
     // No device has failed, where the run ended well, and each fault has its reason.
     ensures ok { OnOk result ((S.has_failed reader.new ≡ false) × (W.has_failed writer.new ≡ false)) }
     ensures read { result ≡ Err RunFault.Read → (S.has_failed reader.new ≡ true)
-        ⊎ ((S.reads reader.new ≡ MOST_READS) × (S.met_end reader.new ≡ S.met_end reader.old)) }
+        ⊎ ((S.reads reader.new ≡ MOST_READS) × (S.met_end reader.new ≡ false)) }
     ensures write { result ≡ Err RunFault.Write → W.has_failed writer.new ≡ true }
     ensures reads { S.reads reader.new ≤ MOST_READS }
 
-    // After a fault, what was written and heard is a front of what some of the first lines give.
-    ensures front { OnErr result (IfSome (S.left reader.old)
+    // After a fault, what was written and heard is a front of what the lines give that were read: the first of the input,
+    // or of some input, where the reader doesn't tell its bytes.
+    ensures front { OnErr result (OfLinesRead (S.left reader.old) (S.left reader.new) (S.met_end reader.new)
         (GivesFront (A.hearers audience.old) (A.hearers audience.new) settings.form
         (W.taken writer.old) (W.taken writer.new))) }
 {

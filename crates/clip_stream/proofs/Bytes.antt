@@ -3,7 +3,7 @@ use Rattle.std.proofs.Common.{◌≡◌, ℕ, zero, suc, ◌+◌, ◌-◌, ◌�
 use Rattle.std.proofs.lemmas.List.{length-take}
 use Rattle.std.proofs.lemmas.List.{take_min, drop-take, drop-drop}
 use Rattle.std.proofs.Math.Seq.{take-append-add, take-add}
-use Rattle.std.specs.Io.KnownBytes.{Appends}
+use Rattle.std.specs.Io.KnownBytes.{Appends, Consumes, Keeps}
 use Rattle.clip_stream.specs.Steps.Reading.{cut}
 
 take_extended : (limit : ℕ) (line bytes : List ℕ) (room more : ℕ) → length line ≤ limit → room ≡ limit - length line → more ≡ min (length bytes) room → line ++ take more bytes ≡ take limit (line ++ bytes)
@@ -21,6 +21,24 @@ appends_more None mid new bytes i n a b = tt
 appends_more (Some xs) None new bytes i n a b = absurd a
 appends_more (Some xs) (Some ys) None bytes i n a b = absurd b
 appends_more (Some xs) (Some ys) (Some zs) bytes i n a b = b ∙ ap (λ v. v ++ take n (drop i bytes)) a ∙ append_assoc xs _ _ ∙ ap (λ v. xs ++ v) (sym (take-add i n bytes))
+
+-- ---- known bytes that were given
+
+pub consumes_none : (left : Option (List ℕ)) → Consumes left left []
+consumes_none None = tt
+consumes_none (Some xs) = refl
+
+pub consumes_more : (old mid new : Option (List ℕ)) (xs ys : List ℕ) → Consumes old mid xs → Consumes mid new ys → Consumes old new (xs ++ ys)
+consumes_more None mid new xs ys a b = tt
+consumes_more (Some bytes) None new xs ys a b = absurd a
+consumes_more (Some bytes) (Some rest) None xs ys a b = absurd b
+consumes_more (Some bytes) (Some rest) (Some left) xs ys a b = a ∙ ap (λ v. xs ++ v) b ∙ sym (append_assoc xs ys left)
+
+pub consumes_kept : (old mid new : Option (List ℕ)) (xs : List ℕ) → Consumes old mid xs → Keeps mid new → Consumes old new xs
+consumes_kept None mid new xs a k = tt
+consumes_kept (Some bytes) None new xs a k = absurd a
+consumes_kept (Some bytes) (Some rest) None xs a k = absurd k
+consumes_kept (Some bytes) (Some rest) (Some left) xs a k = a ∙ ap (λ v. xs ++ v) (sym k)
 
 -- ---- what is pending
 

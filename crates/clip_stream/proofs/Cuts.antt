@@ -1,9 +1,9 @@
 -- Lines cut from known bytes.
-use Rattle.std.proofs.Common.{◌≡◌, ℕ, ◌<◌, ◌==◌, ◌||◌, List, [], ◌∷◌, ◌++◌, length, Bool, true, false, cond, Option, Some, None, refl, sym, ap, ◌∙◌, arith, append_assoc, append-nil, true≢false, suc, not, subst, length-append}
+use Rattle.std.proofs.Common.{◌≡◌, ℕ, ◌<◌, ◌==◌, ◌||◌, List, [], ◌∷◌, ◌++◌, length, Bool, true, false, cond, Option, refl, sym, ap, ap₂, ◌∙◌, arith, append_assoc, append-nil, true≢false, suc, not, inl, inr}
 use Rattle.std.proofs.lemmas.Bool.Decides.{nat_tests}
-use Rattle.clip_stream.proofs.Bytes.{cut_twice, cut_none, cut_some, cut_nothing}
-use Rattle.std.specs.Io.KnownBytes.{prepend_known, IsAtEnd}
-use Rattle.clip_stream.specs.Steps.Reading.{has_feed, first_line, after_line, cut, Gathers, IsStill, FindsKnownLine}
+use Rattle.clip_stream.proofs.Bytes.{cut_twice, cut_none, cut_some, cut_nothing, consumes_none, consumes_more, consumes_kept}
+use Rattle.std.specs.Io.KnownBytes.{Consumes, Keeps}
+use Rattle.clip_stream.specs.Steps.Reading.{Reading, has_feed, first_line, after_line, cut, Reads, Gathers, FindsLine}
 
 -- ---- a list whose bytes are tested one by one
 
@@ -73,60 +73,86 @@ has_feed-append (x ∷ xs) ys h k = or_step (x == 10) (has_feed xs) _ h (λ e. h
     or_step true r s h more = h
     or_step false r s h more = more h
 
-some_feed : (bytes : List ℕ) → has_feed bytes ≡ true → 0 < length bytes
+or_later : (t r : Bool) → r ≡ true → (t || r) ≡ true
+or_later true r h = refl
+or_later false r h = h
+
+has_feed-later : (xs ys : List ℕ) → has_feed ys ≡ true → has_feed (xs ++ ys) ≡ true
+has_feed-later [] ys h = h
+has_feed-later (x ∷ xs) ys h = or_later (x == 10) _ (has_feed-later xs ys h)
+
+pub some_feed : (bytes : List ℕ) → has_feed bytes ≡ true → 0 < length bytes
 some_feed [] h = absurd (true≢false (sym h))
 some_feed (b ∷ bytes) h = omega arith
 
+-- ---- what was given meanwhile
+
+pub reads_same : (old now new : Reading) (left_old left : Option (List ℕ)) → Reads old now left_old left → new.is_at_end ≡ now.is_at_end → Reads old new left_old left
+reads_same old now new left_old left r same = record { bytes = r.bytes; given = r.given; idle = λ e. let i = r.idle e in (i.0, same ∙ i.1) }
+
+pub reads_kept : (old now new : Reading) (left_old left left_new : Option (List ℕ)) → Reads old now left_old left → Keeps left left_new → old.is_at_end ≡ false → Reads old new left_old left_new
+reads_kept old now new left_old left left_new r kept before =
+    record { bytes = r.bytes; given = consumes_kept left_old left left_new r.bytes r.given kept; idle = λ e. absurd (true≢false (sym e ∙ before)) }
+
 -- ---- the turns of the loop that takes a line
 
-pub gathered_found : (old left : Option (List ℕ)) (line new_line pending : List ℕ) → Gathers old line (prepend_known pending left) → has_feed pending ≡ true
-    → new_line ≡ cut (line ++ first_line pending) → FindsKnownLine true old new_line (prepend_known (after_line pending) left)
-gathered_found None left line new_line pending g h e = tt
-gathered_found (Some input) None line new_line pending g h e = absurd g
-gathered_found (Some input) (Some rest) line new_line pending g h e =
-    let front = g.0 in
-    let first : first_line input ≡ front ++ first_line pending = ap first_line g.2 ∙ first_line-front front (pending ++ rest) g.1 ∙ ap (λ xs. front ++ xs) (first_line-feed pending rest h) in
-    let after : after_line input ≡ after_line pending ++ rest = ap after_line g.2 ∙ after_line-front front (pending ++ rest) g.1 ∙ after_line-feed pending rest h in
-    let some = some_feed pending h in (
-      omega (arith, ap length g.2, length-append front (pending ++ rest), length-append pending rest),
-      e ∙ ap (λ xs. cut (xs ++ first_line pending)) g.3 ∙ cut_twice front (first_line pending) ∙ ap cut (sym first),
-      sym after,
-    )
+pub gathers_nothing : (r : Reading) (left : Option (List ℕ)) (line : List ℕ) → line ≡ [] → Gathers r r left left line
+gathers_nothing r left line e =
+    record { reads = record { bytes = []; given = consumes_none left; idle = λ at_end. (refl, at_end) }; front = []; parts = append-nil r.pending; unended = refl; is = e ∙ sym cut_nothing }
 
-pub gathered_more : (old left left2 : Option (List ℕ)) (line new_line pending pending2 : List ℕ) → Gathers old line (prepend_known pending left) → has_feed pending ≡ false
-    → new_line ≡ cut (line ++ first_line pending) → IsStill left (prepend_known pending2 left2) → Gathers old new_line (prepend_known pending2 left2)
-gathered_more None left left2 line new_line pending pending2 g h e still = tt
-gathered_more (Some input) None left2 line new_line pending pending2 g h e still = absurd g
-gathered_more (Some input) (Some rest) left2 line new_line pending pending2 g h e still =
-    let front = g.0 in
-    subst (λ o. Gathers (Some input) new_line o) (sym still) (
-      front ++ pending,
-      has_feed-append front pending g.1 h,
-      g.2 ∙ sym (append_assoc front pending rest),
-      e ∙ ap (λ xs. cut (line ++ xs)) (first_line-no_feed pending h) ∙ ap (λ xs. cut (xs ++ pending)) g.3 ∙ cut_twice front pending,
-    )
+pub gathered_found : (old now new : Reading) (left_old left : Option (List ℕ)) (line new_line : List ℕ) → Gathers old now left_old left line → has_feed now.pending ≡ true → new_line ≡ cut (line ++ first_line now.pending) → new.pending ≡ after_line now.pending
+    → new.is_at_end ≡ now.is_at_end → FindsLine true old new left_old left new_line
+unfolding reads_same
+gathered_found old now new left_old left line new_line g h e rest same =
+    let first = ap first_line g.parts ∙ first_line-front g.front now.pending g.unended in
+    let after = ap after_line g.parts ∙ after_line-front g.front now.pending g.unended in
+    record {
+      reads = reads_same old now new left_old left g.reads same;
+      takes = (
+        inl (ap has_feed g.parts ∙ has_feed-later g.front now.pending h),
+        e ∙ ap (λ xs. cut (xs ++ first_line now.pending)) g.is ∙ cut_twice g.front (first_line now.pending) ∙ ap cut (sym first),
+        rest ∙ sym after,
+      );
+    }
+
+-- the line so far, of which all that was pending is a part
+gathered_line : (line pending front new_line : List ℕ) → has_feed pending ≡ false → line ≡ cut front → new_line ≡ cut (line ++ first_line pending) → new_line ≡ cut (front ++ pending)
+gathered_line line pending front new_line h is e =
+    e ∙ ap (λ xs. cut (line ++ xs)) (first_line-no_feed pending h) ∙ ap (λ xs. cut (xs ++ pending)) is ∙ cut_twice front pending
+
+pub gathered_more : (old now new : Reading) (left_old left left_new : Option (List ℕ)) (line new_line : List ℕ) → Gathers old now left_old left line → has_feed now.pending ≡ false → new_line ≡ cut (line ++ first_line now.pending) → Consumes left left_new new.pending
+    → (old.is_at_end ≡ true → (new.pending ≡ []) × (new.is_at_end ≡ true)) → Gathers old new left_old left_new new_line
+gathered_more old now new left_old left left_new line new_line g h e given idle = record {
+  reads = record {
+    bytes = g.reads.bytes ++ new.pending;
+    given = consumes_more left_old left left_new g.reads.bytes new.pending g.reads.given given;
+    idle = λ at_end. let more = idle at_end in (ap₂ (λ x y. x ++ y) (g.reads.idle at_end).0 more.0, more.1);
+  };
+  front = g.front ++ now.pending;
+  parts = sym (append_assoc old.pending g.reads.bytes new.pending) ∙ ap (λ xs. xs ++ new.pending) g.parts;
+  unended = has_feed-append g.front now.pending g.unended h;
+  is = gathered_line line now.pending g.front new_line h g.is e;
+}
 
 empty : (xs : List ℕ) → length xs ≡ 0 → xs ≡ []
 empty [] e = refl
 empty (x ∷ xs) e = absurd (omega arith)
 
-pub gathered_end : (found : Bool) (old left : Option (List ℕ)) (line : List ℕ) → found ≡ not (length line == 0) → Gathers old line (prepend_known [] left) → IsAtEnd left → FindsKnownLine found old line (prepend_known [] left)
-gathered_end found None left line f g end = tt
-gathered_end found (Some input) None line f g end = absurd g
-gathered_end false (Some input) (Some rest) line f g end =
-    let none : length line ≡ 0 = grind (arith, nat_tests) in
-    let front : g.0 ≡ [] = empty g.0 (cut_none g.0 (sym (ap length g.3) ∙ none)) in
-    (g.2 ∙ ap (λ xs. xs ++ rest) front ∙ end, end)
-gathered_end true (Some input) (Some rest) line f g end =
-    let whole : input ≡ g.0 = g.2 ∙ ap (λ xs. g.0 ++ xs) end ∙ append-nil g.0 in
+pub gathered_end : (found : Bool) (old now : Reading) (left_old left : Option (List ℕ)) (line : List ℕ) → Gathers old now left_old left line → found ≡ not (length line == 0) → now.pending ≡ [] → now.is_at_end ≡ true → FindsLine found old now left_old left line
+gathered_end false old now left_old left line g f none end =
+    let nothing : length line ≡ 0 = grind (arith, nat_tests) in
+    let front : g.front ≡ [] = empty g.front (cut_none g.front (sym (ap length g.is) ∙ nothing)) in
+    record { reads = g.reads; takes = (g.parts ∙ ap₂ (λ x y. x ++ y) front none, none, end) }
+gathered_end true old now left_old left line g f none end =
+    let whole : old.pending ++ g.reads.bytes ≡ g.front = g.parts ∙ ap (λ xs. g.front ++ xs) none ∙ append-nil g.front in
     let any : 0 < length line = grind (arith, nat_tests) in
-    let bytes = ap length g.3 in
-    let some : 0 < length g.0 = cut_some g.0 (omega (arith, bytes)) in (
-      omega (arith, ap length whole),
-      g.3 ∙ ap cut (sym (ap first_line whole ∙ first_line-no_feed g.0 g.1)),
-      end ∙ sym (ap after_line whole ∙ after_line-no_feed g.0 g.1),
-    )
-
-pub gathers_nothing : (old : Option (List ℕ)) (line : List ℕ) → line ≡ [] → Gathers old line old
-gathers_nothing None line e = tt
-gathers_nothing (Some input) line e = ([], refl, refl, e ∙ sym cut_nothing)
+    let bytes = ap length g.is in
+    let some : 0 < length g.front = cut_some g.front (omega (arith, any, bytes)) in
+    record {
+      reads = g.reads;
+      takes = (
+        inr (end, omega (arith, some, ap length whole)),
+        g.is ∙ ap cut (sym (ap first_line whole ∙ first_line-no_feed g.front g.unended)),
+        none ∙ sym (ap after_line whole ∙ after_line-no_feed g.front g.unended),
+      );
+    }

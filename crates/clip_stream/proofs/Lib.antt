@@ -1,3 +1,5 @@
 pub mod Bytes
 pub mod Cuts
+pub mod Faults
 pub mod Fuel
+pub mod LinesRead

@@ -10,5 +10,5 @@ mod outbox;
 pub use device::{Failed, Sink, Source, StdSink, StdSource};
 pub use fault::RunFault;
 pub use limits::{MOST_LINE_BYTES, MOST_READS, MOST_WORKERS};
-pub use lines::LineReader;
+pub use lines::{LineReader, lines_read_come_first};
 pub use outbox::Outbox;

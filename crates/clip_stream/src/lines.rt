@@ -1,7 +1,8 @@
 //! Cuts what a reader gives into lines.
 ghost use Rattle.std.specs.Prelude.{◌≡◌, ◌≢◌, ◌+◌, ◌-◌, ◌<◌, ◌≤◌, ◌++◌, ◌⊎◌, [], length, take, drop, true, false, is_err, is_ok, IfOk, OnOk, OnErr, IfSome, IfNone, MatchOption, MatchBool, Err, IfErr};
-ghost use Rattle.std.specs.Io.KnownBytes.{prepend_known, IsAtEnd, Keeps};
-ghost use Rattle.clip_stream.specs.Steps.Reading.{has_feed, first_line, after_line, cut, fuel, FindsKnownLine, Gathers, IsStill, IsExhausted};
+ghost use Rattle.std.specs.Io.KnownBytes.{Consumes, IsAtEnd, Keeps};
+ghost use Rattle.clip_stream.specs.Lines.{LinesReadComeFirst};
+ghost use Rattle.clip_stream.specs.Steps.Reading.{has_feed, first_line, after_line, cut, fuel, FindsLine, Reads};
 
 use crate::device::Source;
 use crate::fault::RunFault;
@@ -117,20 +118,21 @@ impl LineReader {
         requires empty { self.old.pending ≡ [] }
         requires budget { R.reads reader.old + self.old.reads_left ≡ MOST_READS }
         requires ended { self.old.is_at_end ≡ true → IsAtEnd (R.left reader.old) }
+        requires met { R.met_end reader.old ≡ self.old.is_at_end }
         ensures budget { R.reads reader.new + self.new.reads_left ≡ MOST_READS }
         ensures ended { self.new.is_at_end ≡ true → IsAtEnd (R.left reader.new) }
-        ensures bytes { OnOk result (IsStill (R.left reader.old)
-            (prepend_known self.new.pending (R.left reader.new))) }
+        ensures met { R.met_end reader.new ≡ self.new.is_at_end }
+        ensures bytes { OnOk result (Consumes (R.left reader.old) (R.left reader.new) self.new.pending) }
+        ensures kept { OnErr result (Keeps (R.left reader.old) (R.left reader.new)) }
+        ensures open { OnErr result ((self.old.is_at_end ≡ false) × (self.new.is_at_end ≡ false)) }
         ensures fuel { IfOk result (λ more. MatchBool more
             ((self.new.reads_left + 1 ≡ self.old.reads_left) × (length self.new.pending ≤ 65536)
             × (self.new.is_at_end ≡ false) × (self.old.is_at_end ≡ false))
             ((self.new.pending ≡ []) × (self.new.is_at_end ≡ true) × (self.new.reads_left ≤ self.old.reads_left))) }
         ensures failed { OnOk result (R.has_failed reader.new ≡ R.has_failed reader.old) }
         ensures fault { OnErr result (result ≡ Err RunFault.Read) }
-        ensures same_end { OnOk result (self.new.is_at_end ≡ false
-            → (self.old.is_at_end ≡ false) × (R.met_end reader.new ≡ R.met_end reader.old)) }
         ensures read { result ≡ Err RunFault.Read → (R.has_failed reader.new ≡ true)
-            ⊎ IsExhausted self.old (R.reads reader.new) (R.met_end reader.old) (R.met_end reader.new) }
+            ⊎ ((R.reads reader.new ≡ MOST_READS) × (R.met_end reader.new ≡ false)) }
     {
         if self.is_at_end {
             return Ok(false);
@@ -170,19 +172,19 @@ impl LineReader {
     ) -> Result<bool, RunFault>
         requires budget { R.reads reader.old + self.old.reads_left ≡ MOST_READS }
         requires ended { self.old.is_at_end ≡ true → IsAtEnd (R.left reader.old) }
+        requires met { R.met_end reader.old ≡ self.old.is_at_end }
         ensures budget { R.reads reader.new + self.new.reads_left ≡ MOST_READS }
         ensures ended { self.new.is_at_end ≡ true → IsAtEnd (R.left reader.new) }
-        ensures line { IfOk result (λ found. FindsKnownLine found
-            (prepend_known self.old.pending (R.left reader.old))
-            line.new.items (prepend_known self.new.pending (R.left reader.new))) }
+        ensures met { R.met_end reader.new ≡ self.new.is_at_end }
+        ensures line { IfOk result (λ found. FindsLine found self.old self.new
+            (R.left reader.old) (R.left reader.new) line.new.items) }
+        ensures given { OnErr result (Reads self.old self.new (R.left reader.old) (R.left reader.new)) }
         ensures none { IfOk result (λ found. found ≡ false → has_feed self.old.pending ≡ false) }
         ensures fuel { IfOk result (λ found. found ≡ true → fuel self.new < fuel self.old) }
         ensures failed { OnOk result (R.has_failed reader.new ≡ R.has_failed reader.old) }
         ensures fault { IfErr result (λ e. e ≢ RunFault.Write) }
-        ensures same_end { OnOk result (self.new.is_at_end ≡ false
-            → (self.old.is_at_end ≡ false) × (R.met_end reader.new ≡ R.met_end reader.old)) }
         ensures read { result ≡ Err RunFault.Read → (R.has_failed reader.new ≡ true)
-            ⊎ IsExhausted self.old (R.reads reader.new) (R.met_end reader.old) (R.met_end reader.new) }
+            ⊎ ((R.reads reader.new ≡ MOST_READS) × (R.met_end reader.new ≡ false)) }
     {
         line.clear();
         'pieces: loop {
@@ -195,3 +197,8 @@ impl LineReader {
         }
     }
 }
+
+/// The lines that were read of an input are its first lines.
+pub fn lines_read_come_first()
+    ensures { LinesReadComeFirst }
+{}

@@ -1,10 +1,10 @@
 -- What a trace gives, by the answers to its lines.
 use Rattle.std.proofs.Common.{◌≡◌, ℕ, suc, List, [], ◌∷◌, ◌++◌, map, Bool, true, false, cond, Option, Some, None, refl, sym, ap, ◌∙◌, subst, append_assoc, append-nil, if◌then◌else◌}
-use Rattle.std.specs.Prelude.{IfSome}
 use Rattle.serde_json.specs.Data.{Data}
 use Rattle.clip_standing.specs.Alerts.{alerts_value}
 use Rattle.clip_standing.specs.declared.alert.Alerts.{Alerts}
-use Rattle.clip_stream.specs.Lines.{lines_of}
+use Rattle.clip_stream.specs.Lines.{lines_of, OfInput, OfLinesRead}
+use Rattle.clip_stream.proofs.LinesRead.{of_input_weaker, of_lines_read_weaker}
 use Rattle.clip_stream.specs.Steps.Reading.{cut}
 use Rattle.clip_trace.specs.Event.{found_of}
 use Rattle.clip_trace.specs.Schedule.{Step, Stand, IsDue, stand, nothing_open}
@@ -104,11 +104,10 @@ is_trace view s t lines text start p =
     let by = traced_by view s t 1 lines text p in
     record { steps = by.steps; due = (by.played [] none_due (sym start)).0; traces = by.traces }
 
-pub trace_gives : {S : Type 0} (view : S → Stand) (s t : S) (input taken_first taken : Option (List ℕ)) → view s ≡ nothing_open → IfSome input (ServesAll (AnswersIn view) s t taken_first taken) → IfSome input (TracesAll taken_first taken)
-trace_gives view s t None taken_first taken start p = tt
-trace_gives view s t (Some input) taken_first taken start p = record { text = p.text; is = is_trace view s t (lines_of input) p.text start p.served; replies = p.written }
+pub trace_gives : {S : Type 0} (view : S → Stand) (s t : S) (left taken_first taken : Option (List ℕ)) (count : ℕ) → view s ≡ nothing_open → OfInput left (ServesAll (AnswersIn view) s t taken_first taken count) → OfInput left (TracesAll taken_first taken count)
+trace_gives view s t left taken_first taken count start p =
+    of_input_weaker left (ServesAll (AnswersIn view) s t taken_first taken count) (TracesAll taken_first taken count) (λ input served. record { text = served.text; is = is_trace view s t (lines_of input) served.text start served.served; replies = served.written; counted = served.counted }) p
 
-pub trace_gives_front : {S : Type 0} (view : S → Stand) (s t : S) (input taken_first taken : Option (List ℕ)) → view s ≡ nothing_open → IfSome input (ServesFront (AnswersIn view) BreaksIn s t taken_first taken) → IfSome input (TracesFront taken_first taken)
-trace_gives_front view s t None taken_first taken start p = tt
-trace_gives_front view s t (Some input) taken_first taken start p =
-    record { lines = p.lines; later = p.later; text = p.text; cut = p.parts; is = is_trace view s p.between p.lines p.text start p.served; replies = p.written }
+pub trace_gives_front : {S : Type 0} (view : S → Stand) (s t : S) (left left_new : Option (List ℕ)) (met_end : Bool) (taken_first taken : Option (List ℕ)) → view s ≡ nothing_open → OfLinesRead left left_new met_end (ServesFront (AnswersIn view) BreaksIn s t taken_first taken) → OfLinesRead left left_new met_end (TracesFront taken_first taken)
+trace_gives_front view s t left left_new met_end taken_first taken start p =
+    of_lines_read_weaker left left_new met_end (ServesFront (AnswersIn view) BreaksIn s t taken_first taken) (TracesFront taken_first taken) (λ lines served. record { front = served.front; later = served.later; text = served.text; cut = served.parts; is = is_trace view s served.between served.front served.text start served.served; replies = served.written }) p

@@ -1,5 +1,5 @@
 -- What the lines of a trace give: events with the answers that are due, and the replies.
-use Rattle.std.specs.Prelude.{◌≡◌, ℕ, suc, List, [], ◌∷◌, ◌++◌, map, codes, Option}
+use Rattle.std.specs.Prelude.{◌≡◌, ℕ, suc, List, [], ◌∷◌, ◌++◌, length, map, codes, Option}
 use Rattle.std.specs.Io.KnownBytes.{Appends}
 use Rattle.clip_model.specs.Alerts.{Alert}
 use Rattle.clip_standing.specs.declared.command.Applied.TheVariants as applied
@@ -58,17 +58,18 @@ pub record IsTrace (lines : List (List ℕ)) (text : List ℕ) : Type 0 where
   pub due : IsDue steps
   pub traces : Traces 1 lines steps text
 
--- All replies to the input were written.
-pub record TracesAll (old new : Option (List ℕ)) (input : List ℕ) : Type 0 where
+-- All replies to the input were written, and it had so many lines.
+pub record TracesAll (old new : Option (List ℕ)) (lines : ℕ) (input : List ℕ) : Type 0 where
   pub text : List ℕ
   pub is : IsTrace (lines_of input) text
   pub replies : Appends old new text
+  pub counted : lines ≡ length (lines_of input)
 
--- For some of the first lines, what was written is a front of their replies.
-pub record TracesFront (old new : Option (List ℕ)) (input : List ℕ) : Type 0 where
-  pub lines : List (List ℕ)
+-- For some first ones of these lines, what was written is a front of their replies.
+pub record TracesFront (old new : Option (List ℕ)) (lines : List (List ℕ)) : Type 0 where
+  pub front : List (List ℕ)
   pub later : List (List ℕ)
   pub text : List ℕ
-  pub cut : lines_of input ≡ lines ++ later
-  pub is : IsTrace lines text
+  pub cut : lines ≡ front ++ later
+  pub is : IsTrace front text
   pub replies : AppendsFront old new text

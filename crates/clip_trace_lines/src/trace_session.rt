@@ -1,6 +1,6 @@
 //! The run of a trace: lines in, replies out.
 ghost use Rattle.std.specs.Prelude.{◌≡◌, ◌≤◌, ◌⊎◌, [], length, true, false, IfOk, OnOk, OnErr, IfSome, Err};
-ghost use Rattle.clip_stream.specs.Lines.{lines_of};
+ghost use Rattle.clip_stream.specs.Lines.{OfInput, OfLinesRead};
 ghost use Rattle.clip_trace_lines.specs.TraceOutcome.{TracesAll, TracesFront};
 
 use crate::trace_answer::answer_traced;
@@ -58,25 +58,26 @@ pub fn run_trace<R: Source, W: Sink>(
     writer: &mut W,
 ) -> Result<Ended, RunFault>
     requires unread { R.reads reader.old ≡ 0 }
+    requires unended { R.met_end reader.old ≡ false }
     requires reader_well { R.has_failed reader.old ≡ false }
     requires writer_well { W.has_failed writer.old ≡ false }
 
-    // Where the bytes are known, what was written and flushed is the replies to their lines, by answers that are due.
-    ensures outcome { OnOk result (IfSome (R.left reader.old) (TracesAll (W.taken writer.old) (W.taken writer.new))) }
+    // What was written and flushed is the replies to the lines of the input, by answers that are due, and the lines are
+    // counted. Where the reader doesn't tell its bytes, there is some input of which this holds.
+    ensures outcome { IfOk result (λ ended. OfInput (R.left reader.old)
+        (TracesAll (W.taken writer.old) (W.taken writer.new) ended.lines)) }
     ensures ledger { IfOk result (λ ended. ended.ledger ≡ []) }
     ensures flushed { OnOk result (W.is_flushed writer.new ≡ true) }
-    ensures lines { IfOk result (λ ended. IfSome (R.left reader.old) (λ input.
-        ended.lines ≡ length (lines_of input))) }
 
     // No device has failed, where the run ended well, and each fault has its reason.
     ensures ok { OnOk result ((R.has_failed reader.new ≡ false) × (W.has_failed writer.new ≡ false)) }
     ensures read { result ≡ Err RunFault.Read → (R.has_failed reader.new ≡ true)
-        ⊎ ((R.reads reader.new ≡ MOST_READS) × (R.met_end reader.new ≡ R.met_end reader.old)) }
+        ⊎ ((R.reads reader.new ≡ MOST_READS) × (R.met_end reader.new ≡ false)) }
     ensures write { result ≡ Err RunFault.Write → W.has_failed writer.new ≡ true }
     ensures reads { R.reads reader.new ≤ MOST_READS }
 
-    // After a fault, what was written is a front of the replies to some of the first lines.
-    ensures front { OnErr result (IfSome (R.left reader.old)
+    // After a fault, what was written is a front of the replies to some first ones of the lines that were read.
+    ensures front { OnErr result (OfLinesRead (R.left reader.old) (R.left reader.new) (R.met_end reader.new)
         (TracesFront (W.taken writer.old) (W.taken writer.new))) }
 {
     let mut server = TraceServer {

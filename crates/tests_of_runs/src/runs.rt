@@ -53,6 +53,7 @@ pub fn run_unheard<H: Threads + Wait + Sync + AllocGlobal, R: Source, W: Sink>(
     writer: &mut W,
 ) -> Result<Ended, RunFault>
     requires unread { R.reads reader.old ≡ 0 }
+    requires unended { R.met_end reader.old ≡ false }
     requires reader_well { R.has_failed reader.old ≡ false }
     requires writer_well { W.has_failed writer.old ≡ false }
 {

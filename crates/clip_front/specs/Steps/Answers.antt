@@ -1,16 +1,15 @@
 -- What the answering of a line leaves: the stepping stone from one line to the whole input.
-use Rattle.std.specs.Prelude.{◌≡◌, ℕ, List, ◌++◌, map, Bool, Result, Ok, Err, ⊤}
+use Rattle.std.specs.Prelude.{◌≡◌, ℕ, List, ◌++◌, map, Result, Ok, Err, ⊤}
 use Rattle.std.specs.Arc.{arc_value}
 use Rattle.std.specs.declared.alloc.Global.{Global}
 use Rattle.std.specs.declared.sync.Arc.{Arc}
 use Rattle.std.specs.declared.vec.Vec.{Vec}
 use Rattle.clip_model.specs.History.{History}
 use Rattle.clip_model.specs.Standing.{Standing}
-use Rattle.clip_grammar.specs.Tree.{Tree}
 use Rattle.clip_listen.specs.Heard.{Hearer, told_all, HearsFront}
 use Rattle.clip_ledger.specs.Rows.{RowValue}
 use Rattle.clip_protocol.specs.Request.{Listing}
-use Rattle.clip_protocol.specs.LineMeaning.{Meaning, Means, IsQuery, IsReadAs, IsTakenAs, AreTakenAs, IsRefusedFor, FirstRefused, after}
+use Rattle.clip_protocol.specs.LineMeaning.{Meaning, Means, IsTakenAs, AreTakenAs, IsRefusedFor, FirstRefused, after}
 use Rattle.clip_protocol.specs.Reply.{Reply, answer_to, reply}
 use Rattle.clip_front.specs.Outcome.{alerts_told, rows_posted, kept_rows, names_in}
 use Rattle.clip_protocol.specs.Steps.Outline.{Outline, MeansOutline, matches}
@@ -24,7 +23,6 @@ use Rattle.clip_front.specs.declared.answer.Response.TheVariants as response
 use Rattle.clip_front.specs.declared.books.Books.{Books}
 use Rattle.clip_front.specs.declared.settings.Settings.{Settings}
 use Rattle.clip_protocol.specs.declared.form.Form.{Form}
-use Rattle.clip_protocol.specs.declared.refusal.Refusal.TheVariants as reason
 use Rattle.clip_protocol.specs.declared.refusal.Unread.{Unread}
 use Rattle.clip_protocol.specs.declared.refusal.Unread.TheVariants as unread
 

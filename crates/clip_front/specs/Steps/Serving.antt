@@ -24,19 +24,20 @@ abbrev pub StopsAt : {S : Type 0} → Breaking S → S → S → ℕ → List (L
 StopsAt breaks s t n [] = t ≡ s
 StopsAt breaks s t n (line ∷ lines) = (t ≡ s) ⊎ breaks s t n (cut line)
 
--- All lines were answered, and the answers were written.
-pub record ServesAll {S : Type 0} (answers : Answering S) (old new : S) (taken_old taken_new : Option (List ℕ)) (input : List ℕ) : Type 0 where
+-- All lines of the input were answered, so many, and the answers were written.
+pub record ServesAll {S : Type 0} (answers : Answering S) (old new : S) (taken_old taken_new : Option (List ℕ)) (count : ℕ) (input : List ℕ) : Type 0 where
   pub text : List ℕ
   pub served : Serves answers old new 1 (lines_of input) text
   pub written : Appends taken_old taken_new text
+  pub counted : count ≡ length (lines_of input)
 
--- Some of the first lines were answered, the next was begun at most, and a front of the answers was written.
-pub record ServesFront {S : Type 0} (answers : Answering S) (breaks : Breaking S) (old new : S) (taken_old taken_new : Option (List ℕ)) (input : List ℕ) : Type 0 where
+-- Some first ones of the lines were answered, the next was begun at most, and a front of the answers was written.
+pub record ServesFront {S : Type 0} (answers : Answering S) (breaks : Breaking S) (old new : S) (taken_old taken_new : Option (List ℕ)) (lines : List (List ℕ)) : Type 0 where
   pub between : S
-  pub lines : List (List ℕ)
+  pub front : List (List ℕ)
   pub later : List (List ℕ)
   pub text : List ℕ
-  pub parts : lines_of input ≡ lines ++ later
-  pub served : Serves answers old between 1 lines text
-  pub stops : StopsAt breaks between new (suc (length lines)) later
+  pub parts : lines ≡ front ++ later
+  pub served : Serves answers old between 1 front text
+  pub stops : StopsAt breaks between new (suc (length front)) later
   pub written : AppendsFront taken_old taken_new text

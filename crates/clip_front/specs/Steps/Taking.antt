@@ -1,5 +1,5 @@
 -- What a line comes to, before any alert is told.
-use Rattle.std.specs.Prelude.{◌≡◌, ℕ, List, ⊤}
+use Rattle.std.specs.Prelude.{◌≡◌, ◌⊎◌, ℕ, List, ⊤}
 use Rattle.clip_model.specs.History.{History}
 use Rattle.clip_listen.specs.Heard.{Hearer}
 use Rattle.clip_protocol.specs.LineMeaning.{Meaning, Means, after, nothing, refusal, refusal_at, command, purging, counting, showing, matching}
@@ -31,3 +31,12 @@ pub record TakesQuietly (names : List (List ℕ)) (old new : History) (n : ℕ) 
 abbrev pub Takes : List (List ℕ) → History → History → ℕ → List ℕ → Taken → Type 0
 Takes names old new n line (taken.Text text) = TakesQuietly names old new n line text.items
 Takes names old new n line (taken.Articles articles) = Means names old line (matching articles.items) × (new ≡ old)
+
+-- No purge was made of the registry: it stayed, or went on without one.
+abbrev pub Unpurged : {H : Type 0} → (H → H → Type 0) → H → H → Type 0
+Unpurged goes_on old new = (new ≡ old) ⊎ goes_on old new
+
+-- One purge was made of the registry where it was asked for, and none where it was not.
+pub record PurgesIf {H : Type 0} (asked : Type 0) (purges goes_on : H → H → Type 0) (old new : H) : Type 0 where
+  pub purged : asked → purges old new
+  pub unpurged : (asked → ⊥) → Unpurged goes_on old new

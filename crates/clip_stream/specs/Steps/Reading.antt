@@ -1,6 +1,7 @@
 -- How a reader takes one line after another.
-use Rattle.std.specs.Prelude.{◌≡◌, ℕ, suc, ◌+◌, ◌*◌, ◌<◌, ◌==◌, ◌||◌, List, [], ◌∷◌, ◌++◌, length, take, Bool, true, false, if◌then◌else◌, Option, Some, None, ⊤}
-use Rattle.clip_stream.specs.declared.limits.TheConstants.{MOST_LINE_BYTES, MOST_READS}
+use Rattle.std.specs.Prelude.{◌≡◌, ◌⊎◌, ℕ, suc, ◌+◌, ◌*◌, ◌<◌, ◌==◌, ◌||◌, List, [], ◌∷◌, ◌++◌, length, take, Bool, true, false, if◌then◌else◌, Option}
+use Rattle.std.specs.Io.KnownBytes.{Consumes}
+use Rattle.clip_stream.specs.declared.limits.TheConstants.{MOST_LINE_BYTES}
 
 -- ---- the next line
 
@@ -31,30 +32,30 @@ pub record Reading : Type 0 where
 abbrev pub fuel : Reading → ℕ
 fuel r = 65536 * r.reads_left + length r.pending + (if r.is_at_end then 0 else 1)
 
--- the next line of the input was found, or there was none
-abbrev pub FindsLine : Bool → List ℕ → List ℕ → List ℕ → Type 0
-FindsLine true input line rest = (0 < length input) × (line ≡ cut (first_line input)) × (rest ≡ after_line input)
-FindsLine false input line rest = (input ≡ []) × (rest ≡ [])
+-- From one state to the other the reader gave these bytes; none where its end was met before.
+pub record Reads (old new : Reading) (left_old left_new : Option (List ℕ)) : Type 0 where
+  pub bytes : List ℕ
+  pub given : Consumes left_old left_new bytes
+  pub idle : old.is_at_end ≡ true → (bytes ≡ []) × (new.is_at_end ≡ true)
 
--- the same where the bytes are known
-abbrev pub FindsKnownLine : Bool → Option (List ℕ) → List ℕ → Option (List ℕ) → Type 0
-FindsKnownLine found None line new = ⊤
-FindsKnownLine found (Some input) line None = ⊥
-FindsKnownLine found (Some input) line (Some rest) = FindsLine found input line rest
+-- a line stands whole in these bytes: one that a line feed ends, or what is there at the end
+abbrev pub HasLine : Bool → List ℕ → Type 0
+HasLine met_end bytes = (has_feed bytes ≡ true) ⊎ ((met_end ≡ true) × (0 < length bytes))
 
--- the front of a line was taken
-abbrev pub Gathers : Option (List ℕ) → List ℕ → Option (List ℕ) → Type 0
-Gathers None line new = ⊤
-Gathers (Some input) line None = ⊥
-Gathers (Some input) line (Some rest) = (front : List ℕ) × (has_feed front ≡ false) × (input ≡ front ++ rest) × (line ≡ cut front)
+-- of these bytes the first line was taken, or there is none and none comes
+abbrev pub TakesLine : Bool → Bool → List ℕ → List ℕ → List ℕ → Type 0
+TakesLine true met_end bytes line rest = HasLine met_end bytes × (line ≡ cut (first_line bytes)) × (rest ≡ after_line bytes)
+TakesLine false met_end bytes line rest = (bytes ≡ []) × (rest ≡ []) × (met_end ≡ true)
 
--- what was known is so still
-abbrev pub IsStill : Option (List ℕ) → Option (List ℕ) → Type 0
-IsStill None new = ⊤
-IsStill (Some input) new = new ≡ Some input
+-- The next line was found in what was pending and what the reader gave, or there was none.
+pub record FindsLine (found : Bool) (old new : Reading) (left_old left_new : Option (List ℕ)) (line : List ℕ) : Type 0 where
+  pub reads : Reads old new left_old left_new
+  pub takes : TakesLine found new.is_at_end (old.pending ++ reads.bytes) line new.pending
 
--- the reads are used up, and none of them has met the end
-pub record IsExhausted (reading : Reading) (reads : ℕ) (met_before met_after : Bool) : Type 0 where
-  pub all : reads ≡ MOST_READS
-  pub open_before : reading.is_at_end ≡ false
-  pub unmet : met_after ≡ met_before
+-- The front of a line was taken from what was pending and what the reader gave.
+pub record Gathers (old now : Reading) (left_old left : Option (List ℕ)) (line : List ℕ) : Type 0 where
+  pub reads : Reads old now left_old left
+  pub front : List ℕ
+  pub parts : old.pending ++ reads.bytes ≡ front ++ now.pending
+  pub unended : has_feed front ≡ false
+  pub is : line ≡ cut front

@@ -48,6 +48,7 @@ impl Source for Script<'_> {
 pub fn script_of(rest: &[u8], piece: usize, well: u64) -> Script<'_>
     requires { 0 < piece }
     ensures reads { result.reads ≡ 0 }
+    ensures unended { result.met_end ≡ false }
     ensures failed { result.failed ≡ false }
 {
     Script {

@@ -4,7 +4,7 @@ use Rattle.clip_standing.specs.Alerts.{alerts_value}
 use Rattle.clip_listen.specs.Heard.{note_value}
 use Rattle.clip_listen.proofs.Hearing.{told_none, element}
 use Rattle.clip_front.proofs.Delivering.{heard_next, notes_next, posted_next, front_here, heard_front, none_posted}
-use Rattle.clip_front.proofs.Progress.{on_err}
+use Rattle.clip_stream.proofs.Faults.{on_err}
 use Rattle.clip_front.proofs.deliver.deliver_all.Goals as goal
 
 pub loop-alerts-init : goal.loop-alerts-init

@@ -1,5 +1,5 @@
 use Rattle.std.proofs.Common.{◌≡◌, ◌+◌, ◌≤◌, true, false}
-use Rattle.std.specs.Io.KnownBytes.{prepend_known, IsAtEnd}
+use Rattle.std.specs.Io.KnownBytes.{IsAtEnd}
 use Rattle.clip_stream.specs.Steps.Reading.{fuel, has_feed}
 use Rattle.clip_stream.specs.declared.limits.TheConstants.{MOST_READS}
 use Rattle.clip_front.proofs.Progress.{Progress}
@@ -9,13 +9,13 @@ abbrev pub invariant-lines : goal.invariant-lines
 invariant-lines g l = record {
   budget : g.R.Source.reads l.reader + l.lines.reads_left ≡ MOST_READS;
   ended : l.lines.is_at_end ≡ true → IsAtEnd (g.R.Source.left l.reader);
-  same_end : l.lines.is_at_end ≡ false → g.R.Source.met_end l.reader ≡ g.R.Source.met_end l.fn.reader;
+  met : g.R.Source.met_end l.reader ≡ l.lines.is_at_end;
   reader_well : g.R.Source.has_failed l.reader ≡ false;
   writer_well : g.W.Sink.has_failed l.writer ≡ false;
   pending : l.has_more ≡ has_feed l.lines.pending;
   settled : l.has_more ≡ false → g.S.Server.is_settled (l.server, l.lent);
   fuel_left : l.count + fuel l.lines ≤ 72057594037927937;
-  progress : Progress g.S.Server.answers (l.fn.server, l.fn.lent) (l.server, l.lent) (g.R.Source.left l.fn.reader) (prepend_known l.lines.pending (g.R.Source.left l.reader)) (g.W.Sink.taken l.fn.writer) (g.W.Sink.taken l.writer) l.outbox l.count;
+  progress : Progress g.S.Server.answers (l.fn.server, l.fn.lent) (l.server, l.lent) (g.R.Source.left l.fn.reader) (g.R.Source.left l.reader) l.lines (g.W.Sink.taken l.fn.writer) (g.W.Sink.taken l.writer) l.outbox l.count;
 }
 
 abbrev pub decreases-lines : goal.decreases-lines

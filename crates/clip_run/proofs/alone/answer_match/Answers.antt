@@ -5,7 +5,7 @@ use Rattle.clip_listen.specs.Heard.{HearsFront}
 use Rattle.clip_listen.proofs.Hearing.{no_front}
 use Rattle.clip_front.specs.Steps.Found.{told_in}
 use Rattle.clip_run.proofs.Found.{goes_on_matched, told-alerts_due}
-use Rattle.clip_front.proofs.Progress.{on_err}
+use Rattle.clip_stream.proofs.Faults.{on_err}
 use Rattle.clip_run.proofs.alone.answer_match.Goals as goal
 
 -- what holds of a value by three facts

@@ -1,10 +1,10 @@
-use Rattle.std.proofs.Common.{◌≡◌, ℕ, List, map, ◌++◌, sym, ap, subst, ◌∙◌}
+use Rattle.std.proofs.Common.{◌≡◌, map, ◌++◌, sym, ap, subst}
 use Rattle.std.specs.Prelude.{IfOk, OnOk, OnErr}
-use Rattle.clip_listen.specs.Heard.{Hearer, told_all, HearsFront}
+use Rattle.clip_listen.specs.Heard.{told_all, HearsFront}
 use Rattle.clip_listen.proofs.Hearing.{told_none, no_front}
 use Rattle.clip_standing.specs.Alerts.{alerts_value}
 use Rattle.clip_front.specs.Outcome.{kept_rows}
-use Rattle.clip_front.proofs.Progress.{on_err}
+use Rattle.clip_stream.proofs.Faults.{on_err}
 use Rattle.clip_run.specs.Owed.{owed_of}
 use Rattle.clip_run.specs.Pending.{owed_by}
 use Rattle.clip_run.proofs.Owing.{found_owed}

@@ -1,8 +1,8 @@
 use Rattle.std.proofs.Common.{◌+◌, ◌++◌, refl, sym, ap, ◌∙◌, arith, true≢false}
-use Rattle.std.specs.Io.KnownBytes.{prepend_known}
+use Rattle.clip_stream.proofs.Faults.{on_err}
 use Rattle.clip_stream.proofs.Fuel.{fuel_new}
 use Rattle.clip_stream.specs.Steps.Reading.{has_feed}
-use Rattle.clip_front.proofs.Progress.{progress_first, progress_handed, progress_line, progress_end, progress_count, prepend_nothing, fault_first, fault_handing, fault_held, fault_broken, on_err}
+use Rattle.clip_front.proofs.Progress.{progress_first, progress_handed, progress_line, progress_end, fault_first, fault_reading, fault_held, fault_broken, reads_none}
 use Rattle.clip_run.specs.Crews.{course_at}
 use Rattle.clip_run.specs.Owed.{TurnsIn, BreaksIn}
 use Rattle.clip_run.proofs.serving.serve_crew.Goals as goal
@@ -14,13 +14,13 @@ lines-init g c =
     record {
       budget = omega (arith, unread, new.1);
       ended = λ e. absurd (true≢false (sym e ∙ new.2));
-      same_end = λ _. refl;
+      met = c.requires.unended ∙ sym new.2;
       reader_well = c.requires.reader_well;
       writer_well = c.requires.writer_well;
       pending = sym (ap has_feed new.0);
       settled = λ _. c.requires.settled;
       fuel_left = omega (arith, fuel_new c.in_ok-lines.lines new.0 new.1 new.2);
-      progress = progress_first (TurnsIn (course_at g.A.Audience.hearers)) (c.args.crew.now, c.args.audience.now) (g.S.Source.left c.args.reader.now) _ (g.W.Sink.taken c.args.writer.now) c.new-outbox.result (prepend_nothing c.in_ok-lines.lines.pending _ new.0) c.new-outbox.ensures;
+      progress = progress_first (TurnsIn (course_at g.A.Audience.hearers)) (c.args.crew.now, c.args.audience.now) (g.S.Source.left c.args.reader.now) c.in_ok-lines.lines (g.W.Sink.taken c.args.writer.now) c.new-outbox.result new.0 c.new-outbox.ensures;
     }
 
 pub lines-preserved : goal.lines-preserved
@@ -29,75 +29,73 @@ lines-preserved g c =
     let answered = rw c.deref.ensures.value at c.in_ok-text.ensures.ok in
     let gathered = rw c.deref-in-lines.ensures.value at c.in_ok-gather.ensures in
     let less = c.in_ok-next_line.ensures.fuel c.if-not-branch.false in
-    let input = g.S.Source.left c.args.reader.now in
+    let left = g.S.Source.left in
     let taken = g.W.Sink.taken in
-    let handed = progress_handed (TurnsIn (course_at g.A.Audience.hearers)) (c.args.crew.now, c.args.audience.now) (c.lines.crew, c.lines.audience) input (prepend_known c.lines.lines.pending (g.S.Source.left c.lines.reader)) (taken c.args.writer.now) (taken c.lines.writer) (taken c.hand_over.new.writer) c.lines.outbox c.hand_over.new.self c.lines.count c.lines.invariant.progress c.in_ok-hand_over.ensures.moved in
+    let handed = progress_handed (TurnsIn (course_at g.A.Audience.hearers)) (c.args.crew.now, c.args.audience.now) (c.lines.crew, c.lines.audience) (left c.args.reader.now) (left c.lines.reader) c.lines.lines (taken c.args.writer.now) (taken c.lines.writer) (taken c.hand_over.new.writer) c.lines.outbox c.hand_over.new.self c.lines.count c.lines.invariant.progress c.in_ok-hand_over.ensures.moved in
     record {
       budget = c.in_ok-next_line.ensures.budget;
       ended = c.in_ok-next_line.ensures.ended;
-      same_end = λ e. let ends = c.in_ok-next_line.ensures.same_end e in ends.1 ∙ c.lines.invariant.same_end ends.0;
+      met = c.in_ok-next_line.ensures.met;
       reader_well = c.in_ok-next_line.ensures.failed ∙ c.lines.invariant.reader_well;
       writer_well = c.in_ok-hand_over.ensures.well ∙ c.lines.invariant.writer_well;
       pending = c.has_line-has_more.ensures;
       settled = c.in_ok-text.ensures.settled;
       fuel_left = omega (arith, less, c.lines.invariant.fuel_left);
-      progress = progress_line (TurnsIn (course_at g.A.Audience.hearers)) (c.args.crew.now, c.args.audience.now) (c.lines.crew, c.lines.audience) (c.answer.new.self, c.answer.new.audience) input (prepend_known c.lines.lines.pending (g.S.Source.left c.lines.reader)) (prepend_known c.next_line.new.self.pending (g.S.Source.left c.next_line.new.reader)) c.next_line.new.line.items c.in_ok-text.text.items (taken c.args.writer.now) (taken c.hand_over.new.writer) c.hand_over.new.self c.gather.new.self c.lines.count (c.lines.count + 1) handed found refl answered gathered;
+      progress = progress_line (TurnsIn (course_at g.A.Audience.hearers)) (c.args.crew.now, c.args.audience.now) (c.lines.crew, c.lines.audience) (c.answer.new.self, c.answer.new.audience) (left c.args.reader.now) (left c.lines.reader) (left c.next_line.new.reader) c.lines.lines c.next_line.new.self c.next_line.new.line.items c.in_ok-text.text.items (taken c.args.writer.now) (taken c.hand_over.new.writer) c.hand_over.new.self c.gather.new.self c.lines.count (c.lines.count + 1) handed found refl answered gathered;
     }
 
 pub returns-in_err-lines-clause-front : goal.returns-in_err-lines-clause-front
-returns-in_err-lines-clause-front g c = on_err _ (fault_first (TurnsIn (course_at g.A.Audience.hearers)) (BreaksIn (course_at g.A.Audience.hearers)) (c.args.crew.now, c.args.audience.now) (g.S.Source.left c.args.reader.now) (g.W.Sink.taken c.args.writer.now))
+returns-in_err-lines-clause-front g c = on_err _ (fault_first (TurnsIn (course_at g.A.Audience.hearers)) (BreaksIn (course_at g.A.Audience.hearers)) (c.args.crew.now, c.args.audience.now) (g.S.Source.left c.args.reader.now) (g.S.Source.met_end c.args.reader.now) (g.W.Sink.taken c.args.writer.now))
 
 pub returns-in_err-hand_over-clause-front : goal.returns-in_err-hand_over-clause-front
 returns-in_err-hand_over-clause-front g c =
+    let left = g.S.Source.left in
     let taken = g.W.Sink.taken in
     on_err c.from_residual-in_err-hand_over.result
-    (fault_handing (TurnsIn (course_at g.A.Audience.hearers)) (BreaksIn (course_at g.A.Audience.hearers)) (c.args.crew.now, c.args.audience.now) (c.lines.crew, c.lines.audience) (g.S.Source.left c.args.reader.now) (prepend_known c.lines.lines.pending (g.S.Source.left c.lines.reader)) (taken c.args.writer.now) (taken c.lines.writer) (taken c.hand_over.new.writer) c.lines.outbox
-    c.lines.count c.lines.invariant.progress c.in_err-hand_over.ensures.front)
+    (fault_reading (TurnsIn (course_at g.A.Audience.hearers)) (BreaksIn (course_at g.A.Audience.hearers)) (c.args.crew.now, c.args.audience.now) (c.lines.crew, c.lines.audience) (left c.args.reader.now) (left c.lines.reader) (left c.lines.reader) c.lines.lines c.lines.lines (g.S.Source.met_end c.lines.reader) (taken c.args.writer.now) (taken c.lines.writer) (taken c.hand_over.new.writer) c.lines.outbox c.lines.count
+    c.lines.invariant.progress (reads_none c.lines.lines (left c.lines.reader)) c.lines.invariant.met c.in_err-hand_over.ensures.front)
 
 pub returns-in_err-next_line-clause-front : goal.returns-in_err-next_line-clause-front
 returns-in_err-next_line-clause-front g c =
-    let input = g.S.Source.left c.args.reader.now in
-    let rest = prepend_known c.lines.lines.pending (g.S.Source.left c.lines.reader) in
+    let left = g.S.Source.left in
     let taken = g.W.Sink.taken in
-    let handed = progress_handed (TurnsIn (course_at g.A.Audience.hearers)) (c.args.crew.now, c.args.audience.now) (c.lines.crew, c.lines.audience) input rest (taken c.args.writer.now) (taken c.lines.writer) (taken c.hand_over.new.writer) c.lines.outbox c.hand_over.new.self c.lines.count c.lines.invariant.progress c.in_ok-hand_over.ensures.moved in
-    on_err c.from_residual-in_err-next_line.result (fault_held (TurnsIn (course_at g.A.Audience.hearers)) (BreaksIn (course_at g.A.Audience.hearers)) (c.args.crew.now, c.args.audience.now) (c.lines.crew, c.lines.audience) input rest (taken c.args.writer.now) (taken c.hand_over.new.writer) c.hand_over.new.self c.lines.count handed)
+    let handed = progress_handed (TurnsIn (course_at g.A.Audience.hearers)) (c.args.crew.now, c.args.audience.now) (c.lines.crew, c.lines.audience) (left c.args.reader.now) (left c.lines.reader) c.lines.lines (taken c.args.writer.now) (taken c.lines.writer) (taken c.hand_over.new.writer) c.lines.outbox c.hand_over.new.self c.lines.count c.lines.invariant.progress c.in_ok-hand_over.ensures.moved in
+    on_err c.from_residual-in_err-next_line.result
+    (fault_held (TurnsIn (course_at g.A.Audience.hearers)) (BreaksIn (course_at g.A.Audience.hearers)) (c.args.crew.now, c.args.audience.now) (c.lines.crew, c.lines.audience) (left c.args.reader.now) (left c.lines.reader) (left c.next_line.new.reader) c.lines.lines c.next_line.new.self (g.S.Source.met_end c.next_line.new.reader) (taken c.args.writer.now) (taken c.hand_over.new.writer) c.hand_over.new.self c.lines.count
+    handed c.in_err-next_line.ensures.given c.in_err-next_line.ensures.met)
 
 pub returns-in_err-text-clause-front : goal.returns-in_err-text-clause-front
 returns-in_err-text-clause-front g c =
     let found = rw c.if-not-branch.false at c.in_ok-next_line.ensures.line in
     let broken = rw c.deref.ensures.value at c.in_err-text.ensures.err in
-    let input = g.S.Source.left c.args.reader.now in
+    let left = g.S.Source.left in
     let taken = g.W.Sink.taken in
-    let handed = progress_handed (TurnsIn (course_at g.A.Audience.hearers)) (c.args.crew.now, c.args.audience.now) (c.lines.crew, c.lines.audience) input (prepend_known c.lines.lines.pending (g.S.Source.left c.lines.reader)) (taken c.args.writer.now) (taken c.lines.writer) (taken c.hand_over.new.writer) c.lines.outbox c.hand_over.new.self c.lines.count c.lines.invariant.progress c.in_ok-hand_over.ensures.moved in
+    let handed = progress_handed (TurnsIn (course_at g.A.Audience.hearers)) (c.args.crew.now, c.args.audience.now) (c.lines.crew, c.lines.audience) (left c.args.reader.now) (left c.lines.reader) c.lines.lines (taken c.args.writer.now) (taken c.lines.writer) (taken c.hand_over.new.writer) c.lines.outbox c.hand_over.new.self c.lines.count c.lines.invariant.progress c.in_ok-hand_over.ensures.moved in
     on_err c.from_residual-in_err-text.result
-    (fault_broken (TurnsIn (course_at g.A.Audience.hearers)) (BreaksIn (course_at g.A.Audience.hearers)) (c.args.crew.now, c.args.audience.now) (c.lines.crew, c.lines.audience) (c.answer.new.self, c.answer.new.audience) input (prepend_known c.lines.lines.pending (g.S.Source.left c.lines.reader)) (prepend_known c.next_line.new.self.pending (g.S.Source.left c.next_line.new.reader)) c.next_line.new.line.items (taken c.args.writer.now) (taken c.hand_over.new.writer) c.hand_over.new.self c.lines.count (c.lines.count + 1) handed found refl broken)
+    (fault_broken (TurnsIn (course_at g.A.Audience.hearers)) (BreaksIn (course_at g.A.Audience.hearers)) (c.args.crew.now, c.args.audience.now) (c.lines.crew, c.lines.audience) (c.answer.new.self, c.answer.new.audience) (left c.args.reader.now) (left c.lines.reader) (left c.next_line.new.reader) c.lines.lines c.next_line.new.self (g.S.Source.met_end c.next_line.new.reader) c.next_line.new.line.items (taken c.args.writer.now) (taken c.hand_over.new.writer) c.hand_over.new.self c.lines.count (c.lines.count + 1)
+    handed found c.in_ok-next_line.ensures.met refl broken)
 
 pub returns-in_err-gather-clause-front : goal.returns-in_err-gather-clause-front
 returns-in_err-gather-clause-front g c =
     let found = rw c.if-not-branch.false at c.in_ok-next_line.ensures.line in
     let answered = rw c.deref.ensures.value at c.in_ok-text.ensures.ok in
-    let input = g.S.Source.left c.args.reader.now in
-    let rest = prepend_known c.next_line.new.self.pending (g.S.Source.left c.next_line.new.reader) in
     let more = c.hand_over.new.self ++ c.in_ok-text.text.items in
+    let left = g.S.Source.left in
     let taken = g.W.Sink.taken in
-    let handed = progress_handed (TurnsIn (course_at g.A.Audience.hearers)) (c.args.crew.now, c.args.audience.now) (c.lines.crew, c.lines.audience) input (prepend_known c.lines.lines.pending (g.S.Source.left c.lines.reader)) (taken c.args.writer.now) (taken c.lines.writer) (taken c.hand_over.new.writer) c.lines.outbox c.hand_over.new.self c.lines.count c.lines.invariant.progress c.in_ok-hand_over.ensures.moved in
-    let done = progress_line (TurnsIn (course_at g.A.Audience.hearers)) (c.args.crew.now, c.args.audience.now) (c.lines.crew, c.lines.audience) (c.answer.new.self, c.answer.new.audience) input (prepend_known c.lines.lines.pending (g.S.Source.left c.lines.reader)) rest c.next_line.new.line.items c.in_ok-text.text.items (taken c.args.writer.now) (taken c.hand_over.new.writer) c.hand_over.new.self more c.lines.count (c.lines.count + 1) handed found refl answered refl in
-    on_err c.from_residual-in_err-gather.result (fault_held (TurnsIn (course_at g.A.Audience.hearers)) (BreaksIn (course_at g.A.Audience.hearers)) (c.args.crew.now, c.args.audience.now) (c.answer.new.self, c.answer.new.audience) input rest (taken c.args.writer.now) (taken c.hand_over.new.writer) more (c.lines.count + 1) done)
+    let handed = progress_handed (TurnsIn (course_at g.A.Audience.hearers)) (c.args.crew.now, c.args.audience.now) (c.lines.crew, c.lines.audience) (left c.args.reader.now) (left c.lines.reader) c.lines.lines (taken c.args.writer.now) (taken c.lines.writer) (taken c.hand_over.new.writer) c.lines.outbox c.hand_over.new.self c.lines.count c.lines.invariant.progress c.in_ok-hand_over.ensures.moved in
+    let done = progress_line (TurnsIn (course_at g.A.Audience.hearers)) (c.args.crew.now, c.args.audience.now) (c.lines.crew, c.lines.audience) (c.answer.new.self, c.answer.new.audience) (left c.args.reader.now) (left c.lines.reader) (left c.next_line.new.reader) c.lines.lines c.next_line.new.self c.next_line.new.line.items c.in_ok-text.text.items (taken c.args.writer.now) (taken c.hand_over.new.writer) c.hand_over.new.self more c.lines.count (c.lines.count + 1) handed found refl answered refl in
+    on_err c.from_residual-in_err-gather.result
+    (fault_held (TurnsIn (course_at g.A.Audience.hearers)) (BreaksIn (course_at g.A.Audience.hearers)) (c.args.crew.now, c.args.audience.now) (c.answer.new.self, c.answer.new.audience) (left c.args.reader.now) (left c.next_line.new.reader) (left c.next_line.new.reader) c.next_line.new.self c.next_line.new.self (g.S.Source.met_end c.next_line.new.reader) (taken c.args.writer.now) (taken c.hand_over.new.writer) more (c.lines.count + 1)
+    done (reads_none c.next_line.new.self (left c.next_line.new.reader)) c.in_ok-next_line.ensures.met)
 
 pub returns-then-not-branch-clause-served : goal.returns-then-not-branch-clause-served
 returns-then-not-branch-clause-served g c =
     let found = rw c.if-not-branch.true at c.in_ok-next_line.ensures.line in
-    let input = g.S.Source.left c.args.reader.now in
+    let left = g.S.Source.left in
     let taken = g.W.Sink.taken in
-    let handed = progress_handed (TurnsIn (course_at g.A.Audience.hearers)) (c.args.crew.now, c.args.audience.now) (c.lines.crew, c.lines.audience) input (prepend_known c.lines.lines.pending (g.S.Source.left c.lines.reader)) (taken c.args.writer.now) (taken c.lines.writer) (taken c.hand_over.new.writer) c.lines.outbox c.hand_over.new.self c.lines.count c.lines.invariant.progress c.in_ok-hand_over.ensures.moved in
-    progress_end (TurnsIn (course_at g.A.Audience.hearers)) (c.args.crew.now, c.args.audience.now) (c.lines.crew, c.lines.audience) input (g.S.Source.left c.lines.reader) (prepend_known c.next_line.new.self.pending (g.S.Source.left c.next_line.new.reader)) c.lines.lines.pending c.next_line.new.line.items (taken c.args.writer.now) (taken c.hand_over.new.writer) c.hand_over.new.self c.lines.count handed found (λ none. c.in_ok-hand_over.ensures.none_held (c.lines.invariant.pending ∙ none))
-
-pub returns-then-not-branch-clause-lines : goal.returns-then-not-branch-clause-lines
-returns-then-not-branch-clause-lines g c =
-    let found = rw c.if-not-branch.true at c.in_ok-next_line.ensures.line in
-    let taken = g.W.Sink.taken in
-    progress_count (TurnsIn (course_at g.A.Audience.hearers)) (c.args.crew.now, c.args.audience.now) (c.lines.crew, c.lines.audience) (g.S.Source.left c.args.reader.now) (prepend_known c.lines.lines.pending (g.S.Source.left c.lines.reader)) (prepend_known c.next_line.new.self.pending (g.S.Source.left c.next_line.new.reader)) c.next_line.new.line.items (taken c.args.writer.now) (taken c.lines.writer) c.lines.outbox c.lines.count
-    c.lines.invariant.progress found
+    let handed = progress_handed (TurnsIn (course_at g.A.Audience.hearers)) (c.args.crew.now, c.args.audience.now) (c.lines.crew, c.lines.audience) (left c.args.reader.now) (left c.lines.reader) c.lines.lines (taken c.args.writer.now) (taken c.lines.writer) (taken c.hand_over.new.writer) c.lines.outbox c.hand_over.new.self c.lines.count c.lines.invariant.progress c.in_ok-hand_over.ensures.moved in
+    progress_end (TurnsIn (course_at g.A.Audience.hearers)) (c.args.crew.now, c.args.audience.now) (c.lines.crew, c.lines.audience) (left c.args.reader.now) (left c.lines.reader) (left c.next_line.new.reader) c.lines.lines c.next_line.new.self c.next_line.new.line.items (taken c.args.writer.now) (taken c.hand_over.new.writer) c.hand_over.new.self c.lines.count handed found
+    (c.in_ok-next_line.ensures.ended found.takes.2) (λ none. c.in_ok-hand_over.ensures.none_held (c.lines.invariant.pending ∙ none))
 
 pub returns-then-not-branch-clause-settled : goal.returns-then-not-branch-clause-settled
 returns-then-not-branch-clause-settled g c = c.lines.invariant.settled (c.lines.invariant.pending ∙ c.in_ok-next_line.ensures.none c.if-not-branch.true)

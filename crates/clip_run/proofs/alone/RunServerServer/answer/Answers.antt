@@ -1,6 +1,6 @@
 use Rattle.std.proofs.Common.{refl, ap}
 use Rattle.std.proofs.lemmas.Result.{IfOk-weaker, IfErr-weaker}
-use Rattle.clip_front.proofs.Progress.{on_err}
+use Rattle.clip_stream.proofs.Faults.{on_err}
 use Rattle.clip_front.proofs.Responses.{answers_quiet, answers_matched, breaks_untold, breaks_matched}
 use Rattle.clip_run.proofs.alone.RunServerServer.answer.Goals as goal
 
@@ -12,13 +12,13 @@ returns-in_err-view-in-Articles-clause-err g c = on_err _ (breaks_untold _ _ _ _
 
 pub returns-in-Text-clause-ok : goal.returns-in-Text-clause-ok
 returns-in-Text-clause-ok g c =
-    let taken = rw c.in-Text.is at c.in_ok-text.ensures in
+    let taken = rw c.in-Text.is at c.in_ok-text.ensures.taken in
     answers_quiet (g.A.Audience.hearers c.args.audience.now) c.args.self.now.books c.args.self.now.registry.registrar.history c.take_line.new.registry.registrar.history c.args.number c.args.bytes.now c.in-Text.text.items taken
 
 pub returns-in_ok-view-in-Articles-clause-ok : goal.returns-in_ok-view-in-Articles-clause-ok
 returns-in_ok-view-in-Articles-clause-ok g c =
     let hearers = g.A.Audience.hearers in
-    let taken = rw c.in-Articles.is at c.in_ok-text.ensures in
+    let taken = rw c.in-Articles.is at c.in_ok-text.ensures.taken in
     let looked = ap (λ s. s.history) c.in_ok-view-in-Articles.ensures in
     let matched = rw c.deref.ensures.value at c.answer_match.ensures.ok in
     IfOk-weaker c.answer_match.result _ _
@@ -29,7 +29,7 @@ returns-in_ok-view-in-Articles-clause-ok g c =
 pub returns-in_ok-view-in-Articles-clause-err : goal.returns-in_ok-view-in-Articles-clause-err
 returns-in_ok-view-in-Articles-clause-err g c =
     let hearers = g.A.Audience.hearers in
-    let taken = rw c.in-Articles.is at c.in_ok-text.ensures in
+    let taken = rw c.in-Articles.is at c.in_ok-text.ensures.taken in
     let looked = ap (λ s. s.history) c.in_ok-view-in-Articles.ensures in
     let front = rw c.deref.ensures.value at c.answer_match.ensures.err in
     IfErr-weaker c.answer_match.result _ _

@@ -1,4 +1,4 @@
-use Rattle.clip_front.proofs.Progress.{on_err}
+use Rattle.clip_stream.proofs.Faults.{on_err}
 use Rattle.clip_run.specs.Crews.{course}
 use Rattle.clip_run.proofs.Owing.{turns_paid, breaks_paid}
 use Rattle.clip_run.proofs.crew.Crew.answer.Goals as goal

@@ -1,6 +1,6 @@
 use Rattle.std.proofs.Common.{◌≡◌, length, sym, ap, ◌∙◌, refl, arith}
 use Rattle.std.proofs.lemmas.List.{length-map}
-use Rattle.clip_front.proofs.Progress.{on_err}
+use Rattle.clip_stream.proofs.Faults.{on_err}
 use Rattle.clip_run.specs.Crews.{course}
 use Rattle.clip_run.specs.Pending.{owed_by}
 use Rattle.clip_run.proofs.Owing.{pays_into_none, pays_into_more, hears_into}

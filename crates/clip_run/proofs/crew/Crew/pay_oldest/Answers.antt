@@ -1,5 +1,4 @@
-use Rattle.std.proofs.Common.{map}
-use Rattle.clip_front.proofs.Progress.{on_err}
+use Rattle.clip_stream.proofs.Faults.{on_err}
 use Rattle.clip_run.proofs.Owing.{pays_same, hears_item}
 use Rattle.clip_run.proofs.crew.Crew.pay_oldest.Goals as goal
 

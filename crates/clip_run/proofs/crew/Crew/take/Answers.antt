@@ -1,9 +1,8 @@
 use Rattle.std.proofs.Common.{refl, subst}
-use Rattle.clip_front.proofs.Progress.{on_err}
+use Rattle.clip_stream.proofs.Faults.{on_err}
 use Rattle.clip_front.specs.Outcome.{names_in}
 use Rattle.clip_front.specs.Steps.Taking.{Takes}
 use Rattle.clip_run.specs.Crews.{course}
-use Rattle.clip_run.specs.Pending.{owed_by}
 use Rattle.clip_run.specs.declared.batch.Pending.TheVariants as pending
 use Rattle.clip_run.proofs.Owing.{breaks_owed, hears_none, turns_ready, turns_begun, on_ok_more, on_err_more}
 use Rattle.clip_run.proofs.crew.Crew.take.Goals as goal
@@ -19,7 +18,7 @@ pub returns-in_ok-push_back-in-Text-clause-ok : goal.returns-in_ok-push_back-in-
 returns-in_ok-push_back-in-Text-clause-ok g c =
     let i = c.self.inside in
     let hearers = g.A.Audience.hearers c.args.audience.now in
-    let takes = subst (Takes (names_in hearers) i.caller c.take_line.new.registry c.args.number c.args.bytes.now) c.in-Text.is c.in_ok-text.ensures in
+    let takes = subst (Takes (names_in hearers) i.caller c.take_line.new.registry c.args.number c.args.bytes.now) c.in-Text.is c.in_ok-text.ensures.taken in
     rw (← c.self.view_is)
     (turns_ready i.caller c.take_line.new.registry hearers i.books.ledger i.books.settings i.pending.items c.push_back.new.self.items (pending.Ready c.in-Text.text) c.args.number c.args.bytes.now c.in-Text.text.items c.args.out.now.items takes c.in_ok-push_back-in-Text.ensures.items refl)
 
@@ -27,7 +26,7 @@ pub returns-in-Articles-clause-ok : goal.returns-in-Articles-clause-ok
 returns-in-Articles-clause-ok g c =
     let i = c.self.inside in
     let hearers = g.A.Audience.hearers c.args.audience.now in
-    let takes = subst (Takes (names_in hearers) i.caller c.take_line.new.registry c.args.number c.args.bytes.now) c.in-Articles.is c.in_ok-text.ensures in
+    let takes = subst (Takes (names_in hearers) i.caller c.take_line.new.registry c.args.number c.args.bytes.now) c.in-Articles.is c.in_ok-text.ensures.taken in
     rw (← c.self.view_is)
     (on_ok_more c.take_batch.result c.take_batch.ensures.ok
     (turns_begun i.caller c.take_line.new.registry hearers i.books.ledger i.books.settings _ (course c.take_batch.new.self (g.A.Audience.hearers c.take_batch.new.audience)) c.args.number c.args.bytes.now c.in-Articles.articles.items c.args.out.now.items c.take_batch.new.out.items takes.0 takes.1))
