@@ -15,9 +15,11 @@ def line_of(value: object) -> str:
     return json.dumps(value, ensure_ascii=False, separators=(",", ":"), sort_keys=True) + "\n"
 
 
-def written(line: Union[dict, str]) -> str:
-    """A request as a line, or a text as it stands."""
-    return f"{line}\n" if isinstance(line, str) else line_of(line)
+def written(line: Union[dict, str, bytes]) -> bytes:
+    """A request as a line, or a text or bytes as they stand."""
+    if isinstance(line, dict):
+        return line_of(line).encode()
+    return (line.encode() if isinstance(line, str) else line) + b"\n"
 
 
 def write(name: str, about: str, turns: Callable[[int], Iterable[tuple]]) -> None:
@@ -28,7 +30,7 @@ def write(name: str, about: str, turns: Callable[[int], Iterable[tuple]]) -> Non
     parser.add_argument("--into", type=Path, default=DATA, help="the folder of the files")
     options = parser.parse_args()
     lines = list(turns(options.seed))
-    (options.into / f"{name}.jsonl").write_text("".join(written(line) for line, *_ in lines))
+    (options.into / f"{name}.jsonl").write_bytes(b"".join(written(line) for line, *_ in lines))
     for place, ending in enumerate(("out", "hits"), 1):
         replies = [{**turn[place], "line": number} for number, turn in enumerate(lines, 1) if place < len(turn)]
         if replies:

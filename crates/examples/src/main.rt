@@ -16,10 +16,11 @@ use std::thread::Threads;
 use std::{fs, io};
 
 /// The examples: of each the requests stand in NAME.jsonl, and the replies in NAME.out.
-const EXAMPLES: [&str; 18] = [
+const EXAMPLES: [&str; 19] = [
     "alerts",
     "changes",
     "clippings",
+    "cut_lines",
     "exclusion",
     "fields",
     "folding",

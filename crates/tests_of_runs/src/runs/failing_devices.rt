@@ -34,77 +34,83 @@ fn answers_in_pieces(rt: HostRuntime) -> Result<(), Fail> {
     Ok(())
 }
 
-/// A run by so many workers ends with a read fault, and has answered the lines that were read.
-fn fails_to_read<H: Threads + Wait + Sync + Abort + AllocGlobal>(
+/// A run by so many workers, of which so many reads and so many flushes go well, ends with this fault, if any, and has
+/// written these replies.
+fn ends_with<H: Threads + Wait + Sync + Abort + AllocGlobal>(
     rt: &H,
     workers: u32,
+    reads: u64,
+    flushes: u64,
+    fault: Option<RunFault>,
+    replies: &str,
 ) -> Result<(), Fail> {
     let input = text_of(rt.alloc(), &PRESS)?;
-    let first = text_of(rt.alloc(), &PRESSED[..1])?;
-    // The first line has 58 bytes with its line feed, and both have 135.
-    for (well, taken) in [(0, ""), (5, ""), (6, first.as_str()), (13, first.as_str())] {
-        let mut source = script_of(input.as_bytes(), 10, well);
-        let mut sink = blank_tape(rt.alloc(), 10, Failing::Write, MANY);
-        let outcome = run_unheard(rt, workers, &mut source, &mut sink);
-        assert!(rt; outcome.err() == Some(RunFault::Read));
-        assert!(rt; sink.taken.as_slice() == taken.as_bytes());
-    }
+    let mut source = script_of(input.as_bytes(), 10, reads);
+    let mut sink = blank_tape(rt.alloc(), 10, Failing::Flush, flushes);
+    let outcome = run_unheard(rt, workers, &mut source, &mut sink);
+    assert!(rt; outcome.err() == fault);
+    assert!(rt; sink.taken.as_slice() == replies.as_bytes());
     Ok(())
 }
 
-#[test]
-fn a_failed_read_is_a_read_fault(rt: HostRuntime) -> Result<(), Fail> {
-    fails_to_read(&rt, 0)?;
-    fails_to_read(&rt, 2)
+/// Whichever read or flush of a run fails, the lines that were read before it are answered.
+fn fails_to_read_or_flush<H: Threads + Wait + Sync + Abort + AllocGlobal>(
+    rt: &H,
+    workers: u32,
+) -> Result<(), Fail> {
+    let first = text_of(rt.alloc(), &PRESSED[..1])?;
+    let both = text_of(rt.alloc(), &PRESSED)?;
+    // The first line has 58 bytes with its line feed, and both have 135: the fifteenth read meets the end.
+    for (from, to, replies) in [(0, 6, ""), (6, 14, first.as_str()), (14, 15, both.as_str())] {
+        for well in from..to {
+            ends_with(rt, workers, well, MANY, Some(RunFault::Read), replies)?;
+        }
+    }
+    // It is flushed before each line and the end are looked for.
+    for (well, replies) in [(0, ""), (1, first.as_str()), (2, both.as_str())] {
+        ends_with(rt, workers, MANY, well, Some(RunFault::Write), replies)?;
+    }
+    ends_with(rt, workers, 15, 3, None, both.as_str())
 }
 
-/// A run by so many workers ends with a write fault, after a front of its replies.
+#[test]
+fn each_read_or_flush_that_fails_is_a_fault(rt: HostRuntime) -> Result<(), Fail> {
+    fails_to_read_or_flush(&rt, 0)?;
+    fails_to_read_or_flush(&rt, 2)
+}
+
+/// Whichever write of a run by so many workers fails, the run ends with a write fault after a front of its replies.
 fn fails_to_write<H: Threads + Wait + Sync + Abort + AllocGlobal>(
     rt: &H,
     workers: u32,
+    failing: Failing,
 ) -> Result<(), Fail> {
     let input = text_of(rt.alloc(), &PRESS)?;
     let wanted = text_of(rt.alloc(), &PRESSED)?;
-    for failing in [Failing::Write, Failing::WriteOfNothing] {
-        // The replies have 93 bytes.
-        for (well, written) in [(0, 0), (1, 10), (9, 90)] {
-            let mut source = script_of(input.as_bytes(), 1000, MANY);
-            let mut sink = blank_tape(rt.alloc(), 10, failing, well);
-            let outcome = run_unheard(rt, workers, &mut source, &mut sink);
-            assert!(rt; outcome.err() == Some(RunFault::Write));
-            assert!(rt; sink.taken.len() == written);
-            assert!(rt; wanted.as_bytes().starts_with(&sink.taken));
-        }
-    }
-    Ok(())
-}
-
-#[test]
-fn a_failed_write_is_a_write_fault(rt: HostRuntime) -> Result<(), Fail> {
-    fails_to_write(&rt, 0)?;
-    fails_to_write(&rt, 2)
-}
-
-/// A run by so many workers ends with a write fault where a flush failed.
-fn fails_to_flush<H: Threads + Wait + Sync + Abort + AllocGlobal>(
-    rt: &H,
-    workers: u32,
-) -> Result<(), Fail> {
-    let input = text_of(rt.alloc(), &PRESS)?;
-    for (well, taken) in [(0, 0), (1, 93)] {
+    // The replies have 93 bytes, and each write takes one.
+    for well in 0..=93u64 {
         let mut source = script_of(input.as_bytes(), 1000, MANY);
-        let mut sink = blank_tape(rt.alloc(), 1000, Failing::Flush, well);
+        let mut sink = blank_tape(rt.alloc(), 1, failing, well);
         let outcome = run_unheard(rt, workers, &mut source, &mut sink);
-        assert!(rt; outcome.err() == Some(RunFault::Write));
-        assert!(rt; sink.taken.len() == taken);
+        let fault = if well < 93 {
+            Some(RunFault::Write)
+        } else {
+            None
+        };
+        assert!(rt; outcome.err() == fault);
+        assert!(rt; sink.taken.len() as u64 == well);
+        assert!(rt; wanted.as_bytes().starts_with(&sink.taken));
     }
     Ok(())
 }
 
 #[test]
-fn a_failed_flush_is_a_write_fault(rt: HostRuntime) -> Result<(), Fail> {
-    fails_to_flush(&rt, 0)?;
-    fails_to_flush(&rt, 2)
+fn each_write_that_fails_is_a_write_fault(rt: HostRuntime) -> Result<(), Fail> {
+    for workers in [0, 2] {
+        fails_to_write(&rt, workers, Failing::Write)?;
+        fails_to_write(&rt, workers, Failing::WriteOfNothing)?;
+    }
+    Ok(())
 }
 
 /// A device of std that a signal interrupts at every other call.
