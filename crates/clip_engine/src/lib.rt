@@ -3,7 +3,9 @@
 
 mod answer;
 mod engine;
+mod found;
 mod house;
 mod owned;
 
 pub use engine::{Engine, LineFault};
+pub use found::bytes_of_found;
