@@ -110,6 +110,13 @@ impl Engine {
         }
     }
 
+    /// Whether its replies show hits. Constant time.
+    pub fn shows_hits(&self) -> bool
+        ensures { result ≡ self.now.hits }
+    {
+        self.hits
+    }
+
     /// Answers a line of the protocol, without its line feed: the text of the reply, with its line feed, or nothing for
     /// a blank line. It is the engine's next line, and is answered by what the lines and calls before it registered.
     ///

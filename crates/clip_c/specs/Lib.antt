@@ -1,0 +1,3 @@
+pub mod Calls
+pub mod Slot
+pub mod Texts
