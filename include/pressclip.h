@@ -70,7 +70,8 @@ void pressclip_close(pressclip **engine);
  * It is the engine's next line, counted from 1, and sees what all lines and calls before it registered. Refusals by the
  * protocol are replies, and PRESSCLIP_OK. The reply is the caller's, who frees it by pressclip_free.
  * PRESSCLIP_CLOSED, PRESSCLIP_NULL, PRESSCLIP_SIZE, PRESSCLIP_FEED, PRESSCLIP_LINES, PRESSCLIP_NO_MEMORY; a line that
- * was not answered is not counted. */
+ * was not answered is not counted. The one exception of this library: where the reply itself has no room, the line was
+ * taken and counted, and PRESSCLIP_NO_MEMORY is answered in the place of its reply. */
 int pressclip_line(pressclip *engine, const char *line, size_t length, char **reply, size_t *reply_length);
 
 /* Frees a reply. A null pointer is let be. */

@@ -60,7 +60,11 @@ fn listing_of(
     let query = text_of(alloc, query)?;
     if has_listener {
         let listener = Some(text_of(alloc, listener)?);
-        return Ok(Listing { id, query, listener });
+        return Ok(Listing {
+            id,
+            query,
+            listener,
+        });
     }
     Ok(Listing {
         id,

@@ -27,7 +27,10 @@ impl Slot {
         ensures { result.kept ≡ Some loose.value }
     {
         let Loose { at, alloc } = loose;
-        Slot { at: at as *mut u8, alloc }
+        Slot {
+            at: at as *mut u8,
+            alloc,
+        }
     }
 
     /// What a slot keeps, at its address.
@@ -36,7 +39,10 @@ impl Slot {
         ensures { Some result.value ≡ self.kept }
     {
         let Slot { at, alloc } = self;
-        Loose { at: at as *mut Kept, alloc }
+        Loose {
+            at: at as *mut Kept,
+            alloc,
+        }
     }
 
     /// The slot that keeps what is in the box.

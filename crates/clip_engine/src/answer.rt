@@ -6,8 +6,8 @@ ghost use Rattle.clip_engine.specs.Engine.{Answers, house};
 
 use crate::house::House;
 use crate::owned::Owned;
-use clip_listen::Audience;
 use clip_front::{Books, Settings, Taken, deliver_found, take_line};
+use clip_listen::Audience;
 use clip_match::match_batch;
 use clip_meaning::Article;
 use clip_protocol::Form;

@@ -138,7 +138,11 @@ impl Engine {
             return Err(LineFault::TooMany);
         }
         let number = self.lines + 1;
-        let form = if self.hits { Form::WithHits } else { Form::Plain };
+        let form = if self.hits {
+            Form::WithHits
+        } else {
+            Form::Plain
+        };
         let Ok(before) = self.owned.registrar.copy() else {
             return Err(LineFault::NoMemory);
         };

@@ -70,11 +70,7 @@ fn add_alert(
 /// name and a position; numbers are eight bytes, the lowest first.
 ///
 /// `NoMemory` where an allocation failed. Cost: a copy of the texts, and that of `Alert::hits` where hits are shown.
-pub fn bytes_of_found(
-    alloc: Global,
-    found: &Alerts,
-    shows_hits: bool,
-) -> Result<Vec<u8>, NoMemory>
+pub fn bytes_of_found(alloc: Global, found: &Alerts, shows_hits: bool) -> Result<Vec<u8>, NoMemory>
     ensures { IfOk result (λ bytes. bytes.items ≡ found_bytes shows_hits (alerts_of found.now)) }
 {
     let mut bytes = Vec::new(alloc);

@@ -38,9 +38,9 @@ fn heard_by(
     alert: &Alert,
 ) -> Result<Note, NoMemory>
     ensures note { IfOk result (λ note. note_value note ≡ record {
-        listener = arc_str_bytes name.now;
-        query = (alert_value alert.now).query;
-        text = text_of (⟦<Teller<Style> as Listener>⟧.style listener.old) (alert_value alert.now);
+      listener = arc_str_bytes name.now;
+      query = (alert_value alert.now).query;
+      text = text_of (⟦<Teller<Style> as Listener>⟧.style listener.old) (alert_value alert.now);
     }) }
     ensures style { ⟦<Teller<Style> as Listener>⟧.style listener.new ≡ ⟦<Teller<Style> as Listener>⟧.style listener.old }
     ensures ok { OnOk result (⟦<Teller<Style> as Listener>⟧.heard listener.new
