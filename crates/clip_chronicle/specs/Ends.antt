@@ -9,7 +9,8 @@ use Rattle.clip_chronicle.specs.declared.published.Published.{Published}
 
 -- y is of the desk of x, and its history goes on from that of x
 abbrev pub Continues : Published → Published → Type 0
-Continues x y = (y.front.seen.book ≡ x.front.seen.book) × (y.callers ≡ x.callers) × IsPrefix x.view.history y.view.history
+Continues x y = (y.front.seen.book ≡ x.front.seen.book) × (y.callers ≡ x.callers)
+    × IsPrefix x.view.history y.view.history
 
 -- what an end saw last, if anything, is continued by x
 abbrev pub Fits : Published → Option Published → Type 0

@@ -10,7 +10,8 @@ pub record RightIs : Type 0 where
   pub made : ℕ
 
 abbrev pub right_code : Coded RightIs
-right_code = code_by (Book × (ℕ × ℕ)) (coded× book_coded (coded× coded_ℕ coded_ℕ)) (λ r. (r.book, (r.caller, r.made))) (λ p. record { book = p.0; caller = p.1.0; made = p.1.1 }) (λ _. refl)
+right_code = code_by (Book × (ℕ × ℕ)) (coded× book_coded (coded× coded_ℕ coded_ℕ)) (λ r. (r.book, (r.caller, r.made)))
+    (λ p. record { book = p.0; caller = p.1.0; made = p.1.1 }) (λ _. refl)
 
 -- the rights of a new chronicle, of which so many were given
 pub record RightsAre : Type 0 where
@@ -18,4 +19,5 @@ pub record RightsAre : Type 0 where
   pub given : ℕ
 
 abbrev pub rights_code : Coded RightsAre
-rights_code = code_by (Book × ℕ) (coded× book_coded coded_ℕ) (λ r. (r.book, r.given)) (λ p. record { book = p.0; given = p.1 }) (λ _. refl)
+rights_code = code_by (Book × ℕ) (coded× book_coded coded_ℕ) (λ r. (r.book, r.given))
+    (λ p. record { book = p.0; given = p.1 }) (λ _. refl)

@@ -142,8 +142,8 @@ impl Front {
         both.learn(&other.seen);
     }
 
-    /// Adds an entry to all that was seen, and says whether it did: it did not where the history is longer. It asks for the
-    /// right of the entry's caller. Constant time.
+    /// Adds an entry to all that was seen, and says whether it did: it did not where the history is longer. It asks for
+    /// the right of the entry's caller. Constant time.
     fn add(&mut self, head: &Head, entry: &HistoryEntry, right: &mut Right) -> bool
         requires head { head.now ≡ head_of self.old.seen.book }
         requires room { length self.old.seen.log < 2 ^ 62 }
@@ -173,8 +173,8 @@ impl Front {
         true
     }
 
-    /// Adds the newest command of a registrar to all that was seen, by the right of its caller, and says whether it did.
-    /// Constant time.
+    /// Adds the newest command of a registrar to all that was seen, by the right of its caller, and says whether it
+    /// did. Constant time.
     pub fn follow(&mut self, head: &Head, registrar: &Registrar, right: &mut Right) -> bool
         requires head { head.now ≡ head_of self.old.seen.book }
         requires one_more { (e : model.HistoryEntry) × (registrar.now.history ≡ self.old.seen.log ++ e ∷ [])

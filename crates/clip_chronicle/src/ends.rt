@@ -26,8 +26,8 @@ fn read(end: ReaderEnd) -> (ReaderEnd, Result<Published, AllocError>)
     }
 }
 
-/// A copy of what is published, or `AllocError` where a count of holders is at its end. It goes on from what the end saw
-/// before. It waits for nobody. Constant time.
+/// A copy of what is published, or `AllocError` where a count of holders is at its end. It goes on from what the end
+/// saw before. It waits for nobody. Constant time.
 pub fn read_here(end: &mut ReaderEnd) -> Result<Published, AllocError>
     ensures read { IfOk result (λ p. (view end.new.place ≡ Some p) × Fits p (view end.old.place)) }
     ensures kept { StaysOf (view end.old.place) (view end.new.place) }
@@ -71,8 +71,8 @@ fn publish_copy<R: Wait>(
     }
 }
 
-/// Publishes a value that goes on from the one before. Where that is refused it tries again, and so waits until a count of
-/// holders falls or memory comes; it may wait for readers that read.
+/// Publishes a value that goes on from the one before. Where that is refused it tries again, and so waits until a count
+/// of holders falls or memory comes; it may wait for readers that read.
 fn publish_surely<R: Wait>(rt: &R, writer: WriterEnd, next: &Published) -> WriterEnd
     requires { Continues writer.desk.shown.value next.now }
     ensures { result.desk.shown.value ≡ next.now }

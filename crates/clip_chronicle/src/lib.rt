@@ -1,5 +1,5 @@
-//! The chronicle of a shared history, and the ends by which it is published and read: what was seen of the history stays
-//! a beginning of it for good.
+//! The chronicle of a shared history, and the ends by which it is published and read: what was seen of the history
+//! stays a beginning of it for good.
 #![tactic(auto)]
 
 mod chronicle;

@@ -6,8 +6,8 @@ use clip_model::{MOST_CALLERS, MOST_ENTRIES};
 use logbook::Seen;
 use std::marker::Model;
 
-/// The right to add entries of one caller to a history, and how many were added with it. Each step that adds an entry asks
-/// for it. A chronicle gives one for each caller where it is opened, and none can be made or copied after that.
+/// The right to add entries of one caller to a history, and how many were added with it. Each step that adds an entry
+/// asks for it. A chronicle gives one for each caller where it is opened, and none can be made or copied after that.
 #[derive(Drop)]
 pub struct Right {
     seen: Seen<Line, u64, Law>,

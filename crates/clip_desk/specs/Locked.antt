@@ -16,10 +16,12 @@ pub record LockedIs : Type 0 where
   pub updates : List Heard
 
 abbrev pub locked_code : Coded LockedIs
-locked_code = code_by (RegistryState × List Heard) (coded× state_code (coded_list heard_code)) (λ s. (s.registry, s.updates)) (λ p. record { registry = p.0; updates = p.1 }) (λ _. refl)
+locked_code = code_by (RegistryState × List Heard) (coded× state_code (coded_list heard_code))
+    (λ s. (s.registry, s.updates)) (λ p. record { registry = p.0; updates = p.1 }) (λ _. refl)
 
 -- the registrar, the chronicle and the published value agree, and are those of this desk
-pub record IsSettled (book : Book) (callers : ℕ) (registrar : RegistryState) (head : Named) (front : Front) (shown : Published) : Type 0 where
+pub record IsSettled (book : Book) (callers : ℕ) (registrar : RegistryState) (head : Named) (front : Front)
+    (shown : Published) : Type 0 where
   pub log : front.seen.log ≡ registrar.history
   pub book_is : front.seen.book ≡ book
   pub head_is : head ≡ head_of book

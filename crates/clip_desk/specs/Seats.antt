@@ -47,7 +47,8 @@ longer xs ys = if nat_lt (length xs) (length ys) then ys else xs
 
 -- a seat that has seen nothing
 abbrev pub new_seat : ℕ → ℕ → Book → ℕ → SeatIs
-new_seat tag callers book caller = record { tag = tag; caller = caller; callers = callers; book = book; seen = []; mine = [] }
+new_seat tag callers book caller =
+    record { tag = tag; caller = caller; callers = callers; book = book; seen = []; mine = [] }
 
 -- the seats of callers 1, 2, ..
 pub record AreSeated (tag callers : ℕ) (book : Book) (seats : List SeatIs) : Type 0 where
@@ -60,14 +61,19 @@ IsAccounted tag history s = (s.tag ≡ tag) × IsPrefix s.seen history × (own h
 -- each seat is accounted for, and each caller has one
 pub record AreAll (tag callers : ℕ) (history : History) (seats : List SeatIs) : Type 0 where
   pub each : (k : ℕ) (s : SeatIs) → slice_get seats k ≡ Some s → IsAccounted tag history s
-  pub none_missing : (caller : ℕ) → 0 < caller → caller ≤ callers → (k : ℕ) × (s : SeatIs) × (slice_get seats k ≡ Some s) × (s.caller ≡ caller)
+  pub none_missing : (caller : ℕ) → 0 < caller → caller ≤ callers
+      → (k : ℕ) × (s : SeatIs) × (slice_get seats k ≡ Some s) × (s.caller ≡ caller)
 
 -- ---- codes
 
 abbrev pub seat_code : Coded SeatIs
 seat_code =
-    code_by (ℕ × (ℕ × (ℕ × (Book × (History × List Command))))) (coded× coded_ℕ (coded× coded_ℕ (coded× coded_ℕ (coded× book_coded (coded× history_code (coded_list command_code))))))
-    (λ s. (s.tag, (s.caller, (s.callers, (s.book, (s.seen, s.mine)))))) (λ p. record { tag = p.0; caller = p.1.0; callers = p.1.1.0; book = p.1.1.1.0; seen = p.1.1.1.1.0; mine = p.1.1.1.1.1 }) (λ _. refl)
+    code_by (ℕ × (ℕ × (ℕ × (Book × (History × List Command)))))
+    (coded× coded_ℕ (coded× coded_ℕ
+    (coded× coded_ℕ (coded× book_coded (coded× history_code (coded_list command_code))))))
+    (λ s. (s.tag, (s.caller, (s.callers, (s.book, (s.seen, s.mine))))))
+    (λ p. record { tag = p.0; caller = p.1.0; callers = p.1.1.0; book = p.1.1.1.0; seen = p.1.1.1.1.0;
+    mine = p.1.1.1.1.1 }) (λ _. refl)
 
 abbrev answer_parts : Applied → ℕ ⊎ (ℕ ⊎ ℕ)
 answer_parts (answer.Registered n) = inl n
@@ -90,4 +96,5 @@ answer_code = code_by (ℕ ⊎ (ℕ ⊎ ℕ)) (coded⊎ coded_ℕ (coded⊎ code
 abbrev pub receipt_code : Coded ReceiptIs
 receipt_code =
     code_by (ℕ × (Book × (History × Applied))) (coded× coded_ℕ (coded× book_coded (coded× history_code answer_code)))
-    (λ r. (r.tag, (r.book, (r.history, r.applied)))) (λ p. record { tag = p.0; book = p.1.0; history = p.1.1.0; applied = p.1.1.1 }) (λ _. refl)
+    (λ r. (r.tag, (r.book, (r.history, r.applied))))
+    (λ p. record { tag = p.0; book = p.1.0; history = p.1.1.0; applied = p.1.1.1 }) (λ _. refl)

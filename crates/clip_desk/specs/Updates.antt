@@ -54,8 +54,8 @@ pub record AreTold (event : Event) (before after : List Heard) : Type 0 where
   pub same : length after ≡ length before
   pub each : (k : ℕ) (h w : Heard) → slice_get before k ≡ Some h → slice_get after k ≡ Some w → IsTold event h w
 
--- The listener had heard these before, and has then heard, purges left out, one event for each entry of the history; one
--- that missed an event has heard some first ones of them.
+-- The listener had heard these before, and has then heard, purges left out, one event for each entry of the history;
+-- one that missed an event has heard some first ones of them.
 pub record Follows (before : List Event) (history : History) (h : Heard) : Type 0 where
   pub whole : h.missed ≡ false → without_purges h.events ≡ before ++ events_of history
   pub front : IsPrefix (without_purges h.events) (before ++ events_of history)
@@ -63,7 +63,8 @@ pub record Follows (before : List Event) (history : History) (h : Heard) : Type 
 -- There are as many listeners as before, and each follows, where before has what the one in each place had heard.
 pub record AllFollow (before : List (List Event)) (history : History) (all : List Heard) : Type 0 where
   pub same : length all ≡ length before
-  pub each : (k : ℕ) (b : List Event) (h : Heard) → slice_get before k ≡ Some b → slice_get all k ≡ Some h → Follows b history h
+  pub each : (k : ℕ) (b : List Event) (h : Heard) → slice_get before k ≡ Some b → slice_get all k ≡ Some h
+      → Follows b history h
 
 -- what each listener has heard, purges left out
 abbrev pub all_heard : List Heard → List (List Event)
@@ -101,7 +102,10 @@ event_again Purged = refl
 
 abbrev pub event_code : Coded Event
 event_code =
-    code_by (List (List ℕ) ⊎ (List (List ℕ) ⊎ Bool)) (coded⊎ (coded_list (coded_list coded_ℕ)) (coded⊎ (coded_list (coded_list coded_ℕ)) coded_bool)) event_parts event_made event_again
+    code_by (List (List ℕ) ⊎ (List (List ℕ) ⊎ Bool))
+    (coded⊎ (coded_list (coded_list coded_ℕ)) (coded⊎ (coded_list (coded_list coded_ℕ)) coded_bool)) event_parts
+    event_made event_again
 
 abbrev pub heard_code : Coded Heard
-heard_code = code_by (List Event × Bool) (coded× (coded_list event_code) coded_bool) (λ h. (h.events, h.missed)) (λ p. record { events = p.0; missed = p.1 }) (λ _. refl)
+heard_code = code_by (List Event × Bool) (coded× (coded_list event_code) coded_bool) (λ h. (h.events, h.missed))
+    (λ p. record { events = p.0; missed = p.1 }) (λ _. refl)

@@ -19,7 +19,8 @@ use clip_standing::Command;
 use std::marker::Model;
 use std::sync::{Mutex, MutexGuard, Wait};
 
-/// A registry that callers share, and the listeners that hear of its changes. It has no `Drop`, as a writer's end can't be dropped: end it by `close` or `end`.
+/// A registry that callers share, and the listeners that hear of its changes. It has no `Drop`, as a writer's end can't
+/// be dropped: end it by `close` or `end`.
 pub struct Desk<N: DeskName, L: UpdateListener> {
     pub(crate) locked: Mutex<Locked<N, L>>,
     pub(crate) tag: u64,
@@ -89,11 +90,11 @@ impl<N: DeskName, L: UpdateListener> Desk<N, L> {
         self.tag
     }
 
-    /// Accepts a command as the next of the seat's caller, publishes the registry after it, tells the listeners of it, and
-    /// answers the receipt of the history that ends with it; or tells nothing and hands the command back: `Foreign` for a
-    /// seat of another tag, `Full` where it has no room, and `NoMemory` where an allocation failed. It may wait for other
-    /// callers' commits, and for readers that look. It costs that of `Registrar::apply` while a view is held, and what each
-    /// listener takes.
+    /// Accepts a command as the next of the seat's caller, publishes the registry after it, tells the listeners of it,
+    /// and answers the receipt of the history that ends with it; or tells nothing and hands the command back: `Foreign`
+    /// for a seat of another tag, `Full` where it has no room, and `NoMemory` where an allocation failed. It may wait
+    /// for other callers' commits, and for readers that look. It costs that of `Registrar::apply` while a view is held,
+    /// and what each listener takes.
     pub fn commit<R: Wait>(
         &self,
         rt: &R,
@@ -131,11 +132,11 @@ impl<N: DeskName, L: UpdateListener> Desk<N, L> {
         answer
     }
 
-    /// Ends the desk with all its seats, and gives the registry and as many listeners as it was opened with. Each unmarked
-    /// one has heard, purges left out, what the one in its place had heard before and then one event for each entry of the
-    /// history, in order; a marked one some first ones of these. `SeatMissing` where a caller's seat isn't there or one is of another tag, and then desk and
-    /// seats come back. It may wait for readers that look. It costs a search among the seats for each caller, and
-    /// that of `Registrar::number_of` for each seat.
+    /// Ends the desk with all its seats, and gives the registry and as many listeners as it was opened with. Each
+    /// unmarked one has heard, purges left out, what the one in its place had heard before and then one event for each
+    /// entry of the history, in order; a marked one some first ones of these. `SeatMissing` where a caller's seat isn't
+    /// there or one is of another tag, and then desk and seats come back. It may wait for readers that look. It costs a
+    /// search among the seats for each caller, and that of `Registrar::number_of` for each seat.
     pub fn close<R: Wait>(self, rt: &R, seats: Vec<Seat>) -> Result<Closed<L>, SeatMissing<N, L>>
         requires { (k : ℕ) (s : SeatIs) → slice_get seats.items k ≡ Some s → s.tag ≡ self.tag
             → IsSeatOf N.book N.callers s }

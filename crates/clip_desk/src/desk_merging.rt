@@ -20,8 +20,8 @@ pub enum Nudge {
     Stop,
 }
 
-/// Takes the nudges that stand in a channel, up to the first `Stop`, and says whether there was one. It costs a step for
-/// each of them.
+/// Takes the nudges that stand in a channel, up to the first `Stop`, and says whether there was one. It costs a step
+/// for each of them.
 fn take_standing<R: Wait>(rt: &R, nudges: &Receiver<Nudge>) -> bool {
     for _ in 0..nudges.len() {
         if let Ok(Nudge::Stop) = nudges.try_recv(rt) {
@@ -32,10 +32,10 @@ fn take_standing<R: Wait>(rt: &R, nudges: &Receiver<Nudge>) -> bool {
 }
 
 impl<N: DeskName, L: UpdateListener> Desk<N, L> {
-    /// Leaves each segment with just its live entries, takes the empty ones away, publishes that, and tells the listeners:
-    /// `Foreign` for a seat of another tag, and `NoMemory` where an allocation failed, with nothing changed and nothing
-    /// told. The seat stays as it is. It may wait for other callers' commits, and for readers that look. It costs that of
-    /// `Registrar::purge`, and what each listener takes.
+    /// Leaves each segment with just its live entries, takes the empty ones away, publishes that, and tells the
+    /// listeners: `Foreign` for a seat of another tag, and `NoMemory` where an allocation failed, with nothing changed
+    /// and nothing told. The seat stays as it is. It may wait for other callers' commits, and for readers that look. It
+    /// costs that of `Registrar::purge`, and what each listener takes.
     pub fn purge<R: Wait>(&self, rt: &R, seat: &mut Seat) -> Result<(), Refused>
         ensures foreign { (result ≡ Err Refused.Foreign) ↔ (seat.old.tag ≢ self.now.tag) }
         ensures never_full { result ≢ Err Refused.Full }
@@ -67,13 +67,13 @@ impl<N: DeskName, L: UpdateListener> Desk<N, L> {
         answer
     }
 
-    /// Merges the oldest four neighbouring segments of one level, where there are such four, and publishes that. What is
-    /// registered stays, and so does the history: commits of other threads while it merges are kept. It may find its merge
-    /// stale where another thread merged or purged, or a clear came between. `NoMemory` where an allocation failed, with
-    /// nothing changed; a later call may merge them.
+    /// Merges the oldest four neighbouring segments of one level, where there are such four, and publishes that. What
+    /// is registered stays, and so does the history: commits of other threads while it merges are kept. It may find its
+    /// merge stale where another thread merged or purged, or a clear came between. `NoMemory` where an allocation
+    /// failed, with nothing changed; a later call may merge them.
     ///
-    /// It may wait for other callers' commits, and for readers that look. It costs that of `Registrar::begin`, and where
-    /// there are four that of `MergeJob::run` and of `Registrar::install`. Commits go on while the job is run.
+    /// It may wait for other callers' commits, and for readers that look. It costs that of `Registrar::begin`, and
+    /// where there are four that of `MergeJob::run` and of `Registrar::install`. Commits go on while the job is run.
     pub fn merge_once<R: Wait>(&self, rt: &R) -> Result<MergeTurn, NoMemory> {
         let Some(job) = self.begin(rt)? else {
             return Ok(MergeTurn::Nothing);
@@ -94,12 +94,13 @@ impl<N: DeskName, L: UpdateListener> Desk<N, L> {
         }
     }
 
-    /// Merges at each nudge, until a `Stop` comes or the channel is closed. It takes all nudges that stand in the channel
-    /// at once, and then merges until nothing is left to merge, so one `Merge` does for many. Where a merge is stale, or is
-    /// refused for want of memory, nothing is changed, and the next nudge merges again. A `Stop` ends it after the merges
-    /// that stood before it.
+    /// Merges at each nudge, until a `Stop` comes or the channel is closed. It takes all nudges that stand in the
+    /// channel at once, and then merges until nothing is left to merge, so one `Merge` does for many. Where a merge is
+    /// stale, or is refused for want of memory, nothing is changed, and the next nudge merges again. A `Stop` ends it
+    /// after the merges that stood before it.
     ///
-    /// It waits for nudges, for other callers' commits, and for readers that look. Each merge costs that of `merge_once`.
+    /// It waits for nudges, for other callers' commits, and for readers that look. Each merge costs that of
+    /// `merge_once`.
     pub fn serve_merges<R: Wait>(&self, rt: &R, nudges: &Receiver<Nudge>) {
         for _ in rt.forever() {
             let Ok(Nudge::Merge) = nudges.recv(rt) else {

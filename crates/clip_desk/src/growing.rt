@@ -17,9 +17,9 @@ pub struct Grown {
     pub applied: Applied,
 }
 
-/// The registry after a caller's next command, where the registrar stays as it is: `Full` where the command has no room,
-/// and `NoMemory` where an allocation failed. It costs that of `Registrar::apply` while a view is held, and a step for
-/// each query or id that the command lists.
+/// The registry after a caller's next command, where the registrar stays as it is: `Full` where the command has no
+/// room, and `NoMemory` where an allocation failed. It costs that of `Registrar::apply` while a view is held, and a
+/// step for each query or id that the command lists.
 pub fn grow(registrar: &Registrar, caller: u32, command: &Command) -> Result<Grown, Refused>
     requires fits { IsTrue (fits (command_of command.now)) }
     requires caller { (0 < caller) × (caller ≤ MOST_CALLERS) }

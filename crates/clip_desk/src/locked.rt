@@ -21,8 +21,8 @@ use std::alloc::Global;
 use std::marker::{Brand, Model, PhantomData};
 use std::sync::Wait;
 
-/// Names one desk, in contracts only: its book, how many callers it has, and what each of its listeners had heard before
-/// it.
+/// Names one desk, in contracts only: its book, how many callers it has, and what each of its listeners had heard
+/// before it.
 pub trait DeskName {
     ghost use Rattle.std.specs.Prelude.{ℕ, List};
     ghost use Rattle.logbook.specs.Pages.{Book};
@@ -111,11 +111,11 @@ impl<N: DeskName, L: UpdateListener> Locked<N, L> {
         }
     }
 
-    /// Accepts a command as the next of the seat's caller, publishes the registry after it, tells the listeners of it, and
-    /// answers the receipt of the history that ends with it; or leaves all as it was, tells nothing, and hands the command
-    /// back: `Full` where it has no room, and `NoMemory` where an allocation failed. Nothing is refused once its entry
-    /// stands in the chronicle, so the same call can be made again. It may wait for readers that look. It costs that of
-    /// `Registrar::apply` while a view is held, and what each listener takes.
+    /// Accepts a command as the next of the seat's caller, publishes the registry after it, tells the listeners of it,
+    /// and answers the receipt of the history that ends with it; or leaves all as it was, tells nothing, and hands the
+    /// command back: `Full` where it has no room, and `NoMemory` where an allocation failed. Nothing is refused once
+    /// its entry stands in the chronicle, so the same call can be made again. It may wait for readers that look. It
+    /// costs that of `Registrar::apply` while a view is held, and what each listener takes.
     pub fn commit<R: Wait>(
         &mut self,
         rt: &R,

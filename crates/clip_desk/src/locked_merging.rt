@@ -27,9 +27,10 @@ impl<N: DeskName, L: UpdateListener> Locked<N, L> {
         Ok(())
     }
 
-    /// Leaves each segment with just its live entries, takes the empty ones away, publishes that, and tells the listeners.
-    /// The history is kept, and so is what is registered. `NoMemory` where an allocation failed, with nothing changed and
-    /// nothing told. It may wait for readers that look, and costs that of `Registrar::purge` and what each listener takes.
+    /// Leaves each segment with just its live entries, takes the empty ones away, publishes that, and tells the
+    /// listeners. The history is kept, and so is what is registered. `NoMemory` where an allocation failed, with
+    /// nothing changed and nothing told. It may wait for readers that look, and costs that of `Registrar::purge` and
+    /// what each listener takes.
     pub fn purge<R: Wait>(&mut self, rt: &R) -> Result<(), NoMemory>
         ensures purged { OnOk result (self.new.registry ≡ purged self.old.registry) }
         ensures told { OnOk result (AreTold Purged self.old.updates self.new.updates) }

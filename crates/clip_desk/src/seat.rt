@@ -16,8 +16,8 @@ use clip_standing::Applied;
 use clip_words::NoMemory;
 use std::marker::Model;
 
-/// One caller's place at a desk, seen as the longest history that it got and the commands that were committed with it. It
-/// has the right to add entries of its caller to the desk's history, which nothing else has.
+/// One caller's place at a desk, seen as the longest history that it got and the commands that were committed with it.
+/// It has the right to add entries of its caller to the desk's history, which nothing else has.
 #[derive(Drop)]
 pub struct Seat {
     end: ReaderEnd,
@@ -173,8 +173,8 @@ impl Seat {
         Ok(view)
     }
 
-    /// Takes in the history of a receipt of the seat's desk: afterwards the seat has seen the longer of its own and that.
-    /// It waits for nobody, and takes no memory. Constant time.
+    /// Takes in the history of a receipt of the seat's desk: afterwards the seat has seen the longer of its own and
+    /// that. It waits for nobody, and takes no memory. Constant time.
     pub fn learn(&mut self, receipt: &Receipt)
         requires desk { receipt.now.book ≡ self.old.book }
         ensures one { IsPrefix self.old.seen receipt.now.history ⊎ IsPrefix receipt.now.history self.old.seen }
@@ -208,8 +208,8 @@ impl Seat {
         self.front = front.again();
     }
 
-    /// Adds the newest command of a registrar, which is its caller's next, to the history by the seat's right, and sees the
-    /// history with it; or says that it did not, where the history is longer than was seen. Constant time.
+    /// Adds the newest command of a registrar, which is its caller's next, to the history by the seat's right, and sees
+    /// the history with it; or says that it did not, where the history is longer than was seen. Constant time.
     pub(crate) fn add(&mut self, front: &mut Front, head: &Head, registrar: &Registrar) -> bool
         requires desk { (front.old.seen.book ≡ self.old.book) × (head.now ≡ head_of self.old.book) }
         requires one_more { (e : model.HistoryEntry) × (registrar.now.history ≡ front.old.seen.log ++ e ∷ [])

@@ -18,8 +18,10 @@ front_keys field = map (Front field.0) (flat_map fronts field.1)
 
 -- Any, each word of each field, and the fronts of these words; in order, each once
 abbrev pub article_keys : Fields → List KeyValue
-article_keys fields = in_order (Any ∷ flat_map field_keys (finite.entries fields) ++ flat_map front_keys (finite.entries fields))
+article_keys fields = in_order
+    (Any ∷ flat_map field_keys (finite.entries fields) ++ flat_map front_keys (finite.entries fields))
 
 -- where a query holds of an article, their keys have one in common
 abbrev pub Covers : Type 0
-Covers = (tree : Tree) (fields : Fields) → holds tree fields ≡ true → share (query_keys tree) (article_keys fields) ≡ true
+Covers = (tree : Tree) (fields : Fields) → holds tree fields ≡ true
+    → share (query_keys tree) (article_keys fields) ≡ true

@@ -87,8 +87,8 @@ fn weight_found(found: Found) -> u64
     }
 }
 
-/// What a query that is no group is found by: nothing that narrows the articles down, a word of a field with its weight,
-/// or the front of a prefix in a field.
+/// What a query that is no group is found by: nothing that narrows the articles down, a word of a field with its
+/// weight, or the front of a prefix in a field.
 #[derive(Clone, Copy)]
 enum Leaf<'a> {
     Any,
@@ -274,12 +274,12 @@ fn add_keys(alloc: Global, query: &Query, keys: &mut Vec<Key>) -> Result<u64, No
 /// The keys of a query, in order, each once: an article of which it holds has one of them.
 ///
 /// As Lucene's term-filtered presearcher extracts terms: of a word its key, of a phrase that of its heaviest word, of a
-/// prefix its first characters, at most `MOST_FRONT_CHARACTERS`, of a group those of its heaviest Must child or, without
-/// one, of all its Should children; Any for what nothing narrows. A word or a front weighs as many as it has characters,
-/// and the first stands on a tie. Texts are shared with the query, but for a front that has to be cut.
+/// prefix its first characters, at most `MOST_FRONT_CHARACTERS`, of a group those of its heaviest Must child or,
+/// without one, of all its Should children; Any for what nothing narrows. A word or a front weighs as many as it has
+/// characters, and the first stands on a tie. Texts are shared with the query, but for a front that has to be cut.
 ///
-/// `NoMemory` where an allocation failed. Cost: one walk over the query, which moves the keys that are kept at most once
-/// for each group around them, and a sort of the keys.
+/// `NoMemory` where an allocation failed. Cost: one walk over the query, which moves the keys that are kept at most
+/// once for each group around them, and a sort of the keys.
 pub fn keys(alloc: Global, query: &Query) -> Result<Vec<Key>, NoMemory>
     ensures { IfOk result (λ found. map key_of found.items ≡ query_keys (tree_of query.now)) }
 {

@@ -7,8 +7,8 @@ use std::sync::ArcStr;
 /// The most characters of a front that is a key.
 pub const MOST_FRONT_CHARACTERS: usize = 8;
 
-/// What a standing query is found by: `Any`, which every article has, a word of a field (field, word), or what a word of
-/// a field begins with (field, front).
+/// What a standing query is found by: `Any`, which every article has, a word of a field (field, word), or what a word
+/// of a field begins with (field, front).
 ///
 /// Ordered as written, then by field, then by word or front, by bytes. A clone shares the texts.
 #[derive(Clone, Debug, PartialEq, Eq, PartialOrd, Ord, Hash, Drop)]

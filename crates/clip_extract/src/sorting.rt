@@ -7,8 +7,8 @@ use clip_words::NoMemory;
 
 /// Sorts keys, and leaves each once.
 ///
-/// `NoMemory` where an allocation failed. Cost: n log n comparisons of n keys; constant time, and no memory, where n is 0
-/// or 1.
+/// `NoMemory` where an allocation failed. Cost: n log n comparisons of n keys; constant time, and no memory, where n is
+/// 0 or 1.
 pub fn sorted(mut keys: Vec<Key>) -> Result<Vec<Key>, NoMemory>
     ensures { IfOk result (λ sorted. map key_of sorted.items ≡ in_order (map key_of keys.items)) }
 {

@@ -26,7 +26,8 @@ pub record IsStuck (text : List ℕ) (at : ℕ) : Type 0 where
   pub parts : front ++ rest ≡ chars text
   pub lexes : Lexes front lexemes
   pub place : at ≡ length (encode_utf8_all front)
-  pub furthest : (other after : List ℕ) (ls : List Lexeme) → other ++ after ≡ chars text → Lexes other ls → length (encode_utf8_all other) ≤ at
+  pub furthest : (other after : List ℕ) (ls : List Lexeme) → other ++ after ≡ chars text → Lexes other ls
+      → length (encode_utf8_all other) ≤ at
 
 -- the list goes on with a colon and a star
 abbrev pub begins_colon_star : List Token → Bool
@@ -65,9 +66,11 @@ abbrev pub IsFault : List ℕ → QueryFault → Type 0
 IsFault text fault.TooLong = MOST_TEXT_BYTES < length text
 IsFault text (fault.Lexical at) = (length text ≤ MOST_TEXT_BYTES) × (at < length text) × IsStuck text at
 IsFault text fault.LeftOut = (ts : List Token) × Says text ts × IsLeftOut ts
-IsFault text fault.Structure = (ts : List Token) × Says text ts × ¬ (IsLeftOut ts) × ((written : Written) → ¬ (tokens written ≡ ts))
+IsFault text fault.Structure =
+    (ts : List Token) × Says text ts × ¬ (IsLeftOut ts) × ((written : Written) → ¬ (tokens written ≡ ts))
 IsFault text fault.NoWords = (written : Written) × Writes text written × IsTrue (lacks_words written)
-IsFault text fault.TooBig = (written : Written) × Writes text written × IsTrue (not (lacks_words written)) × IsTooBig (written_tree written)
+IsFault text fault.TooBig = (written : Written) × Writes text written × IsTrue (not (lacks_words written))
+    × IsTooBig (written_tree written)
 IsFault text fault.NoMemory = Unit {0}
 
 -- no refusal holds of the text

@@ -102,7 +102,8 @@ abbrev mutual
   pub clauses_in : Written → (after_and : Bool) → List ℕ → Clauses
   clauses_in (one c) after_and field = clause (beside_and after_and (clause_occur c)) (clause_tree c field) none
   clauses_in (more c joint cs) after_and field =
-      clause (beside_and (after_and || is_and joint) (clause_occur c)) (clause_tree c field) (clauses_in cs (is_and joint) field)
+      clause (beside_and (after_and || is_and joint) (clause_occur c)) (clause_tree c field)
+      (clauses_in cs (is_and joint) field)
 
   pub clause_tree : WrittenClause → List ℕ → Tree
   clause_tree (item _ nearer i) field = item_tree i (unwrap_or nearer field)

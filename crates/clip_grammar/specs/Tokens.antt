@@ -111,7 +111,8 @@ closing closed text = if closed then With text else Without text
 
 -- an end of a range, by the bracket on its side: [ is 91 and ] is 93
 abbrev pub end_token : Bool → RangeEnd → End
-end_token closed (BareEnd ps) = let ms = map mark_of ps in if is_spelled (codes "*") ms then Free else closing closed (text_of ms)
+end_token closed (BareEnd ps) =
+    let ms = map mark_of ps in if is_spelled (codes "*") ms then Free else closing closed (text_of ms)
 end_token closed (QuotedEnd ps) = closing closed (text_of (map mark_of ps))
 
 -- a blank says nothing
@@ -119,7 +120,8 @@ abbrev pub tokens_of_lexeme : Lexeme → List Token
 tokens_of_lexeme (Blank _) = []
 tokens_of_lexeme (Word ps) = word_token (map mark_of ps) ∷ []
 tokens_of_lexeme (Quoted ps) = Phrase (text_of (map mark_of ps)) ∷ []
-tokens_of_lexeme (lexeme.Range left _ low _ _ high _ right) = Range (end_token (left == 91) low) (end_token (right == 93) high) ∷ []
+tokens_of_lexeme (lexeme.Range left _ low _ _ high _ right) =
+    Range (end_token (left == 91) low) (end_token (right == 93) high) ∷ []
 tokens_of_lexeme (Sign c) = sign_token c ∷ []
 tokens_of_lexeme (Foreign _) = Other ∷ []
 

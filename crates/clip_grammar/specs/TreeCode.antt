@@ -1,4 +1,5 @@
--- A code of query trees, by which a type whose value holds a query has a model: the nodes of the tree, children before parents.
+-- A code of query trees, by which a type whose value holds a query has a model: the nodes of the tree, children before
+-- parents.
 use Rattle.std.specs.Prelude.{◌≡◌, ℕ, zero, suc, Bool, true, false, List, [], ◌∷◌, Option, Some, None, refl, ◌⊎◌}
 use Rattle.std.specs.Coded.{Coded, code_by, coded×, coded⊎, coded_ℕ, coded_bool, coded_list, coded_option}
 use Rattle.std.proofs.Common.{inl, inr, ◌∙◌}
@@ -123,11 +124,13 @@ rebuilt (Node.All ∷ ns) trees groups = rebuilt ns (Tree.All ∷ trees) groups
 rebuilt (Node.Group ∷ ns) trees [] = Tree.All
 rebuilt (Node.Group ∷ ns) trees (clauses ∷ groups) = rebuilt ns (Tree.Group clauses ∷ trees) groups
 rebuilt (Node.Ended ∷ ns) trees groups = rebuilt ns trees (none ∷ groups)
-rebuilt (Node.Listed occur ∷ ns) (tree ∷ trees) (clauses ∷ groups) = rebuilt ns trees (clause occur tree clauses ∷ groups)
+rebuilt (Node.Listed occur ∷ ns) (tree ∷ trees) (clauses ∷ groups) =
+    rebuilt ns trees (clause occur tree clauses ∷ groups)
 rebuilt (Node.Listed occur ∷ ns) _ _ = Tree.All
 
 mutual
-  pub tree_rebuilt : (tree : Tree) (ns : List Node) (trees : List Tree) (groups : List Clauses) → rebuilt (nodes_then tree ns) trees groups ≡ rebuilt ns (tree ∷ trees) groups
+  pub tree_rebuilt : (tree : Tree) (ns : List Node) (trees : List Tree) (groups : List Clauses)
+      → rebuilt (nodes_then tree ns) trees groups ≡ rebuilt ns (tree ∷ trees) groups
   tree_rebuilt (Tree.Term field word) ns trees groups = refl
   tree_rebuilt (Tree.Phrase field words) ns trees groups = refl
   tree_rebuilt (Tree.Prefix field front) ns trees groups = refl
@@ -135,11 +138,13 @@ mutual
   tree_rebuilt Tree.All ns trees groups = refl
   tree_rebuilt (Tree.Group clauses) ns trees groups = clauses_rebuilt clauses (Node.Group ∷ ns) trees groups
 
-  pub clauses_rebuilt : (clauses : Clauses) (ns : List Node) (trees : List Tree) (groups : List Clauses) → rebuilt (clauses_then clauses ns) trees groups ≡ rebuilt ns trees (clauses ∷ groups)
+  pub clauses_rebuilt : (clauses : Clauses) (ns : List Node) (trees : List Tree) (groups : List Clauses)
+      → rebuilt (clauses_then clauses ns) trees groups ≡ rebuilt ns trees (clauses ∷ groups)
   clauses_rebuilt none ns trees groups = refl
   clauses_rebuilt (clause occur tree clauses) ns trees groups =
       tree_rebuilt tree (clauses_then clauses (Node.Listed occur ∷ ns)) trees groups
       ∙ clauses_rebuilt clauses (Node.Listed occur ∷ ns) (tree ∷ trees) groups
 
 abbrev pub tree_code : Coded Tree
-tree_code = code_by (List Node) (coded_list node_code) (λ tree. nodes_then tree []) (λ ns. rebuilt ns [] []) (λ tree. tree_rebuilt tree [] [] [])
+tree_code = code_by (List Node) (coded_list node_code) (λ tree. nodes_then tree []) (λ ns. rebuilt ns [] [])
+    (λ tree. tree_rebuilt tree [] [] [])

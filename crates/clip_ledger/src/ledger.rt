@@ -42,8 +42,8 @@ impl Ledger {
         }
     }
 
-    /// Adds a row for each alert, in order: its line, its hits, and the text of the first note of its query, if there is
-    /// one.
+    /// Adds a row for each alert, in order: its line, its hits, and the text of the first note of its query, if there
+    /// is one.
     ///
     /// `NoMemory` where an allocation failed; the ledger is as it was then. Cost: one walk over alerts and notes where
     /// the queries of each rise by their bytes, as those of an article's alerts and of their notes do; else a walk over

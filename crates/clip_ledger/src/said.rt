@@ -60,7 +60,8 @@ fn skip_to<'a>(notes: &'a [Note], query: &str) -> &'a [Note]
     rest
 }
 
-/// The notes from a query on, where those from the last one on are at hand; from the start where the query is before it.
+/// The notes from a query on, where those from the last one on are at hand; from the start where the query is before
+/// it.
 #[tactic(auto, using(crate::proofs::Walk::onward))]
 pub(crate) fn next_notes<'a>(
     notes: &'a [Note],

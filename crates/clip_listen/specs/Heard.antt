@@ -45,7 +45,8 @@ is_for name alert = elim alert.listener [ None ↦ false | Some n ↦ bytes_eq n
 
 -- A listener after these alerts: it has heard its own, in order, and no other.
 abbrev pub told : List Alert → Hearer → Hearer
-told alerts l = record { name = l.name; style = l.style; heard = l.heard ++ filter (is_for l.name) alerts; keeps = l.keeps }
+told alerts l = record { name = l.name; style = l.style; heard = l.heard ++ filter (is_for l.name) alerts;
+    keeps = l.keeps }
 
 abbrev pub told_all : List Alert → List Hearer → List Hearer
 told_all alerts hearers = map (told alerts) hearers
@@ -84,7 +85,8 @@ abbrev pub style_value : Style → StyleValue
 style_value s = record { head = arc_str_bytes s.head; middle = arc_str_bytes s.middle }
 
 abbrev pub note_value : Note → NoteValue
-note_value n = record { listener = arc_str_bytes n.listener; query = arc_str_bytes n.query; text = arc_str_bytes n.text }
+note_value n = record { listener = arc_str_bytes n.listener; query = arc_str_bytes n.query;
+    text = arc_str_bytes n.text }
 
 -- the alerts of an article
 abbrev pub alerts_of : Alerts → List Alert
@@ -92,7 +94,8 @@ alerts_of found = map alert_value found.alerts.items
 
 -- a listener under its name
 abbrev pub hearer : {L : Type 0} → (L → StyleValue) → (L → List Alert) → (L → Bool) → String Global × L → Hearer
-hearer style heard keeps part = record { name = string_bytes part.0; style = style part.1; heard = heard part.1; keeps = keeps part.1 }
+hearer style heard keeps part =
+    record { name = string_bytes part.0; style = style part.1; heard = heard part.1; keeps = keeps part.1 }
 
 abbrev pub names_of : {L : Type 0} → List (String Global × L) → List (List ℕ)
 names_of parts = map (λ part. string_bytes part.0) parts

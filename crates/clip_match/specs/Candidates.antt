@@ -21,7 +21,8 @@ candidates_of state article = filter (is_candidate state.history article.fields)
 -- each registered query that holds of the article is among the entries
 abbrev pub MissesNone : RegistryState → ArticleValue → List Registered → Type 0
 MissesNone state article found =
-    (r : Registered) → finite.get (replay state.history) r.standing.id ≡ Some r → holds r.standing.tree article.fields ≡ true → Contains found r
+    (r : Registered) → finite.get (replay state.history) r.standing.id ≡ Some r
+    → holds r.standing.tree article.fields ≡ true → Contains found r
 
 -- each is a registered query, as it is registered
 abbrev pub AreRegistered : RegistryState → List Registered → Type 0

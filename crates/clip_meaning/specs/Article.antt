@@ -35,7 +35,8 @@ fields_code = finite.code bytes_code (coded_list bytes_code)
 
 abbrev pub article_code : Coded ArticleValue
 article_code =
-    code_by (List ℕ × Fields) (coded× bytes_code fields_code) (λ a. (a.id, a.fields)) (λ p. record { id = p.0; fields = p.1 }) (λ _. refl)
+    code_by (List ℕ × Fields) (coded× bytes_code fields_code) (λ a. (a.id, a.fields))
+    (λ p. record { id = p.0; fields = p.1 }) (λ _. refl)
 
 -- ---- which may be one
 
@@ -50,7 +51,8 @@ begins_with_digit (first ∷ _) = is_ascii_digit first
 
 -- 1 to `MOST_NAME_BYTES` ASCII letters, digits and `_`, no digit first
 unfoldable pub is_field_name : List ℕ → Bool
-is_field_name name = nat_lt 0 (length name) && nat_le (length name) MOST_NAME_BYTES && list_all is_name_byte name && not (begins_with_digit name)
+is_field_name name = nat_lt 0 (length name) && nat_le (length name) MOST_NAME_BYTES && list_all is_name_byte name
+    && not (begins_with_digit name)
 
 -- some name stands twice
 abbrev pub has_twice : List (List ℕ) → Bool

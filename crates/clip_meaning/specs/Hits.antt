@@ -26,7 +26,8 @@ is_within start count position = nat_le start position && nat_lt position (start
 
 -- the phrase stands in the words from `start` on, and the position is one of its words'
 abbrev pub covers : List (List ℕ) → List (List ℕ) → (position start : ℕ) → Bool
-covers words phrase position start = starts_with bytes_eq (drop start words) phrase && is_within start (length phrase) position
+covers words phrase position start =
+    starts_with bytes_eq (drop start words) phrase && is_within start (length phrase) position
 
 -- a clause asks for what its child names: every clause but a MustNot
 abbrev pub asks : Occur → Bool
@@ -35,11 +36,13 @@ asks Should = true
 asks MustNot = false
 
 abbrev mutual
-  -- Some leaf of this field, below no MustNot clause, names the word, which stands beside its position among the field's
-  -- words: a Term that it equals, a Prefix that it begins with, a Span that holds it, or a Phrase that covers it.
+  -- Some leaf of this field, below no MustNot clause, names the word, which stands beside its position among the
+  -- field's words: a Term that it equals, a Prefix that it begins with, a Span that holds it, or a Phrase that covers
+  -- it.
   pub is_named : Tree → (name : List ℕ) → (words : List (List ℕ)) → List ℕ × ℕ → Bool
   is_named (Tree.Term field word) name words w = bytes_eq field name && bytes_eq w.0 word
-  is_named (Tree.Phrase field phrase) name words w = bytes_eq field name && list_any (λ start. covers words phrase w.1 start.1) (numbered 0 words)
+  is_named (Tree.Phrase field phrase) name words w =
+      bytes_eq field name && list_any (λ start. covers words phrase w.1 start.1) (numbered 0 words)
   is_named (Tree.Prefix field front) name words w = bytes_eq field name && begins_with front w.0
   is_named (Tree.Span field low high) name words w = bytes_eq field name && is_between low high w.0
   is_named Tree.All name words w = false
@@ -48,7 +51,8 @@ abbrev mutual
   -- some clause that asks has such a leaf
   pub is_named_by : Clauses → (name : List ℕ) → (words : List (List ℕ)) → List ℕ × ℕ → Bool
   is_named_by none name words w = false
-  is_named_by (clause occur child others) name words w = (asks occur && is_named child name words w) || is_named_by others name words w
+  is_named_by (clause occur child others) name words w =
+      (asks occur && is_named child name words w) || is_named_by others name words w
 
 -- the hits in one field, of its name and its words, in the order of the words
 abbrev pub hits_in : Tree → List ℕ × List (List ℕ) → List HitValue

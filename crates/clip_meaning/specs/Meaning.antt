@@ -1,4 +1,5 @@
--- When a query holds of an article: Lucene's boolean query with its default settings, exact phrase, prefix and term range.
+-- When a query holds of an article: Lucene's boolean query with its default settings, exact phrase, prefix and term
+-- range.
 use Rattle.std.specs.Prelude.{ℕ, Bool, true, false, not, ◌&&◌, ◌||◌, ◌==◌, List, [], ◌∷◌}
 use Rattle.std.specs.List.{list_any, list_all, starts_with}
 use Rattle.std.specs.Str.{bytes_eq}
@@ -70,7 +71,8 @@ meets_should _ = false
 
 -- Every Must child holds, no MustNot child holds and, where there is no Must child, at least one Should child holds.
 unfoldable pub group_holds : List (Occur × Bool) → Bool
-group_holds vs = list_all meets_must vs && list_all meets_must_not vs && (list_any is_must vs || list_any meets_should vs)
+group_holds vs = list_all meets_must vs && list_all meets_must_not vs
+    && (list_any is_must vs || list_any meets_should vs)
 
 abbrev mutual
   -- the query holds of these fields

@@ -46,8 +46,8 @@ impl Article {
     ///
     /// # Errors
     ///
-    /// The first refusal of `ArticleFault` that holds, judged before any memory is taken; `NoMemory` where an allocation
-    /// failed, only where none of the others holds.
+    /// The first refusal of `ArticleFault` that holds, judged before any memory is taken; `NoMemory` where an
+    /// allocation failed, only where none of the others holds.
     pub fn read(
         alloc: Global,
         id: &str,
@@ -70,8 +70,8 @@ impl Article {
         })
     }
 
-    /// Another handle on the same article, which shares all of it, or `NoMemory` where the count of the article's handles
-    /// is at its end. Takes no memory. Constant time.
+    /// Another handle on the same article, which shares all of it, or `NoMemory` where the count of the article's
+    /// handles is at its end. Takes no memory. Constant time.
     pub fn copy(&self) -> Result<Article, NoMemory>
         ensures { IfOk result (λ article. article ≡ self.now) }
     {

@@ -72,8 +72,8 @@ impl Field {
         &self.words
     }
 
-    /// Each of the field's words with its position: by the bytes of the words, and equal words by their positions. Takes
-    /// constant time.
+    /// Each of the field's words with its position: by the bytes of the words, and equal words by their positions.
+    /// Takes constant time.
     pub fn postings(&self) -> &[Posting]
         ensures words { IsPermutation (numbered 0 self.now.1) result.now }
         ensures sorted { IsSortedByKey (λ p. p.0) bytes_cmp result.now }
@@ -101,8 +101,8 @@ impl Field {
         stands_at_any(&self.words, self.index.occurrences(first), phrase)
     }
 
-    /// Whether a word begins with the front, as in Lucene's PrefixQuery. Takes no memory. Compares about the logarithm of
-    /// the number of words.
+    /// Whether a word begins with the front, as in Lucene's PrefixQuery. Takes no memory. Compares about the logarithm
+    /// of the number of words.
     pub fn has_front(&self, front: &str) -> bool
         ensures front { result ≡ list_any (begins_with front.now) self.now.1 }
         ensures texts { All IsUtf8 self.now.1 }
@@ -118,8 +118,8 @@ impl Field {
         self.index.has_between(low, high)
     }
 
-    /// Raises the flags of a word's positions. Compares about the logarithm of the number of words, and takes a step for
-    /// each position.
+    /// Raises the flags of a word's positions. Compares about the logarithm of the number of words, and takes a step
+    /// for each position.
     pub(crate) fn mark_word(&self, word: &str, flags: &mut Vec<u8>)
         requires { length flags.old.items ≡ length self.now.1 }
         ensures long { length flags.new.items ≡ length flags.old.items }
@@ -129,8 +129,8 @@ impl Field {
         mark_all(flags, self.index.occurrences(word));
     }
 
-    /// Raises the flags of the positions that a phrase covers. Looks only where the phrase's first word stands: at worst
-    /// these places times the words of the phrase.
+    /// Raises the flags of the positions that a phrase covers. Looks only where the phrase's first word stands: at
+    /// worst these places times the words of the phrase.
     pub(crate) fn mark_phrase(&self, phrase: &[ArcStr], flags: &mut Vec<u8>)
         ensures long { length flags.new.items ≡ length flags.old.items }
         ensures raised { AreRaised flags.old.items flags.new.items
@@ -153,8 +153,8 @@ impl Field {
         mark_all(flags, self.index.with_front(front));
     }
 
-    /// Raises the flags of the words between the bounds. Compares about the logarithm of the number of words, and takes a
-    /// step for each such word.
+    /// Raises the flags of the words between the bounds. Compares about the logarithm of the number of words, and takes
+    /// a step for each such word.
     pub(crate) fn mark_between(&self, low: &Bound, high: &Bound, flags: &mut Vec<u8>)
         requires { length flags.old.items ≡ length self.now.1 }
         ensures long { length flags.new.items ≡ length flags.old.items }

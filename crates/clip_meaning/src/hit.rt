@@ -176,9 +176,9 @@ fn add_hits(
 /// # Cost
 ///
 /// For each field, one walk through the query and a flag for each of the field's words. A leaf costs searches among the
-/// sorted words of its field and a step for each word that it names; a phrase a look at each place of its first word, at
-/// worst these places times the words of the phrase. Names are shared. Recurses as deep as groups nest, which is at most
-/// 65 in a query that was read.
+/// sorted words of its field and a step for each word that it names; a phrase a look at each place of its first word,
+/// at worst these places times the words of the phrase. Names are shared. Recurses as deep as groups nest, which is at
+/// most 65 in a query that was read.
 pub fn hits(alloc: Global, query: &Query, article: &Article) -> Result<Vec<Hit>, NoMemory>
     ensures { IfOk result (λ found. map hit_value found.items ≡ hits (tree_of query.now) article.now.fields) }
 {

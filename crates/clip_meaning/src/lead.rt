@@ -25,8 +25,9 @@ pub fn lead_of(text: &str) -> u64
     lead
 }
 
-/// Compares two texts by their bytes, beside which their leads are given. Takes no memory. Constant time where the leads
-/// differ, and where both texts have the same length, at most eight bytes; the texts are looked at only in other cases.
+/// Compares two texts by their bytes, beside which their leads are given. Takes no memory. Constant time where the
+/// leads differ, and where both texts have the same length, at most eight bytes; the texts are looked at only in other
+/// cases.
 pub fn compare_by_leads(a: &str, a_lead: u64, b: &str, b_lead: u64) -> Ordering
     requires a { IsLead a.now a_lead }
     requires b { IsLead b.now b_lead }

@@ -3,7 +3,8 @@ use Rattle.std.specs.Prelude.{ℕ, suc, ◌+◌, ◌<◌, ◌≤◌, ◌^◌, Li
 use Rattle.std.specs.List.{All}
 use Rattle.clip_model.specs.History.{Registered}
 
--- The level of a length is how many divisions by 4, rounding down, bring it below 4: the least k with the length below 4 ^ (k + 1).
+-- The level of a length is how many divisions by 4, rounding down, bring it below 4: the least k with the length below
+-- 4 ^ (k + 1).
 pub record IsLevel (n level : ℕ) : Type 0 where
   pub below : n < 4 ^ suc level
   pub least : (k : ℕ) → n < 4 ^ suc k → level ≤ k

@@ -63,7 +63,8 @@ listed (e ∷ h) = lists e.command + listed h
 -- each query takes the place of the one with its id; n queries were listed before
 abbrev pub register_all : ℕ → List Standing → Registry → Registry
 register_all n [] registry = registry
-register_all n (s ∷ ss) registry = register_all (suc n) ss (finite.insert registry s.id (record { standing = s; seq = suc n }))
+register_all n (s ∷ ss) registry =
+    register_all (suc n) ss (finite.insert registry s.id (record { standing = s; seq = suc n }))
 
 abbrev pub remove_all : List (List ℕ) → Registry → Registry
 remove_all [] registry = registry
@@ -90,7 +91,8 @@ is_live_in registry seq = list_any (λ e. e.1.seq == seq) (finite.entries regist
 abbrev pub is_live : History → ℕ → Bool
 is_live h seq = is_live_in (replay h) seq
 
--- what a command after a history counts: the distinct ids that it registers, those that it deletes and that were there, or all that were there
+-- what a command after a history counts: the distinct ids that it registers, those that it deletes and that were there,
+-- or all that were there
 abbrev pub applied_to : Registry → Command → ℕ
 applied_to registry (Register standings) = finite.len (register_all 0 standings finite.empty)
 applied_to registry (Delete ids) = finite.len registry - finite.len (remove_all ids registry)
@@ -114,15 +116,18 @@ own h caller = map (λ e. e.command) (filter (λ e. e.caller == caller) h)
 -- Callers are in their range, each caller's numbers are 1, 2, 3, .. in order, each command fits,
 -- no front of the history replays to more queries than may be live, and it is not too long.
 pub record IsLegal (h : History) : Type 0 where
-  pub callers : (before after : History) (e : HistoryEntry) → h ≡ before ++ e ∷ after → (0 < e.caller) × (e.caller ≤ MOST_CALLERS)
-  pub numbers : (before after : History) (e : HistoryEntry) → h ≡ before ++ e ∷ after → e.number ≡ suc (length (own before e.caller))
+  pub callers : (before after : History) (e : HistoryEntry) → h ≡ before ++ e ∷ after
+      → (0 < e.caller) × (e.caller ≤ MOST_CALLERS)
+  pub numbers : (before after : History) (e : HistoryEntry) → h ≡ before ++ e ∷ after
+      → e.number ≡ suc (length (own before e.caller))
   pub commands : (before after : History) (e : HistoryEntry) → h ≡ before ++ e ∷ after → IsTrue (fits e.command)
   pub small : (before after : History) → h ≡ before ++ after → finite.len (replay before) ≤ MOST_LIVE
   pub short : length h ≤ MOST_ENTRIES
 
 -- one entry more breaks no limit
 abbrev pub has_room : History → Command → Bool
-has_room h command = nat_le (finite.len (after_command (listed h) command (replay h))) MOST_LIVE && nat_lt (length h) MOST_ENTRIES
+has_room h command = nat_le (finite.len (after_command (listed h) command (replay h))) MOST_LIVE
+    && nat_lt (length h) MOST_ENTRIES
 
 -- the entry of a caller's next command
 abbrev pub next_entry : History → ℕ → Command → HistoryEntry
@@ -150,16 +155,20 @@ command_again (Delete ids) = refl
 command_again Clear = refl
 
 abbrev pub command_code : Coded Command
-command_code = code_by (List Standing ⊎ (List (List ℕ) ⊎ ℕ)) (coded⊎ (coded_list standing_code) (coded⊎ (coded_list bytes_code) coded_ℕ)) command_parts command_made command_again
+command_code = code_by (List Standing ⊎ (List (List ℕ) ⊎ ℕ))
+    (coded⊎ (coded_list standing_code) (coded⊎ (coded_list bytes_code) coded_ℕ)) command_parts command_made
+    command_again
 
 abbrev pub entry_code : Coded HistoryEntry
-entry_code = code_by (ℕ × (ℕ × Command)) (coded× coded_ℕ (coded× coded_ℕ command_code)) (λ e. (e.caller, (e.number, e.command))) (λ p. record { caller = p.0; number = p.1.0; command = p.1.1 }) (λ _. refl)
+entry_code = code_by (ℕ × (ℕ × Command)) (coded× coded_ℕ (coded× coded_ℕ command_code))
+    (λ e. (e.caller, (e.number, e.command))) (λ p. record { caller = p.0; number = p.1.0; command = p.1.1 }) (λ _. refl)
 
 abbrev pub history_code : Coded History
 history_code = coded_list entry_code
 
 abbrev pub registered_code : Coded Registered
-registered_code = code_by (Standing × ℕ) (coded× standing_code coded_ℕ) (λ r. (r.standing, r.seq)) (λ p. record { standing = p.0; seq = p.1 }) (λ _. refl)
+registered_code = code_by (Standing × ℕ) (coded× standing_code coded_ℕ) (λ r. (r.standing, r.seq))
+    (λ p. record { standing = p.0; seq = p.1 }) (λ _. refl)
 
 abbrev pub registry_code : Coded Registry
 registry_code = finite.code bytes_code registered_code

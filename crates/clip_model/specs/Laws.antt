@@ -14,7 +14,8 @@ FrontsAreLegal = (before after : History) → IsLegal (before ++ after) → IsLe
 
 -- a legal history goes on with the next command of a caller where it has room
 abbrev pub GoesOn : Type 0
-GoesOn = (h : History) (caller : ℕ) (command : Command) → IsLegal h → 0 < caller → caller ≤ MOST_CALLERS → IsTrue (fits command) → IsTrue (has_room h command) → IsLegal (with_command h caller command)
+GoesOn = (h : History) (caller : ℕ) (command : Command) → IsLegal h → 0 < caller → caller ≤ MOST_CALLERS
+    → IsTrue (fits command) → IsTrue (has_room h command) → IsLegal (with_command h caller command)
 
 -- the number listed is the length of the list of all queries
 abbrev pub ListedAreCounted : Type 0

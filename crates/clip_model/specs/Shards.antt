@@ -76,31 +76,38 @@ standing_of h id = option_map (λ r. r.standing) (finite.get (replay h) id)
 
 -- a part has under each id of its own what the whole has there, and no other id
 abbrev pub PartsAreRegistered : Type 0
-PartsAreRegistered = (keeps : List ℕ → Bool) (h : History) (id : List ℕ) → standing_of (kept keeps h) id ≡ cond (keeps id) (standing_of h id) None
+PartsAreRegistered = (keeps : List ℕ → Bool) (h : History) (id : List ℕ)
+    → standing_of (kept keeps h) id ≡ cond (keeps id) (standing_of h id) None
 
 -- the alerts of a part are those of the whole whose ids are its own
 abbrev pub PartsAlert : Type 0
-PartsAlert = (keeps : List ℕ → Bool) (h : History) (article : ArticleValue) → alerts (kept keeps h) article ≡ filter (λ a. keeps a.query) (alerts h article)
+PartsAlert = (keeps : List ℕ → Bool) (h : History) (article : ArticleValue)
+    → alerts (kept keeps h) article ≡ filter (λ a. keeps a.query) (alerts h article)
 
 -- the alerts of all parts, merged by id, are those of the whole
 abbrev pub PartsAreMerged : Type 0
-PartsAreMerged = (d : Division) (h : History) (article : ArticleValue) → merged_of d.parts (λ k. alerts (shard d k h) article) ≡ alerts h article
+PartsAreMerged = (d : Division) (h : History) (article : ArticleValue)
+    → merged_of d.parts (λ k. alerts (shard d k h) article) ≡ alerts h article
 
 -- the parts have together as many queries as the whole
 abbrev pub PartsAreCounted : Type 0
-PartsAreCounted = (d : Division) (h : History) → sum_of d.parts (λ k. finite.len (replay (shard d k h))) ≡ finite.len (replay h)
+PartsAreCounted = (d : Division) (h : History)
+    → sum_of d.parts (λ k. finite.len (replay (shard d k h))) ≡ finite.len (replay h)
 
 -- what a command counts is what its parts count together
 abbrev pub PartsCount : Type 0
-PartsCount = (d : Division) (h : History) (command : Command) → sum_of d.parts (λ k. applied (shard d k h) (kept_command (is_in d k) command)) ≡ applied h command
+PartsCount = (d : Division) (h : History) (command : Command)
+    → sum_of d.parts (λ k. applied (shard d k h) (kept_command (is_in d k) command)) ≡ applied h command
 
 -- a listener hears of a part what it hears of the whole with ids of the part
 abbrev pub PartsAreHeard : Type 0
-PartsAreHeard = (keeps : List ℕ → Bool) (h : History) (name : List ℕ) (article : ArticleValue) → heard name (kept keeps h) article ≡ filter (λ a. keeps a.query) (heard name h article)
+PartsAreHeard = (keeps : List ℕ → Bool) (h : History) (name : List ℕ) (article : ArticleValue)
+    → heard name (kept keeps h) article ≡ filter (λ a. keeps a.query) (heard name h article)
 
 -- and of all parts, merged by id, what it hears of the whole
 abbrev pub PartsAreHeardMerged : Type 0
-PartsAreHeardMerged = (d : Division) (h : History) (name : List ℕ) (article : ArticleValue) → merged_of d.parts (λ k. heard name (shard d k h) article) ≡ heard name h article
+PartsAreHeardMerged = (d : Division) (h : History) (name : List ℕ) (article : ArticleValue)
+    → merged_of d.parts (λ k. heard name (shard d k h) article) ≡ heard name h article
 
 -- a part of a legal history is legal
 abbrev pub PartsAreLegal : Type 0
@@ -108,8 +115,10 @@ PartsAreLegal = (keeps : List ℕ → Bool) (h : History) → IsLegal h → IsLe
 
 -- a part goes on with its part of the next command, under that command's number
 abbrev pub PartsGoOn : Type 0
-PartsGoOn = (keeps : List ℕ → Bool) (h : History) (caller : ℕ) (command : Command) → kept keeps (with_command h caller command) ≡ with_command (kept keeps h) caller (kept_command keeps command)
+PartsGoOn = (keeps : List ℕ → Bool) (h : History) (caller : ℕ) (command : Command)
+    → kept keeps (with_command h caller command) ≡ with_command (kept keeps h) caller (kept_command keeps command)
 
 -- and has room where the whole has
 abbrev pub PartsHaveRoom : Type 0
-PartsHaveRoom = (keeps : List ℕ → Bool) (h : History) (command : Command) → IsTrue (has_room h command) → IsTrue (has_room (kept keeps h) (kept_command keeps command))
+PartsHaveRoom = (keeps : List ℕ → Bool) (h : History) (command : Command) → IsTrue (has_room h command)
+    → IsTrue (has_room (kept keeps h) (kept_command keeps command))

@@ -13,5 +13,7 @@ pub record Standing : Type 0 where
 
 abbrev pub standing_code : Coded Standing
 standing_code =
-    code_by (List ℕ × (List ℕ × (Tree × Option (List ℕ)))) (coded× bytes_code (coded× bytes_code (coded× tree_code (coded_option bytes_code))))
-    (λ s. (s.id, (s.text, (s.tree, s.listener)))) (λ p. record { id = p.0; text = p.1.0; tree = p.1.1.0; listener = p.1.1.1 }) (λ _. refl)
+    code_by (List ℕ × (List ℕ × (Tree × Option (List ℕ))))
+    (coded× bytes_code (coded× bytes_code (coded× tree_code (coded_option bytes_code))))
+    (λ s. (s.id, (s.text, (s.tree, s.listener))))
+    (λ p. record { id = p.0; text = p.1.0; tree = p.1.1.0; listener = p.1.1.1 }) (λ _. refl)

@@ -1,5 +1,5 @@
-//! What the registry and the layers above it speak of: standing queries, histories of commands, what they replay to, and the
-//! alerts that are due to an article. Limits, definitions and laws alone.
+//! What the registry and the layers above it speak of: standing queries, histories of commands, what they replay to,
+//! and the alerts that are due to an article. Limits, definitions and laws alone.
 #![tactic(auto)]
 
 ghost use Rattle.clip_model.specs.Laws.{ReplaysOn, FrontsAreLegal, GoesOn, ListedAreCounted, RegisteredAreListed, SeqsAreListed, DeadStaysDead};

@@ -12,9 +12,9 @@ use std::marker::Model;
 /// A list whose items lie in shared pieces: 128 items to a piece, and 128 pieces to a block. Contracts see the list of
 /// the items.
 ///
-/// A clone shares all blocks, and with them all pieces and items: it takes one counted reference for each 16,384 items. A
-/// write copies just the block and the piece that it touches, each where another list shares it, and is in place where
-/// none does.
+/// A clone shares all blocks, and with them all pieces and items: it takes one counted reference for each 16,384 items.
+/// A write copies just the block and the piece that it touches, each where another list shares it, and is in place
+/// where none does.
 #[derive(Drop)]
 pub struct SharedList<T: Exact> {
     blocks: Parts<T, Block<T>>,
@@ -84,8 +84,8 @@ impl<T: Exact> SharedList<T> {
 
     /// Puts an item behind the last one, or gives `NoMemory` where an allocation failed, with the list as it was.
     ///
-    /// Cost: constant time on average where no other list shares the last piece, and else a copy of at most 128 items and
-    /// 128 references. Each 16,384 items take one more reference, and at times all such references are moved.
+    /// Cost: constant time on average where no other list shares the last piece, and else a copy of at most 128 items
+    /// and 128 references. Each 16,384 items take one more reference, and at times all such references are moved.
     pub fn push(&mut self, item: T) -> Result<(), NoMemory>
         ensures ok { OnOk result (self.new ≡ self.old ++ item ∷ []) }
         ensures err { OnErr result (self.new ≡ self.old) }
@@ -95,7 +95,8 @@ impl<T: Exact> SharedList<T> {
 
     /// Puts an item in the place of another, or gives `NoMemory` where an allocation failed, with the list as it was.
     ///
-    /// Cost: constant time where no other list shares the piece, and else a copy of at most 128 items and 128 references.
+    /// Cost: constant time where no other list shares the piece, and else a copy of at most 128 items and 128
+    /// references.
     pub fn set(&mut self, place: usize, item: T) -> Result<(), NoMemory>
         requires { place < length self.old }
         ensures ok { OnOk result (self.new ≡ slice_set self.old place item) }

@@ -46,7 +46,8 @@ fn add_numbers(word: u64, first: usize, numbers: &mut Vec<u32>) -> Result<(), No
 impl Marks {
     /// The numbers below a bound, none of them marked.
     ///
-    /// `NoMemory` where an allocation failed, and where the bound is past 4,294,967,296. Cost: a step for each 64 numbers.
+    /// `NoMemory` where an allocation failed, and where the bound is past 4,294,967,296. Cost: a step for each 64
+    /// numbers.
     pub fn new(alloc: Global, bound: usize) -> Result<Marks, NoMemory>
         ensures { IfOk result (λ marks. marks ≡ replicate bound false) }
     {

@@ -74,7 +74,8 @@ impl<T: Exact, P: Part<T>> Parts<T, P> {
         part.value().get(place % P::FULL)
     }
 
-    /// Puts an item into the last part, or into a new one where each is full, or gives `NoMemory` with the list as it was.
+    /// Puts an item into the last part, or into a new one where each is full, or gives `NoMemory` with the list as it
+    /// was.
     pub(crate) fn push(&mut self, item: T) -> Result<(), NoMemory>
         ensures ok { OnOk result (self.new ≡ self.old ++ item ∷ []) }
         ensures err { OnErr result (self.new ≡ self.old) }

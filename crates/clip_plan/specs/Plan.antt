@@ -9,7 +9,8 @@ use Rattle.clip_terms.specs.Terms.{term_at}
 
 -- ---- marks
 
--- what a leaf asks of an article, where K names a key: that it has the key, that these stand in a field one after the other, or that the query holds
+-- what a leaf asks of an article, where K names a key: that it has the key, that these stand in a field one after the
+-- other, or that the query holds
 pub data Asks (K : Type 0) : Type 0 where
   Has : K → Asks K
   Run : List K → Asks K

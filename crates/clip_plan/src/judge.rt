@@ -140,8 +140,8 @@ fn holds_by(
     Ok(top.holds())
 }
 
-/// Whether the query of these steps may hold of the article that is read, by the words of its first clause, if that is one
-/// that must hold.
+/// Whether the query of these steps may hold of the article that is read, by the words of its first clause, if that is
+/// one that must hold.
 fn may_hold_by(steps: &[Step], reading: &Reading) -> bool
     ensures { (runs : List (List ℕ)) (asked : List Tree) (tree : Tree)
         → map (meant runs asked reading.now.terms) steps.now ≡ plan_of tree
@@ -155,9 +155,9 @@ fn may_hold_by(steps: &[Step], reading: &Reading) -> bool
 }
 
 impl Plans {
-    /// Whether the query of the plan at a place may hold of the article that is read, where the plan's numbers are those of
-    /// the reading's terms. `false` rules it out: its first clause must hold, and the article lacks a word of it. `true`
-    /// says nothing. Takes no memory. Constant time: it is for queries of which few hold, before `judge`.
+    /// Whether the query of the plan at a place may hold of the article that is read, where the plan's numbers are
+    /// those of the reading's terms. `false` rules it out: its first clause must hold, and the article lacks a word of
+    /// it. `true` says nothing. Takes no memory. Constant time: it is for queries of which few hold, before `judge`.
     pub fn may_hold(&self, place: usize, reading: &Reading) -> bool
         ensures { (tree : Tree) → decoded reading.now.terms (unwrap_or (slice_get self.now place) []) ≡ plan_of tree
             → result ≡ false → holds tree reading.now.article.fields ≡ false }
@@ -165,8 +165,8 @@ impl Plans {
         may_hold_by(self.steps.get(place), reading)
     }
 
-    /// Whether the query of the plan at a place holds of the article that is read, where the plan's numbers are those of
-    /// the reading's terms. `stack` is room for the groups that are open.
+    /// Whether the query of the plan at a place holds of the article that is read, where the plan's numbers are those
+    /// of the reading's terms. `stack` is room for the groups that are open.
     ///
     /// `NoMemory` where the room had to grow and an allocation failed. Cost: a step for each leaf and group of the
     /// query, up to the first clause of its outermost group by which it does not hold; and of a phrase whose words the

@@ -14,8 +14,8 @@ use std::sync::Wait;
 use std::thread::Threads;
 
 /// Does what the words after the program's name ask for: `run`, with a number of workers or without, and with `hits` or
-/// without, answers the requests of standard input on standard output, with the listeners `mail` and `feed`, and `trace`
-/// plays the events of standard input.
+/// without, answers the requests of standard input on standard output, with the listeners `mail` and `feed`, and
+/// `trace` plays the events of standard input.
 ///
 /// The status is 0 where it ended well, 1 after a fault, and 2 for other words; the fault, or the words that there are,
 /// is said on standard error. The cost is that of `run`, or of `run_trace`.

@@ -42,13 +42,16 @@ pub record IsFilled (line : List ℕ) : Type 0 where
   pub short : is_long line ≡ false
   pub some : is_blank line ≡ false
 
--- The line says this, by requests with these values and within these limits: the first that holds of too long, blank, no JSON value, no request's value, beyond the limits, and a request.
+-- The line says this, by requests with these values and within these limits: the first that holds of too long, blank,
+-- no JSON value, no request's value, beyond the limits, and a request.
 abbrev pub SaysBy : {R : Type 0} → (R → Data) → (R → Bool) → List ℕ → Line R → Type 0
 SaysBy value within line (refused reason.Long) = is_long line ≡ true
 SaysBy value within line blank = (is_long line ≡ false) × (is_blank line ≡ true)
 SaysBy value within line (refused reason.Json) = IsFilled line × (json_of line ≡ None)
-SaysBy value within line (refused reason.Shape) = IsFilled line × (d : Data) × (json_of line ≡ Some d) × ((r : _) → ¬ (d ≡ value r))
-SaysBy value within line (refused reason.Limit) = IsFilled line × (r : _) × (json_of line ≡ Some (value r)) × (within r ≡ false)
+SaysBy value within line (refused reason.Shape) =
+    IsFilled line × (d : Data) × (json_of line ≡ Some d) × ((r : _) → ¬ (d ≡ value r))
+SaysBy value within line (refused reason.Limit) =
+    IsFilled line × (r : _) × (json_of line ≡ Some (value r)) × (within r ≡ false)
 SaysBy value within line (refused reason.Query) = ⊥
 SaysBy value within line (refused reason.Listener) = ⊥
 SaysBy value within line (refused reason.Full) = ⊥
@@ -128,7 +131,8 @@ article_of d = article_value d.id d.fields
 -- what a request means after a history, where the listeners of these names are here
 abbrev pub MeansRequest : List (List ℕ) → History → Request → Meaning → Type 0
 MeansRequest names h (request.register listings) m =
-    ((r : Refusal) × (k : ℕ) × FirstRefused names listings r k × (m ≡ refusal_at r k)) ⊎ ((ss : List Standing) × AreTakenAs names listings ss × (m ≡ judged h (Register ss)))
+    ((r : Refusal) × (k : ℕ) × FirstRefused names listings r k × (m ≡ refusal_at r k))
+    ⊎ ((ss : List Standing) × AreTakenAs names listings ss × (m ≡ judged h (Register ss)))
 MeansRequest names h (request.delete ids) m = m ≡ judged h (Delete ids)
 MeansRequest names h request.clear m = m ≡ judged h Clear
 MeansRequest names h request.purge m = m ≡ purging

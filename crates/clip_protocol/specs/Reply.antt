@@ -18,7 +18,9 @@ use Rattle.clip_protocol.specs.declared.refusal.Refusal.{Refusal}
 
 -- ---- one line
 
--- what is answered, to a blank line nothing; to a match in this form of each article its id and its alerts, and the texts of the notes; to an event of a trace the word for its answer, and to the finish of a batch the alerts as to a match
+-- what is answered, to a blank line nothing; to a match in this form of each article its id and its alerts, and the
+-- texts of the notes; to an event of a trace the word for its answer, and to the finish of a batch the alerts as to a
+-- match
 pub data Reply : Type 0 where
   nothing : Reply
   refused : Refusal → Reply
@@ -60,7 +62,8 @@ answer_to form hearers h (line.command c) = accepted c (applied h c)
 answer_to form hearers h line.purging = purged
 answer_to form hearers h line.counting = counted (finite.len (replay h))
 answer_to form hearers h (line.showing id) = shown (option_map (λ r. r.standing.text) (finite.get (replay h) id))
-answer_to form hearers h (line.matching articles) = matched form (map (alerts_shown h) articles) (texts_said hearers (alerts_of_all h articles))
+answer_to form hearers h (line.matching articles) =
+    matched form (map (alerts_shown h) articles) (texts_said hearers (alerts_of_all h articles))
 
 -- ---- its text
 
@@ -85,13 +88,15 @@ queries_data alerts = array_of (map string (map (λ a. a.query) alerts))
 -- an article's id and the ids of the queries, and with hits where each of them holds
 abbrev pub alerts_data : Form → List ℕ × List Alert → Data
 alerts_data Plain a = object_of ((codes "article", string a.0) ∷ (codes "queries", queries_data a.1) ∷ [])
-alerts_data WithHits a = object_of ((codes "article", string a.0) ∷ (codes "hits", hits_data a.1) ∷ (codes "queries", queries_data a.1) ∷ [])
+alerts_data WithHits a = object_of
+    ((codes "article", string a.0) ∷ (codes "hits", hits_data a.1) ∷ (codes "queries", queries_data a.1) ∷ [])
 
 -- the value of a reply to line n; that of no reply is never printed
 unfoldable pub reply_value : ℕ → Reply → Data
 reply_value n nothing = null
 reply_value n (refused r) = object_of ((codes "line", number_of n) ∷ (codes "refused", string (word_of r)) ∷ [])
-reply_value n (refused_at r k) = object_of ((codes "line", number_of n) ∷ (codes "refused", string (word_of r)) ∷ (codes "which", number_of k) ∷ [])
+reply_value n (refused_at r k) =
+    object_of ((codes "line", number_of n) ∷ (codes "refused", string (word_of r)) ∷ (codes "which", number_of k) ∷ [])
 reply_value n (registered k) = object_of ((codes "line", number_of n) ∷ (codes "registered", number_of k) ∷ [])
 reply_value n (deleted k) = object_of ((codes "deleted", number_of k) ∷ (codes "line", number_of n) ∷ [])
 reply_value n (cleared k) = object_of ((codes "cleared", number_of k) ∷ (codes "line", number_of n) ∷ [])
@@ -99,9 +104,11 @@ reply_value n purged = object_of ((codes "line", number_of n) ∷ (codes "purged
 reply_value n (counted k) = object_of ((codes "count", number_of k) ∷ (codes "line", number_of n) ∷ [])
 reply_value n (shown text) = object_of ((codes "line", number_of n) ∷ (codes "query", text_or_null text) ∷ [])
 reply_value n (matched form found notes) =
-    object_of ((codes "alerts", array_of (map (alerts_data form) found)) ∷ (codes "line", number_of n) ∷ (codes "notes", array_of (map string notes)) ∷ [])
+    object_of ((codes "alerts", array_of (map (alerts_data form) found)) ∷ (codes "line", number_of n)
+        ∷ (codes "notes", array_of (map string notes)) ∷ [])
 reply_value n (stepped word) = object_of ((codes "line", number_of n) ∷ (codes "step", string word) ∷ [])
-reply_value n (finished found) = object_of ((codes "alerts", array_of (map (alerts_data Plain) found)) ∷ (codes "line", number_of n) ∷ [])
+reply_value n (finished found) =
+    object_of ((codes "alerts", array_of (map (alerts_data Plain) found)) ∷ (codes "line", number_of n) ∷ [])
 
 -- the value as compact JSON, and a line feed
 unfoldable pub printed : Data → List ℕ

@@ -30,7 +30,8 @@ pub data Request : Type 0 where
 
 -- ---- the value that asks for it
 
--- Objects have each name once, and list their members in the byte order of the names: so does the reading of `serde_json`.
+-- Objects have each name once, and list their members in the byte order of the names: so does the reading of
+-- `serde_json`.
 abbrev pub members_from : List (List ℕ × Data) → Members
 members_from [] = no_members
 members_from (m ∷ ms) = member m.0 m.1 (members_from ms)
@@ -47,7 +48,8 @@ with_listener None ms = ms
 with_listener (Some name) ms = (codes "listener", string name) ∷ ms
 
 abbrev pub listing_value : Listing → Data
-listing_value l = object_of ((codes "id", string l.id) ∷ with_listener l.listener ((codes "query", string l.query) ∷ []))
+listing_value l = object_of ((codes "id", string l.id)
+    ∷ with_listener l.listener ((codes "query", string l.query) ∷ []))
 
 abbrev pub field_value : List ℕ × List ℕ → List ℕ × Data
 field_value f = (f.0, string f.1)
@@ -56,13 +58,16 @@ abbrev pub draft_value : Draft → Data
 draft_value d = object_of ((codes "fields", object_of (map field_value d.fields)) ∷ (codes "id", string d.id) ∷ [])
 
 abbrev pub value_of : Request → Data
-value_of (register listings) = object_of ((codes "op", string (codes "register")) ∷ (codes "queries", array_of (map listing_value listings)) ∷ [])
-value_of (delete ids) = object_of ((codes "ids", array_of (map string ids)) ∷ (codes "op", string (codes "delete")) ∷ [])
+value_of (register listings) =
+    object_of ((codes "op", string (codes "register")) ∷ (codes "queries", array_of (map listing_value listings)) ∷ [])
+value_of (delete ids) = object_of
+    ((codes "ids", array_of (map string ids)) ∷ (codes "op", string (codes "delete")) ∷ [])
 value_of clear = object_of ((codes "op", string (codes "clear")) ∷ [])
 value_of purge = object_of ((codes "op", string (codes "purge")) ∷ [])
 value_of count = object_of ((codes "op", string (codes "count")) ∷ [])
 value_of (show id) = object_of ((codes "id", string id) ∷ (codes "op", string (codes "show")) ∷ [])
-value_of (match drafts) = object_of ((codes "articles", array_of (map draft_value drafts)) ∷ (codes "op", string (codes "match")) ∷ [])
+value_of (match drafts) = object_of
+    ((codes "articles", array_of (map draft_value drafts)) ∷ (codes "op", string (codes "match")) ∷ [])
 
 -- ---- limits
 

@@ -1,4 +1,5 @@
--- Stepping stones: outlines of lines, what is printed of a reply, and requests, lines and replies as contracts see them.
+-- Stepping stones: outlines of lines, what is printed of a reply, and requests, lines and replies as contracts see
+-- them.
 pub mod Listings
 pub mod Outline
 pub mod Printing

@@ -204,8 +204,8 @@ impl Reply {
 
     /// The text of the reply to the line of this number: compact JSON and a line feed, or nothing.
     ///
-    /// `NoMemory` where an allocation failed. Its cost is linear in the text, which is written token by token and allocates
-    /// only as it grows; with hits there is that of `Alert::hits` for each alert beside it.
+    /// `NoMemory` where an allocation failed. Its cost is linear in the text, which is written token by token and
+    /// allocates only as it grows; with hits there is that of `Alert::hits` for each alert beside it.
     #[tactic(auto, unfolding(crate::specs::Reply::reply_value))]
     pub fn text(self, alloc: Global, number: u64) -> Result<Vec<u8>, NoMemory>
         ensures { IfOk result (λ text. text.items ≡ reply_text number (reply_view self)) }

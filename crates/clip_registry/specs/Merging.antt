@@ -15,7 +15,9 @@ pub record Job : Type 0 where
   pub live : List ℕ
 
 abbrev pub job_code : Coded Job
-job_code = code_by (List (List Registered) × List ℕ) (coded× (coded_list (coded_list registered_code)) (coded_list coded_ℕ)) (λ j. (j.sources, j.live)) (λ p. record { sources = p.0; live = p.1 }) (λ _. refl)
+job_code = code_by (List (List Registered) × List ℕ)
+    (coded× (coded_list (coded_list registered_code)) (coded_list coded_ℕ)) (λ j. (j.sources, j.live))
+    (λ p. record { sources = p.0; live = p.1 }) (λ _. refl)
 
 -- the entries that are live in the registry
 abbrev pub live_of : RegistryState → List Registered → List Registered
@@ -36,7 +38,9 @@ pub record Merge : Type 0 where
   pub entries : List Registered
 
 abbrev pub merge_code : Coded Merge
-merge_code = code_by (List (List Registered) × List Registered) (coded× (coded_list (coded_list registered_code)) (coded_list registered_code)) (λ m. (m.sources, m.entries)) (λ p. record { sources = p.0; entries = p.1 }) (λ _. refl)
+merge_code = code_by (List (List Registered) × List Registered)
+    (coded× (coded_list (coded_list registered_code)) (coded_list registered_code)) (λ m. (m.sources, m.entries))
+    (λ p. record { sources = p.0; entries = p.1 }) (λ _. refl)
 
 -- what a job gives: the entries of its sources that were live when it was begun
 abbrev pub merge_of : Job → Merge
@@ -87,4 +91,5 @@ purged state = record { segments = filter has_entries (map (live_of state) state
 
 -- However the history went on since a job was begun, its merge misses no live entry.
 abbrev pub LateMergesMissNothing : Type 0
-LateMergesMissNothing = (begun later : RegistryState) (more : History) (job : Job) → IsWhole begun → IsBegun begun job → later.history ≡ begun.history ++ more → Misses later (merge_of job) → ⊥
+LateMergesMissNothing = (begun later : RegistryState) (more : History) (job : Job) → IsWhole begun → IsBegun begun job
+    → later.history ≡ begun.history ++ more → Misses later (merge_of job) → ⊥

@@ -12,17 +12,21 @@ pub record RegistryState : Type 0 where
   pub history : History
 
 abbrev pub state_code : Coded RegistryState
-state_code = code_by (List (List Registered) × History) (coded× (coded_list (coded_list registered_code)) history_code) (λ s. (s.segments, s.history)) (λ p. record { segments = p.0; history = p.1 }) (λ _. refl)
+state_code = code_by (List (List Registered) × History) (coded× (coded_list (coded_list registered_code)) history_code)
+    (λ s. (s.segments, s.history)) (λ p. record { segments = p.0; history = p.1 }) (λ _. refl)
 
 -- no segment and no command yet
 abbrev pub beginning : RegistryState
 beginning = record { segments = []; history = [] }
 
--- Seqs rise through all segments, none is above those listed, and the live entries are, by id, exactly the registered queries.
+-- Seqs rise through all segments, none is above those listed, and the live entries are, by id, exactly the registered
+-- queries.
 pub record IsWhole (state : RegistryState) : Type 0 where
   pub rising : IsRising (all_entries state.segments)
   pub within : All (λ r. r.seq ≤ listed state.history) (all_entries state.segments)
-  pub live_entries : (r : Registered) → (finite.get (replay state.history) r.standing.id ≡ Some r) ↔ (Contains (all_entries state.segments) r × IsTrue (is_live state.history r.seq))
+  pub live_entries : (r : Registered)
+      → (finite.get (replay state.history) r.standing.id ≡ Some r)
+      ↔ (Contains (all_entries state.segments) r × IsTrue (is_live state.history r.seq))
 
 -- the queries with their seqs, where n were listed before
 abbrev pub numbered : ℕ → List Standing → List Registered
@@ -31,9 +35,11 @@ numbered n (s ∷ ss) = record { standing = s; seq = suc n } ∷ numbered (suc n
 
 -- of the queries that a register lists, those that stand after it, where n were listed before
 abbrev pub standing_after : ℕ → List Standing → Registry → List Registered
-standing_after n standings registry = filter (λ r. is_live_in (after_command n (Register standings) registry) r.seq) (numbered n standings)
+standing_after n standings registry =
+    filter (λ r. is_live_in (after_command n (Register standings) registry) r.seq) (numbered n standings)
 
--- Where n were listed before: a register of at least one query adds a segment at the end, a delete leaves the segments, and a clear takes all away.
+-- Where n were listed before: a register of at least one query adds a segment at the end, a delete leaves the segments,
+-- and a clear takes all away.
 abbrev pub segments_after : List (List Registered) → ℕ → Registry → Command → List (List Registered)
 segments_after segments n registry (Register []) = segments
 segments_after segments n registry (Register (s ∷ ss)) = segments ++ standing_after n (s ∷ ss) registry ∷ []

@@ -63,8 +63,8 @@ pub struct Changed {
     pub applied: Applied,
 }
 
-/// The roster with queries in the places of those with their ids, and the entries of those of them that then stand: of a
-/// repeated id the last. `NoMemory` where an allocation failed.
+/// The roster with queries in the places of those with their ids, and the entries of those of them that then stand: of
+/// a repeated id the last. `NoMemory` where an allocation failed.
 fn enter(
     alloc: Global,
     roster: Roster,

@@ -175,8 +175,8 @@ impl Merged {
         }
     }
 
-    /// The segments, with that of the merge in the place of the four from `first` on, or with none there where it has no
-    /// entries. `NoMemory` where an allocation failed.
+    /// The segments, with that of the merge in the place of the four from `first` on, or with none there where it has
+    /// no entries. `NoMemory` where an allocation failed.
     pub(crate) fn put_in(
         self,
         alloc: Global,

@@ -69,8 +69,8 @@ impl Registrar {
     /// `MOST_LIVE` queries would then be registered or `MOST_ENTRIES` commands were accepted, and `NoMemory` where an
     /// allocation failed.
     ///
-    /// A register costs the extraction of the keys of each listed query, and for each a search among the registered ids;
-    /// a delete costs such a search for each listed id; a clear costs the dropping of what no view holds.
+    /// A register costs the extraction of the keys of each listed query, and for each a search among the registered
+    /// ids; a delete costs such a search for each listed id; a clear costs the dropping of what no view holds.
     ///
     /// A command is done to a copy of the registry, which shares all that the command leaves as it is. The copy costs
     /// a step for each segment, one for each 16,384 history entries, one for each 16,384 queries listed since the last
@@ -101,11 +101,11 @@ impl Registrar {
         }
     }
 
-    /// Begins a merge: a job over the oldest four neighbouring segments of one level, which it shares, and which of their
-    /// entries are live; `None` where there are no such four. `NoMemory` where an allocation failed.
+    /// Begins a merge: a job over the oldest four neighbouring segments of one level, which it shares, and which of
+    /// their entries are live; `None` where there are no such four. `NoMemory` where an allocation failed.
     ///
-    /// Cost: that of `clip_merge::plan`, so a step for each segment and each of its levels, and a step for each entry of
-    /// the four.
+    /// Cost: that of `clip_merge::plan`, so a step for each segment and each of its levels, and a step for each entry
+    /// of the four.
     pub fn begin(&self) -> Result<Option<MergeJob>, NoMemory>
         ensures begun { IfOk result (λ job. IfSome job (IsBegun self.now)) }
         ensures nothing { result ≡ Ok None → (first : ℕ) → IsRun self.now.segments first → ⊥ }
@@ -121,10 +121,10 @@ impl Registrar {
         Ok(Some(job))
     }
 
-    /// Installs a merge, on whichever registrar it was begun: its segment takes the place of the four sources, or they just
-    /// go where it has no entries. `Stale` exactly where the sources don't stand, as no four neighbouring segments have
-    /// the same lists of entries, or where an entry of theirs that is live now is missing from the merge, which can't
-    /// be where it was begun on this registrar. The history is kept, and so is what is registered.
+    /// Installs a merge, on whichever registrar it was begun: its segment takes the place of the four sources, or they
+    /// just go where it has no entries. `Stale` exactly where the sources don't stand, as no four neighbouring segments
+    /// have the same lists of entries, or where an entry of theirs that is live now is missing from the merge, which
+    /// can't be where it was begun on this registrar. The history is kept, and so is what is registered.
     ///
     /// `NoMemory` where an allocation failed, with nothing changed and the merge dropped.
     ///
@@ -147,8 +147,8 @@ impl Registrar {
         Ok(Installed::Done)
     }
 
-    /// Leaves each segment with just its live entries, and takes the empty ones away. The history is kept, and so is what
-    /// is registered. `NoMemory` where an allocation failed, with nothing changed.
+    /// Leaves each segment with just its live entries, and takes the empty ones away. The history is kept, and so is
+    /// what is registered. `NoMemory` where an allocation failed, with nothing changed.
     ///
     /// Cost: a step for each entry, and that of `clip_merge::purge` for each segment with an entry that is dead; the
     /// others are shared by a new list. And a copy like that of a command, of which nothing else is changed.

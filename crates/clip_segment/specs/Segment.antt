@@ -17,7 +17,8 @@ positions_with key entries = map (λ e. e.0) (filter (λ e. holds_key key e.1) (
 
 -- the positions, from 0, of the entries whose queries have one of the keys
 abbrev pub positions_sharing : List KeyValue → List Registered → List ℕ
-positions_sharing keys entries = map (λ e. e.0) (filter (λ e. share (query_keys e.1.standing.tree) keys) (enumerate_from 0 entries))
+positions_sharing keys entries =
+    map (λ e. e.0) (filter (λ e. share (query_keys e.1.standing.tree) keys) (enumerate_from 0 entries))
 
 -- the queries of entries
 abbrev pub trees_of : List Registered → List Tree

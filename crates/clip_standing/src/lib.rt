@@ -1,4 +1,5 @@
-//! What the protocol and the index both speak of: standing queries, their entries, commands with their answers, and alerts.
+//! What the protocol and the index both speak of: standing queries, their entries, commands with their answers, and
+//! alerts.
 #![tactic(auto)]
 
 mod alert;

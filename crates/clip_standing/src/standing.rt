@@ -222,11 +222,11 @@ impl Standing {
         Ok(self.kept.get_or_init(move || made))
     }
 
-    /// Where in the article the query holds, as `clip_meaning::hits` gives it. The query's tree is made at the first call
-    /// and kept as long as the standing query is.
+    /// Where in the article the query holds, as `clip_meaning::hits` gives it. The query's tree is made at the first
+    /// call and kept as long as the standing query is.
     ///
-    /// `NoMemory` where an allocation failed. Cost: that of `clip_meaning::hits`, and at the first call the reading of the
-    /// text.
+    /// `NoMemory` where an allocation failed. Cost: that of `clip_meaning::hits`, and at the first call the reading of
+    /// the text.
     pub fn hits_in(&self, alloc: Global, article: &Article) -> Result<Vec<Hit>, NoMemory>
         ensures { IfOk result (λ found. map hit_value found.items ≡ hits self.now.tree article.now.fields) }
     {

@@ -11,4 +11,5 @@ pub record FieldTermsValue : Type 0 where
   pub field : List ℕ
 
 abbrev pub field_terms_code : Coded FieldTermsValue
-field_terms_code = code_by (List KeyValue × List ℕ) (coded× (coded_list key_code) bytes_code) (λ v. (v.terms, v.field)) (λ p. record { terms = p.0; field = p.1 }) (λ _. refl)
+field_terms_code = code_by (List KeyValue × List ℕ) (coded× (coded_list key_code) bytes_code) (λ v. (v.terms, v.field))
+    (λ p. record { terms = p.0; field = p.1 }) (λ _. refl)

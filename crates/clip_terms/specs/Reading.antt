@@ -25,10 +25,12 @@ with_its_parts (Word field word) = refl
 with_its_parts (Front field front) = refl
 
 abbrev pub key_code : Coded KeyValue
-key_code = code_by (ℕ × List (List ℕ)) (coded× coded_ℕ (coded_list bytes_code)) (λ key. (rank key, texts key)) (λ parts. with_parts parts.0 parts.1) with_its_parts
+key_code = code_by (ℕ × List (List ℕ)) (coded× coded_ℕ (coded_list bytes_code)) (λ key. (rank key, texts key))
+    (λ parts. with_parts parts.0 parts.1) with_its_parts
 
 abbrev pub reading_code : Coded ReadingValue
-reading_code = code_by (List KeyValue × ArticleValue) (coded× (coded_list key_code) article_code) (λ r. (r.terms, r.article)) (λ p. record { terms = p.0; article = p.1 }) (λ _. refl)
+reading_code = code_by (List KeyValue × ArticleValue) (coded× (coded_list key_code) article_code)
+    (λ r. (r.terms, r.article)) (λ p. record { terms = p.0; article = p.1 }) (λ _. refl)
 
 -- an article's keys but for the fronts: Any, and each word of each field; in order, each once
 abbrev pub word_part_keys : Fields → List KeyValue

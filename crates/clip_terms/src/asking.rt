@@ -56,8 +56,8 @@ fn add_differing(
     Ok(())
 }
 
-/// Adds a key of a field for each word of the postings that is not the word of the posting before it, and writes at each
-/// posting's position the place of its word's key.
+/// Adds a key of a field for each word of the postings that is not the word of the posting before it, and writes at
+/// each posting's position the place of its word's key.
 fn place_words(
     name: &ArcStr,
     postings: &[Posting],
@@ -81,8 +81,8 @@ fn place_words(
     Ok(())
 }
 
-/// Adds a key for each word of a field, in the byte order of the words, each once; and gives for each word, in the order
-/// of the text, the place of its key.
+/// Adds a key for each word of a field, in the byte order of the words, each once; and gives for each word, in the
+/// order of the text, the place of its key.
 fn add_field(alloc: Global, field: &Field, keys: &mut Vec<Key>) -> Result<Vec<usize>, NoMemory>
     ensures keys { OnOk result (map key_of keys.new.items ≡ map key_of keys.old.items ++ ordered_keys field.now) }
     ensures places { IfOk result (λ places. map (term_at (map key_of keys.new.items)) places.items

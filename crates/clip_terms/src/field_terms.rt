@@ -90,8 +90,8 @@ fn place_among(
     None
 }
 
-/// Where the key of a text stands among keys whose texts rise. Mostly this is the first key of the text's lead, or no key
-/// has that lead: so the first is looked for by leads alone, and a key is looked at only where it has the lead.
+/// Where the key of a text stands among keys whose texts rise. Mostly this is the first key of the text's lead, or no
+/// key has that lead: so the first is looked for by leads alone, and a key is looked at only where it has the lead.
 fn place_of(keys: &[Key], leads: &[u64], part: &Range<usize>, text: &str) -> Option<usize>
     requires within { part.now.end ≤ length keys.now }
     requires leads { AreLeads (map key_of keys.now) leads.now }

@@ -119,8 +119,8 @@ fn add_posting_fronts(
     Ok(())
 }
 
-/// Adds the numbers of the fronts of a field's words. Asks for each front among the terms, or for each front of the words
-/// where these are fewer.
+/// Adds the numbers of the fronts of a field's words. Asks for each front among the terms, or for each front of the
+/// words where these are fewer.
 fn add_field_fronts(terms: &Terms, field: &Field, numbers: &mut Vec<u32>) -> Result<(), NoMemory>
     ensures { OnOk result (AddsNumbersOf terms.now (front_keys field.now) numbers.old.items numbers.new.items) }
 {

@@ -144,7 +144,8 @@ impl<'a> Reading<'a> {
     }
 
     /// Whether the words of these numbers stand in some field next to each other, in order; no numbers never do. Takes
-    /// no memory. Cost: a step for each word of the article, and for each place of the first of them one for each number.
+    /// no memory. Cost: a step for each word of the article, and for each place of the first of them one for each
+    /// number.
     pub fn has_run(&self, run: &[u32]) -> bool
         ensures { result ≡ has_run self.now.article.fields (map (term_at self.now.terms) run.now) }
     {

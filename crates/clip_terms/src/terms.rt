@@ -93,7 +93,8 @@ impl Terms {
         }
     }
 
-    /// The terms of one field, to look its words and fronts up. Takes no memory. Cost: searches by halves among the terms.
+    /// The terms of one field, to look its words and fronts up. Takes no memory. Cost: searches by halves among the
+    /// terms.
     pub fn of_field<'a>(&'a self, field: &'a str) -> FieldTerms<'a>
         ensures { result ≡ record { terms = self.now; field = field.now } }
     {
@@ -125,8 +126,8 @@ impl Terms {
 
     /// The numbers of keys, in their order; none of a key that is no term.
     ///
-    /// `NoMemory` where an allocation failed. Cost: a search by halves for each key, by the first bytes of its text; keys
-    /// of one field are best side by side.
+    /// `NoMemory` where an allocation failed. Cost: a search by halves for each key, by the first bytes of its text;
+    /// keys of one field are best side by side.
     pub fn numbers(&self, alloc: Global, keys: &[Key]) -> Result<Vec<Option<u32>>, NoMemory>
         ensures { IfOk result (λ numbers. numbers.items ≡ map (number_of self.now) (map key_of keys.now)) }
     {

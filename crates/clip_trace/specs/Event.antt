@@ -13,7 +13,8 @@ use Rattle.clip_trace.specs.declared.event.TraceAnswer.TheVariants as answer
 
 -- ---- events
 
--- a command of a caller; a merge under a number is begun, and installed; a purge; a batch of articles under a number is looked at, matched by one article, and finished
+-- a command of a caller; a merge under a number is begun, and installed; a purge; a batch of articles under a number is
+-- looked at, matched by one article, and finished
 pub data Event : Type 0 where
   Accept : ℕ → Command → Event
   Begin : ℕ → Event

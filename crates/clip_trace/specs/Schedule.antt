@@ -25,10 +25,15 @@ pub record Stand : Type 0 where
   pub batches : List (ℕ × Batch)
 
 abbrev pub batch_code : Coded Batch
-batch_code = code_by (History × (List ArticleValue × ℕ)) (coded× history_code (coded× (coded_list article_code) coded_ℕ)) (λ b. (b.history, (b.articles, b.matched))) (λ p. record { history = p.0; articles = p.1.0; matched = p.1.1 }) (λ _. refl)
+batch_code = code_by (History × (List ArticleValue × ℕ))
+    (coded× history_code (coded× (coded_list article_code) coded_ℕ)) (λ b. (b.history, (b.articles, b.matched)))
+    (λ p. record { history = p.0; articles = p.1.0; matched = p.1.1 }) (λ _. refl)
 
 abbrev pub stand_code : Coded Stand
-stand_code = code_by (History × (List ℕ × List (ℕ × Batch))) (coded× history_code (coded× (coded_list coded_ℕ) (coded_list (coded× coded_ℕ batch_code)))) (λ s. (s.history, (s.merges, s.batches))) (λ p. record { history = p.0; merges = p.1.0; batches = p.1.1 }) (λ _. refl)
+stand_code = code_by (History × (List ℕ × List (ℕ × Batch)))
+    (coded× history_code (coded× (coded_list coded_ℕ) (coded_list (coded× coded_ℕ batch_code))))
+    (λ s. (s.history, (s.merges, s.batches))) (λ p. record { history = p.0; merges = p.1.0; batches = p.1.1 })
+    (λ _. refl)
 
 -- a batch of which no article is matched
 abbrev pub fresh_batch : History → List ArticleValue → Batch
@@ -86,7 +91,8 @@ is_full s e = false
 
 -- ---- the answer that is due
 
--- The answer to an event that is not refused. Free are Begun or Nothing, and Installed or Stale; no merge, purge or piece enters what is found.
+-- The answer to an event that is not refused. Free are Begun or Nothing, and Installed or Stale; no merge, purge or
+-- piece enters what is found.
 abbrev pub IsDone : Stand → Event → Answer → Type 0
 IsDone s (Accept caller c) a = a ≡ Accepted (command.answer_of c (applied s.history c))
 IsDone s (Begin merge) a = (a ≡ Begun) ⊎ (a ≡ Nothing)
@@ -94,7 +100,8 @@ IsDone s (Install merge) a = (a ≡ Installed) ⊎ (a ≡ Stale)
 IsDone s Purge a = a ≡ Purged
 IsDone s (Look batch articles) a = a ≡ Looked
 IsDone s (Piece batch) a = a ≡ Matched
-IsDone s (Finish batch) a = (b : Batch) × (batch_in s.batches batch ≡ Some b) × (a ≡ Finished (map (found_after b.history) b.articles))
+IsDone s (Finish batch) a = (b : Batch) × (batch_in s.batches batch ≡ Some b)
+    × (a ≡ Finished (map (found_after b.history) b.articles))
 
 -- the first refusal that holds, if one does
 abbrev pub refusal : Stand → Event → Option Answer
@@ -119,16 +126,22 @@ abbrev pub matched_more : ℕ → ℕ × Batch → ℕ × Batch
 matched_more batch b = if b.0 == batch then (b.0, with_matched b.1 (b.1.matched + 1)) else b
 
 abbrev pub without_merge : Stand → ℕ → Stand
-without_merge s merge = record { history = s.history; merges = filter (λ m. not (m == merge)) s.merges; batches = s.batches }
+without_merge s merge = record
+    { history = s.history; merges = filter (λ m. not (m == merge)) s.merges; batches = s.batches }
 
 abbrev pub after : Stand → Event → Answer → Stand
-after s (Accept caller c) (Accepted applied) = record { history = with_command s.history caller c; merges = s.merges; batches = s.batches }
+after s (Accept caller c) (Accepted applied) =
+    record { history = with_command s.history caller c; merges = s.merges; batches = s.batches }
 after s (Begin merge) Begun = record { history = s.history; merges = s.merges ++ merge ∷ []; batches = s.batches }
 after s (Install merge) Installed = without_merge s merge
 after s (Install merge) Stale = without_merge s merge
-after s (Look batch articles) Looked = record { history = s.history; merges = s.merges; batches = s.batches ++ (batch, fresh_batch s.history articles) ∷ [] }
-after s (Piece batch) Matched = record { history = s.history; merges = s.merges; batches = map (matched_more batch) s.batches }
-after s (Finish batch) (Finished found) = record { history = s.history; merges = s.merges; batches = filter (λ b. not (b.0 == batch)) s.batches }
+after s (Look batch articles) Looked =
+    record { history = s.history; merges = s.merges;
+    batches = s.batches ++ (batch, fresh_batch s.history articles) ∷ [] }
+after s (Piece batch) Matched =
+    record { history = s.history; merges = s.merges; batches = map (matched_more batch) s.batches }
+after s (Finish batch) (Finished found) =
+    record { history = s.history; merges = s.merges; batches = filter (λ b. not (b.0 == batch)) s.batches }
 after s e a = s
 
 -- ---- whole schedules
@@ -147,4 +160,5 @@ stand steps = stand_from nothing_open steps
 
 -- Each answer is due to its event, as things stand after those before it.
 pub record IsDue (steps : List Step) : Type 0 where
-  pub each : (before later : List Step) (step : Step) → steps ≡ before ++ step ∷ later → IsDueTo (stand before) step.0 step.1
+  pub each : (before later : List Step) (step : Step) → steps ≡ before ++ step ∷ later
+      → IsDueTo (stand before) step.0 step.1

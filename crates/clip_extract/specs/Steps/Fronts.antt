@@ -5,7 +5,8 @@ use Rattle.clip_extract.specs.Fronts.{fronts_of}
 
 -- those that have the word's first bytes, up to `end`, and at most so many characters more
 abbrev pub fronts_after : List ℕ → (end left : ℕ) → List (List ℕ)
-fronts_after word end left = map (λ cs. take end word ++ encode_utf8_all cs) (fronts_of (take left (chars (drop end word))))
+fronts_after word end left = map (λ cs. take end word ++ encode_utf8_all cs)
+    (fronts_of (take left (chars (drop end word))))
 
 -- the last of the fronts, or where there are none another
 abbrev pub last_of : (other : List ℕ) → List (List ℕ) → List ℕ

@@ -8,13 +8,15 @@ use Rattle.clip_extract.specs.declared.extraction.Found.{Found}
 use Rattle.clip_extract.specs.declared.extraction.Found.TheVariants.{Nothing, Optional, Required}
 
 -- with what was found before, if anything was
-abbrev pub go_on : (List Extracted → Option Extracted) → (Extracted → Extracted → Extracted) → Option Extracted → List Extracted → Option Extracted
+abbrev pub go_on : (List Extracted → Option Extracted) → (Extracted → Extracted → Extracted) → Option Extracted
+    → List Extracted → Option Extracted
 go_on start step None es = start es
 go_on start step (Some e) es = Some (fold step e es)
 
 -- a group's clauses to come, after a Must child or Should children, or neither
 unfoldable pub group_with : Option Extracted → Option Extracted → List (Occur × Extracted) → Extracted
-group_with must should cs = unwrap_or (go_on heaviest heavier must (musts cs)) (unwrap_or (go_on union together should (shoulds cs)) unnarrowed)
+group_with must should cs = unwrap_or (go_on heaviest heavier must (musts cs))
+    (unwrap_or (go_on union together should (shoulds cs)) unnarrowed)
 
 -- the same, after these keys
 abbrev pub group_from : Found → List KeyValue → List (Occur × Extracted) → Extracted
@@ -56,4 +58,5 @@ kept found MustNot weight before more = before ++ more
 
 -- the same of the keys from `start` on, where those of the clause begin at `middle`
 abbrev pub kept_from : Found → Occur → ℕ → (start middle : ℕ) → List KeyValue → List KeyValue
-kept_from found occur weight start middle keys = kept found occur weight (drop start (take middle keys)) (drop middle keys)
+kept_from found occur weight start middle keys =
+    kept found occur weight (drop start (take middle keys)) (drop middle keys)

@@ -23,4 +23,5 @@ begins_left_out after_star_colon t ts = is_other t || (is_star t && not after_st
 -- Some token is left out. The first two say whether a star, and whether a star and a colon, stand before.
 unfoldable pub leaves_out : (star after_star_colon : Bool) → List Token → Bool
 leaves_out star after_star_colon [] = false
-leaves_out star after_star_colon (t ∷ ts) = begins_left_out after_star_colon t ts || leaves_out (is_star t) (is_colon t && star) ts
+leaves_out star after_star_colon (t ∷ ts) =
+    begins_left_out after_star_colon t ts || leaves_out (is_star t) (is_colon t && star) ts

@@ -67,9 +67,11 @@ run (token.Front text ∷ ts) below cs pending = run ts below (with_item cs pend
 run (token.Phrase text ∷ ts) below cs pending = run ts below (with_item cs pending (shape.Phrase text)) Nothing
 run (token.Range low high ∷ ts) below cs pending = run ts below (with_item cs pending (shape.Range low high)) Nothing
 run (token.Star ∷ token.Colon ∷ token.Star ∷ ts) below cs (Fielded sign other) = None
-run (token.Star ∷ token.Colon ∷ token.Star ∷ ts) below cs pending = run ts below (with_clause cs (everything (sign_of pending))) Nothing
+run (token.Star ∷ token.Colon ∷ token.Star ∷ ts) below cs pending =
+    run ts below (with_clause cs (everything (sign_of pending))) Nothing
 run (token.Open ∷ ts) below cs pending = run ts (record { clauses = cs; pending = pending } ∷ below) [] Nothing
-run (token.Close ∷ ts) (f ∷ below) ((c, Beside) ∷ cs) Nothing = run ts below (with_item f.clauses f.pending (shape.Parens (written_after cs (one c)))) Nothing
+run (token.Close ∷ ts) (f ∷ below) ((c, Beside) ∷ cs) Nothing =
+    run ts below (with_item f.clauses f.pending (shape.Parens (written_after cs (one c)))) Nothing
 run (_ ∷ ts) below cs pending = None
 
 -- the clauses of all the tokens

@@ -23,4 +23,5 @@ entries_at entries positions = flat_map (λ p. option_to_list (slice_get entries
 
 -- those of the positions at which a live entry stands
 abbrev pub live_among : History → List Registered → List ℕ → List ℕ
-live_among history entries positions = filter (λ p. unwrap_or (option_map (λ r. is_live history r.seq) (slice_get entries p)) false) positions
+live_among history entries positions =
+    filter (λ p. unwrap_or (option_map (λ r. is_live history r.seq) (slice_get entries p)) false) positions

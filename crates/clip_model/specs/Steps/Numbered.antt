@@ -7,4 +7,5 @@ use Rattle.clip_model.specs.History.{Registered, Registry}
 pub record IsNumbered (n : ℕ) (registry : Registry) : Type 0 where
   pub keyed : (id : List ℕ) (r : Registered) → finite.get registry id ≡ Some r → r.standing.id ≡ id
   pub within : (id : List ℕ) (r : Registered) → finite.get registry id ≡ Some r → (0 < r.seq) × (r.seq ≤ n)
-  pub distinct : (a b : List ℕ) (r s : Registered) → finite.get registry a ≡ Some r → finite.get registry b ≡ Some s → r.seq ≡ s.seq → a ≡ b
+  pub distinct : (a b : List ℕ) (r s : Registered) → finite.get registry a ≡ Some r → finite.get registry b ≡ Some s
+      → r.seq ≡ s.seq → a ≡ b

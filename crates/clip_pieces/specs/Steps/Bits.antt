@@ -12,6 +12,8 @@ bits_of (suc count) word = (word % 2 == 1) ∷ bits_of count (word / 2)
 abbrev pub flags_of : List ℕ → List Bool
 flags_of words = joined (map (bits_of 64) words)
 
--- the words have a bit for each number below the bound, no more than 32 bits can number, and none is set from the bound on
+-- the words have a bit for each number below the bound, no more than 32 bits can number, and none is set from the bound
+-- on
 abbrev pub HoldMarks : ℕ → List ℕ → Type 0
-HoldMarks bound words = (bound ≤ 64 * length words) × (64 * length words ≤ MOST_NUMBERS) × (drop bound (flags_of words) ≡ replicate (64 * length words - bound) false)
+HoldMarks bound words = (bound ≤ 64 * length words) × (64 * length words ≤ MOST_NUMBERS)
+    × (drop bound (flags_of words) ≡ replicate (64 * length words - bound) false)

@@ -46,15 +46,19 @@ pub record Grows {A : Type 0} (old new : List A) : Type 0 where
   pub is : new ≡ old ++ more
 
 -- Each step has its run or query, and decoded the steps are these marks.
-pub record StandFor (terms : List KeyValue) (runs : List (List ℕ)) (asked : List Query) (steps : List Step) (marks : List (Mark KeyValue)) : Type 0 where
+pub record StandFor (terms : List KeyValue) (runs : List (List ℕ)) (asked : List Query) (steps : List Step)
+    (marks : List (Mark KeyValue)) : Type 0 where
   pub places : All (HasPlace (length runs) (length asked)) steps
   pub decode : decoded terms (map (mark_of runs (map tree_of asked)) steps) ≡ marks
 
 -- Behind the steps stand those of these marks, and of the runs and the queries there may be more.
-pub record Adds (terms : List KeyValue) (runs : List (List ℕ)) (asked : List Query) (steps : List Step) (new_runs : List (List ℕ)) (new_asked : List Query) (new_steps : List Step) (more : List (Mark KeyValue)) : Type 0 where
+pub record Adds (terms : List KeyValue) (runs : List (List ℕ)) (asked : List Query) (steps : List Step)
+    (new_runs : List (List ℕ)) (new_asked : List Query) (new_steps : List Step) (more : List (Mark KeyValue)) : Type 0
+    where
   pub runs_grow : Grows runs new_runs
   pub asked_grow : Grows asked new_asked
-  pub stand : (marks : List (Mark KeyValue)) → StandFor terms runs asked steps marks → StandFor terms new_runs new_asked new_steps (marks ++ more)
+  pub stand : (marks : List (Mark KeyValue)) → StandFor terms runs asked steps marks
+      → StandFor terms new_runs new_asked new_steps (marks ++ more)
 
 -- the query is no group
 abbrev pub IsNoGroup : Query → Type 0

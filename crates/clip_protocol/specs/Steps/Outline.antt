@@ -71,7 +71,8 @@ fields_of no_members = Some []
 fields_of (member k d ms) = option_and_then (λ text. option_map (λ fs. (k, text) ∷ fs) (fields_of ms)) (as_str d)
 
 abbrev pub plain_by : Data × Data → Option Listing
-plain_by p = option_and_then (λ id. option_map (λ text. record { id = id; query = text; listener = None }) (as_str p.1)) (as_str p.0)
+plain_by p = option_and_then (λ id. option_map (λ text. record { id = id; query = text; listener = None }) (as_str p.1))
+    (as_str p.0)
 
 -- a query without a listener
 unfoldable pub plain_listing_of : Data → Option Listing
@@ -79,7 +80,9 @@ plain_listing_of d = option_and_then plain_by (two_members (codes "id") (codes "
 
 abbrev pub heard_by : Data × (Data × Data) → Option Listing
 heard_by p =
-    option_and_then (λ id. option_and_then (λ name. option_map (λ text. record { id = id; query = text; listener = Some name }) (as_str p.1.1)) (as_str p.1.0)) (as_str p.0)
+    option_and_then (λ id. option_and_then
+        (λ name. option_map (λ text. record { id = id; query = text; listener = Some name }) (as_str p.1.1))
+        (as_str p.1.0)) (as_str p.0)
 
 -- a query with a listener
 unfoldable pub heard_listing_of : Data → Option Listing
@@ -89,7 +92,8 @@ unfoldable pub listing_of : Data → Option Listing
 listing_of d = if has_members 3 d then heard_listing_of d else plain_listing_of d
 
 abbrev pub draft_by : Data × Data → Option Draft
-draft_by p = option_and_then (λ id. option_map (λ fields. record { id = id; fields = fields }) (option_and_then fields_of (as_object p.0))) (as_str p.1)
+draft_by p = option_and_then (λ id. option_map (λ fields. record { id = id; fields = fields })
+    (option_and_then fields_of (as_object p.0))) (as_str p.1)
 
 unfoldable pub draft_of : Data → Option Draft
 draft_of d = option_and_then draft_by (two_members (codes "fields") (codes "id") d)
@@ -112,16 +116,21 @@ abbrev pub alone : Request → Data → Option Request
 alone r d = if has_members 1 d then Some r else None
 
 unfoldable pub register_of : Data → Option Request
-register_of d = option_map request.register (option_and_then (λ p. option_and_then (all_of listing_of) (as_array p.1)) (two_members (codes "op") (codes "queries") d))
+register_of d = option_map request.register
+    (option_and_then (λ p. option_and_then (all_of listing_of) (as_array p.1))
+    (two_members (codes "op") (codes "queries") d))
 
 unfoldable pub delete_of : Data → Option Request
-delete_of d = option_map request.delete (option_and_then (λ p. option_and_then (all_of as_str) (as_array p.0)) (two_members (codes "ids") (codes "op") d))
+delete_of d = option_map request.delete
+    (option_and_then (λ p. option_and_then (all_of as_str) (as_array p.0)) (two_members (codes "ids") (codes "op") d))
 
 unfoldable pub show_of : Data → Option Request
 show_of d = option_map request.show (option_and_then (λ p. as_str p.0) (two_members (codes "id") (codes "op") d))
 
 unfoldable pub match_of : Data → Option Request
-match_of d = option_map request.match (option_and_then (λ p. option_and_then (all_of draft_of) (as_array p.0)) (two_members (codes "articles") (codes "op") d))
+match_of d = option_map request.match
+    (option_and_then (λ p. option_and_then (all_of draft_of) (as_array p.0))
+    (two_members (codes "articles") (codes "op") d))
 
 abbrev pub request_by : Data → Operation → Option Request
 request_by d operation.Register = register_of d
@@ -171,7 +180,8 @@ outline_of_value None = refused refusal.Json
 outline_of_value (Some d) = outline_of_asked (request_of d)
 
 unfoldable pub outline : List ℕ → Outline
-outline bytes = if is_long bytes then refused refusal.Long else (if is_blank bytes then blank else outline_of_value (json_of bytes))
+outline bytes = if is_long bytes then refused refusal.Long
+    else (if is_blank bytes then blank else outline_of_value (json_of bytes))
 
 -- what is listed is not too much, and ids may be ones
 abbrev pub is_within : Outline → Bool

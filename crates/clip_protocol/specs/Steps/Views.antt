@@ -23,7 +23,8 @@ abbrev pub fields_view : List (String Global × String Global) → List (List �
 fields_view = map (λ f. (string_bytes f.0, string_bytes f.1))
 
 abbrev pub listing_view : Listing → request.Listing
-listing_view l = record { id = string_bytes l.id; query = string_bytes l.query; listener = option_map string_bytes l.listener }
+listing_view l = record { id = string_bytes l.id; query = string_bytes l.query;
+    listener = option_map string_bytes l.listener }
 
 abbrev pub draft_view : Draft → request.Draft
 draft_view d = record { id = string_bytes d.id; fields = fields_view d.fields.items }
@@ -64,7 +65,8 @@ reply_view (answered.Cleared count) = reply.cleared count
 reply_view answered.Purged = reply.purged
 reply_view (answered.Counted count) = reply.counted count
 reply_view (answered.Shown text) = reply.shown (option_map string_bytes text)
-reply_view (answered.Matched form found notes) = reply.matched form (map alerts_by_id (map alerts_value found.items)) (map (λ n. arc_str_bytes n.text) notes.items)
+reply_view (answered.Matched form found notes) =
+    reply.matched form (map alerts_by_id (map alerts_value found.items)) (map (λ n. arc_str_bytes n.text) notes.items)
 reply_view (answered.Stepped word) = reply.stepped word.now
 reply_view (answered.Finished found) = reply.finished (map alerts_by_id (map alerts_value found.items))
 

@@ -19,7 +19,8 @@ pub record Content : Type 0 where
 abbrev pub content : List (Arc (List Registered) Global) → Roster → Content
 content segments roster = record { segments = map arc_value segments; roster = roster }
 
--- Segments and roster are what the command leaves of those before, not too many queries are registered, and the answer is its count.
+-- Segments and roster are what the command leaves of those before, not too many queries are registered, and the answer
+-- is its count.
 pub record IsChanged (command : Command) (before after : Content) (given : Applied) : Type 0 where
   pub registry : after.roster.registry ≡ after_command before.roster.listed command before.roster.registry
   pub listed : after.roster.listed ≡ before.roster.listed + lists command

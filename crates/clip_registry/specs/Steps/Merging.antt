@@ -25,7 +25,8 @@ IsJobInside j = IsJob (job_inside j)
 
 -- the job over these sources, where this is registered
 abbrev pub job_over : Registry → List (List Registered) → Job
-job_over registry sources = record { sources = sources; live = map (λ r. r.seq) (live_in registry (all_entries sources)) }
+job_over registry sources = record
+    { sources = sources; live = map (λ r. r.seq) (live_in registry (all_entries sources)) }
 
 abbrev pub merged_inside : merged.Inside → Merge
 merged_inside m = record { sources = map arc_value m.sources.items; entries = m.segment.value }
@@ -47,8 +48,10 @@ has_seq_if_live registry seqs r = not (is_live_in registry r.seq) || names seqs 
 abbrev pub replaced : List (List Registered) → ℕ → List Registered → List (List Registered)
 replaced segments first entries = take first segments ++ shelf entries ++ drop (first + 4) segments
 
--- The seqs of these segments rise, their entries are some of the registry's, and each of those that is live is among them.
+-- The seqs of these segments rise, their entries are some of the registry's, and each of those that is live is among
+-- them.
 pub record AreKept (state : RegistryState) (segments : List (List Registered)) : Type 0 where
   pub rising : IsRising (all_entries segments)
   pub some : (r : Registered) → Contains (all_entries segments) r → Contains (all_entries state.segments) r
-  pub live : (r : Registered) → Contains (all_entries state.segments) r → IsTrue (is_live state.history r.seq) → Contains (all_entries segments) r
+  pub live : (r : Registered) → Contains (all_entries state.segments) r → IsTrue (is_live state.history r.seq)
+      → Contains (all_entries segments) r

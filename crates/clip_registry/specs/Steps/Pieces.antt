@@ -40,7 +40,8 @@ pub record AreInOrder (pieces : List Registry) : Type 0 where
   pub sorted : T (finite.is_sorted bytes_cmp (joined pieces))
   pub filled : AreFilled pieces
 
--- It is the place of the first piece that has an id that is not below this one, or of the last piece where each ends below it.
+-- It is the place of the first piece that has an id that is not below this one, or of the last piece where each ends
+-- below it.
 abbrev pub IsPlaceFor : List ℕ → List Registry → ℕ → Type 0
 IsPlaceFor id [] place = ⊥
 IsPlaceFor id (piece ∷ pieces) zero = (ends_below id piece ≡ false) ⊎ (pieces ≡ [])

@@ -11,7 +11,8 @@ pub record Roster : Type 0 where
   pub base : ℕ
 
 abbrev pub roster_code : Coded Roster
-roster_code = code_by (Registry × (ℕ × ℕ)) (coded× registry_code (coded× coded_ℕ coded_ℕ)) (λ r. (r.registry, (r.listed, r.base))) (λ p. record { registry = p.0; listed = p.1.0; base = p.1.1 }) (λ _. refl)
+roster_code = code_by (Registry × (ℕ × ℕ)) (coded× registry_code (coded× coded_ℕ coded_ℕ))
+    (λ r. (r.registry, (r.listed, r.base))) (λ p. record { registry = p.0; listed = p.1.0; base = p.1.1 }) (λ _. refl)
 
 -- a query takes the place of the one with its id
 abbrev pub insert_one : Registry → Registered → Registry
@@ -29,11 +30,13 @@ SeqsFollow n (r ∷ rs) = (r.seq ≡ suc n) × SeqsFollow (suc n) rs
 
 -- the roster with one query more
 abbrev pub roster_with : Roster → Registered → Roster
-roster_with roster r = record { registry = insert_one roster.registry r; listed = suc roster.listed; base = roster.base }
+roster_with roster r = record { registry = insert_one roster.registry r; listed = suc roster.listed;
+    base = roster.base }
 
 -- the roster with these queries more, in order
 abbrev pub roster_with_all : Roster → List Registered → Roster
-roster_with_all roster rs = record { registry = insert_all roster.registry rs; listed = roster.listed + length rs; base = roster.base }
+roster_with_all roster rs = record
+    { registry = insert_all roster.registry rs; listed = roster.listed + length rs; base = roster.base }
 
 -- of the entries, those that are live
 abbrev pub live_in : Registry → List Registered → List Registered
@@ -41,4 +44,5 @@ live_in registry rs = filter (λ r. is_live_in registry r.seq) rs
 
 -- the roster without the queries under these ids
 abbrev pub roster_without : Roster → List (List ℕ) → Roster
-roster_without roster ids = record { registry = remove_all ids roster.registry; listed = roster.listed; base = roster.base }
+roster_without roster ids = record
+    { registry = remove_all ids roster.registry; listed = roster.listed; base = roster.base }

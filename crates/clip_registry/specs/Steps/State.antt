@@ -13,14 +13,16 @@ use Rattle.clip_registry.specs.declared.state.State.TheInside.{Inside}
 abbrev pub state_of : Inside → RegistryState
 state_of s = record { segments = map arc_value s.segments.items; history = map entry_of s.history }
 
--- The registry is whole over a legal history, the roster is what the history replays to, and each caller's commands are counted.
+-- The registry is whole over a legal history, the roster is what the history replays to, and each caller's commands are
+-- counted.
 pub record IsConsistent (state : RegistryState) (roster : Roster) (counts : List ℕ) : Type 0 where
   pub whole : IsWhole state
   pub legal : IsLegal state.history
   pub registry : roster.registry ≡ replay state.history
   pub listed : roster.listed ≡ listed state.history
   pub callers : length counts ≡ MOST_CALLERS
-  pub numbers : (caller : ℕ) → 0 < caller → caller ≤ MOST_CALLERS → slice_index counts (caller - 1) ≡ length (own state.history caller)
+  pub numbers : (caller : ℕ) → 0 < caller → caller ≤ MOST_CALLERS
+      → slice_index counts (caller - 1) ≡ length (own state.history caller)
 
 abbrev pub IsConsistentInside : Inside → Type 0
 IsConsistentInside s = IsConsistent (state_of s) s.roster s.counts.items

@@ -127,8 +127,8 @@ pub fn insert(
     }
 }
 
-/// Takes out the entry under an id. Only the piece for the id is copied, where others share it; it goes where it is left
-/// empty. `NoMemory` where an allocation failed, with no entry changed.
+/// Takes out the entry under an id. Only the piece for the id is copied, where others share it; it goes where it is
+/// left empty. `NoMemory` where an allocation failed, with no entry changed.
 pub fn remove(pieces: &mut Vec<Arc<Piece>>, id: &str) -> Result<Option<Arc<Entry>>, NoMemory>
     requires { AreInOrder (map arc_value pieces.old.items) }
     ensures in_order { AreInOrder (map arc_value pieces.new.items) }

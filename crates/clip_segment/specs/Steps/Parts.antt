@@ -12,7 +12,8 @@ flag_at flags place = unwrap_or (slice_get flags place) false
 -- for each flag that is set the next position, from the first on
 abbrev pub new_positions : (first : ℕ) → List Bool → List (Option ℕ)
 new_positions first [] = []
-new_positions first (flag ∷ flags) = if flag then Some first ∷ new_positions (first + 1) flags else None ∷ new_positions first flags
+new_positions first (flag ∷ flags) =
+    if flag then Some first ∷ new_positions (first + 1) flags else None ∷ new_positions first flags
 
 abbrev pub new_position : List (Option ℕ) → ℕ → Option ℕ
 new_position moves position = unwrap_or (slice_get moves position) None
@@ -31,6 +32,7 @@ abbrev pub with_more : List KeyValue → (KeyValue → List ℕ) → (KeyValue �
 with_more keys more under term = under term ++ flat_map (λ key. if is_same key term then more key else []) keys
 
 -- over these terms the lists are the positions of the queries, and the plans their plans
-pub record AreMadeOf (terms : List KeyValue) (trees : List Tree) (lists : List (List ℕ)) (plans : List (List (Mark ℕ))) : Type 0 where
+pub record AreMadeOf (terms : List KeyValue) (trees : List Tree) (lists : List (List ℕ)) (plans : List (List (Mark ℕ)))
+    : Type 0 where
   pub placed : lists ≡ map (λ term. query_positions_with term trees) terms
   pub planned : map (decoded terms) plans ≡ map plan_of trees

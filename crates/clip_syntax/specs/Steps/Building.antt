@@ -16,7 +16,8 @@ use Rattle.clip_syntax.specs.Steps.Items.{words_of_items}
 use Rattle.clip_syntax.specs.declared.build.OpenGroup.{OpenGroup}
 use Rattle.clip_syntax.specs.declared.build.Builder.{Builder}
 
--- a group whose clauses are still read: those before, the field where no nearer one is written, and what stands before the next item
+-- a group whose clauses are still read: those before, the field where no nearer one is written, and what stands before
+-- the next item
 pub record Group : Type 0 where
   pub clauses : List (Occur × Tree)
   pub field : List ℕ
@@ -56,14 +57,16 @@ with_group s group = record s { group = group }
 -- an item that has the next words
 abbrev pub add_words : State → (before_and : Bool) → List (List (List ℕ)) → State
 add_words s before_and [] = s
-add_words s before_and (words ∷ more) = record s { group = add s.group before_and (words_tree (item_field s.group) words); words = more }
+add_words s before_and (words ∷ more) =
+    record s { group = add s.group before_and (words_tree (item_field s.group) words); words = more }
 
 abbrev pub open_group : State → State
 open_group s = record s { around = s.group ∷ s.around; group = fresh [] (item_field s.group) }
 
 abbrev pub close : State → (before_and : Bool) → List Group → State
 close s before_and [] = s
-close s before_and (outer ∷ around) = record s { around = around; group = add outer before_and (Tree.Group (clauses_of s.group.clauses)) }
+close s before_and (outer ∷ around) =
+    record s { around = around; group = add outer before_and (Tree.Group (clauses_of s.group.clauses)) }
 
 -- What a token does. After an AND the next clause must hold, unless it has a sign of its own.
 abbrev pub read : Token → (before_colon before_and : Bool) → State → State
@@ -100,10 +103,12 @@ abbrev pub clause_trees : List (Occur × Query) → List (Occur × Tree)
 clause_trees = map (λ c. (c.0, tree_of c.1))
 
 abbrev pub group_of : OpenGroup → Group
-group_of g = record { clauses = clause_trees g.clauses.items; field = arc_str_bytes g.field; occur = g.occur; nearer = option_map arc_str_bytes g.nearer }
+group_of g = record { clauses = clause_trees g.clauses.items; field = arc_str_bytes g.field; occur = g.occur;
+    nearer = option_map arc_str_bytes g.nearer }
 
 abbrev pub groups_of : List OpenGroup → List Group
 groups_of gs = reverse (map group_of gs)
 
 abbrev pub state_of : Builder → State
-state_of b = record { around = groups_of b.around.items; group = group_of b.group; words = words_of_items (into_iter_items b.words) }
+state_of b = record { around = groups_of b.around.items; group = group_of b.group;
+    words = words_of_items (into_iter_items b.words) }

@@ -27,11 +27,13 @@ pub record IsPart (terms : List KeyValue) (head : ℕ × List ℕ) (start end : 
   pub rises : start ≤ end
   pub within : end ≤ length terms
   pub just : (n : ℕ) (d : KeyValue) → start ≤ n → n < end → heading (slice_index_or terms n d) ≡ head
-  pub all : (n : ℕ) (d : KeyValue) → n < length terms → heading (slice_index_or terms n d) ≡ head → (start ≤ n) × (n < end)
+  pub all : (n : ℕ) (d : KeyValue) → n < length terms → heading (slice_index_or terms n d) ≡ head
+      → (start ≤ n) × (n < end)
 
 -- there each text is below those after it
 abbrev pub TextsRise : List KeyValue → (start end : ℕ) → Type 0
-TextsRise terms start end = (m n : ℕ) (d : KeyValue) → start ≤ m → m < n → n < end → bytes_cmp (text_of (slice_index_or terms m d)) (text_of (slice_index_or terms n d)) ≡ Less
+TextsRise terms start end = (m n : ℕ) (d : KeyValue) → start ≤ m → m < n → n < end
+    → bytes_cmp (text_of (slice_index_or terms m d)) (text_of (slice_index_or terms n d)) ≡ Less
 
 -- and no lead is below one before it
 abbrev pub NeverFall : List ℕ → (start end : ℕ) → Type 0

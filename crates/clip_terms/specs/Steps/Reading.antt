@@ -17,7 +17,10 @@ reading_of r = record { terms = r.terms.now; article = r.article.now }
 pub record IsReading (r : Inside) : Type 0 where
   pub strict : IsStrictlySortedBy key_cmp r.terms.now
   pub within : All (λ n. n < length r.terms.now) r.numbers.items
-  pub numbers : (n : ℕ) → n < length r.terms.now → list_any (nat_eq n) r.numbers.items ≡ has_key r.article.now.fields (term_at r.terms.now n)
+  pub numbers : (n : ℕ) → n < length r.terms.now
+      → list_any (nat_eq n) r.numbers.items ≡ has_key r.article.now.fields (term_at r.terms.now n)
   pub long : length r.marks ≡ length r.terms.now
-  pub flags : (n : ℕ) → n < length r.terms.now → unwrap_or (slice_get r.marks n) true ≡ has_key r.article.now.fields (term_at r.terms.now n)
-  pub fields : map (λ places. places.items) r.fields.items ≡ map (λ field. map (number_of r.terms.now) (field_keys field)) (finite.entries r.article.now.fields)
+  pub flags : (n : ℕ) → n < length r.terms.now
+      → unwrap_or (slice_get r.marks n) true ≡ has_key r.article.now.fields (term_at r.terms.now n)
+  pub fields : map (λ places. places.items) r.fields.items
+      ≡ map (λ field. map (number_of r.terms.now) (field_keys field)) (finite.entries r.article.now.fields)

@@ -10,4 +10,5 @@ batch_inside b = record { history = b.view.history; articles = b.articles.items;
 
 -- What was found is what is due to the first articles on the batch's view.
 abbrev pub IsBatchInside : Inside → Type 0
-IsBatchInside b = map alerts_value b.found.items ≡ map (alerts_due b.view) (take (length b.found.items) b.articles.items)
+IsBatchInside b = map alerts_value b.found.items
+    ≡ map (alerts_due b.view) (take (length b.found.items) b.articles.items)
