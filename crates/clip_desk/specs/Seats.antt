@@ -72,8 +72,14 @@ seat_code =
     (coded× coded_ℕ (coded× coded_ℕ
     (coded× coded_ℕ (coded× book_coded (coded× history_code (coded_list command_code))))))
     (λ s. (s.tag, (s.caller, (s.callers, (s.book, (s.seen, s.mine))))))
-    (λ p. record { tag = p.0; caller = p.1.0; callers = p.1.1.0; book = p.1.1.1.0; seen = p.1.1.1.1.0;
-    mine = p.1.1.1.1.1 }) (λ _. refl)
+    (λ p. record {
+      tag = p.0;
+      caller = p.1.0;
+      callers = p.1.1.0;
+      book = p.1.1.1.0;
+      seen = p.1.1.1.1.0;
+      mine = p.1.1.1.1.1;
+    }) (λ _. refl)
 
 abbrev answer_parts : Applied → ℕ ⊎ (ℕ ⊎ ℕ)
 answer_parts (answer.Registered n) = inl n

@@ -23,20 +23,31 @@ abbrev pub row_code : Coded RowValue
 row_code =
     code_by (ℕ × (List ℕ × (List ℕ × (Option (List ℕ) × (List HitValue × Option (List ℕ))))))
     (coded× coded_ℕ (coded× bytes_code
-        (coded× bytes_code (coded× (coded_option bytes_code)
-        (coded× (coded_list (coded× bytes_code coded_ℕ)) (coded_option bytes_code))))))
+    (coded× bytes_code (coded× (coded_option bytes_code)
+    (coded× (coded_list (coded× bytes_code coded_ℕ)) (coded_option bytes_code))))))
     (λ r. (r.line, (r.article, (r.query, (r.listener, (r.hits, r.text))))))
-    (λ p. record { line = p.0; article = p.1.0; query = p.1.1.0; listener = p.1.1.1.0; hits = p.1.1.1.1.0;
-        text = p.1.1.1.1.1 }) (λ _. refl)
+    (λ p. record {
+      line = p.0;
+      article = p.1.0;
+      query = p.1.1.0;
+      listener = p.1.1.1.0;
+      hits = p.1.1.1.1.0;
+      text = p.1.1.1.1.1;
+    }) (λ _. refl)
 
 -- the first note of a query
 abbrev pub note_for : List NoteValue → List ℕ → Option NoteValue
 note_for notes query = find (λ n. bytes_eq n.query query) notes
 
 abbrev pub row_with : ℕ → Alert → Option (List ℕ) → RowValue
-row_with line alert text = record
-    { line = line; article = alert.article; query = alert.query; listener = alert.listener; hits = alert.hits;
-    text = text }
+row_with line alert text = record {
+  line = line;
+  article = alert.article;
+  query = alert.query;
+  listener = alert.listener;
+  hits = alert.hits;
+  text = text;
+}
 
 -- the row of an alert, with the text of the first note of its query
 abbrev pub row_of : ℕ → List NoteValue → Alert → RowValue

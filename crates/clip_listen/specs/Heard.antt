@@ -45,8 +45,12 @@ is_for name alert = elim alert.listener [ None ↦ false | Some n ↦ bytes_eq n
 
 -- A listener after these alerts: it has heard its own, in order, and no other.
 abbrev pub told : List Alert → Hearer → Hearer
-told alerts l = record { name = l.name; style = l.style; heard = l.heard ++ filter (is_for l.name) alerts;
-    keeps = l.keeps }
+told alerts l = record {
+  name = l.name;
+  style = l.style;
+  heard = l.heard ++ filter (is_for l.name) alerts;
+  keeps = l.keeps;
+}
 
 abbrev pub told_all : List Alert → List Hearer → List Hearer
 told_all alerts hearers = map (told alerts) hearers
@@ -85,8 +89,11 @@ abbrev pub style_value : Style → StyleValue
 style_value s = record { head = arc_str_bytes s.head; middle = arc_str_bytes s.middle }
 
 abbrev pub note_value : Note → NoteValue
-note_value n = record { listener = arc_str_bytes n.listener; query = arc_str_bytes n.query;
-    text = arc_str_bytes n.text }
+note_value n = record {
+  listener = arc_str_bytes n.listener;
+  query = arc_str_bytes n.query;
+  text = arc_str_bytes n.text;
+}
 
 -- the alerts of an article
 abbrev pub alerts_of : Alerts → List Alert

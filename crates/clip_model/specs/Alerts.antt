@@ -17,17 +17,23 @@ pub record Alert : Type 0 where
 
 -- the alert of a standing query that holds of the article
 abbrev pub alert_for : Standing → ArticleValue → Alert
-alert_for standing article = record
-    { query = standing.id; article = article.id; listener = standing.listener;
-    hits = hits standing.tree article.fields }
+alert_for standing article = record {
+  query = standing.id;
+  article = article.id;
+  listener = standing.listener;
+  hits = hits standing.tree article.fields;
+}
 
 abbrev pub holds_of : ArticleValue → List ℕ × Registered → Bool
 holds_of article entry = holds entry.1.standing.tree article.fields
 
 abbrev pub alert_of : ArticleValue → List ℕ × Registered → Alert
-alert_of article entry = record
-    { query = entry.0; article = article.id; listener = entry.1.standing.listener;
-    hits = hits entry.1.standing.tree article.fields }
+alert_of article entry = record {
+  query = entry.0;
+  article = article.id;
+  listener = entry.1.standing.listener;
+  hits = hits entry.1.standing.tree article.fields;
+}
 
 -- of the registered queries that hold of the article, in byte order of their ids
 abbrev pub alerts_in : Registry → ArticleValue → List Alert

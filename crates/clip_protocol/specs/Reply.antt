@@ -105,7 +105,7 @@ reply_value n (counted k) = object_of ((codes "count", number_of k) ∷ (codes "
 reply_value n (shown text) = object_of ((codes "line", number_of n) ∷ (codes "query", text_or_null text) ∷ [])
 reply_value n (matched form found notes) =
     object_of ((codes "alerts", array_of (map (alerts_data form) found)) ∷ (codes "line", number_of n)
-        ∷ (codes "notes", array_of (map string notes)) ∷ [])
+    ∷ (codes "notes", array_of (map string notes)) ∷ [])
 reply_value n (stepped word) = object_of ((codes "line", number_of n) ∷ (codes "step", string word) ∷ [])
 reply_value n (finished found) =
     object_of ((codes "alerts", array_of (map (alerts_data Plain) found)) ∷ (codes "line", number_of n) ∷ [])

@@ -136,8 +136,11 @@ after s (Begin merge) Begun = record { history = s.history; merges = s.merges ++
 after s (Install merge) Installed = without_merge s merge
 after s (Install merge) Stale = without_merge s merge
 after s (Look batch articles) Looked =
-    record { history = s.history; merges = s.merges;
-    batches = s.batches ++ (batch, fresh_batch s.history articles) ∷ [] }
+    record {
+      history = s.history;
+      merges = s.merges;
+      batches = s.batches ++ (batch, fresh_batch s.history articles) ∷ [];
+    }
 after s (Piece batch) Matched =
     record { history = s.history; merges = s.merges; batches = map (matched_more batch) s.batches }
 after s (Finish batch) (Finished found) =

@@ -54,11 +54,11 @@ pub record StandFor (terms : List KeyValue) (runs : List (List ℕ)) (asked : Li
 -- Behind the steps stand those of these marks, and of the runs and the queries there may be more.
 pub record Adds (terms : List KeyValue) (runs : List (List ℕ)) (asked : List Query) (steps : List Step)
     (new_runs : List (List ℕ)) (new_asked : List Query) (new_steps : List Step) (more : List (Mark KeyValue)) : Type 0
-    where
-  pub runs_grow : Grows runs new_runs
-  pub asked_grow : Grows asked new_asked
-  pub stand : (marks : List (Mark KeyValue)) → StandFor terms runs asked steps marks
-      → StandFor terms new_runs new_asked new_steps (marks ++ more)
+  where
+    pub runs_grow : Grows runs new_runs
+    pub asked_grow : Grows asked new_asked
+    pub stand : (marks : List (Mark KeyValue)) → StandFor terms runs asked steps marks
+        → StandFor terms new_runs new_asked new_steps (marks ++ more)
 
 -- the query is no group
 abbrev pub IsNoGroup : Query → Type 0

@@ -81,8 +81,8 @@ plain_listing_of d = option_and_then plain_by (two_members (codes "id") (codes "
 abbrev pub heard_by : Data × (Data × Data) → Option Listing
 heard_by p =
     option_and_then (λ id. option_and_then
-        (λ name. option_map (λ text. record { id = id; query = text; listener = Some name }) (as_str p.1.1))
-        (as_str p.1.0)) (as_str p.0)
+    (λ name. option_map (λ text. record { id = id; query = text; listener = Some name }) (as_str p.1.1))
+    (as_str p.1.0)) (as_str p.0)
 
 -- a query with a listener
 unfoldable pub heard_listing_of : Data → Option Listing

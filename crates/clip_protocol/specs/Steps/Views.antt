@@ -23,8 +23,11 @@ abbrev pub fields_view : List (String Global × String Global) → List (List �
 fields_view = map (λ f. (string_bytes f.0, string_bytes f.1))
 
 abbrev pub listing_view : Listing → request.Listing
-listing_view l = record { id = string_bytes l.id; query = string_bytes l.query;
-    listener = option_map string_bytes l.listener }
+listing_view l = record {
+  id = string_bytes l.id;
+  query = string_bytes l.query;
+  listener = option_map string_bytes l.listener;
+}
 
 abbrev pub draft_view : Draft → request.Draft
 draft_view d = record { id = string_bytes d.id; fields = fields_view d.fields.items }

@@ -30,8 +30,11 @@ SeqsFollow n (r ∷ rs) = (r.seq ≡ suc n) × SeqsFollow (suc n) rs
 
 -- the roster with one query more
 abbrev pub roster_with : Roster → Registered → Roster
-roster_with roster r = record { registry = insert_one roster.registry r; listed = suc roster.listed;
-    base = roster.base }
+roster_with roster r = record {
+  registry = insert_one roster.registry r;
+  listed = suc roster.listed;
+  base = roster.base;
+}
 
 -- the roster with these queries more, in order
 abbrev pub roster_with_all : Roster → List Registered → Roster

@@ -6,5 +6,9 @@ use Rattle.clip_standing.specs.declared.standing.Standing.TheInside.{Inside}
 
 -- its texts are their bytes, and its tree is what its text is read as
 abbrev pub standing_of : Inside → Standing
-standing_of s = record { id = arc_str_bytes s.id; text = arc_str_bytes s.text; tree = s.reading.0;
-    listener = option_map arc_str_bytes s.listener }
+standing_of s = record {
+  id = arc_str_bytes s.id;
+  text = arc_str_bytes s.text;
+  tree = s.reading.0;
+  listener = option_map arc_str_bytes s.listener;
+}

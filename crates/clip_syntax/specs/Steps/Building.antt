@@ -103,12 +103,19 @@ abbrev pub clause_trees : List (Occur × Query) → List (Occur × Tree)
 clause_trees = map (λ c. (c.0, tree_of c.1))
 
 abbrev pub group_of : OpenGroup → Group
-group_of g = record { clauses = clause_trees g.clauses.items; field = arc_str_bytes g.field; occur = g.occur;
-    nearer = option_map arc_str_bytes g.nearer }
+group_of g = record {
+  clauses = clause_trees g.clauses.items;
+  field = arc_str_bytes g.field;
+  occur = g.occur;
+  nearer = option_map arc_str_bytes g.nearer;
+}
 
 abbrev pub groups_of : List OpenGroup → List Group
 groups_of gs = reverse (map group_of gs)
 
 abbrev pub state_of : Builder → State
-state_of b = record { around = groups_of b.around.items; group = group_of b.group;
-    words = words_of_items (into_iter_items b.words) }
+state_of b = record {
+  around = groups_of b.around.items;
+  group = group_of b.group;
+  words = words_of_items (into_iter_items b.words);
+}
