@@ -1,12 +1,15 @@
 -- How far a server has come.
-use Rattle.std.proofs.Common.{◌≡◌, ℕ, suc, ◌+◌, List, [], ◌∷◌, ◌++◌, length, take, Bool, true, false, Option, Some, None, refl, sym, ap, ap₂, ◌∙◌, subst, arith, append_assoc, append-nil, length-append, inl, inr}
+use Rattle.std.proofs.Common.{◌≡◌, ℕ, suc, ◌+◌, ◌<◌, ◌≤◌, List, [], ◌∷◌, ◌++◌, length, take, Bool, true, false, Option, Some, None, refl, sym, ap, ap₂, ◌∙◌, subst, arith, append_assoc, append-nil, length-append, true≢false, inl, inr}
 use Rattle.std.specs.Io.KnownBytes.{Appends, Consumes, IsAtEnd}
 use Rattle.std.proofs.Math.Seq.{take-append-add}
 use Rattle.clip_stream.specs.Device.{AppendsFront, HandsOver}
 use Rattle.clip_stream.specs.Lines.{lines_of, lines_read, OfInput, OfLinesRead}
-use Rattle.clip_stream.specs.Steps.Reading.{Reading, Reads, FindsLine, first_line, has_feed, cut}
+use Rattle.clip_stream.specs.Steps.Reading.{Reading, Reads, FindsLine, first_line, has_feed, cut, fuel}
+use Rattle.clip_stream.specs.declared.limits.TheConstants.{MOST_READS}
 use Rattle.clip_stream.proofs.Bytes.{consumes_none, consumes_more}
+use Rattle.clip_stream.proofs.Fuel.{fuel_new}
 use Rattle.clip_stream.proofs.LinesRead.{lines_read-first, of_input}
+use Rattle.clip_front.specs.Devices.{Devices, AreFresh}
 use Rattle.clip_front.specs.Steps.Serving.{Answering, Breaking, Serves, StopsAt, ServesAll, ServesFront}
 
 -- ---- known bytes that grow
@@ -54,7 +57,7 @@ pub record Progress {S : Type 0} (answers : Answering S) (first now : S) (left_f
   pub split : Splits reading bytes front
   pub counted : length front ≡ n
 
-pub progress_first : {S : Type 0} (answers : Answering S) (first : S) (left : Option (List ℕ)) (reading : Reading) (taken : Option (List ℕ)) (gathered : List ℕ) → reading.pending ≡ [] → gathered ≡ [] → Progress answers first first left left reading taken taken gathered 0
+progress_first : {S : Type 0} (answers : Answering S) (first : S) (left : Option (List ℕ)) (reading : Reading) (taken : Option (List ℕ)) (gathered : List ℕ) → reading.pending ≡ [] → gathered ≡ [] → Progress answers first first left left reading taken taken gathered 0
 progress_first answers first left reading taken gathered nothing none = record {
   bytes = [];
   given = consumes_none left;
@@ -67,9 +70,9 @@ progress_first answers first left reading taken gathered nothing none = record {
 }
 
 -- answers were handed over
-pub progress_handed : {S : Type 0} (answers : Answering S) (first now : S) (left_first left : Option (List ℕ)) (reading : Reading) (taken_first taken new_taken : Option (List ℕ)) (gathered held : List ℕ) (n : ℕ) → Progress answers first now left_first left reading taken_first taken gathered n
+progress_handed : {S : Type 0} {answers : Answering S} {first now : S} {left_first left : Option (List ℕ)} {reading : Reading} {taken_first taken new_taken : Option (List ℕ)} {gathered held : List ℕ} {n : ℕ} → Progress answers first now left_first left reading taken_first taken gathered n
     → HandsOver taken gathered new_taken held → Progress answers first now left_first left reading taken_first new_taken held n
-progress_handed answers first now left_first left reading taken_first taken new_taken gathered held n p h = record {
+progress_handed {answers = answers} {first = first} {now = now} {taken_first = taken_first} {taken = taken} {new_taken = new_taken} {held = held} p h = record {
   bytes = p.bytes;
   given = p.given;
   front = p.front;
@@ -93,9 +96,9 @@ split_line reading new_reading left left_new line bytes front split f met_end mo
     ∙ ap (λ xs. front ++ first_line all ∷ lines_read met_end (xs ++ more)) (sym f.takes.2)
 
 -- it was answered
-pub progress_line : {S : Type 0} (answers : Answering S) (first now next : S) (left_first left left_new : Option (List ℕ)) (reading new_reading : Reading) (line text : List ℕ) (taken_first taken : Option (List ℕ)) (gathered more : List ℕ) (n k : ℕ) → Progress answers first now left_first left reading taken_first taken gathered n
+progress_line : {S : Type 0} {answers : Answering S} {first now next : S} {left_first left left_new : Option (List ℕ)} {reading new_reading : Reading} {line text : List ℕ} {taken_first taken : Option (List ℕ)} {gathered more : List ℕ} {n k : ℕ} → Progress answers first now left_first left reading taken_first taken gathered n
     → FindsLine true reading new_reading left left_new line → k ≡ n + 1 → answers now next k line text → more ≡ gathered ++ text → Progress answers first next left_first left_new new_reading taken_first taken more k
-progress_line answers first now next left_first left left_new reading new_reading line text taken_first taken gathered more n k p f e answered grown =
+progress_line {answers = answers} {first = first} {now = now} {next = next} {left_first = left_first} {left = left} {left_new = left_new} {reading = reading} {new_reading = new_reading} {line = line} {text = text} {gathered = gathered} {more = more} {k = k} p f e answered grown =
     let found = first_line (reading.pending ++ f.reads.bytes) in
     record {
       bytes = p.bytes ++ f.reads.bytes;
@@ -117,9 +120,9 @@ no_feed_in_front [] rest e = refl
 no_feed_in_front (b ∷ pending) rest e = absurd (omega (arith, ap length e))
 
 -- no line was left, so that all was handed over
-pub progress_end : {S : Type 0} (answers : Answering S) (first now : S) (left_first left left_new : Option (List ℕ)) (reading new_reading : Reading) (line : List ℕ) (taken_first taken : Option (List ℕ)) (gathered : List ℕ) (n : ℕ) → Progress answers first now left_first left reading taken_first taken gathered n
+progress_end : {S : Type 0} {answers : Answering S} {first now : S} {left_first left left_new : Option (List ℕ)} {reading new_reading : Reading} {line : List ℕ} {taken_first taken : Option (List ℕ)} {gathered : List ℕ} {n : ℕ} → Progress answers first now left_first left reading taken_first taken gathered n
     → FindsLine false reading new_reading left left_new line → IsAtEnd left_new → (has_feed reading.pending ≡ false → gathered ≡ []) → OfInput left_first (ServesAll answers first now taken_first taken n)
-progress_end answers first now left_first left left_new reading new_reading line taken_first taken gathered n p f end held =
+progress_end {answers = answers} {first = first} {now = now} {left_first = left_first} {left = left} {left_new = left_new} {reading = reading} {gathered = gathered} p f end held =
     let given = f.reads.bytes in
     let none : gathered ≡ [] = held (no_feed_in_front reading.pending given f.takes.0) in
     let lines : lines_of (p.bytes ++ given) ≡ p.front = p.split true given (λ e. (refl, (f.reads.idle e).0)) ∙ ap (λ xs. p.front ++ lines_of xs) f.takes.0 ∙ append-nil p.front in
@@ -152,9 +155,8 @@ fault_first answers breaks first left met_end taken = (
 )
 
 -- whatever was given meanwhile, a front of what is gathered was written
-pub fault_reading : {S : Type 0} (answers : Answering S) (breaks : Breaking S) (first now : S) (left_first left left_new : Option (List ℕ)) (reading new_reading : Reading) (met_end : Bool) (taken_first taken new_taken : Option (List ℕ)) (gathered : List ℕ) (n : ℕ)
-    → Progress answers first now left_first left reading taken_first taken gathered n → Reads reading new_reading left left_new → met_end ≡ new_reading.is_at_end → AppendsFront taken new_taken gathered → OfLinesRead left_first left_new met_end (ServesFront answers breaks first now taken_first new_taken)
-fault_reading answers breaks first now left_first left left_new reading new_reading met_end taken_first taken new_taken gathered n p r met some =
+fault_reading : {S : Type 0} {answers : Answering S} {breaks : Breaking S} {first now : S} {left_first left left_new : Option (List ℕ)} {reading new_reading : Reading} {met_end : Bool} {taken_first taken new_taken : Option (List ℕ)} {gathered : List ℕ} {n : ℕ} → Progress answers first now left_first left reading taken_first taken gathered n → Reads reading new_reading left left_new → met_end ≡ new_reading.is_at_end → AppendsFront taken new_taken gathered → OfLinesRead left_first left_new met_end (ServesFront answers breaks first now taken_first new_taken)
+fault_reading {breaks = breaks} {now = now} {left_first = left_first} {left = left} {left_new = left_new} {reading = reading} {met_end = met_end} {taken_first = taken_first} {taken = taken} {new_taken = new_taken} {gathered = gathered} p r met some =
     let later = lines_read met_end (reading.pending ++ r.bytes) in (
       p.bytes ++ r.bytes,
       consumes_more left_first left left_new p.bytes r.bytes p.given r.given,
@@ -171,19 +173,16 @@ fault_reading answers breaks first now left_first left left_new reading new_read
     )
 
 -- nothing more was written
-pub fault_held : {S : Type 0} (answers : Answering S) (breaks : Breaking S) (first now : S) (left_first left left_new : Option (List ℕ)) (reading new_reading : Reading) (met_end : Bool) (taken_first taken : Option (List ℕ)) (gathered : List ℕ) (n : ℕ)
-    → Progress answers first now left_first left reading taken_first taken gathered n → Reads reading new_reading left left_new → met_end ≡ new_reading.is_at_end → OfLinesRead left_first left_new met_end (ServesFront answers breaks first now taken_first taken)
-fault_held answers breaks first now left_first left left_new reading new_reading met_end taken_first taken gathered n p r met =
-    fault_reading answers breaks first now left_first left left_new reading new_reading met_end taken_first taken taken gathered n p r met (0, appends_none taken)
+fault_held : {S : Type 0} {answers : Answering S} {breaks : Breaking S} {first now : S} {left_first left left_new : Option (List ℕ)} {reading new_reading : Reading} {met_end : Bool} {taken_first taken : Option (List ℕ)} {gathered : List ℕ} {n : ℕ} → Progress answers first now left_first left reading taken_first taken gathered n → Reads reading new_reading left left_new → met_end ≡ new_reading.is_at_end → OfLinesRead left_first left_new met_end (ServesFront answers breaks first now taken_first taken)
+fault_held {taken = taken} p r met = fault_reading p r met (0, appends_none taken)
 
 -- nothing more was given
-pub reads_none : (reading : Reading) (left : Option (List ℕ)) → Reads reading reading left left
+reads_none : (reading : Reading) (left : Option (List ℕ)) → Reads reading reading left left
 reads_none reading left = record { bytes = []; given = consumes_none left; idle = λ e. (refl, e) }
 
 -- the answering of a line was broken off
-pub fault_broken : {S : Type 0} (answers : Answering S) (breaks : Breaking S) (first now next : S) (left_first left left_new : Option (List ℕ)) (reading new_reading : Reading) (met_end : Bool) (line : List ℕ) (taken_first taken : Option (List ℕ)) (gathered : List ℕ) (n k : ℕ)
-    → Progress answers first now left_first left reading taken_first taken gathered n → FindsLine true reading new_reading left left_new line → met_end ≡ new_reading.is_at_end → k ≡ n + 1 → breaks now next k line → OfLinesRead left_first left_new met_end (ServesFront answers breaks first next taken_first taken)
-fault_broken answers breaks first now next left_first left left_new reading new_reading met_end line taken_first taken gathered n k p f met e broken =
+fault_broken : {S : Type 0} {answers : Answering S} {breaks : Breaking S} {first now next : S} {left_first left left_new : Option (List ℕ)} {reading new_reading : Reading} {met_end : Bool} {line : List ℕ} {taken_first taken : Option (List ℕ)} {gathered : List ℕ} {n k : ℕ} → Progress answers first now left_first left reading taken_first taken gathered n → FindsLine true reading new_reading left left_new line → met_end ≡ new_reading.is_at_end → k ≡ n + 1 → breaks now next k line → OfLinesRead left_first left_new met_end (ServesFront answers breaks first next taken_first taken)
+fault_broken {breaks = breaks} {now = now} {next = next} {left_first = left_first} {left = left} {left_new = left_new} {reading = reading} {new_reading = new_reading} {met_end = met_end} {line = line} {taken_first = taken_first} {taken = taken} {gathered = gathered} {k = k} p f met e broken =
     let number : k ≡ suc (length p.front) = omega (arith, e, p.counted) in
     let found = first_line (reading.pending ++ f.reads.bytes) in
     let later = lines_read met_end (new_reading.pending ++ []) in (
@@ -200,3 +199,79 @@ fault_broken answers breaks first now next left_first left left_new reading new_
         written = front_on taken_first taken taken p.sent gathered p.written (0, appends_none taken);
       },
     )
+
+-- ---- the loop over lines
+
+-- How far a loop has come after n lines: what it may still read, that its devices are well, and that nothing is owed where the reader is asked next.
+pub record Goes {S : Type 0} (answers : Answering S) (IsSettled : S → Type 0) (first now : S) (old devices : Devices) (reading : Reading) (gathered : List ℕ) (has_more : Bool) (n : ℕ) : Type 0 where
+  pub budget : devices.reads + reading.reads_left ≡ MOST_READS
+  pub ended : reading.is_at_end ≡ true → IsAtEnd devices.left
+  pub met : devices.met_end ≡ reading.is_at_end
+  pub reader_well : devices.read_failed ≡ false
+  pub writer_well : devices.write_failed ≡ false
+  pub pending : has_more ≡ has_feed reading.pending
+  pub settled : has_more ≡ false → IsSettled now
+  pub fuel_left : n + fuel reading ≤ 72057594037927937
+  pub progress : Progress answers first now old.left devices.left reading old.taken devices.taken gathered n
+
+-- it begins
+pub goes_first : {S : Type 0} (answers : Answering S) (IsSettled : S → Type 0) (first : S) (devices : Devices) (reading : Reading) (gathered : List ℕ) → AreFresh devices → IsSettled first → (reading.pending ≡ []) × (reading.reads_left ≡ MOST_READS) × (reading.is_at_end ≡ false) → gathered ≡ []
+    → Goes answers IsSettled first first devices devices reading gathered false 0
+goes_first answers IsSettled first devices reading gathered fresh settled new none =
+    let unread = fresh.unread in
+    record {
+      budget = omega (arith, unread, new.1);
+      ended = λ e. absurd (true≢false (sym e ∙ new.2));
+      met = fresh.unended ∙ sym new.2;
+      reader_well = fresh.reader_well;
+      writer_well = fresh.writer_well;
+      pending = sym (ap has_feed new.0);
+      settled = λ _. settled;
+      fuel_left = omega (arith, fuel_new reading new.0 new.1 new.2);
+      progress = progress_first answers first devices.left reading devices.taken gathered new.0 none;
+    }
+
+-- What was gathered was handed over, a line was found and answered, and its answer is gathered.
+pub goes_on : {S : Type 0} {answers : Answering S} {IsSettled : S → Type 0} {first now next : S} {old before devices : Devices} {reading new_reading : Reading} {gathered held more line text : List ℕ} {has_more new_more : Bool} {n : ℕ} → Goes answers IsSettled first now old before reading gathered has_more n
+    → HandsOver before.taken gathered devices.taken held → devices.write_failed ≡ before.write_failed → FindsLine true reading new_reading before.left devices.left line → devices.reads + new_reading.reads_left ≡ MOST_READS → (new_reading.is_at_end ≡ true → IsAtEnd devices.left) → devices.met_end ≡ new_reading.is_at_end → devices.read_failed ≡ before.read_failed
+    → fuel new_reading < fuel reading → new_more ≡ has_feed new_reading.pending → (new_more ≡ false → IsSettled next) → answers now next (n + 1) line text → more ≡ held ++ text → Goes answers IsSettled first next old devices new_reading more new_more (n + 1)
+goes_on goes handed write_well found budget ended met read_well less pending settled answered grown =
+    let left = goes.fuel_left in
+    record {
+      budget = budget;
+      ended = ended;
+      met = met;
+      reader_well = read_well ∙ goes.reader_well;
+      writer_well = write_well ∙ goes.writer_well;
+      pending = pending;
+      settled = settled;
+      fuel_left = omega (arith, less, left);
+      progress = progress_line (progress_handed goes.progress handed) found refl answered grown;
+    }
+
+-- It ends where no line was found.
+pub goes_to_end : {S : Type 0} {answers : Answering S} {IsSettled : S → Type 0} {first now : S} {old before : Devices} {left taken : Option (List ℕ)} {reading new_reading : Reading} {gathered held line : List ℕ} {has_more : Bool} {n : ℕ} → Goes answers IsSettled first now old before reading gathered has_more n
+    → HandsOver before.taken gathered taken held → (has_more ≡ false → held ≡ []) → FindsLine false reading new_reading before.left left line → (new_reading.is_at_end ≡ true → IsAtEnd left) → OfInput old.left (ServesAll answers first now old.taken taken n)
+goes_to_end goes handed none_held found ended = progress_end (progress_handed goes.progress handed) found (ended found.takes.2) (λ none. none_held (goes.pending ∙ none))
+
+-- ---- its faults
+
+-- What was gathered was not handed over.
+pub breaks_handing : {S : Type 0} {answers : Answering S} {breaks : Breaking S} {IsSettled : S → Type 0} {first now : S} {old before : Devices} {reading : Reading} {taken : Option (List ℕ)} {gathered : List ℕ} {has_more : Bool} {n : ℕ} → Goes answers IsSettled first now old before reading gathered has_more n
+    → AppendsFront before.taken taken gathered → OfLinesRead old.left before.left before.met_end (ServesFront answers breaks first now old.taken taken)
+breaks_handing {before = before} {reading = reading} goes some = fault_reading goes.progress (reads_none reading before.left) goes.met some
+
+-- It is not known whether there is a next line.
+pub breaks_reading : {S : Type 0} {answers : Answering S} {breaks : Breaking S} {IsSettled : S → Type 0} {first now : S} {old before : Devices} {left taken : Option (List ℕ)} {met_end : Bool} {reading new_reading : Reading} {gathered held : List ℕ} {has_more : Bool} {n : ℕ} → Goes answers IsSettled first now old before reading gathered has_more n
+    → HandsOver before.taken gathered taken held → Reads reading new_reading before.left left → met_end ≡ new_reading.is_at_end → OfLinesRead old.left left met_end (ServesFront answers breaks first now old.taken taken)
+breaks_reading goes handed read met = fault_held (progress_handed goes.progress handed) read met
+
+-- The answering of the line was broken off.
+pub breaks_answering : {S : Type 0} {answers : Answering S} {breaks : Breaking S} {IsSettled : S → Type 0} {first now next : S} {old before : Devices} {left taken : Option (List ℕ)} {met_end : Bool} {reading new_reading : Reading} {gathered held line : List ℕ} {has_more : Bool} {n : ℕ} → Goes answers IsSettled first now old before reading gathered has_more n
+    → HandsOver before.taken gathered taken held → FindsLine true reading new_reading before.left left line → met_end ≡ new_reading.is_at_end → breaks now next (n + 1) line → OfLinesRead old.left left met_end (ServesFront answers breaks first next old.taken taken)
+breaks_answering goes handed found met broken = fault_broken (progress_handed goes.progress handed) found met refl broken
+
+-- The answer was not gathered.
+pub breaks_gathering : {S : Type 0} {answers : Answering S} {breaks : Breaking S} {IsSettled : S → Type 0} {first now next : S} {old before : Devices} {left taken : Option (List ℕ)} {met_end : Bool} {reading new_reading : Reading} {gathered held line text : List ℕ} {has_more : Bool} {n : ℕ} → Goes answers IsSettled first now old before reading gathered has_more n
+    → HandsOver before.taken gathered taken held → FindsLine true reading new_reading before.left left line → met_end ≡ new_reading.is_at_end → answers now next (n + 1) line text → OfLinesRead old.left left met_end (ServesFront answers breaks first next old.taken taken)
+breaks_gathering {left = left} {new_reading = new_reading} {held = held} {text = text} goes handed found met answered = fault_held (progress_line {more = held ++ text} (progress_handed goes.progress handed) found refl answered refl) (reads_none new_reading left) met

@@ -1,9 +1,10 @@
 //! The loop over the lines of an input, whatever answers them.
-ghost use Rattle.std.specs.Prelude.{◌≡◌, ◌≤◌, ◌⊎◌, true, false, IfOk, OnOk, OnErr, Err};
+ghost use Rattle.std.specs.Prelude.{◌≡◌, false, IfOk, OnOk, OnErr};
 ghost use Rattle.clip_stream.specs.Lines.{OfInput, OfLinesRead};
+ghost use Rattle.clip_front.specs.Devices.{AreFresh, IsHonest, devices_at};
 ghost use Rattle.clip_front.specs.Steps.Serving.{ServesAll, ServesFront};
 
-use clip_stream::{LineReader, MOST_READS, Outbox, RunFault, Sink, Source};
+use clip_stream::{LineReader, Outbox, RunFault, Sink, Source};
 use clip_words::NoMemory;
 use std::alloc::Global;
 
@@ -43,9 +44,13 @@ pub trait Server<L> {
 /// flushed: a client that waits for the answer to its line before it sends the next one gets it. Between two reads the
 /// answers are gathered, so that the writer gets few writes, and the server may hold some back.
 ///
-/// `Read` where a read failed, or 1,099,511,627,776 reads met no end; `Write` where a write or a flush failed, or a
-/// write took nothing; `NoMemory` where an allocation failed or the server answers it. After a fault nothing more is
-/// written.
+/// The devices are to be fresh: nothing was read yet, the reader has not met its end, and no call of it or of the writer
+/// has failed.
+///
+/// After `Ok` what was written was flushed, and no call of the reader or the writer has failed. `Read` where a read
+/// failed, or 1,099,511,627,776 reads met no end, more than which are never made; `Write` where a write or a flush
+/// failed, or a write took nothing; `NoMemory` where an allocation failed or the server answers it. After a fault nothing
+/// more is written.
 ///
 /// Cost: that of the answers. Memory: one line, up to 64 KiB of gathered answers and one answer more.
 pub fn serve<R: Source, W: Sink, L, S: Server<L>>(
@@ -55,10 +60,7 @@ pub fn serve<R: Source, W: Sink, L, S: Server<L>>(
     lent: &mut L,
     server: &mut S,
 ) -> Result<u64, RunFault>
-    requires unread { R.reads reader.old ≡ 0 }
-    requires unended { R.met_end reader.old ≡ false }
-    requires reader_well { R.has_failed reader.old ≡ false }
-    requires writer_well { W.has_failed writer.old ≡ false }
+    requires fresh { AreFresh (devices_at R.Source W.Sink reader.old writer.old) }
     requires settled { S.is_settled (server.old, lent.old) }
 
     // The server has answered just the lines of the input, in order, of which there were so many, and the writer has taken
@@ -66,14 +68,9 @@ pub fn serve<R: Source, W: Sink, L, S: Server<L>>(
     ensures served { IfOk result (λ count. OfInput (R.left reader.old) (ServesAll S.answers
         (server.old, lent.old) (server.new, lent.new) (W.taken writer.old) (W.taken writer.new) count)) }
     ensures settled { OnOk result (S.is_settled (server.new, lent.new)) }
-    ensures flushed { OnOk result (W.is_flushed writer.new ≡ true) }
 
-    // No device has failed, where all went well, and each fault has its reason.
-    ensures ok { OnOk result ((R.has_failed reader.new ≡ false) × (W.has_failed writer.new ≡ false)) }
-    ensures read { result ≡ Err RunFault.Read → (R.has_failed reader.new ≡ true)
-        ⊎ ((R.reads reader.new ≡ MOST_READS) × (R.met_end reader.new ≡ false)) }
-    ensures write { result ≡ Err RunFault.Write → W.has_failed writer.new ≡ true }
-    ensures reads { R.reads reader.new ≤ MOST_READS }
+    // What was written was flushed and no device has failed, where all went well, and each fault has its reason.
+    ensures honest { IsHonest result (devices_at R.Source W.Sink reader.new writer.new) }
 
     // After a fault, the server has answered some first ones of the lines that were read and begun one more of them at
     // most, and the writer has taken a front of the answers.

@@ -1,3 +1,4 @@
+pub mod AnsweredAlone
 pub mod Found
 pub mod Headline
 pub mod OnlyCaller

@@ -44,46 +44,17 @@ gives_none form hearers left met_end taken = (
   subst (GivesFront hearers hearers form taken taken) (sym (no_lines met_end)) (record { outcome = nothing_given; gives = refl; replies = (0, appends_none taken); told = no_front [] hearers }),
 )
 
-ran_refused : {T : Type 0} (lines : T → ℕ) (rows : T → List RowValue) (settings : Settings) (told : Told) → told.reads ≡ 0 → Ran lines rows settings told told (Err fault.NoMemory)
-ran_refused lines rows settings told unread = record {
-  outcome = tt;
-  flushed = tt;
-  ok = tt;
-  read = λ e. absurd (cc e);
-  write = λ e. absurd (cc e);
-  reads = omega (arith, unread);
-  front = gives_none settings.form told.hearers told.left told.met_end told.taken;
-}
+ran_refused : {T : Type 0} (lines : T → ℕ) (rows : T → List RowValue) (settings : Settings) (told : Told) → told.devices.reads ≡ 0 → Ran lines rows settings told told (Err fault.NoMemory)
+ran_refused lines rows settings told unread =
+    let here = told.devices in
+    record {
+      outcome = tt;
+      honest = record { flushed = tt; ok = tt; read = λ e. absurd (cc e); write = λ e. absurd (cc e); reads = omega (arith, unread) };
+      front = gives_none settings.form told.hearers here.left here.met_end here.taken;
+    }
 
-pub ran_none : {T : Type 0} (lines : T → ℕ) (rows : T → List RowValue) (settings : Settings) (told : Told) (result : Result T RunFault) → result ≡ Err fault.NoMemory → told.reads ≡ 0 → Ran lines rows settings told told result
+pub ran_none : {T : Type 0} (lines : T → ℕ) (rows : T → List RowValue) (settings : Settings) (told : Told) (result : Result T RunFault) → result ≡ Err fault.NoMemory → told.devices.reads ≡ 0 → Ran lines rows settings told told result
 ran_none lines rows settings told result is unread = subst (Ran lines rows settings told told) (sym is) (ran_refused lines rows settings told unread)
-
--- ---- what a run gives, by what its lines gave
-
-pub ran_ended : {T : Type 0} (lines : T → ℕ) (rows : T → List RowValue) (t : T) (n : ℕ) (given : List RowValue) (settings : Settings) (old new : Told) → Ran (λ n. n) (λ n. given) settings old new (Ok n) → n ≡ lines t → given ≡ rows t → Ran lines rows settings old new (Ok t)
-ran_ended lines rows t n given settings old new ran counted kept = record {
-  outcome = subst (λ k. OfInput old.left (GivesAll old.hearers new.hearers settings old.taken new.taken k (rows t))) counted (subst (λ rs. OfInput old.left (GivesAll old.hearers new.hearers settings old.taken new.taken n rs)) kept ran.outcome);
-  flushed = ran.flushed;
-  ok = ran.ok;
-  read = λ e. absurd (cc e);
-  write = λ e. absurd (cc e);
-  reads = ran.reads;
-  front = tt;
-}
-
-failed_as : {T : Type 0} (lines : T → ℕ) (rows : T → List RowValue) (given : List RowValue) (settings : Settings) (old new : Told) (e : RunFault) → Ran (λ n. n) (λ n. given) settings old new (Err e) → Ran lines rows settings old new (Err e)
-failed_as lines rows given settings old new e ran = record {
-  outcome = tt;
-  flushed = tt;
-  ok = tt;
-  read = λ is. ran.read (cc is);
-  write = λ is. ran.write (cc is);
-  reads = ran.reads;
-  front = ran.front;
-}
-
-pub ran_failed : {T : Type 0} (lines : T → ℕ) (rows : T → List RowValue) (given : List RowValue) (settings : Settings) (old new : Told) (e : RunFault) (result : Result T RunFault) → result ≡ Err e → Ran (λ n. n) (λ n. given) settings old new (Err e) → Ran lines rows settings old new result
-ran_failed lines rows given settings old new e result is ran = subst (Ran lines rows settings old new) (sym is) (failed_as lines rows given settings old new e ran)
 
 -- the fault of a conversion that gives just this one
 pub refused_is : {T : Type 0} (result : Result T RunFault) → IsErrAnd result (λ e. e ≡ fault.NoMemory) → result ≡ Err fault.NoMemory

@@ -1,5 +1,5 @@
 -- What contracts see of a crew.
-use Rattle.std.specs.Prelude.{◌≡◌, ◌⊎◌, ℕ, List, Bool, true, false, refl}
+use Rattle.std.specs.Prelude.{◌≡◌, ◌⊎◌, ℕ, List, [], Bool, true, false, refl}
 use Rattle.std.specs.Coded.{Coded, code_by, coded×, coded⊎, coded_ℕ, coded_bool, coded_list}
 use Rattle.std.proofs.Common.{inl, inr}
 use Rattle.clip_grammar.specs.TreeCode.{bytes_code}
@@ -18,6 +18,10 @@ pub record CrewIs : Type 0 where
   pub rows : List RowValue
   pub settings : Settings
   pub owed : List Owed
+
+-- Nothing was accepted yet, no row is kept, and nothing is owed.
+abbrev pub IsNew : CrewIs → Type 0
+IsNew crew = (crew.history ≡ []) × (crew.rows ≡ []) × (crew.owed ≡ [])
 
 -- with these listeners
 abbrev pub course : CrewIs → List Hearer → Course

@@ -1,5 +1,5 @@
 -- The only caller at a desk.
-use Rattle.std.specs.Prelude.{◌≡◌, ℕ}
+use Rattle.std.specs.Prelude.{◌≡◌, ℕ, []}
 use Rattle.logbook.specs.Pages.{Book}
 use Rattle.clip_desk.specs.Seats.{SeatIs, DeskIs}
 
@@ -11,3 +11,7 @@ pub record IsOnly (book : Book) (callers : ℕ) (desk : DeskIs) (seat : SeatIs) 
   pub alone : seat.callers ≡ 1
   pub desk_alone : desk.callers ≡ 1
   pub first : seat.caller ≡ 1
+
+-- It is, and has committed nothing yet.
+abbrev pub IsOnlyNew : Book → ℕ → DeskIs → SeatIs → Type 0
+IsOnlyNew book callers desk seat = IsOnly book callers desk seat × (seat.mine ≡ [])

@@ -1,7 +1,8 @@
 //! A run on one thread: a registrar of its own, its books, and merge turns between the lines.
-ghost use Rattle.std.specs.Prelude.{◌≡◌, ◌≤◌, ◌⊎◌, length, true, false, IfOk, OnOk, OnErr, IfSome, Err};
+ghost use Rattle.std.specs.Prelude.{IfOk, OnErr};
 ghost use Rattle.clip_listen.specs.Heard.{HearsFront};
 ghost use Rattle.clip_stream.specs.Lines.{OfInput, OfLinesRead};
+ghost use Rattle.clip_front.specs.Devices.{AreFresh, IsHonest, devices_at};
 ghost use Rattle.clip_protocol.specs.LineMeaning.{matching};
 ghost use Rattle.clip_protocol.specs.Reply.{alerts_of_all};
 ghost use Rattle.clip_front.specs.Outcome.{GivesAll, GivesFront};
@@ -15,7 +16,7 @@ use clip_match::match_batch;
 use clip_meaning::Article;
 use clip_registry::{Registrar, View, merge_turn};
 use clip_standing::{Applied, Command, Refused};
-use clip_stream::{MOST_READS, RunFault, Sink, Source};
+use clip_stream::{RunFault, Sink, Source};
 use clip_words::NoMemory;
 use std::alloc::Global;
 
@@ -91,10 +92,10 @@ fn answer_match<A: Audience>(
 
 impl<A: Audience> Server<A> for RunServer {
     ghost use Rattle.std.specs.Prelude.{⊤};
-    ghost use Rattle.clip_front.specs.Steps.Answers.{AnswersIn, BreaksIn};
-    ghost use Rattle.clip_run.specs.RunServer.{held_at};
+    ghost use Rattle.clip_front.specs.Steps.Answers.{BreaksIn};
+    ghost use Rattle.clip_run.specs.RunServer.{AnswersAlone, held_at};
 
-    ghost answers = { AnswersIn (held_at A.hearers) };
+    ghost answers = { AnswersAlone A.hearers };
 
     ghost breaks_off = { BreaksIn (held_at A.hearers) };
 
@@ -129,9 +130,13 @@ impl<A: Audience> Server<A> for RunServer {
 /// After each accepted change one merge turn is taken: the oldest four neighbouring segments of one level become one. A
 /// turn that is refused memory is dropped, and a later one may take them. What is registered stays as it is.
 ///
-/// `Read` where a read failed, or 1,099,511,627,776 reads met no end; `Write` where a write or a flush failed, or a
-/// write took nothing; `NoMemory` where an allocation failed outside of a merge turn, or a listener answers it. After a
-/// fault nothing more is written, and no more is delivered.
+/// The devices are to be fresh: nothing was read yet, the reader has not met its end, and no call of it or of the writer
+/// has failed.
+///
+/// After `Ok` what was written was flushed, and no call of the reader or the writer has failed. `Read` where a read
+/// failed, or 1,099,511,627,776 reads met no end, more than which are never made; `Write` where a write or a flush
+/// failed, or a write took nothing; `NoMemory` where an allocation failed outside of a merge turn, or a listener answers
+/// it. After a fault nothing more is written, and no more is delivered.
 ///
 /// Cost: a register reads each query that it lists, looks its listener's name up, extracts its keys and searches the
 /// ids for its own; a delete searches the ids for each that it lists. A merge turn takes a step for each segment and,
@@ -150,10 +155,7 @@ pub fn run_alone<R: Source, W: Sink, A: Audience>(
     audience: &mut A,
     settings: Settings,
 ) -> Result<Ended, RunFault>
-    requires unread { R.reads reader.old ≡ 0 }
-    requires unended { R.met_end reader.old ≡ false }
-    requires reader_well { R.has_failed reader.old ≡ false }
-    requires writer_well { W.has_failed writer.old ≡ false }
+    requires fresh { AreFresh (devices_at R.Source W.Sink reader.old writer.old) }
 
     // What was written and flushed is the reply text of the input, each listener has heard just its own alerts, in order,
     // the ledger has a row for each alert, or none where none are kept, and the lines are counted. Where the reader doesn't
@@ -161,14 +163,9 @@ pub fn run_alone<R: Source, W: Sink, A: Audience>(
     ensures outcome { IfOk result (λ ended. OfInput (R.left reader.old)
         (GivesAll (A.hearers audience.old) (A.hearers audience.new) settings
         (W.taken writer.old) (W.taken writer.new) ended.lines ended.ledger)) }
-    ensures flushed { OnOk result (W.is_flushed writer.new ≡ true) }
 
-    // No device has failed, where the run ended well, and each fault has its reason.
-    ensures ok { OnOk result ((R.has_failed reader.new ≡ false) × (W.has_failed writer.new ≡ false)) }
-    ensures read { result ≡ Err RunFault.Read → (R.has_failed reader.new ≡ true)
-        ⊎ ((R.reads reader.new ≡ MOST_READS) × (R.met_end reader.new ≡ false)) }
-    ensures write { result ≡ Err RunFault.Write → W.has_failed writer.new ≡ true }
-    ensures reads { R.reads reader.new ≤ MOST_READS }
+    // What was written was flushed and no device has failed, where the run ended well, and each fault has its reason.
+    ensures honest { IsHonest result (devices_at R.Source W.Sink reader.new writer.new) }
 
     // After a fault, what was written and heard is a front of what the lines give that were read: the first of the input,
     // or of some input, where the reader doesn't tell its bytes.

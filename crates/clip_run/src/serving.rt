@@ -1,6 +1,7 @@
 //! The lines of a run with workers, one after the other.
-ghost use Rattle.std.specs.Prelude.{◌≡◌, ◌≤◌, ◌⊎◌, [], length, true, false, IfOk, OnOk, OnErr, IfSome, Err};
+ghost use Rattle.std.specs.Prelude.{◌≡◌, [], IfOk, OnOk, OnErr};
 ghost use Rattle.clip_stream.specs.Lines.{OfInput, OfLinesRead};
+ghost use Rattle.clip_front.specs.Devices.{AreFresh, IsHonest, devices_at};
 ghost use Rattle.clip_front.specs.Steps.Serving.{ServesAll, ServesFront};
 ghost use Rattle.clip_run.specs.Crews.{course_at};
 ghost use Rattle.clip_run.specs.Owed.{TurnsIn, BreaksIn};
@@ -9,7 +10,7 @@ use crate::crew::Crew;
 use clip_desk::DeskName;
 use clip_listen::Audience;
 use clip_match::Gate;
-use clip_stream::{LineReader, MOST_READS, Outbox, RunFault, Sink, Source};
+use clip_stream::{LineReader, Outbox, RunFault, Sink, Source};
 use std::alloc::Global;
 use std::sync::Wait;
 use std::thread::Threads;
@@ -20,9 +21,8 @@ use std::thread::Threads;
 /// Before it asks the reader for more bytes, nothing is owed to a line that was taken, and all texts are written and
 /// flushed. Between two reads the texts are gathered.
 ///
-/// `Read` where a read failed, or 1,099,511,627,776 reads met no end; `Write` where a write or a flush failed, or a
-/// write took nothing; `NoMemory` where an allocation failed or the crew answers it. After a fault nothing more is
-/// written.
+/// What it asks of its devices and says of them is that of `serve`; `NoMemory` where an allocation failed or the crew
+/// answers it.
 ///
 /// Cost: that of the answers. Memory: one line, up to 64 KiB of gathered texts and one text more.
 pub fn serve_crew<
@@ -39,10 +39,7 @@ pub fn serve_crew<
     audience: &mut A,
     crew: &mut Crew<'_, '_, '_, R, N, G>,
 ) -> Result<u64, RunFault>
-    requires unread { S.reads reader.old ≡ 0 }
-    requires unended { S.met_end reader.old ≡ false }
-    requires reader_well { S.has_failed reader.old ≡ false }
-    requires writer_well { W.has_failed writer.old ≡ false }
+    requires fresh { AreFresh (devices_at S.Source W.Sink reader.old writer.old) }
     requires settled { crew.old.owed ≡ [] }
 
     // The crew has answered just the lines of the input, in order, of which there were so many, and the writer has taken
@@ -50,14 +47,9 @@ pub fn serve_crew<
     ensures served { IfOk result (λ count. OfInput (S.left reader.old) (ServesAll (TurnsIn (course_at A.hearers))
         (crew.old, audience.old) (crew.new, audience.new) (W.taken writer.old) (W.taken writer.new) count)) }
     ensures settled { OnOk result (crew.new.owed ≡ []) }
-    ensures flushed { OnOk result (W.is_flushed writer.new ≡ true) }
 
-    // No device has failed, where all went well, and each fault has its reason.
-    ensures ok { OnOk result ((S.has_failed reader.new ≡ false) × (W.has_failed writer.new ≡ false)) }
-    ensures read { result ≡ Err RunFault.Read → (S.has_failed reader.new ≡ true)
-        ⊎ ((S.reads reader.new ≡ MOST_READS) × (S.met_end reader.new ≡ false)) }
-    ensures write { result ≡ Err RunFault.Write → W.has_failed writer.new ≡ true }
-    ensures reads { S.reads reader.new ≤ MOST_READS }
+    // What was written was flushed and no device has failed, where all went well, and each fault has its reason.
+    ensures honest { IsHonest result (devices_at S.Source W.Sink reader.new writer.new) }
 
     // After a fault, the crew has answered some first ones of the lines that were read and begun one more of them at
     // most, and the writer has taken a front of the answers.

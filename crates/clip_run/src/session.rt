@@ -1,11 +1,13 @@
 //! The run with workers.
-ghost use Rattle.std.specs.Prelude.{◌≡◌, ◌≤◌, ◌⊎◌, [], length, true, false, IfOk, OnOk, OnErr, IfSome, Err};
+ghost use Rattle.std.specs.Prelude.{◌≡◌, ◌≤◌, [], IfOk, OnErr};
 ghost use Rattle.std.specs.Thread.{IsSync, IsSend};
 ghost use Rattle.clip_stream.specs.Lines.{OfInput, OfLinesRead};
 ghost use Rattle.clip_desk.specs.Updates.{all_heard};
+ghost use Rattle.clip_front.specs.Devices.{AreFresh, IsHonest, devices_at};
 ghost use Rattle.clip_front.specs.Outcome.{GivesAll, GivesFront};
-ghost use Rattle.clip_run.specs.Ran.{told, IsFresh, Ran};
-ghost use Rattle.clip_run.specs.Seated.{IsOnly};
+ghost use Rattle.clip_run.specs.Crews.{IsNew};
+ghost use Rattle.clip_run.specs.Ran.{Ran, RanToEnd, told};
+ghost use Rattle.clip_run.specs.Seated.{IsOnlyNew};
 
 use crate::alone::run_alone;
 use crate::caller::Caller;
@@ -15,7 +17,7 @@ use clip_desk::{Desk, DeskName, DeskParts, Nudge, Seat, UpdateListeners, UpdateL
 use clip_front::{Ended, Settings};
 use clip_listen::Audience;
 use clip_match::Gate;
-use clip_stream::{MOST_READS, MOST_WORKERS, RunFault, Sink, Source};
+use clip_stream::{MOST_WORKERS, RunFault, Sink, Source};
 use clip_words::NoMemory;
 use crossbeam_channel::{Sender, unbounded};
 use std::alloc::Global;
@@ -41,8 +43,8 @@ fn serve_and_stop<
     audience: &mut A,
     crew: &mut Crew<'_, '_, '_, R, N, G>,
 ) -> Result<u64, RunFault>
-    requires fresh { IsFresh (told S.Source W.Sink A.Audience reader.old writer.old audience.old) }
-    requires begins { (crew.old.history ≡ []) × (crew.old.rows ≡ []) × (crew.old.owed ≡ []) }
+    requires fresh { AreFresh (devices_at S.Source W.Sink reader.old writer.old) }
+    requires begins { IsNew crew.old }
     ensures { Ran (λ lines. lines) (λ lines. crew.new.rows) crew.old.settings
         (told S.Source W.Sink A.Audience reader.old writer.old audience.old)
         (told S.Source W.Sink A.Audience reader.new writer.new audience.new)
@@ -63,7 +65,7 @@ fn crew_at<'a, R: Threads + Wait + Sync, N: DeskName, G: Gate + Clone + Send + '
     nudges: Sender<Nudge>,
     settings: Settings,
 ) -> Crew<'a, 'a, 'a, R, N, G>
-    requires { IsOnly N.book N.callers desk.now seat × (seat.mine ≡ []) }
+    requires { IsOnlyNew N.book N.callers desk.now seat }
     ensures { result ≡ record { history = []; rows = []; settings = settings; owed = [] } }
 {
     let caller = Caller::new(rt, desk, seat, nudges);
@@ -89,9 +91,9 @@ fn run_seated<
     desk: &Desk<N, UpdateLog>,
     seat: Seat,
 ) -> Result<Ended, RunFault>
-    requires fresh { IsFresh (told S.Source W.Sink A.Audience reader.old writer.old audience.old) }
-    requires only { IsOnly N.book N.callers desk.now seat × (seat.mine ≡ []) }
-    ensures { Ran (λ ended. ended.lines) (λ ended. ended.ledger) settings
+    requires fresh { AreFresh (devices_at S.Source W.Sink reader.old writer.old) }
+    requires only { IsOnlyNew N.book N.callers desk.now seat }
+    ensures { RanToEnd settings
         (told S.Source W.Sink A.Audience reader.old writer.old audience.old)
         (told S.Source W.Sink A.Audience reader.new writer.new audience.new)
         result }
@@ -103,8 +105,8 @@ fn run_seated<
         &mut || desk.serve_merges(rt, &nudged),
         &mut || -> Result<u64, RunFault>
             requires sent { IsSync R.row × IsSync G.row × IsSend G.row }
-            requires fresh { IsFresh (told S.Source W.Sink A.Audience reader.now writer.now audience.now) }
-            requires begins { (crew.history ≡ []) × (crew.rows ≡ []) × (crew.owed ≡ []) }
+            requires fresh { AreFresh (devices_at S.Source W.Sink reader.now writer.now) }
+            requires begins { IsNew crew }
             ensures { Ran (λ lines. lines) (λ lines. crew.exit.rows) crew.entry.settings
                 (told S.Source W.Sink A.Audience reader.entry.now writer.entry.now audience.entry.now)
                 (told S.Source W.Sink A.Audience reader.exit.now writer.exit.now audience.exit.now)
@@ -148,10 +150,10 @@ fn run_desk<
     gate: &G,
     parts: DeskParts<UpdateLog>,
 ) -> Result<Ended, RunFault>
-    requires fresh { IsFresh (told S.Source W.Sink A.Audience reader.old writer.old audience.old) }
+    requires fresh { AreFresh (devices_at S.Source W.Sink reader.old writer.old) }
     requires named { (parts.book ≡ N.book) × (parts.callers ≡ N.callers) × (N.heard_before ≡ all_heard parts.updates) }
     requires one { parts.callers ≡ 1 }
-    ensures { Ran (λ ended. ended.lines) (λ ended. ended.ledger) settings
+    ensures { RanToEnd settings
         (told S.Source W.Sink A.Audience reader.old writer.old audience.old)
         (told S.Source W.Sink A.Audience reader.new writer.new audience.new)
         result }
@@ -180,9 +182,13 @@ fn run_desk<
 /// flushed: a client that waits for a reply before it sends its next line gets it. At the end, and after a fault, each
 /// thread that it started has ended.
 ///
-/// `Read` where a read failed, or 1,099,511,627,776 reads met no end; `Write` where a write or a flush failed, or a
-/// write took nothing; `NoMemory` where an allocation failed outside of a merge, a listener answers it, or the desk's
-/// call does. After a fault nothing more is written, and no more is delivered.
+/// The devices are to be fresh: nothing was read yet, the reader has not met its end, and no call of it or of the writer
+/// has failed.
+///
+/// After `Ok` what was written was flushed, and no call of the reader or the writer has failed. `Read` where a read
+/// failed, or 1,099,511,627,776 reads met no end, more than which are never made; `Write` where a write or a flush
+/// failed, or a write took nothing; `NoMemory` where an allocation failed outside of a merge, a listener answers it, or
+/// the desk's call does. After a fault nothing more is written, and no more is delivered.
 ///
 /// Cost: that of `run_alone`, of which matches and merges are shared among threads; for each batch that is not
 /// matched alone the start of a thread; and for each change a view. Memory: that of `run_alone`, with up to 32
@@ -202,10 +208,7 @@ pub fn run<
     settings: Settings,
     gate: &G,
 ) -> Result<Ended, RunFault>
-    requires unread { S.reads reader.old ≡ 0 }
-    requires unended { S.met_end reader.old ≡ false }
-    requires reader_well { S.has_failed reader.old ≡ false }
-    requires writer_well { W.has_failed writer.old ≡ false }
+    requires fresh { AreFresh (devices_at S.Source W.Sink reader.old writer.old) }
     requires workers { settings.workers ≤ MOST_WORKERS }
 
     // What was written and flushed is the reply text of the input, each listener has heard just its own alerts, in order,
@@ -214,14 +217,9 @@ pub fn run<
     ensures outcome { IfOk result (λ ended. OfInput (S.left reader.old)
         (GivesAll (A.hearers audience.old) (A.hearers audience.new) settings
         (W.taken writer.old) (W.taken writer.new) ended.lines ended.ledger)) }
-    ensures flushed { OnOk result (W.is_flushed writer.new ≡ true) }
 
-    // No device has failed, where the run ended well, and each fault has its reason.
-    ensures ok { OnOk result ((S.has_failed reader.new ≡ false) × (W.has_failed writer.new ≡ false)) }
-    ensures read { result ≡ Err RunFault.Read → (S.has_failed reader.new ≡ true)
-        ⊎ ((S.reads reader.new ≡ MOST_READS) × (S.met_end reader.new ≡ false)) }
-    ensures write { result ≡ Err RunFault.Write → W.has_failed writer.new ≡ true }
-    ensures reads { S.reads reader.new ≤ MOST_READS }
+    // What was written was flushed and no device has failed, where the run ended well, and each fault has its reason.
+    ensures honest { IsHonest result (devices_at S.Source W.Sink reader.new writer.new) }
 
     // After a fault, what was written and heard is a front of what the lines give that were read: the first of the input,
     // or of some input, where the reader doesn't tell its bytes.

@@ -1,12 +1,13 @@
 //! The run of a trace: lines in, replies out.
-ghost use Rattle.std.specs.Prelude.{◌≡◌, ◌≤◌, ◌⊎◌, [], length, true, false, IfOk, OnOk, OnErr, IfSome, Err};
+ghost use Rattle.std.specs.Prelude.{◌≡◌, [], IfOk, OnErr};
 ghost use Rattle.clip_stream.specs.Lines.{OfInput, OfLinesRead};
+ghost use Rattle.clip_front.specs.Devices.{AreFresh, IsHonest, devices_at};
 ghost use Rattle.clip_trace_lines.specs.TraceOutcome.{TracesAll, TracesFront};
 
 use crate::trace_answer::answer_traced;
 use clip_front::{Ended, Server, serve};
 use clip_ledger::Ledger;
-use clip_stream::{MOST_READS, RunFault, Sink, Source};
+use clip_stream::{RunFault, Sink, Source};
 use clip_trace::Tracer;
 use clip_words::NoMemory;
 use std::alloc::Global;
@@ -47,8 +48,12 @@ impl Server<()> for TraceServer {
 /// two reads the replies are gathered, so that the writer gets few writes. Each event is played as the lines before it
 /// leave things.
 ///
-/// `Read` where a read failed, or 1,099,511,627,776 reads met no end; `Write` where a write or a flush failed, or a
-/// write took nothing; `NoMemory` where an allocation failed. After a fault nothing more is written.
+/// The devices are to be fresh: nothing was read yet, the reader has not met its end, and no call of it or of the writer
+/// has failed.
+///
+/// After `Ok` what was written was flushed, and no call of the reader or the writer has failed. `Read` where a read
+/// failed, or 1,099,511,627,776 reads met no end, more than which are never made; `Write` where a write or a flush
+/// failed, or a write took nothing; `NoMemory` where an allocation failed. After a fault nothing more is written.
 ///
 /// Cost: the reading of each line, and for each event that of `Tracer::step`. Memory: one line and what it asks for, up
 /// to 64 KiB of gathered replies and one reply more, and what the tracer holds.
@@ -57,24 +62,16 @@ pub fn run_trace<R: Source, W: Sink>(
     reader: &mut R,
     writer: &mut W,
 ) -> Result<Ended, RunFault>
-    requires unread { R.reads reader.old ≡ 0 }
-    requires unended { R.met_end reader.old ≡ false }
-    requires reader_well { R.has_failed reader.old ≡ false }
-    requires writer_well { W.has_failed writer.old ≡ false }
+    requires fresh { AreFresh (devices_at R.Source W.Sink reader.old writer.old) }
 
     // What was written and flushed is the replies to the lines of the input, by answers that are due, and the lines are
     // counted. Where the reader doesn't tell its bytes, there is some input of which this holds.
     ensures outcome { IfOk result (λ ended. OfInput (R.left reader.old)
         (TracesAll (W.taken writer.old) (W.taken writer.new) ended.lines)) }
     ensures ledger { IfOk result (λ ended. ended.ledger ≡ []) }
-    ensures flushed { OnOk result (W.is_flushed writer.new ≡ true) }
 
-    // No device has failed, where the run ended well, and each fault has its reason.
-    ensures ok { OnOk result ((R.has_failed reader.new ≡ false) × (W.has_failed writer.new ≡ false)) }
-    ensures read { result ≡ Err RunFault.Read → (R.has_failed reader.new ≡ true)
-        ⊎ ((R.reads reader.new ≡ MOST_READS) × (R.met_end reader.new ≡ false)) }
-    ensures write { result ≡ Err RunFault.Write → W.has_failed writer.new ≡ true }
-    ensures reads { R.reads reader.new ≤ MOST_READS }
+    // What was written was flushed and no device has failed, where the run ended well, and each fault has its reason.
+    ensures honest { IsHonest result (devices_at R.Source W.Sink reader.new writer.new) }
 
     // After a fault, what was written is a front of the replies to some first ones of the lines that were read.
     ensures front { OnErr result (OfLinesRead (R.left reader.old) (R.left reader.new) (R.met_end reader.new)

@@ -1,5 +1,6 @@
 //! Whole runs over devices in memory.
-ghost use Rattle.std.specs.Prelude.{◌≡◌, ◌≤◌, false};
+ghost use Rattle.std.specs.Prelude.{◌≤◌};
+ghost use Rattle.clip_front.specs.Devices.{AreFresh, devices_at};
 
 mod devices;
 mod failing_devices;
@@ -52,10 +53,7 @@ pub fn run_unheard<H: Threads + Wait + Sync + AllocGlobal, R: Source, W: Sink>(
     reader: &mut R,
     writer: &mut W,
 ) -> Result<Ended, RunFault>
-    requires unread { R.reads reader.old ≡ 0 }
-    requires unended { R.met_end reader.old ≡ false }
-    requires reader_well { R.has_failed reader.old ≡ false }
-    requires writer_well { W.has_failed writer.old ≡ false }
+    requires { AreFresh (devices_at R.Source W.Sink reader.old writer.old) }
 {
     let alloc = rt.alloc();
     let Ok(mut listeners) = Listeners::new(Vec::new(alloc)) else {

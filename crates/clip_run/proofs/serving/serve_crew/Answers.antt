@@ -1,101 +1,51 @@
-use Rattle.std.proofs.Common.{◌+◌, ◌++◌, refl, sym, ap, ◌∙◌, arith, true≢false}
+use Rattle.std.proofs.Common.{◌≡◌, [], ◌∙◌}
 use Rattle.clip_stream.proofs.Faults.{on_err}
-use Rattle.clip_stream.proofs.Fuel.{fuel_new}
-use Rattle.clip_stream.specs.Steps.Reading.{has_feed}
-use Rattle.clip_front.proofs.Progress.{progress_first, progress_handed, progress_line, progress_end, fault_first, fault_reading, fault_held, fault_broken, reads_none}
+use Rattle.clip_front.specs.Devices.{devices_at}
+use Rattle.clip_front.proofs.Progress.{goes_first, goes_on, goes_to_end, fault_first, breaks_handing, breaks_reading, breaks_answering, breaks_gathering}
 use Rattle.clip_run.specs.Crews.{course_at}
 use Rattle.clip_run.specs.Owed.{TurnsIn, BreaksIn}
 use Rattle.clip_run.proofs.serving.serve_crew.Goals as goal
 
 pub lines-init : goal.lines-init
 lines-init g c =
-    let new = c.in_ok-lines.ensures in
-    let unread = c.requires.unread in
-    record {
-      budget = omega (arith, unread, new.1);
-      ended = λ e. absurd (true≢false (sym e ∙ new.2));
-      met = c.requires.unended ∙ sym new.2;
-      reader_well = c.requires.reader_well;
-      writer_well = c.requires.writer_well;
-      pending = sym (ap has_feed new.0);
-      settled = λ _. c.requires.settled;
-      fuel_left = omega (arith, fuel_new c.in_ok-lines.lines new.0 new.1 new.2);
-      progress = progress_first (TurnsIn (course_at g.A.Audience.hearers)) (c.args.crew.now, c.args.audience.now) (g.S.Source.left c.args.reader.now) c.in_ok-lines.lines (g.W.Sink.taken c.args.writer.now) c.new-outbox.result new.0 c.new-outbox.ensures;
-    }
+    goes_first (TurnsIn (course_at g.A.Audience.hearers)) (λ s. s.0.owed ≡ []) (c.args.crew.now, c.args.audience.now) (devices_at g.S.Source g.W.Sink c.args.reader.now c.args.writer.now) c.in_ok-lines.lines c.new-outbox.result
+    c.requires.fresh c.requires.settled c.in_ok-lines.ensures c.new-outbox.ensures
 
 pub lines-preserved : goal.lines-preserved
 lines-preserved g c =
-    let found = rw c.if-not-branch.false at c.in_ok-next_line.ensures.line in
-    let answered = rw c.deref.ensures.value at c.in_ok-text.ensures.ok in
-    let gathered = rw c.deref-in-lines.ensures.value at c.in_ok-gather.ensures in
-    let less = c.in_ok-next_line.ensures.fuel c.if-not-branch.false in
-    let left = g.S.Source.left in
-    let taken = g.W.Sink.taken in
-    let handed = progress_handed (TurnsIn (course_at g.A.Audience.hearers)) (c.args.crew.now, c.args.audience.now) (c.lines.crew, c.lines.audience) (left c.args.reader.now) (left c.lines.reader) c.lines.lines (taken c.args.writer.now) (taken c.lines.writer) (taken c.hand_over.new.writer) c.lines.outbox c.hand_over.new.self c.lines.count c.lines.invariant.progress c.in_ok-hand_over.ensures.moved in
-    record {
-      budget = c.in_ok-next_line.ensures.budget;
-      ended = c.in_ok-next_line.ensures.ended;
-      met = c.in_ok-next_line.ensures.met;
-      reader_well = c.in_ok-next_line.ensures.failed ∙ c.lines.invariant.reader_well;
-      writer_well = c.in_ok-hand_over.ensures.well ∙ c.lines.invariant.writer_well;
-      pending = c.has_line-has_more.ensures;
-      settled = c.in_ok-text.ensures.settled;
-      fuel_left = omega (arith, less, c.lines.invariant.fuel_left);
-      progress = progress_line (TurnsIn (course_at g.A.Audience.hearers)) (c.args.crew.now, c.args.audience.now) (c.lines.crew, c.lines.audience) (c.answer.new.self, c.answer.new.audience) (left c.args.reader.now) (left c.lines.reader) (left c.next_line.new.reader) c.lines.lines c.next_line.new.self c.next_line.new.line.items c.in_ok-text.text.items (taken c.args.writer.now) (taken c.hand_over.new.writer) c.hand_over.new.self c.gather.new.self c.lines.count (c.lines.count + 1) handed found refl answered gathered;
-    }
+    let handed = c.in_ok-hand_over.ensures in
+    let next = c.in_ok-next_line.ensures in
+    let answered = c.in_ok-text.ensures in
+    goes_on c.lines.invariant handed.moved handed.well (rw c.if-not-branch.false at next.line) next.budget next.ended next.met next.failed (next.fuel c.if-not-branch.false)
+    c.has_line-has_more.ensures answered.settled (rw c.deref.ensures.value at answered.ok) (rw c.deref-in-lines.ensures.value at c.in_ok-gather.ensures)
 
 pub returns-in_err-lines-clause-front : goal.returns-in_err-lines-clause-front
-returns-in_err-lines-clause-front g c = on_err _ (fault_first (TurnsIn (course_at g.A.Audience.hearers)) (BreaksIn (course_at g.A.Audience.hearers)) (c.args.crew.now, c.args.audience.now) (g.S.Source.left c.args.reader.now) (g.S.Source.met_end c.args.reader.now) (g.W.Sink.taken c.args.writer.now))
+returns-in_err-lines-clause-front g c =
+    let hearers = g.A.Audience.hearers in
+    on_err _ (fault_first (TurnsIn (course_at hearers)) (BreaksIn (course_at hearers)) (c.args.crew.now, c.args.audience.now) (g.S.Source.left c.args.reader.now) (g.S.Source.met_end c.args.reader.now) (g.W.Sink.taken c.args.writer.now))
 
 pub returns-in_err-hand_over-clause-front : goal.returns-in_err-hand_over-clause-front
-returns-in_err-hand_over-clause-front g c =
-    let left = g.S.Source.left in
-    let taken = g.W.Sink.taken in
-    on_err c.from_residual-in_err-hand_over.result
-    (fault_reading (TurnsIn (course_at g.A.Audience.hearers)) (BreaksIn (course_at g.A.Audience.hearers)) (c.args.crew.now, c.args.audience.now) (c.lines.crew, c.lines.audience) (left c.args.reader.now) (left c.lines.reader) (left c.lines.reader) c.lines.lines c.lines.lines (g.S.Source.met_end c.lines.reader) (taken c.args.writer.now) (taken c.lines.writer) (taken c.hand_over.new.writer) c.lines.outbox c.lines.count
-    c.lines.invariant.progress (reads_none c.lines.lines (left c.lines.reader)) c.lines.invariant.met c.in_err-hand_over.ensures.front)
+returns-in_err-hand_over-clause-front g c = on_err _ (breaks_handing c.lines.invariant c.in_err-hand_over.ensures.front)
 
 pub returns-in_err-next_line-clause-front : goal.returns-in_err-next_line-clause-front
-returns-in_err-next_line-clause-front g c =
-    let left = g.S.Source.left in
-    let taken = g.W.Sink.taken in
-    let handed = progress_handed (TurnsIn (course_at g.A.Audience.hearers)) (c.args.crew.now, c.args.audience.now) (c.lines.crew, c.lines.audience) (left c.args.reader.now) (left c.lines.reader) c.lines.lines (taken c.args.writer.now) (taken c.lines.writer) (taken c.hand_over.new.writer) c.lines.outbox c.hand_over.new.self c.lines.count c.lines.invariant.progress c.in_ok-hand_over.ensures.moved in
-    on_err c.from_residual-in_err-next_line.result
-    (fault_held (TurnsIn (course_at g.A.Audience.hearers)) (BreaksIn (course_at g.A.Audience.hearers)) (c.args.crew.now, c.args.audience.now) (c.lines.crew, c.lines.audience) (left c.args.reader.now) (left c.lines.reader) (left c.next_line.new.reader) c.lines.lines c.next_line.new.self (g.S.Source.met_end c.next_line.new.reader) (taken c.args.writer.now) (taken c.hand_over.new.writer) c.hand_over.new.self c.lines.count
-    handed c.in_err-next_line.ensures.given c.in_err-next_line.ensures.met)
+returns-in_err-next_line-clause-front g c = on_err _ (breaks_reading c.lines.invariant c.in_ok-hand_over.ensures.moved c.in_err-next_line.ensures.given c.in_err-next_line.ensures.met)
 
 pub returns-in_err-text-clause-front : goal.returns-in_err-text-clause-front
 returns-in_err-text-clause-front g c =
     let found = rw c.if-not-branch.false at c.in_ok-next_line.ensures.line in
     let broken = rw c.deref.ensures.value at c.in_err-text.ensures.err in
-    let left = g.S.Source.left in
-    let taken = g.W.Sink.taken in
-    let handed = progress_handed (TurnsIn (course_at g.A.Audience.hearers)) (c.args.crew.now, c.args.audience.now) (c.lines.crew, c.lines.audience) (left c.args.reader.now) (left c.lines.reader) c.lines.lines (taken c.args.writer.now) (taken c.lines.writer) (taken c.hand_over.new.writer) c.lines.outbox c.hand_over.new.self c.lines.count c.lines.invariant.progress c.in_ok-hand_over.ensures.moved in
-    on_err c.from_residual-in_err-text.result
-    (fault_broken (TurnsIn (course_at g.A.Audience.hearers)) (BreaksIn (course_at g.A.Audience.hearers)) (c.args.crew.now, c.args.audience.now) (c.lines.crew, c.lines.audience) (c.answer.new.self, c.answer.new.audience) (left c.args.reader.now) (left c.lines.reader) (left c.next_line.new.reader) c.lines.lines c.next_line.new.self (g.S.Source.met_end c.next_line.new.reader) c.next_line.new.line.items (taken c.args.writer.now) (taken c.hand_over.new.writer) c.hand_over.new.self c.lines.count (c.lines.count + 1)
-    handed found c.in_ok-next_line.ensures.met refl broken)
+    on_err _ (breaks_answering c.lines.invariant c.in_ok-hand_over.ensures.moved found c.in_ok-next_line.ensures.met broken)
 
 pub returns-in_err-gather-clause-front : goal.returns-in_err-gather-clause-front
 returns-in_err-gather-clause-front g c =
     let found = rw c.if-not-branch.false at c.in_ok-next_line.ensures.line in
     let answered = rw c.deref.ensures.value at c.in_ok-text.ensures.ok in
-    let more = c.hand_over.new.self ++ c.in_ok-text.text.items in
-    let left = g.S.Source.left in
-    let taken = g.W.Sink.taken in
-    let handed = progress_handed (TurnsIn (course_at g.A.Audience.hearers)) (c.args.crew.now, c.args.audience.now) (c.lines.crew, c.lines.audience) (left c.args.reader.now) (left c.lines.reader) c.lines.lines (taken c.args.writer.now) (taken c.lines.writer) (taken c.hand_over.new.writer) c.lines.outbox c.hand_over.new.self c.lines.count c.lines.invariant.progress c.in_ok-hand_over.ensures.moved in
-    let done = progress_line (TurnsIn (course_at g.A.Audience.hearers)) (c.args.crew.now, c.args.audience.now) (c.lines.crew, c.lines.audience) (c.answer.new.self, c.answer.new.audience) (left c.args.reader.now) (left c.lines.reader) (left c.next_line.new.reader) c.lines.lines c.next_line.new.self c.next_line.new.line.items c.in_ok-text.text.items (taken c.args.writer.now) (taken c.hand_over.new.writer) c.hand_over.new.self more c.lines.count (c.lines.count + 1) handed found refl answered refl in
-    on_err c.from_residual-in_err-gather.result
-    (fault_held (TurnsIn (course_at g.A.Audience.hearers)) (BreaksIn (course_at g.A.Audience.hearers)) (c.args.crew.now, c.args.audience.now) (c.answer.new.self, c.answer.new.audience) (left c.args.reader.now) (left c.next_line.new.reader) (left c.next_line.new.reader) c.next_line.new.self c.next_line.new.self (g.S.Source.met_end c.next_line.new.reader) (taken c.args.writer.now) (taken c.hand_over.new.writer) more (c.lines.count + 1)
-    done (reads_none c.next_line.new.self (left c.next_line.new.reader)) c.in_ok-next_line.ensures.met)
+    on_err _ (breaks_gathering c.lines.invariant c.in_ok-hand_over.ensures.moved found c.in_ok-next_line.ensures.met answered)
 
 pub returns-then-not-branch-clause-served : goal.returns-then-not-branch-clause-served
 returns-then-not-branch-clause-served g c =
     let found = rw c.if-not-branch.true at c.in_ok-next_line.ensures.line in
-    let left = g.S.Source.left in
-    let taken = g.W.Sink.taken in
-    let handed = progress_handed (TurnsIn (course_at g.A.Audience.hearers)) (c.args.crew.now, c.args.audience.now) (c.lines.crew, c.lines.audience) (left c.args.reader.now) (left c.lines.reader) c.lines.lines (taken c.args.writer.now) (taken c.lines.writer) (taken c.hand_over.new.writer) c.lines.outbox c.hand_over.new.self c.lines.count c.lines.invariant.progress c.in_ok-hand_over.ensures.moved in
-    progress_end (TurnsIn (course_at g.A.Audience.hearers)) (c.args.crew.now, c.args.audience.now) (c.lines.crew, c.lines.audience) (left c.args.reader.now) (left c.lines.reader) (left c.next_line.new.reader) c.lines.lines c.next_line.new.self c.next_line.new.line.items (taken c.args.writer.now) (taken c.hand_over.new.writer) c.hand_over.new.self c.lines.count handed found
-    (c.in_ok-next_line.ensures.ended found.takes.2) (λ none. c.in_ok-hand_over.ensures.none_held (c.lines.invariant.pending ∙ none))
+    goes_to_end c.lines.invariant c.in_ok-hand_over.ensures.moved c.in_ok-hand_over.ensures.none_held found c.in_ok-next_line.ensures.ended
 
 pub returns-then-not-branch-clause-settled : goal.returns-then-not-branch-clause-settled
 returns-then-not-branch-clause-settled g c = c.lines.invariant.settled (c.lines.invariant.pending ∙ c.in_ok-next_line.ensures.none c.if-not-branch.true)

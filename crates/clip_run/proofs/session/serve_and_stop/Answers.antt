@@ -12,10 +12,6 @@ returns g c =
     let taken = g.W.Sink.taken in
     record {
       outcome = ended_ok hearers c.args.crew.now s.new.crew c.stop.new.self.rows c.args.audience.now s.new.audience input (taken c.args.writer.now) (taken s.new.writer) s.result b.0 b.1 b.2 c.stop.ensures e.settled e.served;
-      flushed = e.flushed;
-      ok = e.ok;
-      read = e.read;
-      write = e.write;
-      reads = e.reads;
+      honest = e.honest;
       front = ended_err hearers c.args.crew.now s.new.crew c.args.audience.now s.new.audience input (left s.new.reader) (g.S.Source.met_end s.new.reader) (taken c.args.writer.now) (taken s.new.writer) s.result b.0 b.2 e.front;
     }
