@@ -53,7 +53,8 @@ pub record IsHonest {T : Type 0} (result : Result T RunFault) (devices : Devices
   -- and no read, no write and no flush has failed
   pub ok : OnOk result ((devices.read_failed ≡ false) × (devices.write_failed ≡ false))
   -- `Read` has its reason: a read failed, or the most reads were made and none of them met the end
-  pub read : result ≡ Err fault.Read → (devices.read_failed ≡ true) ⊎ ((devices.reads ≡ MOST_READS) × (devices.met_end ≡ false))
+  pub read : result ≡ Err fault.Read
+      → (devices.read_failed ≡ true) ⊎ ((devices.reads ≡ MOST_READS) × (devices.met_end ≡ false))
   -- `Write` has its reason: a write or a flush failed, or a write took nothing
   pub write : result ≡ Err fault.Write → devices.write_failed ≡ true
   -- whatever it answered, no more reads were made than these

@@ -48,7 +48,11 @@ rows_posted hearers n h (line.showing id) = []
 rows_posted hearers n h (line.matching articles) = flat_map (λ a. rows_of_article hearers n (alerts h a)) articles
 
 abbrev pub given : List Hearer → ℕ → History → Meaning → Outcome
-given hearers n h m = record { text = λ form. reply form hearers n h m; alerts = alerts_told h m; rows = rows_posted hearers n h m }
+given hearers n h m = record {
+  text = λ form. reply form hearers n h m;
+  alerts = alerts_told h m;
+  rows = rows_posted hearers n h m;
+}
 
 -- ---- the whole input
 
@@ -56,7 +60,11 @@ abbrev pub nothing_given : Outcome
 nothing_given = record { text = λ form. []; alerts = []; rows = [] }
 
 abbrev pub followed_by : Outcome → Outcome → Outcome
-followed_by first more = record { text = λ form. first.text form ++ more.text form; alerts = first.alerts ++ more.alerts; rows = first.rows ++ more.rows }
+followed_by first more = record {
+  text = λ form. first.text form ++ more.text form;
+  alerts = first.alerts ++ more.alerts;
+  rows = first.rows ++ more.rows;
+}
 
 abbrev pub names_in : List Hearer → List (List ℕ)
 names_in hearers = map (λ l. l.name) hearers
@@ -65,7 +73,8 @@ names_in hearers = map (λ l. l.name) hearers
 abbrev pub Gives : List Hearer → ℕ → History → List (List ℕ) → Outcome → Type 0
 Gives hearers n h [] outcome = outcome ≡ nothing_given
 Gives hearers n h (line ∷ lines) outcome =
-    (m : Meaning) × (rest : Outcome) × Means (names_in hearers) h line m × (outcome ≡ followed_by (given hearers n h m) rest) × Gives hearers (suc n) (after h m) lines rest
+    (m : Meaning) × (rest : Outcome) × Means (names_in hearers) h line m
+    × (outcome ≡ followed_by (given hearers n h m) rest) × Gives hearers (suc n) (after h m) lines rest
 
 -- the outcome of the input, where these listeners are here
 abbrev pub IsOutcome : List Hearer → List ℕ → Outcome → Type 0
@@ -75,8 +84,10 @@ IsOutcome hearers input outcome = Gives hearers 1 [] (lines_of input) outcome
 abbrev pub kept_rows : Bool → List RowValue → List RowValue
 kept_rows keeps rows = if keeps then rows else []
 
--- All that is due was written in the form that is set, each listener has heard just its own alerts, in order, the ledger has its rows, and there were so many lines.
-pub record GivesAll (hearers heard : List Hearer) (settings : Settings) (old new : Option (List ℕ)) (lines : ℕ) (ledger : List RowValue) (input : List ℕ) : Type 0 where
+-- All that is due was written in the form that is set, each listener has heard just its own alerts, in order, the
+-- ledger has its rows, and there were so many lines.
+pub record GivesAll (hearers heard : List Hearer) (settings : Settings) (old new : Option (List ℕ)) (lines : ℕ)
+    (ledger : List RowValue) (input : List ℕ) : Type 0 where
   pub outcome : Outcome
   pub is : IsOutcome hearers input outcome
   pub replies : Appends old new (outcome.text settings.form)
@@ -85,7 +96,8 @@ pub record GivesAll (hearers heard : List Hearer) (settings : Settings) (old new
   pub counted : lines ≡ length (lines_of input)
 
 -- What was written is a front of the replies to these lines, and the listeners have heard a front of their alerts.
-pub record GivesFront (hearers heard : List Hearer) (form : Form) (old new : Option (List ℕ)) (lines : List (List ℕ)) : Type 0 where
+pub record GivesFront (hearers heard : List Hearer) (form : Form) (old new : Option (List ℕ)) (lines : List (List ℕ))
+    : Type 0 where
   pub outcome : Outcome
   pub gives : Gives hearers 1 [] lines outcome
   pub replies : AppendsFront old new (outcome.text form)

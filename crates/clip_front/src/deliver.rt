@@ -69,8 +69,8 @@ fn deliver_all<A: Audience>(
 /// listeners said, all in order.
 ///
 /// `NoMemory` where an allocation failed or a listener answers it; the listeners have heard some first ones of the
-/// alerts then, and some first rows may be posted. Cost: that of `deliver_to` and of `Books::post` for each article, and
-/// of the text.
+/// alerts then, and some first rows may be posted. Cost: that of `deliver_to` and of `Books::post` for each article,
+/// and of the text.
 pub fn deliver_found<A: Audience>(
     alloc: Global,
     audience: &mut A,

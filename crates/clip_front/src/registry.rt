@@ -24,7 +24,8 @@ pub trait Registry {
 
     /// Accepts a command and answers it, or gives `None` where there is no room for it, with nothing changed.
     ///
-    /// `NoMemory` where an allocation failed. Cost: that of the registry's own acceptance, and of what it does beside it.
+    /// `NoMemory` where an allocation failed. Cost: that of the registry's own acceptance, and of what it does beside
+    /// it.
     fn accept(&mut self, command: Command) -> Result<Option<Applied>, NoMemory>
         requires fits { IsTrue (fits (command_of command)) }
         ensures judged { IfOk result (λ answer.
@@ -46,7 +47,8 @@ pub trait Registry {
         ensures goes_on { OnOk result (goes_on self.old self.new) }
         ensures same { OnOk result (history_in self.new ≡ history_in self.old) };
 
-    /// The text of the query under an id, if one is registered under it. Cost: one look-up by id, and a copy of the text.
+    /// The text of the query under an id, if one is registered under it. Cost: one look-up by id, and a copy of the
+    /// text.
     ///
     /// `NoMemory` where an allocation failed, or the count of the registry's holders is at its end.
     fn show(&mut self, alloc: Global, id: &str) -> Result<Option<String>, NoMemory>

@@ -25,7 +25,13 @@ IsNew crew = (crew.history ≡ []) × (crew.rows ≡ []) × (crew.owed ≡ [])
 
 -- with these listeners
 abbrev pub course : CrewIs → List Hearer → Course
-course crew hearers = record { history = crew.history; hearers = hearers; rows = crew.rows; settings = crew.settings; owed = crew.owed }
+course crew hearers = record {
+  history = crew.history;
+  hearers = hearers;
+  rows = crew.rows;
+  settings = crew.settings;
+  owed = crew.owed;
+}
 
 -- with what an audience tells of its listeners
 abbrev pub course_at : {A : Type 0} → (A → List Hearer) → CrewIs × A → Course
@@ -46,7 +52,8 @@ owed_again (ready text) = refl
 owed_again (matched n h articles) = refl
 
 abbrev owed_code : Coded Owed
-owed_code = code_by (List ℕ ⊎ (ℕ × (History × List ArticleValue))) (coded⊎ bytes_code (coded× coded_ℕ (coded× history_code (coded_list article_code)))) owed_parts owed_made owed_again
+owed_code = code_by (List ℕ ⊎ (ℕ × (History × List ArticleValue)))
+    (coded⊎ bytes_code (coded× coded_ℕ (coded× history_code (coded_list article_code)))) owed_parts owed_made owed_again
 
 abbrev shows_hits : Form → Bool
 shows_hits Plain = false
@@ -70,9 +77,12 @@ pub settings_again : (s : Settings) → settings_made (settings_parts s) ≡ s
 settings_again s = λ i. record { form = form_again s.form i; keeps_rows = s.keeps_rows; workers = s.workers }
 
 abbrev settings_code : Coded Settings
-settings_code = code_by (Bool × (Bool × ℕ)) (coded× coded_bool (coded× coded_bool coded_ℕ)) settings_parts settings_made settings_again
+settings_code = code_by (Bool × (Bool × ℕ)) (coded× coded_bool (coded× coded_bool coded_ℕ)) settings_parts settings_made
+    settings_again
 
 abbrev pub crew_code : Coded CrewIs
 crew_code =
-    code_by (History × (List RowValue × (Settings × List Owed))) (coded× history_code (coded× (coded_list row_code) (coded× settings_code (coded_list owed_code))))
-    (λ c. (c.history, (c.rows, (c.settings, c.owed)))) (λ p. record { history = p.0; rows = p.1.0; settings = p.1.1.0; owed = p.1.1.1 }) (λ _. refl)
+    code_by (History × (List RowValue × (Settings × List Owed)))
+    (coded× history_code (coded× (coded_list row_code) (coded× settings_code (coded_list owed_code))))
+    (λ c. (c.history, (c.rows, (c.settings, c.owed))))
+    (λ p. record { history = p.0; rows = p.1.0; settings = p.1.1.0; owed = p.1.1.1 }) (λ _. refl)

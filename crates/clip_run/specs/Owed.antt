@@ -23,7 +23,8 @@ abbrev pub owes : List Hearer → List Owed → Outcome
 owes hearers [] = nothing_given
 owes hearers (o ∷ owed) = followed_by (owed_of hearers o) (owes hearers owed)
 
--- what a run holds between two lines: what was accepted, what the listeners have heard, the rows, where they are kept, its settings, and what it owes
+-- what a run holds between two lines: what was accepted, what the listeners have heard, the rows, where they are kept,
+-- its settings, and what it owes
 pub record Course : Type 0 where
   pub history : History
   pub hearers : List Hearer
@@ -45,7 +46,8 @@ pub record Pays (old new : Course) (text : List ℕ) : Type 0 where
   pub history : new.history ≡ old.history
   pub rest : owes old.hearers old.owed ≡ followed_by out (owes old.hearers new.owed)
 
--- Line n was taken. Of what was owed and what the line gives, a front was given, with this text. The rest is still owed.
+-- Line n was taken. Of what was owed and what the line gives, a front was given, with this text. The rest is still
+-- owed.
 pub record Turns (old new : Course) (n : ℕ) (line text : List ℕ) : Type 0 where
   pub meaning : Meaning
   pub means : Means (names_in old.hearers) old.history line meaning
@@ -53,13 +55,16 @@ pub record Turns (old new : Course) (n : ℕ) (line text : List ℕ) : Type 0 wh
   pub out : Outcome
   pub gave : Gave old new out
   pub printed : out.text old.settings.form ≡ text
-  pub rest : followed_by (owes old.hearers old.owed) (given old.hearers n old.history meaning) ≡ followed_by out (owes old.hearers new.owed)
+  pub rest : followed_by (owes old.hearers old.owed) (given old.hearers n old.history meaning)
+      ≡ followed_by out (owes old.hearers new.owed)
 
--- The run was broken off at line n: the listeners have heard a front of the alerts of what was owed and of what the line gives.
+-- The run was broken off at line n: the listeners have heard a front of the alerts of what was owed and of what the
+-- line gives.
 pub record BreaksOff (old new : Course) (n : ℕ) (line : List ℕ) : Type 0 where
   pub meaning : Meaning
   pub means : Means (names_in old.hearers) old.history line meaning
-  pub heard : HearsFront (followed_by (owes old.hearers old.owed) (given old.hearers n old.history meaning)).alerts old.hearers new.hearers
+  pub heard : HearsFront (followed_by (owes old.hearers old.owed) (given old.hearers n old.history meaning)).alerts
+      old.hearers new.hearers
 
 -- how a server answers that holds this
 abbrev pub TurnsIn : {S : Type 0} → (S → Course) → Answering S
@@ -78,7 +83,13 @@ PaysInto old new before now = (text : List ℕ) × Pays old new text × (now ≡
 
 -- the course that owes one thing more
 abbrev pub owing : Course → Owed → Course
-owing s o = record { history = s.history; hearers = s.hearers; rows = s.rows; settings = s.settings; owed = s.owed ++ o ∷ [] }
+owing s o = record {
+  history = s.history;
+  hearers = s.hearers;
+  rows = s.rows;
+  settings = s.settings;
+  owed = s.owed ++ o ∷ [];
+}
 
 -- A front of what was owed was given, its text stands at the end, and a batch is owed to line n.
 pub record TakesBatch (old new : Course) (n : ℕ) (articles : List ArticleValue) (before now : List ℕ) : Type 0 where

@@ -18,13 +18,17 @@ pub record Told : Type 0 where
   pub hearers : List Hearer
 
 abbrev pub told : {S W A : Type 0} → source.Ghosts S → sink.Ghosts W → audience.Ghosts A → S → W → A → Told
-told reads writes hears reader writer listeners = record { devices = devices_at reads writes reader writer; hearers = hears.hearers listeners }
+told reads writes hears reader writer listeners =
+    record { devices = devices_at reads writes reader writer; hearers = hears.hearers listeners }
 
 -- A run of these settings went from the first to the second, and gave so many lines and these rows, or a fault.
-pub record Ran {T : Type 0} (lines : T → ℕ) (rows : T → List RowValue) (settings : Settings) (old new : Told) (result : Result T RunFault) : Type 0 where
-  pub outcome : IfOk result (λ t. OfInput old.devices.left (GivesAll old.hearers new.hearers settings old.devices.taken new.devices.taken (lines t) (rows t)))
+pub record Ran {T : Type 0} (lines : T → ℕ) (rows : T → List RowValue) (settings : Settings) (old new : Told)
+    (result : Result T RunFault) : Type 0 where
+  pub outcome : IfOk result (λ t. OfInput old.devices.left
+      (GivesAll old.hearers new.hearers settings old.devices.taken new.devices.taken (lines t) (rows t)))
   pub honest : IsHonest result new.devices
-  pub front : OnErr result (OfLinesRead old.devices.left new.devices.left new.devices.met_end (GivesFront old.hearers new.hearers settings.form old.devices.taken new.devices.taken))
+  pub front : OnErr result (OfLinesRead old.devices.left new.devices.left new.devices.met_end
+      (GivesFront old.hearers new.hearers settings.form old.devices.taken new.devices.taken))
 
 -- It ended with its lines and its ledger, or with a fault.
 abbrev pub RanToEnd : Settings → Told → Told → Result Ended RunFault → Type 0

@@ -26,13 +26,15 @@ abbrev pub ended_lines : List ℕ → List (List ℕ)
 ended_lines [] = []
 ended_lines (b ∷ bytes) = if b == 10 then [] ∷ ended_lines bytes else onto_ended b (ended_lines bytes)
 
--- The lines that were read, where a reader gave these bytes: all that end with a line feed, and the last that lacks it only where the end was met. The piece of a line whose end was not read is no line.
+-- The lines that were read, where a reader gave these bytes: all that end with a line feed, and the last that lacks it
+-- only where the end was met. The piece of a line whose end was not read is no line.
 abbrev pub lines_read : Bool → List ℕ → List (List ℕ)
 lines_read met_end bytes = if met_end then lines_of bytes else ended_lines bytes
 
 -- the lines that were read of an input are its first lines
 abbrev pub LinesReadComeFirst : Type 0
-LinesReadComeFirst = (met_end : Bool) (bytes rest : List ℕ) → (met_end ≡ true → rest ≡ []) → (later : List (List ℕ)) × (lines_of (bytes ++ rest) ≡ lines_read met_end bytes ++ later)
+LinesReadComeFirst = (met_end : Bool) (bytes rest : List ℕ) → (met_end ≡ true → rest ≡ [])
+    → (later : List (List ℕ)) × (lines_of (bytes ++ rest) ≡ lines_read met_end bytes ++ later)
 
 -- ---- by what a reader tells
 
@@ -41,6 +43,7 @@ abbrev pub OfInput : Option (List ℕ) → (List ℕ → Type 0) → Type 0
 OfInput None P = (input : List ℕ) × P input
 OfInput (Some input) P = P input
 
--- It holds of the lines that were read, where this was left before and after: of those of the bytes that were given, or of some bytes where a reader doesn't tell them.
+-- It holds of the lines that were read, where this was left before and after: of those of the bytes that were given, or
+-- of some bytes where a reader doesn't tell them.
 abbrev pub OfLinesRead : Option (List ℕ) → Option (List ℕ) → Bool → (List (List ℕ) → Type 0) → Type 0
 OfLinesRead old new met_end P = (bytes : List ℕ) × Consumes old new bytes × P (lines_read met_end bytes)

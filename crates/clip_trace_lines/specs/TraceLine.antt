@@ -40,7 +40,8 @@ FirstUnread (l ∷ ls) (suc k) = IsAQuery l.query × FirstUnread ls k
 -- what a request says
 abbrev pub SaysRequest : TraceRequest → Said → Type 0
 SaysRequest (request.register caller listings) said =
-    ((k : ℕ) × FirstUnread listings k × (said ≡ refusal_at reason.Query k)) ⊎ ((ss : List Standing) × AreReadAs listings ss × (said ≡ plays (event.Accept (caller_of caller) (Register ss))))
+    ((k : ℕ) × FirstUnread listings k × (said ≡ refusal_at reason.Query k))
+    ⊎ ((ss : List Standing) × AreReadAs listings ss × (said ≡ plays (event.Accept (caller_of caller) (Register ss))))
 SaysRequest (request.delete caller ids) said = said ≡ plays (event.Accept (caller_of caller) (Delete ids))
 SaysRequest (request.clear caller) said = said ≡ plays (event.Accept (caller_of caller) Clear)
 SaysRequest (request.begin merge) said = said ≡ plays (event.Begin merge)

@@ -50,7 +50,8 @@ Replies (plays event) steps r = (a : Answer) × (steps ≡ (event, a) ∷ []) ×
 abbrev pub Traces : ℕ → List (List ℕ) → List Step → List ℕ → Type 0
 Traces n [] steps text = (steps ≡ []) × (text ≡ [])
 Traces n (line ∷ lines) steps text =
-    (said : Said) × (now : List Step) × (r : Reply) × (later : List Step) × (rest : List ℕ) × SaysTrace line said × Replies said now r × (steps ≡ now ++ later) × (text ≡ reply_text n r ++ rest) × Traces (suc n) lines later rest
+    (said : Said) × (now : List Step) × (r : Reply) × (later : List Step) × (rest : List ℕ) × SaysTrace line said
+    × Replies said now r × (steps ≡ now ++ later) × (text ≡ reply_text n r ++ rest) × Traces (suc n) lines later rest
 
 -- The lines are replied by this text, with answers each of which is due to its event.
 pub record IsTrace (lines : List (List ℕ)) (text : List ℕ) : Type 0 where

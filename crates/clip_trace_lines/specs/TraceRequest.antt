@@ -26,13 +26,19 @@ with_caller None ms = ms
 with_caller (Some caller) ms = (codes "caller", number_of caller) ∷ ms
 
 abbrev pub trace_value : TraceRequest → Data
-trace_value (register caller listings) = object_of (with_caller caller ((codes "op", string (codes "register")) ∷ (codes "queries", array_of (map listing_value listings)) ∷ []))
-trace_value (delete caller ids) = object_of (with_caller caller ((codes "ids", array_of (map string ids)) ∷ (codes "op", string (codes "delete")) ∷ []))
+trace_value (register caller listings) =
+    object_of (with_caller caller
+    ((codes "op", string (codes "register")) ∷ (codes "queries", array_of (map listing_value listings)) ∷ []))
+trace_value (delete caller ids) =
+    object_of (with_caller caller
+    ((codes "ids", array_of (map string ids)) ∷ (codes "op", string (codes "delete")) ∷ []))
 trace_value (clear caller) = object_of (with_caller caller ((codes "op", string (codes "clear")) ∷ []))
 trace_value (begin merge) = object_of ((codes "merge", number_of merge) ∷ (codes "op", string (codes "begin")) ∷ [])
 trace_value (install merge) = object_of ((codes "merge", number_of merge) ∷ (codes "op", string (codes "install")) ∷ [])
 trace_value purge = object_of ((codes "op", string (codes "purge")) ∷ [])
-trace_value (look batch drafts) = object_of ((codes "articles", array_of (map draft_value drafts)) ∷ (codes "batch", number_of batch) ∷ (codes "op", string (codes "look")) ∷ [])
+trace_value (look batch drafts) =
+    object_of ((codes "articles", array_of (map draft_value drafts)) ∷ (codes "batch", number_of batch)
+    ∷ (codes "op", string (codes "look")) ∷ [])
 trace_value (piece batch) = object_of ((codes "batch", number_of batch) ∷ (codes "op", string (codes "piece")) ∷ [])
 trace_value (finish batch) = object_of ((codes "batch", number_of batch) ∷ (codes "op", string (codes "finish")) ∷ [])
 

@@ -42,7 +42,8 @@ TakesList names listings (Err fault.NoMemory) = ⊤
 
 -- ---- a line that tells no alert
 
--- From the first history to the second by a line that means this and tells no alert, and in each form and whoever listens, this is the reply.
+-- From the first history to the second by a line that means this and tells no alert, and in each form and whoever
+-- listens, this is the reply.
 pub record Replies (old new : History) (m : Meaning) (r : Reply) : Type 0 where
   pub quiet : IsQuiet m
   pub history : new ≡ after old m
@@ -59,7 +60,8 @@ Comes names old new o (response.Match articles) = (o ≡ matches articles.items)
 
 -- ---- any line
 
--- what a run holds between two lines: what was accepted, what the listeners have heard, the rows, where they are kept, and its settings
+-- what a run holds between two lines: what was accepted, what the listeners have heard, the rows, where they are kept,
+-- and its settings
 pub record Held : Type 0 where
   pub history : History
   pub hearers : List Hearer
@@ -67,7 +69,8 @@ pub record Held : Type 0 where
   pub settings : Settings
 
 abbrev pub held : History → List Hearer → Books → Held
-held history hearers books = record { history = history; hearers = hearers; rows = books.ledger; settings = books.settings }
+held history hearers books = record
+    { history = history; hearers = hearers; rows = books.ledger; settings = books.settings }
 
 -- what it holds after line n, which means this
 abbrev pub held_after : Held → ℕ → Meaning → Held

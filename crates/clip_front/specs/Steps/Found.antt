@@ -19,8 +19,10 @@ rows_in hearers n found = flat_map (λ v. rows_of_article hearers n v.alerts) fo
 
 -- the text of the reply to line n in this form
 abbrev pub found_text : Form → List Hearer → ℕ → List AlertsValue → List ℕ
-found_text form hearers n found = reply_text n (matched form (map alerts_by_id found) (texts_said hearers (told_in found)))
+found_text form hearers n found =
+    reply_text n (matched form (map alerts_by_id found) (texts_said hearers (told_in found)))
 
 -- all that line n gives
 abbrev pub found_outcome : List Hearer → ℕ → List AlertsValue → Outcome
-found_outcome hearers n found = record { text = λ form. found_text form hearers n found; alerts = told_in found; rows = rows_in hearers n found }
+found_outcome hearers n found =
+    record { text = λ form. found_text form hearers n found; alerts = told_in found; rows = rows_in hearers n found }

@@ -17,7 +17,8 @@ Breaking S = S → S → ℕ → List ℕ → Type 0
 abbrev pub Serves : {S : Type 0} → Answering S → S → S → ℕ → List (List ℕ) → List ℕ → Type 0
 Serves answers s t n [] text = (t ≡ s) × (text ≡ [])
 Serves {S = S} answers s t n (line ∷ lines) text =
-    (u : S) × (first : List ℕ) × (rest : List ℕ) × answers s u n (cut line) first × (text ≡ first ++ rest) × Serves answers u t (suc n) lines rest
+    (u : S) × (first : List ℕ) × (rest : List ℕ) × answers s u n (cut line) first × (text ≡ first ++ rest)
+    × Serves answers u t (suc n) lines rest
 
 -- nothing more was done, or the answering of the next line, of number n, was broken off
 abbrev pub StopsAt : {S : Type 0} → Breaking S → S → S → ℕ → List (List ℕ) → Type 0
@@ -25,14 +26,16 @@ StopsAt breaks s t n [] = t ≡ s
 StopsAt breaks s t n (line ∷ lines) = (t ≡ s) ⊎ breaks s t n (cut line)
 
 -- All lines of the input were answered, so many, and the answers were written.
-pub record ServesAll {S : Type 0} (answers : Answering S) (old new : S) (taken_old taken_new : Option (List ℕ)) (count : ℕ) (input : List ℕ) : Type 0 where
+pub record ServesAll {S : Type 0} (answers : Answering S) (old new : S) (taken_old taken_new : Option (List ℕ))
+    (count : ℕ) (input : List ℕ) : Type 0 where
   pub text : List ℕ
   pub served : Serves answers old new 1 (lines_of input) text
   pub written : Appends taken_old taken_new text
   pub counted : count ≡ length (lines_of input)
 
 -- Some first ones of the lines were answered, the next was begun at most, and a front of the answers was written.
-pub record ServesFront {S : Type 0} (answers : Answering S) (breaks : Breaking S) (old new : S) (taken_old taken_new : Option (List ℕ)) (lines : List (List ℕ)) : Type 0 where
+pub record ServesFront {S : Type 0} (answers : Answering S) (breaks : Breaking S) (old new : S)
+    (taken_old taken_new : Option (List ℕ)) (lines : List (List ℕ)) : Type 0 where
   pub between : S
   pub front : List (List ℕ)
   pub later : List (List ℕ)

@@ -19,7 +19,8 @@ IsQuiet counting = ⊤
 IsQuiet (showing id) = ⊤
 IsQuiet (matching articles) = ⊥
 
--- From the first history to the second by line n, which tells no alert, and in each form and whoever listens, this is the text of its reply.
+-- From the first history to the second by line n, which tells no alert, and in each form and whoever listens, this is
+-- the text of its reply.
 pub record TakesQuietly (names : List (List ℕ)) (old new : History) (n : ℕ) (line text : List ℕ) : Type 0 where
   pub meaning : Meaning
   pub means : Means names old line meaning
@@ -27,7 +28,8 @@ pub record TakesQuietly (names : List (List ℕ)) (old new : History) (n : ℕ) 
   pub history : new ≡ after old meaning
   pub replies : (form : Form) (hearers : List Hearer) → text ≡ reply form hearers n old meaning
 
--- From the first history to the second by line n, where the listeners of these names are here, and this is what it comes to.
+-- From the first history to the second by line n, where the listeners of these names are here, and this is what it
+-- comes to.
 abbrev pub Takes : List (List ℕ) → History → History → ℕ → List ℕ → Taken → Type 0
 Takes names old new n line (taken.Text text) = TakesQuietly names old new n line text.items
 Takes names old new n line (taken.Articles articles) = Means names old line (matching articles.items) × (new ≡ old)

@@ -44,13 +44,15 @@ HasLine met_end bytes = (has_feed bytes ≡ true) ⊎ ((met_end ≡ true) × (0 
 
 -- of these bytes the first line was taken, or there is none and none comes
 abbrev pub TakesLine : Bool → Bool → List ℕ → List ℕ → List ℕ → Type 0
-TakesLine true met_end bytes line rest = HasLine met_end bytes × (line ≡ cut (first_line bytes)) × (rest ≡ after_line bytes)
+TakesLine true met_end bytes line rest =
+    HasLine met_end bytes × (line ≡ cut (first_line bytes)) × (rest ≡ after_line bytes)
 TakesLine false met_end bytes line rest = (bytes ≡ []) × (rest ≡ []) × (met_end ≡ true)
 
 -- The next line was found in what was pending and what the reader gave, or there was none.
-pub record FindsLine (found : Bool) (old new : Reading) (left_old left_new : Option (List ℕ)) (line : List ℕ) : Type 0 where
-  pub reads : Reads old new left_old left_new
-  pub takes : TakesLine found new.is_at_end (old.pending ++ reads.bytes) line new.pending
+pub record FindsLine (found : Bool) (old new : Reading) (left_old left_new : Option (List ℕ)) (line : List ℕ) : Type 0
+  where
+    pub reads : Reads old new left_old left_new
+    pub takes : TakesLine found new.is_at_end (old.pending ++ reads.bytes) line new.pending
 
 -- The front of a line was taken from what was pending and what the reader gave.
 pub record Gathers (old now : Reading) (left_old left : Option (List ℕ)) (line : List ℕ) : Type 0 where

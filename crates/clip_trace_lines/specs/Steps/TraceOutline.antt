@@ -55,13 +55,16 @@ abbrev pub called : ℕ → Data → Option (Option ℕ × Members)
 called others d = option_and_then (split_caller others) (as_object d)
 
 abbrev pub register_by : Option ℕ × Members → Option TraceRequest
-register_by p = option_map (request.register p.0) (option_and_then (λ q. option_and_then (all_of listing_of) (as_array q.1)) (two_of (codes "op") (codes "queries") p.1))
+register_by p = option_map (request.register p.0)
+    (option_and_then (λ q. option_and_then (all_of listing_of) (as_array q.1))
+    (two_of (codes "op") (codes "queries") p.1))
 
 unfoldable pub register_of : Data → Option TraceRequest
 register_of d = option_and_then register_by (called 2 d)
 
 abbrev pub delete_by : Option ℕ × Members → Option TraceRequest
-delete_by p = option_map (request.delete p.0) (option_and_then (λ q. option_and_then (all_of as_str) (as_array q.0)) (two_of (codes "ids") (codes "op") p.1))
+delete_by p = option_map (request.delete p.0)
+    (option_and_then (λ q. option_and_then (all_of as_str) (as_array q.0)) (two_of (codes "ids") (codes "op") p.1))
 
 unfoldable pub delete_of : Data → Option TraceRequest
 delete_of d = option_and_then delete_by (called 2 d)
@@ -73,7 +76,8 @@ unfoldable pub clear_of : Data → Option TraceRequest
 clear_of d = option_and_then clear_by (called 1 d)
 
 abbrev pub look_by : Data × (Data × Data) → Option TraceRequest
-look_by p = option_and_then (λ batch. option_map (request.look batch) (option_and_then (all_of draft_of) (as_array p.0))) (number_in p.1.0)
+look_by p = option_and_then (λ batch. option_map (request.look batch)
+    (option_and_then (all_of draft_of) (as_array p.0))) (number_in p.1.0)
 
 unfoldable pub look_of : Data → Option TraceRequest
 look_of d = option_and_then look_by (three_members (codes "articles") (codes "batch") (codes "op") d)
@@ -139,7 +143,8 @@ value_line None = refused refusal.Json
 value_line (Some d) = asked_line (trace_request_of d)
 
 unfoldable pub trace_line : List ℕ → Line TraceRequest
-trace_line bytes = if is_long bytes then refused refusal.Long else (if is_blank bytes then blank else value_line (json_of bytes))
+trace_line bytes = if is_long bytes then refused refusal.Long
+    else (if is_blank bytes then blank else value_line (json_of bytes))
 
 -- what contracts see of a line
 abbrev pub said_view : TraceLine → Said
@@ -164,7 +169,8 @@ ReadsList listings (Err fault.NoMemory) = ⊤
 
 -- Steps after which things stand so: where those before it are due, all are due.
 abbrev pub Plays : Stand → Stand → List Step → Type 0
-Plays old new steps = (before : List Step) → IsDue before → stand before ≡ old → IsDue (before ++ steps) × (stand (before ++ steps) ≡ new)
+Plays old new steps = (before : List Step) → IsDue before → stand before ≡ old
+    → IsDue (before ++ steps) × (stand (before ++ steps) ≡ new)
 
 -- a line that says this is answered by its steps
 pub record Responds (old new : Stand) (s : Said) (r : Reply) : Type 0 where
