@@ -44,13 +44,13 @@ pub trait Server<L> {
 /// flushed: a client that waits for the answer to its line before it sends the next one gets it. Between two reads the
 /// answers are gathered, so that the writer gets few writes, and the server may hold some back.
 ///
-/// The devices are to be fresh: nothing was read yet, the reader has not met its end, and no call of it or of the writer
-/// has failed.
+/// The devices are to be fresh: nothing was read yet, the reader has not met its end, and no call of it or of the
+/// writer has failed.
 ///
 /// After `Ok` what was written was flushed, and no call of the reader or the writer has failed. `Read` where a read
 /// failed, or 1,099,511,627,776 reads met no end, more than which are never made; `Write` where a write or a flush
-/// failed, or a write took nothing; `NoMemory` where an allocation failed or the server answers it. After a fault nothing
-/// more is written.
+/// failed, or a write took nothing; `NoMemory` where an allocation failed or the server answers it. After a fault
+/// nothing more is written.
 ///
 /// Cost: that of the answers. Memory: one line, up to 64 KiB of gathered answers and one answer more.
 pub fn serve<R: Source, W: Sink, L, S: Server<L>>(
@@ -63,8 +63,8 @@ pub fn serve<R: Source, W: Sink, L, S: Server<L>>(
     requires fresh { AreFresh (devices_at R.Source W.Sink reader.old writer.old) }
     requires settled { S.is_settled (server.old, lent.old) }
 
-    // The server has answered just the lines of the input, in order, of which there were so many, and the writer has taken
-    // the answers. Where the reader doesn't tell its bytes, there is some input of which this holds.
+    // The server has answered just the lines of the input, in order, of which there were so many, and the writer has
+    // taken the answers. Where the reader doesn't tell its bytes, there is some input of which this holds.
     ensures served { IfOk result (λ count. OfInput (R.left reader.old) (ServesAll S.answers
         (server.old, lent.old) (server.new, lent.new) (W.taken writer.old) (W.taken writer.new) count)) }
     ensures settled { OnOk result (S.is_settled (server.new, lent.new)) }

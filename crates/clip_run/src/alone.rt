@@ -130,13 +130,13 @@ impl<A: Audience> Server<A> for RunServer {
 /// After each accepted change one merge turn is taken: the oldest four neighbouring segments of one level become one. A
 /// turn that is refused memory is dropped, and a later one may take them. What is registered stays as it is.
 ///
-/// The devices are to be fresh: nothing was read yet, the reader has not met its end, and no call of it or of the writer
-/// has failed.
+/// The devices are to be fresh: nothing was read yet, the reader has not met its end, and no call of it or of the
+/// writer has failed.
 ///
 /// After `Ok` what was written was flushed, and no call of the reader or the writer has failed. `Read` where a read
 /// failed, or 1,099,511,627,776 reads met no end, more than which are never made; `Write` where a write or a flush
-/// failed, or a write took nothing; `NoMemory` where an allocation failed outside of a merge turn, or a listener answers
-/// it. After a fault nothing more is written, and no more is delivered.
+/// failed, or a write took nothing; `NoMemory` where an allocation failed outside of a merge turn, or a listener
+/// answers it. After a fault nothing more is written, and no more is delivered.
 ///
 /// Cost: a register reads each query that it lists, looks its listener's name up, extracts its keys and searches the
 /// ids for its own; a delete searches the ids for each that it lists. A merge turn takes a step for each segment and,
@@ -157,9 +157,9 @@ pub fn run_alone<R: Source, W: Sink, A: Audience>(
 ) -> Result<Ended, RunFault>
     requires fresh { AreFresh (devices_at R.Source W.Sink reader.old writer.old) }
 
-    // What was written and flushed is the reply text of the input, each listener has heard just its own alerts, in order,
-    // the ledger has a row for each alert, or none where none are kept, and the lines are counted. Where the reader doesn't
-    // tell its bytes, there is some input of which this holds.
+    // What was written and flushed is the reply text of the input, each listener has heard just its own alerts, in
+    // order, the ledger has a row for each alert, or none where none are kept, and the lines are counted. Where the
+    // reader doesn't tell its bytes, there is some input of which this holds.
     ensures outcome { IfOk result (λ ended. OfInput (R.left reader.old)
         (GivesAll (A.hearers audience.old) (A.hearers audience.new) settings
         (W.taken writer.old) (W.taken writer.new) ended.lines ended.ledger)) }
@@ -167,8 +167,8 @@ pub fn run_alone<R: Source, W: Sink, A: Audience>(
     // What was written was flushed and no device has failed, where the run ended well, and each fault has its reason.
     ensures honest { IsHonest result (devices_at R.Source W.Sink reader.new writer.new) }
 
-    // After a fault, what was written and heard is a front of what the lines give that were read: the first of the input,
-    // or of some input, where the reader doesn't tell its bytes.
+    // After a fault, what was written and heard is a front of what the lines give that were read: the first of the
+    // input, or of some input, where the reader doesn't tell its bytes.
     ensures front { OnErr result (OfLinesRead (R.left reader.old) (R.left reader.new) (R.met_end reader.new)
         (GivesFront (A.hearers audience.old) (A.hearers audience.new) settings.form
         (W.taken writer.old) (W.taken writer.new))) }

@@ -42,8 +42,8 @@ pub fn serve_crew<
     requires fresh { AreFresh (devices_at S.Source W.Sink reader.old writer.old) }
     requires settled { crew.old.owed ≡ [] }
 
-    // The crew has answered just the lines of the input, in order, of which there were so many, and the writer has taken
-    // the answers. Where the reader doesn't tell its bytes, there is some input of which this holds.
+    // The crew has answered just the lines of the input, in order, of which there were so many, and the writer has
+    // taken the answers. Where the reader doesn't tell its bytes, there is some input of which this holds.
     ensures served { IfOk result (λ count. OfInput (S.left reader.old) (ServesAll (TurnsIn (course_at A.hearers))
         (crew.old, audience.old) (crew.new, audience.new) (W.taken writer.old) (W.taken writer.new) count)) }
     ensures settled { OnOk result (crew.new.owed ≡ []) }

@@ -182,8 +182,8 @@ fn run_desk<
 /// flushed: a client that waits for a reply before it sends its next line gets it. At the end, and after a fault, each
 /// thread that it started has ended.
 ///
-/// The devices are to be fresh: nothing was read yet, the reader has not met its end, and no call of it or of the writer
-/// has failed.
+/// The devices are to be fresh: nothing was read yet, the reader has not met its end, and no call of it or of the
+/// writer has failed.
 ///
 /// After `Ok` what was written was flushed, and no call of the reader or the writer has failed. `Read` where a read
 /// failed, or 1,099,511,627,776 reads met no end, more than which are never made; `Write` where a write or a flush
@@ -211,9 +211,9 @@ pub fn run<
     requires fresh { AreFresh (devices_at S.Source W.Sink reader.old writer.old) }
     requires workers { settings.workers ≤ MOST_WORKERS }
 
-    // What was written and flushed is the reply text of the input, each listener has heard just its own alerts, in order,
-    // the ledger has a row for each alert, or none where none are kept, and the lines are counted. Where the reader doesn't
-    // tell its bytes, there is some input of which this holds.
+    // What was written and flushed is the reply text of the input, each listener has heard just its own alerts, in
+    // order, the ledger has a row for each alert, or none where none are kept, and the lines are counted. Where the
+    // reader doesn't tell its bytes, there is some input of which this holds.
     ensures outcome { IfOk result (λ ended. OfInput (S.left reader.old)
         (GivesAll (A.hearers audience.old) (A.hearers audience.new) settings
         (W.taken writer.old) (W.taken writer.new) ended.lines ended.ledger)) }
@@ -221,8 +221,8 @@ pub fn run<
     // What was written was flushed and no device has failed, where the run ended well, and each fault has its reason.
     ensures honest { IsHonest result (devices_at S.Source W.Sink reader.new writer.new) }
 
-    // After a fault, what was written and heard is a front of what the lines give that were read: the first of the input,
-    // or of some input, where the reader doesn't tell its bytes.
+    // After a fault, what was written and heard is a front of what the lines give that were read: the first of the
+    // input, or of some input, where the reader doesn't tell its bytes.
     ensures front { OnErr result (OfLinesRead (S.left reader.old) (S.left reader.new) (S.met_end reader.new)
         (GivesFront (A.hearers audience.old) (A.hearers audience.new) settings.form
         (W.taken writer.old) (W.taken writer.new))) }

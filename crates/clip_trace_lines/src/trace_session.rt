@@ -48,8 +48,8 @@ impl Server<()> for TraceServer {
 /// two reads the replies are gathered, so that the writer gets few writes. Each event is played as the lines before it
 /// leave things.
 ///
-/// The devices are to be fresh: nothing was read yet, the reader has not met its end, and no call of it or of the writer
-/// has failed.
+/// The devices are to be fresh: nothing was read yet, the reader has not met its end, and no call of it or of the
+/// writer has failed.
 ///
 /// After `Ok` what was written was flushed, and no call of the reader or the writer has failed. `Read` where a read
 /// failed, or 1,099,511,627,776 reads met no end, more than which are never made; `Write` where a write or a flush
