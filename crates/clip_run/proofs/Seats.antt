@@ -2,7 +2,7 @@
 use Rattle.std.proofs.Common.{◌≡◌, ℕ, ◌+◌, List, [], ◌∷◌, ◌++◌, length, Some, slice_get, refl, sym, ap, ◌∙◌, arith, length-append}
 use Rattle.logbook.specs.Pages.{Book}
 use Rattle.clip_desk.specs.Seats.{SeatIs, DeskIs, AreSeated, new_seat}
-use Rattle.clip_run.specs.Seated.{IsOnly, IsOnlyNew}
+use Rattle.clip_run.specs.Seated.{IsOnlyNew}
 
 get_end : (xs : List SeatIs) (e : SeatIs) → slice_get (xs ++ e ∷ []) (length xs) ≡ Some e
 get_end [] e = refl
