@@ -6,4 +6,6 @@ mod making;
 mod memory;
 mod merging;
 mod plain;
+mod receipts;
 mod refusals;
+mod room;

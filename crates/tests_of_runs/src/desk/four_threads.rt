@@ -1,4 +1,4 @@
-//! Two callers that commit, one that purges, and a merger, in four threads.
+//! Two callers that commit, by lists or in turns, one that purges, and a merger, in four threads.
 ghost use Rattle.std.specs.Prelude.{◌≡◌, IsTrue};
 ghost use Rattle.clip_desk.specs.Updates.{all_heard};
 ghost use Rattle.clip_model.specs.History.{fits};
@@ -7,13 +7,14 @@ ghost use Rattle.clip_desk.specs.Locked.{IsSeatOf};
 
 use crate::desk::making::{commit, parts_of, pop_seat, purge, register};
 use crate::desk::plain::{Plain, STEPS, Step, steps_of, told};
+use crate::desk::receipts::{check_turns, take_turns};
+use crate::desk::room::{Plan, Room};
 use clip_desk::{Desk, DeskName, DeskParts, Nudge, Seat, UpdateLog};
 use clip_match::match_article;
 use clip_meaning::Article;
 use clip_registry::{History, Registrar, View};
 use clip_samples::{article, owned};
 use clip_standing::{Alert, Command};
-use crossbeam_channel::{Receiver, Sender, unbounded};
 use std::alloc::Global;
 use std::marker::Brand;
 use std::process::Abort;
@@ -23,14 +24,6 @@ use std::thread::{Threads, join};
 
 /// How often the third caller purges.
 const PURGES: u32 = 300;
-
-/// What the threads share.
-struct Room<N: DeskName> {
-    alloc: Global,
-    desk: Desk<N, UpdateLog>,
-    sender: Sender<Nudge>,
-    nudges: Receiver<Nudge>,
-}
 
 /// The article of a text.
 fn article_of<R: Abort>(rt: &R, alloc: Global, text: &str) -> Article {
@@ -124,6 +117,17 @@ fn commit_steps<N: DeskName, R: Wait + Abort>(rt: &R, room: &Room<N>, mut seat: 
     seat
 }
 
+/// Does what the plan says for the seat's caller.
+fn follow_plan<N: DeskName, R: Wait + Abort>(rt: &R, room: &Room<N>, seat: Seat) -> Seat
+    requires { IsSeatOf N.book N.callers seat }
+    ensures { IsSeatOf N.book N.callers result }
+{
+    match room.plan {
+        Plan::Lists => commit_steps(rt, room, seat),
+        Plan::Turns => take_turns(rt, room, seat),
+    }
+}
+
 /// Purges, and looks now and then.
 fn purge_often<N: DeskName, R: Wait + Abort>(rt: &R, room: &Room<N>, mut seat: Seat) -> Seat
     requires { IsSeatOf N.book N.callers seat }
@@ -158,7 +162,7 @@ fn run_last<N: DeskName + Send + Sync, R: Threads + Wait + Abort + Sync>(
         || -> Seat
             requires { IsSeatOf N.book N.callers two }
             ensures { IsSeatOf N.book N.callers result }
-        { commit_steps(rt, room, two) },
+        { follow_plan(rt, room, two) },
         || -> Seat
             requires { IsSeatOf N.book N.callers three }
             ensures { IsSeatOf N.book N.callers result }
@@ -166,7 +170,7 @@ fn run_last<N: DeskName + Send + Sync, R: Threads + Wait + Abort + Sync>(
     )
 }
 
-/// Two callers commit while the third purges, and then the merger is told to stop.
+/// The first two callers commit while the third purges, and then the merger is told to stop.
 fn run_callers<N: DeskName + Send + Sync, R: Threads + Wait + Abort + Sync>(
     rt: &R,
     room: &Room<N>,
@@ -184,7 +188,7 @@ fn run_callers<N: DeskName + Send + Sync, R: Threads + Wait + Abort + Sync>(
         || -> Seat
             requires { IsSeatOf N.book N.callers one }
             ensures { IsSeatOf N.book N.callers result }
-        { commit_steps(rt, room, one) },
+        { follow_plan(rt, room, one) },
         || -> (Seat, Seat)
             requires { IsSeatOf N.book N.callers two × IsSeatOf N.book N.callers three }
             ensures { IsSeatOf N.book N.callers result.0 × IsSeatOf N.book N.callers result.1 }
@@ -223,8 +227,20 @@ fn run_all<N: DeskName + Send + Sync, R: Threads + Wait + Abort + Sync>(
 
 #[test]
 fn two_callers_a_purger_and_a_merger(rt: HostRuntime) -> Result<(), Fail> {
-    let parts = parts_of(&rt, rt.alloc(), 1, 3)?;
-    run_four::<Brand, _>(&rt, rt.alloc(), parts);
+    run_plan(&rt, Plan::Lists)
+}
+
+#[test]
+fn two_callers_wait_for_each_others_receipts(rt: HostRuntime) -> Result<(), Fail> {
+    run_plan(&rt, Plan::Turns)
+}
+
+fn run_plan<R: Threads + Wait + Abort + Sync + AllocGlobal>(
+    rt: &R,
+    plan: Plan,
+) -> Result<(), Fail> {
+    let parts = parts_of(rt, rt.alloc(), 1, 3)?;
+    run_four::<Brand, _>(rt, rt.alloc(), parts, plan);
     Ok(())
 }
 
@@ -232,15 +248,12 @@ fn run_four<N: DeskName + Send + Sync, R: Threads + Wait + Abort + Sync>(
     rt: &R,
     alloc: Global,
     parts: DeskParts<UpdateLog>,
+    plan: Plan,
 )
     requires book { (parts.book ≡ N.book) × (parts.callers ≡ N.callers) }
     requires heard { N.heard_before ≡ all_heard parts.updates }
 {
     let (desk, mut seats) = Desk::<N, UpdateLog>::open(parts);
-    let (sender, nudges) = match unbounded(alloc) {
-        Ok(ends) => ends,
-        Err(_) => panic!(rt; "no channel"),
-    };
     let (Some(three), Some(two), Some(one)) = (
         pop_seat::<N>(&mut seats),
         pop_seat::<N>(&mut seats),
@@ -248,12 +261,7 @@ fn run_four<N: DeskName + Send + Sync, R: Threads + Wait + Abort + Sync>(
     ) else {
         panic!(rt; "three seats")
     };
-    let room = Room {
-        alloc,
-        desk,
-        sender,
-        nudges,
-    };
+    let room = Room::new(rt, alloc, desk, plan);
     let (one, (two, three)) = run_all(rt, &room, one, two, three);
     close_three(rt, room, one, two, three);
 }
@@ -269,18 +277,16 @@ fn close_three<N: DeskName, R: Wait + Abort>(
     requires one { IsSeatOf N.book N.callers one }
     requires others { IsSeatOf N.book N.callers two × IsSeatOf N.book N.callers three }
 {
-    let Room {
-        alloc,
-        desk,
-        sender: _sender,
-        nudges: _nudges,
-    } = room;
+    let (alloc, plan, desk) = (room.alloc, room.plan, room.into_desk());
     let Ok(all) = Vec::from_array(alloc, [one, two, three]) else {
         desk.end(rt);
         return;
     };
     match desk.close(rt, all) {
-        Ok(closed) => check_closed(rt, alloc, &closed.registrar),
+        Ok(closed) => match plan {
+            Plan::Lists => check_closed(rt, alloc, &closed.registrar),
+            Plan::Turns => check_turns(rt, &closed.registrar.history()),
+        },
         Err(_) => panic!(rt; "all seats are there"),
     }
 }

@@ -16,13 +16,23 @@ use Rattle.clip_desk.proofs.update_listener.UpdateLog.TheSendSync as log_sent
 use Rattle.clip_desk.specs.declared.locked.DeskName.{Ghosts}
 use Rattle.clip_desk.proofs.Sent.{desk_sync}
 use Rattle.clip_desk.proofs.desk_merging.Nudge.TheSendSync as nudge_sent
-use Rattle.tests_of_runs.specs.contracts.desk.four_threads.Room as room
+use Rattle.clip_desk.proofs.seat.Receipt.TheSendSync as receipt_sent
+use Rattle.tests_of_runs.specs.contracts.desk.room.Handed as handed
+use Rattle.tests_of_runs.specs.contracts.desk.room.Way as way
+use Rattle.tests_of_runs.specs.contracts.desk.room.Room as room
+use Rattle.tests_of_runs.proofs.desk.room.Plan.TheSendSync as plan_sent
 
 ruleset global = (sendable, global_sent.the_send, global_sent.the_sync, allocator_sent.the_frees, nudge_sent.the_send, nudge_sent.the_sync)
 
-pub room_sync : (N : RattleType) (g : Ghosts N.Denot) → IsSync (room.the_row N g)
-room_sync N g =
-    declared_sync (room.the_type N g) (search global, (desk_sync N log.the_row g log_impl.ghosts log_sent.the_send, (search (global, sender_sent.the_sync) depth 20, (search (global, receiver_sent.the_sync) depth 20, tt))))
+module _ (N : RattleType) (g : Ghosts N.Denot) where
+  handed_send : IsSend (handed.the_row N g)
+  handed_send = declared_send (handed.the_type N g) (receipt_sent.the_send, (search sendable, tt))
+
+  way_sync : IsSync (way.the_row N g)
+  way_sync = declared_sync (way.the_type N g) (search (global, sender_sent.the_sync, handed_send) depth 20, (search (global, receiver_sent.the_sync, handed_send) depth 20, tt))
+
+  pub room_sync : IsSync (room.the_row N g)
+  room_sync = declared_sync (room.the_type N g) (search global, (desk_sync N log.the_row g log_impl.ghosts log_sent.the_send, (search (global, sender_sent.the_sync) depth 20, (search (global, receiver_sent.the_sync) depth 20, (search (global, plan_sent.the_sync), (way_sync, (way_sync, tt)))))))
 
 -- a closure of two captures
 pub two_send : (name : Sym) (A B : RattleType) → IsSend A → IsSend B → IsSend (TupleAt name (A ∷ B ∷ []))

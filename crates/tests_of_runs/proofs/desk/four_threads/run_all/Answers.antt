@@ -3,7 +3,7 @@ use denote.Exit.{no}
 use denote.Param.{param}
 use denote.Param.Send.{IsSync, param_send, arg_send, sendable}
 use denote.Struct.Field.{shr_ref_field}
-use Rattle.tests_of_runs.specs.contracts.desk.four_threads.Room as room
+use Rattle.tests_of_runs.specs.contracts.desk.room.Room as room
 use Rattle.tests_of_runs.proofs.desk.four_threads.Shared.{room_sync, two_send}
 use Rattle.tests_of_runs.proofs.desk.four_threads.run_all.Goals as goal
 

@@ -5,7 +5,7 @@ use denote.Param.Send.{IsSync, param_send, arg_send, sendable}
 use denote.Struct.Field.{shr_ref_field}
 use Rattle.clip_desk.specs.contracts.seat.Seat as seat
 use Rattle.clip_desk.proofs.Sent.{seat_send}
-use Rattle.tests_of_runs.specs.contracts.desk.four_threads.Room as room
+use Rattle.tests_of_runs.specs.contracts.desk.room.Room as room
 use Rattle.tests_of_runs.proofs.desk.four_threads.Shared.{room_sync, three_send}
 use Rattle.tests_of_runs.proofs.desk.four_threads.run_callers.Goals as goal
 

@@ -1,5 +1,5 @@
 use Rattle.clip_desk.specs.Updates.{all_heard}
-use Rattle.tests_of_runs.proofs.desk.four_threads.two_callers_a_purger_and_a_merger.Given as goal
+use Rattle.tests_of_runs.proofs.desk.four_threads.run_plan.Given as goal
 
 -- the desk whose parts were just made
 abbrev pub ghosts-run_four : goal.ghosts-run_four
