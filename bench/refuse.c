@@ -1,7 +1,8 @@
 /* Counts the allocations of a program, and refuses one of them; it is loaded before the program by LD_PRELOAD.
 
-   That whose number, from 1, is the variable REFUSE is refused. When the program ends, the file of the number
-   REFUSE_REPORT gets the count as a line. bench/refusals builds this and uses it. */
+   Where the variable REFUSE_AFTER is set, only those are counted that come while the program has written so many lines
+   on standard output; else all. That whose number, from 1, is REFUSE is refused. When the program ends, the file of the
+   number REFUSE_REPORT gets the count as a line. bench/refusals builds this and uses it. */
 #define _GNU_SOURCE
 #include <errno.h>
 #include <stdatomic.h>
@@ -14,6 +15,7 @@ extern void *__libc_malloc(size_t size);
 extern void *__libc_realloc(void *block, size_t size);
 
 static atomic_ulong allocations;
+static atomic_ulong lines;
 
 static unsigned long number_of(const char *name) {
     const char *text = getenv(name);
@@ -22,6 +24,8 @@ static unsigned long number_of(const char *name) {
 
 /* Whether the allocation that is asked for now is refused. */
 static int is_refused(void) {
+    if (getenv("REFUSE_AFTER") && lines != number_of("REFUSE_AFTER"))
+        return 0;
     return ++allocations == number_of("REFUSE");
 }
 
@@ -39,6 +43,13 @@ void *realloc(void *block, size_t size) {
         return NULL;
     }
     return __libc_realloc(block, size);
+}
+
+ssize_t write(int file, const void *bytes, size_t count) {
+    long written = syscall(SYS_write, file, bytes, count);
+    for (long place = 0; file == STDOUT_FILENO && place < written; ++place)
+        lines += ((const char *)bytes)[place] == '\n';
+    return written;
 }
 
 void _exit(int status) {
