@@ -1,10 +1,10 @@
 //! Two listeners, alerts of theirs, and a ledger.
+use crate::registry::view_after;
 use crate::telling::{answered, call, refused};
 use anyhow::{Result, bail};
 use clip_ledger::Ledger;
 use clip_listen::{Listeners, Named, Note};
 use clip_match::match_article;
-use clip_registry::Registrar;
 use clip_samples::{add_listener, article, folder};
 use clip_standing::{Alerts, Command, Standing};
 use clip_words::NoMemory;
@@ -31,12 +31,8 @@ fn alerts(alloc: Global) -> Result<Alerts> {
         tea(alloc, "q2", Some("feed"))?,
         tea(alloc, "q3", None)?,
     ]?);
-    let mut registrar = Registrar::new(alloc);
-    if !command.fits() || registrar.apply(1, command).is_err() {
-        bail!("no registrar");
-    }
     let article = article(alloc, "a1", &[("text", "tea")])?;
-    Ok(match_article(alloc, &registrar.view()?, &article)?)
+    Ok(match_article(alloc, &view_after(alloc, command)?, &article)?)
 }
 
 /// Two listeners that have heard nothing.

@@ -1,9 +1,10 @@
 //! Three queries and three articles.
+use crate::registry::view_after;
 use crate::telling::{answered, call, refused};
-use anyhow::{Result, bail};
+use anyhow::Result;
 use clip_match::{OpenGate, match_article, match_pieces};
 use clip_meaning::Article;
-use clip_registry::{Registrar, View};
+use clip_registry::View;
 use clip_samples::{article, standing};
 use clip_standing::{Alerts, Command};
 use clip_words::NoMemory;
@@ -43,16 +44,12 @@ fn of_match_pieces<R: Print + Threads + Sync + AllocGlobal>(
 
 /// A view with q1 `tea`, q2 `coffee` and q3 `+tea +milk`.
 fn three_queries(alloc: Global) -> Result<View> {
-    let command = Command::Register(vec![in alloc;
+    let list = vec![in alloc;
         standing(alloc, "q1", "tea")?,
         standing(alloc, "q2", "coffee")?,
         standing(alloc, "q3", "+tea +milk")?,
-    ]?);
-    let mut registrar = Registrar::new(alloc);
-    if !command.fits() || registrar.apply(1, command).is_err() {
-        bail!("no registrar");
-    }
-    Ok(registrar.view()?)
+    ]?;
+    view_after(alloc, Command::Register(list))
 }
 
 /// Each call.

@@ -5,7 +5,7 @@ ghost use Rattle.clip_standing.specs.Command.{command_of};
 
 use crate::telling::{answered, call, refused};
 use anyhow::{Result, bail};
-use clip_registry::{Installed, MergeJob, Registrar};
+use clip_registry::{Installed, MergeJob, Registrar, View};
 use clip_samples::{owned, standing};
 use clip_standing::{Applied, Command, Refused};
 use clip_words::NoMemory;
@@ -17,6 +17,15 @@ pub fn registering(alloc: Global, id: &str) -> Result<Command>
 {
     let standing = standing(alloc, id, "tea")?;
     Ok(Command::Register(vec![in alloc; standing]?))
+}
+
+/// A view of a registrar that took a command.
+pub fn view_after(alloc: Global, command: Command) -> Result<View> {
+    let mut registrar = Registrar::new(alloc);
+    if !command.fits() || registrar.apply(1, command).is_err() {
+        bail!("the command is refused");
+    }
+    Ok(registrar.view()?)
 }
 
 /// How many queries were registered or taken out.
