@@ -1,20 +1,18 @@
 -- The heaviest of a list and the heaviest of the others, found in one go.
-use Rattle.std.proofs.Common.{◌≡◌, ℕ, ◌<◌, ◌≤◌, Bool, true, false, ◌||◌, cond, ltb, eqb, List, [], ◌∷◌, ◌++◌, map, fold, length, drop, Option, Some, None, Vec, Global, refl, sym, ap, ◌∙◌, arith}
+use Rattle.std.proofs.Common.{◌≡◌, ℕ, ◌<◌, ◌≤◌, Bool, true, false, ◌||◌, cond, ltb, eqb, List, [], ◌∷◌, fold, length, drop, Option, Some, None, Vec, Global, refl, sym, ap, ◌∙◌, arith}
 use Rattle.std.specs.List.{list_any}
 use Rattle.std.proofs.lemmas.List.{drop_all}
-use Rattle.std.proofs.lemmas.Bool.{false≢true, ltb-true, ltb-false}
+use Rattle.std.proofs.lemmas.Bool.{ltb-true, ltb-false}
 use Rattle.std.proofs.lemmas.Bool.Decides.{nat_tests}
 use Rattle.clip_grammar.specs.declared.query.Occur.{Occur}
-use Rattle.clip_grammar.specs.declared.query.Occur.TheVariants.{Must, Should, MustNot}
 use Rattle.clip_grammar.specs.declared.query.Query.{Query}
 use Rattle.clip_grammar.specs.declared.query.Query.TheViews.{Group}
 use Rattle.clip_grammar.specs.Tree.{tree_of}
 use Rattle.clip_grammar.proofs.Trees.{tree_of_group}
-use Rattle.clip_extract.specs.Keys.{KeyValue}
 use Rattle.clip_extract.specs.Extraction.{Extracted, heavier, heaviest, musts, without_heaviest, narrowing, second_extract}
 use Rattle.clip_extract.proofs.Groups.{extracts_of, extracts_map}
 use Rattle.clip_extract.specs.Steps.Groups.{go_on}
-use Rattle.clip_extract.specs.Steps.Seconds.{Ranked, heavier_of, next_of, next_ranked}
+use Rattle.clip_extract.specs.Steps.Seconds.{Ranked, heavier_of, next_ranked}
 
 abbrev outweighed : Extracted → List Extracted → Bool
 outweighed e es = list_any (λ f. ltb e.weight f.weight) es

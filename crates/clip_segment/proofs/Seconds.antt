@@ -1,5 +1,5 @@
 -- Queries that need a second key, and articles that have none of theirs.
-use Rattle.std.proofs.Common.{◌≡◌, ℕ, ◌<◌, Bool, true, false, ◌||◌, nat_eq, List, [], ◌∷◌, map, flat_map, length, get_or, Some, slice_get, option_map, Vec, Global, vec_items, IsTrue, refl, sym, ap, ap₂, ◌∙◌, subst}
+use Rattle.std.proofs.Common.{◌≡◌, ℕ, ◌<◌, Bool, true, false, ◌||◌, nat_eq, List, [], ◌∷◌, map, flat_map, length, get_or, Some, slice_get, option_map, Vec, Global, vec_items, IsTrue, refl, sym, ap, ◌∙◌, subst}
 use Rattle.std.specs.List.{list_any}
 use Rattle.std.proofs.lemmas.Bool.{false_from_ne_true, false≢true, and_parts}
 use Rattle.std.proofs.lemmas.List.{ext_get_or, length-map}

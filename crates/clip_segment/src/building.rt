@@ -118,8 +118,8 @@ fn add_to_key(
     Ok(())
 }
 
-/// Adds a query's position to the list of each of these keys of it, which are terms in order, each once, where each term
-/// has its list.
+/// Adds a query's position to the list of each of these keys of it, which are terms in order, each once, where each
+/// term has its list.
 fn add_position(
     terms: &Terms,
     keys: &[Key],
@@ -141,7 +141,8 @@ fn add_position(
     Ok(())
 }
 
-/// For each term the positions of the queries that have it as a key, and of those that have it as a second key, rising.
+/// For each term the positions of the queries that have it as a key, and of those that have it as a second key, both
+/// rising.
 pub(crate) fn lists_of(
     alloc: Global,
     terms: &Terms,

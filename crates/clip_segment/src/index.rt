@@ -21,9 +21,9 @@ use clip_words::NoMemory;
 use std::alloc::Global;
 use std::marker::Model;
 
-/// An index over queries: by their keys, by their second keys, and by what they ask. The queries themselves are not kept.
-/// Contracts see its terms, the positions under each as a key and as a second key, for each query whether it has second
-/// keys, and the plans, and say of which queries it is the index (`IsIndexOf`).
+/// An index over queries: by their keys, by their second keys, and by what they ask. The queries themselves are not
+/// kept. Contracts see its terms, the positions under each as a key and as a second key, for each query whether it has
+/// second keys, and the plans, and say of which queries it is the index (`IsIndexOf`).
 #[derive(Debug, Drop)]
 pub(crate) struct Index {
     pub(crate) terms: Terms,

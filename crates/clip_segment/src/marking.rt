@@ -1,5 +1,6 @@
 //! Sets of positions.
-ghost use Rattle.std.specs.Prelude.{◌≡◌, ◌<◌, ◌||◌, ◌==◌, ℕ, [], IfOk, false, flat_map, length, nat_eq, unwrap_or, slice_index_or};
+ghost use Rattle.std.specs.Prelude.{◌≡◌, ◌<◌, ◌||◌, ◌==◌, ℕ, [], IfOk, false, flat_map, length, nat_eq};
+ghost use Rattle.std.specs.Prelude.{unwrap_or, slice_index_or};
 ghost use Rattle.std.specs.List.{list_any, slice_get};
 
 use clip_pieces::{Marks, PackedLists};

@@ -1,8 +1,7 @@
 //! Articles as a segment asks them.
-ghost use Rattle.std.specs.Prelude.{◌≡◌, ◌<◌, ◌||◌, ◌==◌, ℕ, false, IfOk, OnOk, Some};
-ghost use Rattle.std.specs.Prelude.{length, option_map, slice_index_or};
+ghost use Rattle.std.specs.Prelude.{◌≡◌, false, IfOk, OnOk, Some, option_map};
 ghost use Rattle.std.specs.Arc.{arc_value};
-ghost use Rattle.std.specs.List.{list_any, slice_get};
+ghost use Rattle.std.specs.List.{slice_get};
 ghost use Rattle.std.specs.Option.{option_copied};
 ghost use Rattle.clip_extract.specs.Covering.{article_keys};
 ghost use Rattle.clip_meaning.specs.Meaning.{holds};
@@ -83,9 +82,9 @@ impl<'a> SegmentReading<'a> {
         self.segment.entry(position)
     }
 
-    /// Whether the query of the entry at a position may hold of the article: `false` rules it out, by its second keys or
-    /// by its first clause, and `true` says nothing. Takes no memory. Constant time; the entry is not looked at, nor is
-    /// the query where its second keys rule it out.
+    /// Whether the query of the entry at a position may hold of the article: `false` rules it out, by its second keys
+    /// or by its first clause, and `true` says nothing. Takes no memory. Constant time; the entry is not looked at, nor
+    /// is the plan where the second keys rule it out.
     pub fn may_hold(&self, position: u32) -> bool
         ensures { (entry : Registered) → slice_get self.now.entries position ≡ Some entry
             → result ≡ false → holds entry.standing.tree self.now.article.fields ≡ false }

@@ -1,5 +1,6 @@
 //! Lists of positions for each term, while an index is made.
-ghost use Rattle.std.specs.Prelude.{◌≡◌, ◌<◌, [], ℕ, IfOk, false, map, flat_map, replicate, length, nat_eq, vec_items, slice_index_or};
+ghost use Rattle.std.specs.Prelude.{◌≡◌, ◌<◌, [], ℕ, IfOk, false, map, flat_map, replicate, length, nat_eq};
+ghost use Rattle.std.specs.Prelude.{vec_items, slice_index_or};
 ghost use Rattle.std.specs.List.{list_any};
 
 use crate::marking::mark_positions;

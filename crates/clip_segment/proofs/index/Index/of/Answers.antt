@@ -1,4 +1,4 @@
-use Rattle.std.proofs.Common.{◌≡◌, List, map, sym, ap, ◌∙◌, subst, rules, arith}
+use Rattle.std.proofs.Common.{List, map, ap, ◌∙◌, subst, rules, arith}
 use Rattle.std.proofs.lemmas.List.{length-map}
 use Rattle.std.proofs.lemmas.Result.{IfOk-weaker}
 use Rattle.clip_grammar.specs.Tree.{Tree, tree_of}

@@ -3,7 +3,7 @@ use Rattle.std.proofs.lemmas.List.{length-map, length-replicate}
 use Rattle.std.proofs.lemmas.Result.{IfOk-weaker}
 use Rattle.clip_extract.specs.Extraction.{query_keys, second_keys}
 use Rattle.clip_plan.specs.Plan.{decoded}
-use Rattle.clip_segment.specs.Steps.Parts.{AreFor, AreMadeOf}
+use Rattle.clip_segment.specs.Steps.Parts.{AreMadeOf}
 use Rattle.clip_segment.proofs.Flagged.{kept_few}
 use Rattle.clip_segment.proofs.Lists.{none_yet}
 use Rattle.clip_segment.proofs.index.Index.select.Goals as goal
