@@ -12,7 +12,7 @@ use std::marker::Model;
 const MOST_NUMBERS: usize = 4_294_967_296;
 
 /// A set of numbers below a bound, as a bit for each of them in words of 64 bits. Contracts see a flag for each number.
-#[derive(Drop)]
+#[derive(Debug, Drop)]
 pub struct Marks {
     words: Vec<u64>,
     bound: usize,
