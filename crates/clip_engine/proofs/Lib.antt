@@ -1,3 +1,4 @@
 mod Answered
 mod Due
+mod Keeping
 mod Telling

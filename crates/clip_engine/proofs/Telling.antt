@@ -1,9 +1,8 @@
 -- What an alert changes at the two listeners, and the note that it gets.
-use Rattle.std.proofs.Common.{◌≡◌, ◌⊎◌, ℕ, List, [], ◌∷◌, ◌++◌, bytes_eq, Option, Some, None, Bool, true, false, ◌||◌, refl, sym, ap, ap₂, ◌∙◌, arith, inl, inr, codes}
-use Rattle.std.specs.Prelude.{OnErr, Result, Ok, Err}
+use Rattle.std.proofs.Common.{◌≡◌, ◌⊎◌, ℕ, List, [], ◌∷◌, ◌++◌, bytes_eq, Some, None, true, false, ◌||◌, refl, sym, ap, ap₂, ◌∙◌, arith, inl, inr, codes}
 use Rattle.std.proofs.lemmas.Slice.Eq.{bytes_eq-Decides}
 use Rattle.clip_model.specs.Alerts.{Alert}
-use Rattle.clip_listen.specs.Heard.{Hearer, StyleValue, NoteValue, text_of, told_all, note_by, note_of}
+use Rattle.clip_listen.specs.Heard.{Hearer, StyleValue, NoteValue, text_of, told_all, note_of}
 use Rattle.clip_listen.proofs.Hearing.{nobody, somebody}
 
 -- the listeners, with their styles and what they have heard

@@ -13,7 +13,6 @@ use Rattle.clip_protocol.specs.declared.form.Form.{Form}
 use Rattle.clip_protocol.specs.declared.form.Form.TheVariants.{Plain, WithHits}
 use Rattle.clip_protocol.specs.declared.refusal.Unread.{Unread}
 use Rattle.clip_protocol.specs.declared.refusal.Unread.TheVariants as unread
-use Rattle.clip_protocol.specs.declared.refusal.Refusal.{Refusal}
 use Rattle.clip_protocol.specs.declared.refusal.Refusal.TheVariants as reason
 use Rattle.clip_front.specs.Outcome.{names_in}
 

@@ -1,5 +1,6 @@
 //! An engine: lines and plain calls over one registrar.
-ghost use Rattle.std.specs.Prelude.{◌≡◌, ◌⊎◌, [], ◌∷◌, IfOk, IfErr, OnOk, OnErr, Err, None, IsTrue, IsFalse, true, false, string_bytes, option_map};
+ghost use Rattle.std.specs.Prelude.{◌≡◌, ◌⊎◌, [], ◌∷◌, IfOk, IfErr, OnOk, OnErr, Err, None, IsTrue, IsFalse, true, false};
+ghost use Rattle.std.specs.Prelude.{string_bytes, option_map};
 ghost use Rattle.std.specs.FinMap as finite;
 ghost use Rattle.clip_model.specs.History.{Delete, applied, fits, has_room, replay};
 ghost use Rattle.clip_model.specs.Alerts.{alerts};
@@ -179,9 +180,9 @@ impl Engine {
 
     /// Registers a query, which takes the place of the one with its id. The lines and calls after it see it.
     ///
-    /// The first refusal that holds, with nothing changed: `Limit` where the id is not 1 to 256 bytes long, `Query` where
-    /// the text is no query, `Listener` where the listener is neither `mail` nor `feed`, `Full` where the registry has no
-    /// room. `NoMemory` where an allocation failed, with nothing changed.
+    /// The first refusal that holds, with nothing changed: `Limit` where the id is not 1 to 256 bytes long, `Query`
+    /// where the text is no query, `Listener` where the listener is neither `mail` nor `feed`, `Full` where the registry
+    /// has no room. `NoMemory` where an allocation failed, with nothing changed.
     ///
     /// Cost: the reading of the text, and that of `Registrar::apply` and of a merge turn.
     pub fn register(&mut self, listing: Listing) -> Result<(), Unread>
@@ -221,11 +222,11 @@ impl Engine {
         self.command(Command::Delete(ids))
     }
 
-    /// The alerts of an article: of each registered query that holds of it one, in the byte order of their ids, and of no
-    /// other. No listener hears them, and the count of lines stays.
+    /// The alerts of an article: of each registered query that holds of it one, in the byte order of their ids, and of
+    /// no other. No listener hears them, and the count of lines stays.
     ///
-    /// `Limit` where the id or a field is beyond its limits, the first that `Article::read` refuses; `NoMemory` where an
-    /// allocation failed.
+    /// `Limit` where the id or a field is beyond its limits, the first that `Article::read` refuses; `NoMemory` where
+    /// an allocation failed.
     ///
     /// Cost: that of `Article::read` and of `clip_match::match_article`.
     pub fn match_article(&self, id: &str, fields: &[(String, String)]) -> Result<Alerts, Unread>

@@ -42,7 +42,8 @@ fn heard_by(
       query = (alert_value alert.now).query;
       text = text_of (⟦<Teller<Style> as Listener>⟧.style listener.old) (alert_value alert.now);
     }) }
-    ensures style { ⟦<Teller<Style> as Listener>⟧.style listener.new ≡ ⟦<Teller<Style> as Listener>⟧.style listener.old }
+    ensures style { ⟦<Teller<Style> as Listener>⟧.style listener.new
+        ≡ ⟦<Teller<Style> as Listener>⟧.style listener.old }
     ensures ok { OnOk result (⟦<Teller<Style> as Listener>⟧.heard listener.new
         ≡ ⟦<Teller<Style> as Listener>⟧.heard listener.old ++ alert_value alert.now ∷ []) }
     ensures err { OnErr result ((⟦<Teller<Style> as Listener>⟧.heard listener.new
