@@ -45,3 +45,6 @@ impl Slot {
         drop(self.take());
     }
 }
+
+// It owns its room, and what it keeps there may go from thread to thread.
+unsafe impl Send for Slot {}
