@@ -1,0 +1,199 @@
+/* Between C and the calls that the crate clip_c exports: it looks at pointers and lengths, and reads results. */
+#include "pressclip.h"
+
+#include <stdlib.h>
+#include <string.h>
+
+/* The slot of crates/clip_engine/src/slot.rt: the address of room that only the crates read and write. */
+typedef struct slot {
+    unsigned char *at;
+} slot;
+
+struct pressclip {
+    slot kept;
+    max_align_t room[];
+};
+
+/* The bytes that the crate answers: a count of ids, and then as pressclip_next_id and pressclip_next_hit read them. */
+struct pressclip_result {
+    size_t count, left, hits_left, at;
+    unsigned char *bytes;
+};
+
+/* The exports of clip_c. All but clip_open want a slot that keeps an engine, and all but clip_close leave one. */
+size_t clip_size(void);
+void clip_open(slot *kept, bool hits);
+void clip_close(slot *kept);
+uint32_t clip_line(slot *kept, const unsigned char *line, size_t length, size_t *size);
+uint32_t clip_register(slot *kept, const unsigned char *id, size_t id_length, const unsigned char *query,
+                       size_t query_length, bool has_listener, const unsigned char *listener, size_t listener_length);
+uint32_t clip_delete(slot *kept, const unsigned char *id, size_t length, uint64_t *deleted);
+uint32_t clip_count(slot *kept, uint64_t *count);
+uint32_t clip_match(slot *kept, const unsigned char *id, size_t id_length, const pressclip_field *fields, size_t count,
+                    size_t *size);
+bool clip_take(slot *kept, unsigned char *room, size_t size);
+
+#define MOST_FIELDS 1000000
+
+static const unsigned char *bytes_of(const char *text) { return (const unsigned char *)text; }
+
+/* Whether a text may be handed on, and why not. */
+static int text_status(const char *text, size_t length) {
+    if (text == NULL) return PRESSCLIP_NULL;
+    return length > PTRDIFF_MAX ? PRESSCLIP_SIZE : PRESSCLIP_OK;
+}
+
+const char *pressclip_word(int status) {
+    static const char *const words[] = {"ok",   "limit", "query", "listener", "full", "memory",
+                                        "utf8", "feed",  "lines", "closed",   "null", "size"};
+    return status >= 0 && status < 12 ? words[status] : "unknown";
+}
+
+int pressclip_open(bool hits, pressclip **engine) {
+    if (engine == NULL) return PRESSCLIP_NULL;
+    pressclip *made = malloc(sizeof *made + clip_size());
+    if (made == NULL) return PRESSCLIP_NO_MEMORY;
+    made->kept.at = (unsigned char *)made->room;
+    clip_open(&made->kept, hits);
+    *engine = made;
+    return PRESSCLIP_OK;
+}
+
+void pressclip_close(pressclip **engine) {
+    if (engine == NULL || *engine == NULL) return;
+    clip_close(&(*engine)->kept);
+    free(*engine);
+    *engine = NULL;
+}
+
+/* Takes the bytes that the engine keeps, or null where there is no memory for them; a byte is asked for at least. */
+static unsigned char *taken(pressclip *engine, size_t size) {
+    unsigned char *room = malloc(size == 0 ? 1 : size);
+    if (room == NULL) return NULL;
+    if (clip_take(&engine->kept, room, size)) return room;
+    free(room);
+    return NULL;
+}
+
+int pressclip_line(pressclip *engine, const char *line, size_t length, char **reply, size_t *reply_length) {
+    if (engine == NULL) return PRESSCLIP_CLOSED;
+    if (reply == NULL || reply_length == NULL) return PRESSCLIP_NULL;
+    int status = text_status(line, length);
+    if (status != PRESSCLIP_OK) return status;
+    size_t size = 0;
+    status = (int)clip_line(&engine->kept, bytes_of(line), length, &size);
+    if (status != PRESSCLIP_OK) return status;
+    unsigned char *text = taken(engine, size);
+    if (text == NULL) return PRESSCLIP_NO_MEMORY;
+    *reply = (char *)text;
+    *reply_length = size;
+    return PRESSCLIP_OK;
+}
+
+void pressclip_free(char *reply) { free(reply); }
+
+int pressclip_register(pressclip *engine, const char *id, size_t id_length, const char *query, size_t query_length,
+                       const char *listener, size_t listener_length) {
+    if (engine == NULL) return PRESSCLIP_CLOSED;
+    int status = text_status(id, id_length);
+    if (status == PRESSCLIP_OK) status = text_status(query, query_length);
+    if (status == PRESSCLIP_OK && listener != NULL) status = text_status(listener, listener_length);
+    if (status != PRESSCLIP_OK) return status;
+    bool has_listener = listener != NULL;
+    return (int)clip_register(&engine->kept, bytes_of(id), id_length, bytes_of(query), query_length, has_listener,
+                              bytes_of(has_listener ? listener : ""), has_listener ? listener_length : 0);
+}
+
+int pressclip_delete(pressclip *engine, const char *id, size_t id_length, uint64_t *deleted) {
+    if (engine == NULL) return PRESSCLIP_CLOSED;
+    if (deleted == NULL) return PRESSCLIP_NULL;
+    int status = text_status(id, id_length);
+    if (status != PRESSCLIP_OK) return status;
+    return (int)clip_delete(&engine->kept, bytes_of(id), id_length, deleted);
+}
+
+int pressclip_count(pressclip *engine, uint64_t *count) {
+    if (engine == NULL) return PRESSCLIP_CLOSED;
+    if (count == NULL) return PRESSCLIP_NULL;
+    return (int)clip_count(&engine->kept, count);
+}
+
+/* Whether fields may be handed on, and why not. */
+static int fields_status(const pressclip_field *fields, size_t count) {
+    if (count > MOST_FIELDS) return PRESSCLIP_SIZE;
+    if (count != 0 && fields == NULL) return PRESSCLIP_NULL;
+    for (size_t place = 0; place < count; place++) {
+        int status = text_status(fields[place].name, fields[place].name_length);
+        if (status == PRESSCLIP_OK) status = text_status(fields[place].text, fields[place].text_length);
+        if (status != PRESSCLIP_OK) return status;
+    }
+    return PRESSCLIP_OK;
+}
+
+/* The next number of a result. */
+static uint64_t next_number(pressclip_result *result) {
+    uint64_t number = 0;
+    for (int byte = 7; byte >= 0; byte--) number = number << 8 | result->bytes[result->at + (size_t)byte];
+    result->at += 8;
+    return number;
+}
+
+/* The next text of a result. */
+static void next_text(pressclip_result *result, const char **text, size_t *length) {
+    *length = (size_t)next_number(result);
+    *text = (const char *)result->bytes + result->at;
+    result->at += *length;
+}
+
+int pressclip_match(pressclip *engine, const char *id, size_t id_length, const pressclip_field *fields, size_t count,
+                    pressclip_result **result) {
+    static const pressclip_field none = {"", 0, "", 0};
+    if (engine == NULL) return PRESSCLIP_CLOSED;
+    if (result == NULL) return PRESSCLIP_NULL;
+    int status = text_status(id, id_length);
+    if (status == PRESSCLIP_OK) status = fields_status(fields, count);
+    if (status != PRESSCLIP_OK) return status;
+    pressclip_result *made = malloc(sizeof *made);
+    if (made == NULL) return PRESSCLIP_NO_MEMORY;
+    size_t size = 0;
+    status = (int)clip_match(&engine->kept, bytes_of(id), id_length, count == 0 ? &none : fields, count, &size);
+    made->bytes = status == PRESSCLIP_OK ? taken(engine, size) : NULL;
+    if (made->bytes == NULL) {
+        free(made);
+        return status == PRESSCLIP_OK ? PRESSCLIP_NO_MEMORY : status;
+    }
+    made->at = 0;
+    made->hits_left = 0;
+    made->count = made->left = (size_t)next_number(made);
+    *result = made;
+    return PRESSCLIP_OK;
+}
+
+size_t pressclip_result_count(const pressclip_result *result) { return result == NULL ? 0 : result->count; }
+
+bool pressclip_next_hit(pressclip_result *result, const char **field, size_t *length, uint64_t *position) {
+    if (result == NULL || field == NULL || length == NULL || position == NULL || result->hits_left == 0) return false;
+    result->hits_left--;
+    next_text(result, field, length);
+    *position = next_number(result);
+    return true;
+}
+
+bool pressclip_next_id(pressclip_result *result, const char **id, size_t *length) {
+    const char *field;
+    size_t field_length;
+    uint64_t position;
+    if (result == NULL || id == NULL || length == NULL) return false;
+    while (pressclip_next_hit(result, &field, &field_length, &position)) continue;
+    if (result->left == 0) return false;
+    result->left--;
+    next_text(result, id, length);
+    result->hits_left = (size_t)next_number(result);
+    return true;
+}
+
+void pressclip_result_free(pressclip_result *result) {
+    if (result == NULL) return;
+    free(result->bytes);
+    free(result);
+}

@@ -1,0 +1,126 @@
+//! The library for C: calls over an engine that lies where C keeps it. `bindings/c/edge.c` stands between these and the
+//! calls of `include/pressclip.h`.
+#![tactic(auto)]
+
+ghost use Rattle.std.specs.Prelude.{◌≡◌, IsSome, None, length, true};
+ghost use Rattle.clip_engine.specs.Engine.{fresh};
+ghost use Rattle.clip_engine.specs.Calls.{Between, Keeps, LineTo, RegisterTo, DeleteTo, CountTo, MatchTo};
+ghost use Rattle.clip_engine.specs.Texts.{fields_of};
+
+use clip_engine::{Field, Kept, Slot};
+use std::alloc::Global;
+
+/// How many bytes of room a slot needs, at an address that 8 divides.
+#[unsafe(no_mangle)]
+pub extern "C" fn clip_size() -> usize {
+    size_of::<Kept>()
+}
+
+/// Makes an engine with no query, whose replies show hits or not.
+#[unsafe(no_mangle)]
+pub extern "C" fn clip_open(alloc: Global, slot: &mut Slot, hits: bool)
+    requires { slot.old.kept ≡ None }
+    ensures { Keeps slot.new.kept (λ kept. kept.engine ≡ fresh hits) }
+{
+    slot.put(Kept::new(alloc, hits));
+}
+
+/// Ends an engine, and gives its memory back. The room stays the caller's.
+#[unsafe(no_mangle)]
+pub extern "C" fn clip_close(slot: &mut Slot)
+    requires { IsSome slot.old.kept }
+    ensures { slot.new.kept ≡ None }
+{
+    slot.clear();
+}
+
+/// Answers a line. The reply is kept, to be taken by `clip_take`, and `size` is how many bytes it has.
+#[unsafe(no_mangle)]
+pub extern "C" fn clip_line(slot: &mut Slot, line: &[u8], size: &mut usize) -> u32
+    requires { IsSome slot.old.kept }
+    ensures answers { Between slot.old.kept slot.new.kept (LineTo line.now result) }
+    ensures size { Keeps slot.new.kept (λ kept. size.new ≡ length kept.text.items) }
+{
+    let mut kept = slot.take();
+    let code = kept.line(line);
+    *size = kept.text.len();
+    slot.put(kept);
+    code
+}
+
+/// Registers a query, with a listener where there is one.
+#[unsafe(no_mangle)]
+pub extern "C" fn clip_register(
+    alloc: Global,
+    slot: &mut Slot,
+    id: &[u8],
+    query: &[u8],
+    has_listener: bool,
+    listener: &[u8],
+) -> u32
+    requires { IsSome slot.old.kept }
+    ensures { Between slot.old.kept slot.new.kept (RegisterTo id.now query.now has_listener listener.now result) }
+{
+    let mut kept = slot.take();
+    let code = kept.register(alloc, id, query, has_listener, listener);
+    slot.put(kept);
+    code
+}
+
+/// Takes the query with this id out; `deleted` is how many there were, 0 or 1.
+#[unsafe(no_mangle)]
+pub extern "C" fn clip_delete(alloc: Global, slot: &mut Slot, id: &[u8], deleted: &mut u64) -> u32
+    requires { IsSome slot.old.kept }
+    ensures { Between slot.old.kept slot.new.kept (DeleteTo id.now result deleted.new) }
+{
+    let mut kept = slot.take();
+    let code = kept.delete(alloc, id, deleted);
+    slot.put(kept);
+    code
+}
+
+/// How many queries are registered.
+#[unsafe(no_mangle)]
+pub extern "C" fn clip_count(slot: &mut Slot, count: &mut u64) -> u32
+    requires { IsSome slot.old.kept }
+    ensures { Between slot.old.kept slot.new.kept (CountTo result count.new) }
+{
+    let kept = slot.take();
+    let code = kept.count(count);
+    slot.put(kept);
+    code
+}
+
+/// Matches an article. What was found is kept as bytes, to be taken by `clip_take`, and `size` is how many there are.
+#[unsafe(no_mangle)]
+pub extern "C" fn clip_match(
+    alloc: Global,
+    slot: &mut Slot,
+    id: &[u8],
+    fields: &[Field<'_>],
+    size: &mut usize,
+) -> u32
+    requires { IsSome slot.old.kept }
+    ensures finds { Between slot.old.kept slot.new.kept (MatchTo id.now (fields_of fields.now) result) }
+    ensures size { Keeps slot.new.kept (λ kept. size.new ≡ length kept.text.items) }
+{
+    let mut kept = slot.take();
+    let code = kept.match_article(alloc, id, fields);
+    *size = kept.text.len();
+    slot.put(kept);
+    code
+}
+
+/// Copies the bytes that are kept to where there is room for them, and keeps none then; where the room is not of their
+/// size it changes nothing. Whether they were copied.
+#[unsafe(no_mangle)]
+pub extern "C" fn clip_take(slot: &mut Slot, room: &mut [u8]) -> bool
+    requires { IsSome slot.old.kept }
+    ensures { Between slot.old.kept slot.new.kept (λ old new. (new.engine ≡ old.engine)
+        × (result ≡ true → room.new ≡ old.text.items)) }
+{
+    let mut kept = slot.take();
+    let copied = kept.take(room);
+    slot.put(kept);
+    copied
+}

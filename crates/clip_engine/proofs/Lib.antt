@@ -1,0 +1,5 @@
+mod Answered
+mod Due
+mod Keeping
+mod Sent
+mod Telling

@@ -1,0 +1,5 @@
+pub mod Calls
+pub mod Engine
+pub mod Found
+pub mod Slot
+pub mod Texts

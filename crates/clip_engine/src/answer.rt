@@ -1,0 +1,59 @@
+//! A line answered.
+ghost use Rattle.std.specs.Prelude.{◌≡◌, IfOk};
+ghost use Rattle.clip_protocol.specs.LineMeaning.{matching};
+ghost use Rattle.clip_protocol.specs.Reply.{reply};
+ghost use Rattle.clip_engine.specs.Engine.{Answers, house};
+
+use crate::house::House;
+use crate::owned::Owned;
+use clip_front::{Books, Settings, Taken, deliver_found, take_line};
+use clip_listen::Audience;
+use clip_match::match_batch;
+use clip_meaning::Article;
+use clip_protocol::Form;
+use clip_registry::View;
+use clip_words::NoMemory;
+use std::alloc::Global;
+
+/// The text of the reply to the line of this number, which matches these articles.
+fn matched(
+    alloc: Global,
+    view: &View,
+    listeners: &mut House,
+    form: Form,
+    number: u64,
+    articles: &[Article],
+) -> Result<Vec<u8>, NoMemory>
+    requires { ⟦<House as Audience>⟧.hearers listeners.old ≡ house }
+    ensures { IfOk result (λ text. text.items ≡ reply form house number view.now.history (matching articles.now)) }
+{
+    let found = match_batch(alloc, view, articles)?;
+    let settings = Settings {
+        form,
+        keeps_rows: false,
+        workers: 0,
+    };
+    let mut books = Books::new(alloc, settings);
+    deliver_found(alloc, listeners, &mut books, number, found)
+}
+
+/// Answers the line of this number: the text of its reply, or nothing for a blank line.
+pub(crate) fn answer(
+    alloc: Global,
+    owned: &mut Owned,
+    form: Form,
+    number: u64,
+    line: &[u8],
+) -> Result<Vec<u8>, NoMemory>
+    ensures { IfOk result (λ text. Answers form owned.old.registrar.history owned.new.registrar.history number
+        line.now text.items) }
+{
+    let mut listeners = House::new(alloc)?;
+    match take_line(alloc, owned, &listeners, number, line)? {
+        Taken::Text(text) => Ok(text),
+        Taken::Articles(articles) => {
+            let view = owned.registrar.view()?;
+            matched(alloc, &view, &mut listeners, form, number, &articles)
+        }
+    }
+}

@@ -1,0 +1,82 @@
+//! What was found of an article, as bytes that a caller outside of Rattle can take apart.
+ghost use Rattle.std.specs.Prelude.{◌≡◌, ◌++◌, [], IfOk, OnOk, map, if◌then◌else◌};
+ghost use Rattle.clip_listen.specs.Heard.{alerts_of};
+ghost use Rattle.clip_meaning.specs.Hits.{hit_value};
+ghost use Rattle.clip_standing.specs.Alerts.{alert_value};
+ghost use Rattle.clip_engine.specs.Found.{alert_bytes, found_bytes, hits_bytes, number_bytes, text_bytes};
+
+use clip_meaning::Hit;
+use clip_standing::{Alert, Alerts};
+use clip_words::NoMemory;
+use std::alloc::Global;
+
+/// Adds a number: eight bytes, the lowest first.
+fn add_number(bytes: &mut Vec<u8>, number: u64) -> Result<(), NoMemory>
+    ensures { OnOk result (bytes.new.items ≡ bytes.old.items ++ number_bytes number) }
+{
+    bytes.extend_from_slice(&number.to_le_bytes())?;
+    Ok(())
+}
+
+/// Adds a text after its length.
+fn add_text(bytes: &mut Vec<u8>, text: &str) -> Result<(), NoMemory>
+    ensures { OnOk result (bytes.new.items ≡ bytes.old.items ++ text_bytes text.now) }
+{
+    add_number(bytes, text.len() as u64)?;
+    bytes.extend_from_slice(text.as_bytes())?;
+    Ok(())
+}
+
+/// Adds hits after their count.
+fn add_hits(bytes: &mut Vec<u8>, hits: &[Hit]) -> Result<(), NoMemory>
+    ensures { OnOk result (bytes.new.items ≡ bytes.old.items ++ hits_bytes (map hit_value hits.now)) }
+{
+    add_number(bytes, hits.len() as u64)?;
+    for hit in hits {
+        add_text(bytes, hit.field.as_str())?;
+        add_number(bytes, hit.position)?;
+    }
+    Ok(())
+}
+
+/// The hits of an alert, where they are shown.
+fn shown_hits(alloc: Global, alert: &Alert, shows_hits: bool) -> Result<Vec<Hit>, NoMemory>
+    ensures { IfOk result (λ hits. map hit_value hits.items
+        ≡ (if shows_hits then (alert_value alert.now).hits else [])) }
+{
+    if shows_hits {
+        alert.hits(alloc)
+    } else {
+        Ok(Vec::new(alloc))
+    }
+}
+
+/// Adds an alert: the id of its query, and its hits where they are shown.
+fn add_alert(
+    alloc: Global,
+    bytes: &mut Vec<u8>,
+    alert: &Alert,
+    shows_hits: bool,
+) -> Result<(), NoMemory>
+    ensures { OnOk result (bytes.new.items ≡ bytes.old.items ++ alert_bytes shows_hits (alert_value alert.now)) }
+{
+    add_text(bytes, alert.query().as_str())?;
+    let hits = shown_hits(alloc, alert, shows_hits)?;
+    add_hits(bytes, &hits)
+}
+
+/// The alerts of an article as bytes: their count, and then for each the id of the query and its hits, of which there
+/// are none where they are not shown. A text stands after its length, hits after their count, and a hit is a field's
+/// name and a position; numbers are eight bytes, the lowest first.
+///
+/// `NoMemory` where an allocation failed. Cost: a copy of the texts, and that of `Alert::hits` where hits are shown.
+pub fn bytes_of_found(alloc: Global, found: &Alerts, shows_hits: bool) -> Result<Vec<u8>, NoMemory>
+    ensures { IfOk result (λ bytes. bytes.items ≡ found_bytes shows_hits (alerts_of found.now)) }
+{
+    let mut bytes = Vec::new(alloc);
+    add_number(&mut bytes, found.alerts.len() as u64)?;
+    for alert in &found.alerts {
+        add_alert(alloc, &mut bytes, alert, shows_hits)?;
+    }
+    Ok(bytes)
+}

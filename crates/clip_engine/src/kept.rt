@@ -1,0 +1,207 @@
+//! What C keeps: an engine, and the bytes that its last call left to be taken.
+ghost use Rattle.std.specs.Prelude.{◌≡◌, IfOk, IfErr, string_bytes, true};
+ghost use Rattle.clip_meaning.specs.Article.{pairs_of};
+ghost use Rattle.clip_engine.specs.Engine.{fresh};
+ghost use Rattle.clip_protocol.specs.Steps.Views.{listing_view};
+ghost use Rattle.clip_engine.specs.Texts.{fields_of, found_at, listing_at};
+ghost use Rattle.clip_engine.specs.Calls.{CountTo, DeleteTo, LineTo, MatchTo, RegisterTo};
+
+use crate::code;
+use crate::engine::Engine;
+use crate::found::bytes_of_found;
+use clip_protocol::Listing;
+use clip_words::NoMemory;
+use std::alloc::Global;
+
+/// A field of an article: its name and its text.
+#[repr(C)]
+#[derive(Clone, Copy)]
+pub struct Field<'a> {
+    /// The name.
+    pub name: &'a [u8],
+    /// The text.
+    pub text: &'a [u8],
+}
+
+/// An engine, and the bytes that its last call left to be taken.
+#[derive(Drop)]
+pub struct Kept {
+    /// The engine.
+    pub engine: Engine,
+    /// The bytes.
+    pub text: Vec<u8>,
+}
+
+/// The text that the bytes are, or `UTF8` where they are none.
+fn text_of(alloc: Global, bytes: &[u8]) -> Result<String, u32>
+    ensures ok { IfOk result (λ text. string_bytes text ≡ bytes.now) }
+    ensures err { IfErr result (λ code. code ≡ 0 → ⊥) }
+{
+    let Ok(text) = str::from_utf8(bytes) else {
+        return Err(code::UTF8);
+    };
+    match String::from_str(alloc, text) {
+        Ok(text) => Ok(text),
+        Err(_) => Err(code::NO_MEMORY),
+    }
+}
+
+/// The query to register.
+fn listing_of(
+    alloc: Global,
+    id: &[u8],
+    query: &[u8],
+    has_listener: bool,
+    listener: &[u8],
+) -> Result<Listing, u32>
+    ensures ok { IfOk result (λ listing. listing_view listing ≡ listing_at id.now query.now has_listener listener.now) }
+    ensures err { IfErr result (λ code. code ≡ 0 → ⊥) }
+{
+    let id = text_of(alloc, id)?;
+    let query = text_of(alloc, query)?;
+    if has_listener {
+        let listener = Some(text_of(alloc, listener)?);
+        return Ok(Listing {
+            id,
+            query,
+            listener,
+        });
+    }
+    Ok(Listing {
+        id,
+        query,
+        listener: None,
+    })
+}
+
+/// The names and texts of an article.
+fn texts_of(alloc: Global, fields: &[Field<'_>]) -> Result<Vec<(String, String)>, u32>
+    ensures ok { IfOk result (λ pairs. pairs_of pairs.items ≡ fields_of fields.now) }
+    ensures err { IfErr result (λ code. code ≡ 0 → ⊥) }
+{
+    let mut pairs = Vec::new(alloc);
+    for field in fields {
+        let name = text_of(alloc, field.name)?;
+        let text = text_of(alloc, field.text)?;
+        if pairs.push((name, text)).is_err() {
+            return Err(code::NO_MEMORY);
+        }
+    }
+    Ok(pairs)
+}
+
+impl Kept {
+    /// An engine with no query. Takes no memory. Constant time.
+    pub fn new(alloc: Global, hits: bool) -> Kept
+        ensures { result.engine ≡ fresh hits }
+    {
+        Kept {
+            engine: Engine::new(alloc, hits),
+            text: Vec::new(alloc),
+        }
+    }
+
+    /// Answers a line, and keeps the reply.
+    pub fn line(&mut self, line: &[u8]) -> u32
+        ensures { LineTo line.now result self.old self.new }
+    {
+        match self.engine.line(line) {
+            Ok(text) => {
+                self.text = text;
+                code::OK
+            }
+            Err(why) => code::code_of_line(why),
+        }
+    }
+
+    /// Registers a query.
+    pub fn register(
+        &mut self,
+        alloc: Global,
+        id: &[u8],
+        query: &[u8],
+        has_listener: bool,
+        listener: &[u8],
+    ) -> u32
+        ensures { RegisterTo id.now query.now has_listener listener.now result self.old self.new }
+    {
+        match listing_of(alloc, id, query, has_listener, listener) {
+            Ok(listing) => match self.engine.register(listing) {
+                Ok(()) => code::OK,
+                Err(why) => code::code_of(why),
+            },
+            Err(code) => code,
+        }
+    }
+
+    /// Takes a query out.
+    pub fn delete(&mut self, alloc: Global, id: &[u8], deleted: &mut u64) -> u32
+        ensures { DeleteTo id.now result deleted.new self.old self.new }
+    {
+        match text_of(alloc, id) {
+            Ok(id) => match self.engine.delete(id) {
+                Ok(count) => {
+                    *deleted = count;
+                    code::OK
+                }
+                Err(why) => code::code_of(why),
+            },
+            Err(code) => code,
+        }
+    }
+
+    /// How many queries are registered.
+    pub fn count(&self, count: &mut u64) -> u32
+        ensures { CountTo result count.new self.now self.now }
+    {
+        match self.engine.count() {
+            Ok(found) => {
+                *count = found;
+                code::OK
+            }
+            Err(NoMemory) => code::NO_MEMORY,
+        }
+    }
+
+    /// What is found of an article, as bytes.
+    fn found(&self, alloc: Global, id: &[u8], fields: &[Field<'_>]) -> Result<Vec<u8>, u32>
+        ensures ok { IfOk result (λ bytes. bytes.items ≡ found_at self.now.engine id.now (fields_of fields.now)) }
+        ensures err { IfErr result (λ code. code ≡ 0 → ⊥) }
+    {
+        let id = text_of(alloc, id)?;
+        let pairs = texts_of(alloc, fields)?;
+        match self.engine.match_article(id.as_str(), &pairs) {
+            Ok(found) => match bytes_of_found(alloc, &found, self.engine.shows_hits()) {
+                Ok(bytes) => Ok(bytes),
+                Err(NoMemory) => Err(code::NO_MEMORY),
+            },
+            Err(why) => Err(code::code_of(why)),
+        }
+    }
+
+    /// Matches an article, and keeps what was found.
+    pub fn match_article(&mut self, alloc: Global, id: &[u8], fields: &[Field<'_>]) -> u32
+        ensures { MatchTo id.now (fields_of fields.now) result self.old self.new }
+    {
+        match self.found(alloc, id, fields) {
+            Ok(bytes) => {
+                self.text = bytes;
+                code::OK
+            }
+            Err(code) => code,
+        }
+    }
+
+    /// Copies the bytes that are kept to room of their size, and keeps none then. Whether there was such room.
+    pub fn take(&mut self, room: &mut [u8]) -> bool
+        ensures engine { self.new.engine ≡ self.old.engine }
+        ensures copied { result ≡ true → room.new ≡ self.old.text.items }
+    {
+        if room.len() != self.text.len() {
+            return false;
+        }
+        room.copy_from_slice(&self.text);
+        self.text.clear();
+        true
+    }
+}

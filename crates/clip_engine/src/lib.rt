@@ -1,0 +1,17 @@
+//! An engine in one value: the lines of the protocol and plain calls over one registrar, with the program's listeners;
+//! and where a caller outside of Rattle keeps it, and by which numbers it hears what calls come to.
+#![tactic(auto)]
+
+mod answer;
+mod code;
+mod engine;
+mod found;
+mod house;
+mod kept;
+mod owned;
+mod slot;
+
+pub use engine::{Engine, LineFault};
+pub use found::bytes_of_found;
+pub use kept::{Field, Kept};
+pub use slot::Slot;
