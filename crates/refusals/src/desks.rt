@@ -5,7 +5,6 @@ ghost use Rattle.clip_desk.specs.Locked.{AreSeatsOf, IsSeatOf};
 
 use crate::registry::registering;
 use crate::telling::{answered, call, refused};
-use anyhow::{Result, bail};
 use clip_desk::{
     Closed, Desk, DeskName, DeskParts, Refused, Seat, SeatMissing, UpdateListeners, UpdateLog,
 };
@@ -19,16 +18,11 @@ use std::sync::Wait;
 const EVENTS: usize = 6;
 
 /// The parts of a desk of one caller, with a listener that has heard nothing.
-fn parts<R: Wait + AllocGlobal>(rt: &R) -> Result<DeskParts<UpdateLog>> {
+fn parts<R: Wait + AllocGlobal>(rt: &R) -> Option<DeskParts<UpdateLog>> {
     let alloc = rt.alloc();
-    let logs = vec![in alloc; UpdateLog::new(alloc)]?;
-    let Ok(updates) = UpdateListeners::new(alloc, logs) else {
-        bail!("no listeners");
-    };
-    match DeskParts::new(rt, alloc, 1, 1, updates) {
-        Ok(parts) => Ok(parts),
-        Err((_, refused)) => Err(refused.into()),
-    }
+    let logs = vec![in alloc; UpdateLog::new(alloc)].ok()?;
+    let updates = UpdateListeners::new(alloc, logs).ok()?;
+    DeskParts::new(rt, alloc, 1, 1, updates).ok()
 }
 
 /// Tells that a commit was refused, where a look shows so many commands as there were before it.
@@ -54,7 +48,7 @@ fn of_commit<N: DeskName, R: Print + Wait>(
     requires { IsSeatOf N.book N.callers seat.old }
     ensures { IsSeatOf N.book N.callers seat.new }
 {
-    let Ok(command) = registering(alloc, id) else {
+    let Some(command) = registering(alloc, id) else {
         return;
     };
     call(rt, "Desk::commit");
@@ -164,8 +158,8 @@ fn use_desk<N: DeskName, R: Print + Wait>(rt: &R, alloc: Global, parts: DeskPart
 }
 
 /// Each call.
-pub fn play<R: Print + Wait + AllocGlobal>(rt: &R) -> Result<()> {
+pub fn play<R: Print + Wait + AllocGlobal>(rt: &R) -> Option<()> {
     let parts = parts(rt)?;
     use_desk::<Brand, _>(rt, rt.alloc(), parts);
-    Ok(())
+    Some(())
 }

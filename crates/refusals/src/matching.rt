@@ -1,14 +1,13 @@
 //! Three queries and three articles.
-use crate::registry::view_after;
 use crate::telling::{answered, call, refused};
-use anyhow::Result;
 use clip_match::{OpenGate, match_article, match_pieces};
 use clip_meaning::Article;
-use clip_registry::View;
-use clip_samples::{article, standing};
-use clip_standing::{Alerts, Command};
+use clip_registry::{Registrar, View};
+use clip_samples::article;
+use clip_standing::{Alerts, Command, Standing};
 use clip_words::NoMemory;
 use std::alloc::Global;
+use std::sync::Arc;
 use std::thread::Threads;
 
 /// The alerts of an article.
@@ -42,28 +41,57 @@ fn of_match_pieces<R: Print + Threads + Sync + AllocGlobal>(
     }
 }
 
-/// A view with q1 `tea`, q2 `coffee` and q3 `+tea +milk`.
-fn three_queries(alloc: Global) -> Result<View> {
-    let list = vec![in alloc;
-        standing(alloc, "q1", "tea")?,
-        standing(alloc, "q2", "coffee")?,
-        standing(alloc, "q3", "+tea +milk")?,
-    ]?;
-    view_after(alloc, Command::Register(list))
+/// The query of a text under an id, for a listener or, where its name is empty, for none.
+fn query(alloc: Global, id: &str, text: &str, listener: &str) -> Option<Arc<Standing>> {
+    let id = String::from_str(alloc, id).ok()?;
+    let text = String::from_str(alloc, text).ok()?;
+    let listener = match listener {
+        "" => None,
+        name => Some(String::from_str(alloc, name).ok()?),
+    };
+    let standing = Standing::read(alloc, id, text, listener).ok()?;
+    Arc::new(alloc, standing).ok()
+}
+
+/// The command that registers q1 `tea` for `mail`, q2 `coffee` for `feed` and q3 `+tea +milk` for none.
+fn registering_three(alloc: Global) -> Option<Command> {
+    let mut list = Vec::new(alloc);
+    for (id, text, listener) in [
+        ("q1", "tea", "mail"),
+        ("q2", "coffee", "feed"),
+        ("q3", "+tea +milk", ""),
+    ] {
+        list.push(query(alloc, id, text, listener)?).ok()?;
+    }
+    Some(Command::Register(list))
+}
+
+/// A view of a registrar that took the three queries.
+pub fn three_queries(alloc: Global) -> Option<View> {
+    let command = registering_three(alloc)?;
+    let mut registrar = Registrar::new(alloc);
+    if !command.fits() || registrar.apply(1, command).is_err() {
+        return None;
+    }
+    registrar.view().ok()
+}
+
+/// Articles a1 `tea`, a2 `coffee milk` and a3 `tea milk`.
+fn three_articles(alloc: Global) -> Option<Vec<Article>> {
+    let mut list = Vec::new(alloc);
+    for (id, text) in [("a1", "tea"), ("a2", "coffee milk"), ("a3", "tea milk")] {
+        list.push(article(alloc, id, &[("text", text)]).ok()?).ok()?;
+    }
+    Some(list)
 }
 
 /// Each call.
-pub fn play<R: Print + Threads + Sync + AllocGlobal>(rt: &R) -> Result<()> {
-    let alloc = rt.alloc();
-    let view = three_queries(alloc)?;
-    let articles = vec![in alloc;
-        article(alloc, "a1", &[("text", "tea")])?,
-        article(alloc, "a2", &[("text", "coffee milk")])?,
-        article(alloc, "a3", &[("text", "tea milk")])?,
-    ]?;
+pub fn play<R: Print + Threads + Sync + AllocGlobal>(rt: &R) -> Option<()> {
+    let view = three_queries(rt.alloc())?;
+    let articles = three_articles(rt.alloc())?;
     for article in &articles {
         let _ = of_match_article(rt, &view, article) || of_match_article(rt, &view, article);
     }
     let _ = of_match_pieces(rt, &view, &articles) || of_match_pieces(rt, &view, &articles);
-    Ok(())
+    Some(())
 }

@@ -1,31 +1,21 @@
 //! A registrar that takes four queries, merges them, and purges one that was deleted.
-ghost use Rattle.std.specs.Prelude.{IfOk, IsTrue};
+ghost use Rattle.std.specs.Prelude.{IfSome, IsTrue};
 ghost use Rattle.clip_model.specs.History.{fits};
 ghost use Rattle.clip_standing.specs.Command.{command_of};
 
 use crate::telling::{answered, call, refused};
-use anyhow::{Result, bail};
-use clip_registry::{Installed, MergeJob, Registrar, View};
+use clip_registry::{Installed, MergeJob, Registrar};
 use clip_samples::{owned, standing};
 use clip_standing::{Applied, Command, Refused};
 use clip_words::NoMemory;
 use std::alloc::Global;
 
-/// The command that registers `tea` under an id.
-pub fn registering(alloc: Global, id: &str) -> Result<Command>
-    ensures { IfOk result (λ c. IsTrue (fits (command_of c))) }
+/// The command that registers `tea` under an id; none where memory is refused.
+pub fn registering(alloc: Global, id: &str) -> Option<Command>
+    ensures { IfSome result (λ c. IsTrue (fits (command_of c))) }
 {
-    let standing = standing(alloc, id, "tea")?;
-    Ok(Command::Register(vec![in alloc; standing]?))
-}
-
-/// A view of a registrar that took a command.
-pub fn view_after(alloc: Global, command: Command) -> Result<View> {
-    let mut registrar = Registrar::new(alloc);
-    if !command.fits() || registrar.apply(1, command).is_err() {
-        bail!("the command is refused");
-    }
-    Ok(registrar.view()?)
+    let standing = standing(alloc, id, "tea").ok()?;
+    Some(Command::Register(vec![in alloc; standing].ok()?))
 }
 
 /// How many queries were registered or taken out.
@@ -74,10 +64,10 @@ fn of_run<R: Print>(rt: &R, job: &MergeJob) -> bool {
 }
 
 /// Installs a merge that is run before.
-fn of_install<R: Print>(rt: &R, registrar: &mut Registrar, job: &MergeJob) -> Result<bool> {
-    let merged = job.run()?;
+fn of_install<R: Print>(rt: &R, registrar: &mut Registrar, job: &MergeJob) -> Option<bool> {
+    let merged = job.run().ok()?;
     call(rt, "Registrar::install");
-    Ok(match registrar.install(merged) {
+    Some(match registrar.install(merged) {
         Ok(installed) => answered(rt, (installed == Installed::Done) as u64),
         Err(NoMemory) => refused(rt),
     })
@@ -93,28 +83,31 @@ fn of_purge<R: Print>(rt: &R, registrar: &mut Registrar) -> bool {
 }
 
 /// Merges the four segments of a registrar.
-fn merge<R: Print>(rt: &R, registrar: &mut Registrar) -> Result<()> {
+fn merge<R: Print>(rt: &R, registrar: &mut Registrar) -> Option<()> {
     let _ = of_begin(rt, registrar) || of_begin(rt, registrar);
-    let Some(job) = registrar.begin()? else {
-        bail!("nothing to merge");
-    };
+    let job = registrar.begin().ok()??;
     let _ = of_run(rt, &job) || of_run(rt, &job);
     let _ = of_install(rt, registrar, &job)? || of_install(rt, registrar, &job)?;
-    Ok(())
+    Some(())
+}
+
+/// Deletes q2, and purges.
+fn purge<R: Print>(rt: &R, alloc: Global, registrar: &mut Registrar) -> Option<()> {
+    let delete = Command::Delete(owned(alloc, &["q2"]).ok()?);
+    if delete.fits() {
+        of_apply(rt, registrar, delete);
+    }
+    let _ = of_purge(rt, registrar) || of_purge(rt, registrar);
+    Some(())
 }
 
 /// Each call.
-pub fn play<R: Print + AllocGlobal>(rt: &R) -> Result<()> {
+pub fn play<R: Print + AllocGlobal>(rt: &R) -> Option<()> {
     let alloc = rt.alloc();
     let mut registrar = Registrar::new(alloc);
     for id in ["q1", "q2", "q3", "q4"] {
         of_apply(rt, &mut registrar, registering(alloc, id)?);
     }
     merge(rt, &mut registrar)?;
-    let delete = Command::Delete(owned(alloc, &["q2"])?);
-    if delete.fits() {
-        of_apply(rt, &mut registrar, delete);
-    }
-    let _ = of_purge(rt, &mut registrar) || of_purge(rt, &mut registrar);
-    Ok(())
+    purge(rt, alloc, &mut registrar)
 }
