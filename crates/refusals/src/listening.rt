@@ -16,23 +16,16 @@ fn alerts(alloc: Global) -> Option<Alerts> {
     match_article(alloc, &view, &article).ok()
 }
 
-/// Two listeners that have heard nothing.
-fn listeners(alloc: Global) -> Option<Listeners> {
+/// Delivers alerts to two listeners that have heard nothing, and gives the notes.
+fn of_deliver<R: Print + AllocGlobal>(rt: &R, alerts: &Alerts) -> Option<Vec<Note>> {
+    let alloc = rt.alloc();
     let mut parts: Vec<Named> = Vec::new(alloc);
     for name in ["mail", "feed"] {
         add_listener(alloc, &mut parts, name, folder(alloc, name, " in ").ok()?).ok()?;
     }
-    Listeners::new(parts).ok()
-}
-
-/// Delivers alerts to listeners that have heard nothing, and gives the notes.
-fn of_deliver<R: Print + AllocGlobal>(
-    rt: &R,
-    mut listeners: Listeners,
-    alerts: &Alerts,
-) -> Option<Vec<Note>> {
+    let mut listeners = Listeners::new(parts).ok()?;
     call(rt, "Listeners::deliver");
-    match listeners.deliver(rt.alloc(), alerts) {
+    match listeners.deliver(alloc, alerts) {
         Ok(notes) => {
             answered(rt, notes.len() as u64);
             Some(notes)
@@ -57,9 +50,9 @@ fn of_post<R: Print>(rt: &R, ledger: &mut Ledger, alerts: &Alerts, notes: &[Note
 pub fn play<R: Print + AllocGlobal>(rt: &R) -> Option<()> {
     let alloc = rt.alloc();
     let alerts = alerts(alloc)?;
-    let notes = match of_deliver(rt, listeners(alloc)?, &alerts) {
+    let notes = match of_deliver(rt, &alerts) {
         Some(notes) => notes,
-        None => of_deliver(rt, listeners(alloc)?, &alerts)?,
+        None => of_deliver(rt, &alerts)?,
     };
     let mut ledger = Ledger::new(alloc);
     let _ = of_post(rt, &mut ledger, &alerts, &notes) || of_post(rt, &mut ledger, &alerts, &notes);

@@ -2,7 +2,7 @@
 use denote.Param.Send.{sendable}
 use denote.Param.Sent.{Sends}
 use Rattle.clip_listen.proofs.Sent.{style_folder_send}
-use Rattle.refusals.proofs.listening.listeners.Hides as own
+use Rattle.refusals.proofs.listening.of_deliver.OwnLists as own
 
 pub sends-part-1-1 : Sends own.part-1-1
 sends-part-1-1 = search (sendable, style_folder_send)
