@@ -6,4 +6,3 @@ pub mod Cuts
 pub mod SortedKeys
 pub mod FrontsOfWords
 mod FrontKeys
-pub mod Seconds

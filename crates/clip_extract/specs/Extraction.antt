@@ -1,7 +1,6 @@
 -- The keys that are extracted of a query: an article of which it holds has one of them. Lucene's term-filtered
 -- presearcher extracts terms in this way.
-use Rattle.std.specs.Prelude.{ℕ, ◌==◌, min, nat_lt, List, [], ◌∷◌, ◌++◌, map, fold, length, Option, Some, None, unwrap_or, if◌then◌else◌}
-use Rattle.std.specs.List.{list_any}
+use Rattle.std.specs.Prelude.{ℕ, min, nat_lt, List, [], ◌∷◌, ◌++◌, map, fold, length, Option, Some, None, unwrap_or, if◌then◌else◌}
 use Rattle.std.specs.Str.{chars}
 use Rattle.clip_grammar.specs.Tree.{Tree, Clauses, none, clause}
 use Rattle.clip_grammar.specs.declared.query.Occur.{Occur}
@@ -81,24 +80,3 @@ query_keys tree = in_order (extract tree).keys
 
 abbrev pub query_weight : Tree → ℕ
 query_weight tree = (extract tree).weight
-
--- ---- second keys
-
--- the list without its heaviest, which is the first that none behind it outweighs
-abbrev pub without_heaviest : List Extracted → List Extracted
-without_heaviest [] = []
-without_heaviest (e ∷ es) = if list_any (λ f. nat_lt e.weight f.weight) es then e ∷ without_heaviest es else es
-
--- the keys of what narrows the articles down
-abbrev pub narrowing : Option Extracted → List KeyValue
-narrowing None = []
-narrowing (Some e) = if e.weight == 0 then [] else e.keys
-
--- of a group's Must children without the heaviest, whose keys are the query's, those of the heaviest
-abbrev pub second_extract : Tree → List KeyValue
-second_extract (Tree.Group clauses) = narrowing (heaviest (without_heaviest (musts (extracts clauses))))
-second_extract _ = []
-
--- the second keys of a query, in order, each once
-abbrev pub second_keys : Tree → List KeyValue
-second_keys tree = in_order (second_extract tree)

@@ -2,4 +2,3 @@
 pub mod Fronts
 pub mod Groups
 pub mod Leaves
-pub mod Seconds

@@ -10,7 +10,6 @@ pub mod KeptTerms
 pub mod Keys
 pub mod Lists
 pub mod Numbers
-pub mod Seconds
 pub mod Selected
 pub mod Sent
 pub mod SeveralIndexes
