@@ -1,5 +1,5 @@
 -- A query's keys cover the articles of which it holds.
-use Rattle.std.proofs.Common.{◌≡◌, ℕ, Bool, true, false, ◌&&◌, ◌||◌, cond, ltb, eqb, List, [], ◌∷◌, ◌++◌, map, drop, length, fold, Option, None, Some, unwrap_or, flat_map, refl, sym, ap, ◌∙◌, subst}
+use Rattle.std.proofs.Common.{◌≡◌, ℕ, Bool, true, false, ◌&&◌, ◌||◌, cond, ltb, List, [], ◌∷◌, ◌++◌, map, drop, length, fold, Option, None, Some, unwrap_or, flat_map, refl, sym, ap, ◌∙◌, subst}
 use Rattle.std.specs.FinMap as finite
 use Rattle.std.specs.List.{list_any, list_all, starts_with}
 use Rattle.std.specs.Str.{bytes_eq}
@@ -18,7 +18,7 @@ use Rattle.clip_meaning.proofs.Fields.{bytes_exact}
 use Rattle.clip_meaning.specs.Meaning.{holds, begins_with, verdicts, group_holds, has_run, is_nonempty, meets_must, meets_must_not, meets_should, is_must}
 use Rattle.clip_extract.specs.Keys.{KeyValue, Any, Word, Front, in_order, is_same, share}
 use Rattle.clip_extract.specs.Fronts.{key_front, fronts}
-use Rattle.clip_extract.specs.Extraction.{Extracted, unnarrowed, word_extract, front_extract, heavier, together, heaviest, union, musts, shoulds, group_extract, extract, extracts, without_heaviest, narrowing, second_extract}
+use Rattle.clip_extract.specs.Extraction.{Extracted, unnarrowed, word_extract, front_extract, heavier, together, heaviest, union, musts, shoulds, group_extract, extract, extracts, without_heaviest, is_word, only_words, second_extract}
 use Rattle.clip_extract.specs.Covering.{field_keys, front_keys, Covers, CoversTwice}
 use Rattle.clip_extract.proofs.FrontsOfWords.{front_of_longer}
 use Rattle.clip_extract.proofs.Order.{same_itself, share_in_order, nothing_in_order}
@@ -238,12 +238,11 @@ left_cover fields (e ∷ es) all =
       | false ↦ parts.1
     ]
 
-narrowing_covers : (fields : Fields) (found : Option Extracted) → covers fields (unwrap_or found unnarrowed) ≡ true → ¬ (narrowing found ≡ []) → list_any (has_key fields) (narrowing found) ≡ true
-narrowing_covers fields None all some = absurd (some refl)
-narrowing_covers fields (Some e) all some =
-    elim (eqb e.weight 0) as (λ t. ¬ (cond t [] e.keys ≡ []) → list_any (has_key fields) (cond t [] e.keys) ≡ true) [
-      | true ↦ λ some. absurd (some refl)
-      | false ↦ λ some. all
+words_cover_too : (fields : Fields) (ks : List KeyValue) → list_any (has_key fields) ks ≡ true → ¬ (only_words ks ≡ []) → list_any (has_key fields) (only_words ks) ≡ true
+words_cover_too fields ks all some =
+    elim (list_all is_word ks) as (λ t. ¬ (cond t ks [] ≡ []) → list_any (has_key fields) (cond t ks []) ≡ true) [
+      | true ↦ λ some. all
+      | false ↦ λ some. absurd (some refl)
     ] some
 
 second_covers : (tree : Tree) (fields : Fields) → holds tree fields ≡ true → ¬ (second_extract tree ≡ []) → list_any (has_key fields) (second_extract tree) ≡ true
@@ -252,7 +251,7 @@ second_covers (Tree.Group clauses) fields h some =
     let parts = and_parts (list_all meets_must (verdicts clauses fields) && list_all meets_must_not (verdicts clauses fields)) (list_any is_must (verdicts clauses fields) || list_any meets_should (verdicts clauses fields)) h in
     let all = and_parts (list_all meets_must (verdicts clauses fields)) (list_all meets_must_not (verdicts clauses fields)) parts.0 in
     let left = without_heaviest (musts (extracts clauses)) in
-    narrowing_covers fields (heaviest left) (heaviest_covers fields left unnarrowed refl (left_cover fields (musts (extracts clauses)) (musts_cover clauses fields all.0))) some
+    words_cover_too fields (unwrap_or (heaviest left) unnarrowed).keys (heaviest_covers fields left unnarrowed refl (left_cover fields (musts (extracts clauses)) (musts_cover clauses fields all.0))) some
 second_covers _ fields h some = absurd (some refl)
 
 pub covering_twice : CoversTwice

@@ -9,7 +9,7 @@ use Rattle.clip_grammar.specs.declared.query.Query.{Query}
 use Rattle.clip_grammar.specs.declared.query.Query.TheViews.{Group}
 use Rattle.clip_grammar.specs.Tree.{tree_of}
 use Rattle.clip_grammar.proofs.Trees.{tree_of_group}
-use Rattle.clip_extract.specs.Extraction.{Extracted, heavier, heaviest, musts, without_heaviest, narrowing, second_extract}
+use Rattle.clip_extract.specs.Extraction.{Extracted, heavier, heaviest, musts, without_heaviest, second_found}
 use Rattle.clip_extract.proofs.Groups.{extracts_of, extracts_map}
 use Rattle.clip_extract.specs.Steps.Groups.{go_on}
 use Rattle.clip_extract.specs.Steps.Seconds.{Ranked, heavier_of, next_ranked}
@@ -67,32 +67,21 @@ second_of best second (e ∷ es) below =
     beside h le false none = sym (heaviest_with second e es)
 
 -- of all
-pub second_found : (es : List Extracted) → (fold next_ranked (None, None) es).1 ≡ heaviest (without_heaviest es)
-second_found [] = refl
-second_found (e ∷ es) = second_of e None es tt ∙ at (outweighed e es)
+found_second : (es : List Extracted) → (fold next_ranked (None, None) es).1 ≡ heaviest (without_heaviest es)
+found_second [] = refl
+found_second (e ∷ es) = second_of e None es tt ∙ at (outweighed e es)
   where
     at : (t : Bool) → cond t (heaviest (e ∷ without_heaviest es)) (heaviest es) ≡ heaviest (cond t (e ∷ without_heaviest es) es)
     at true = refl
     at false = refl
 
--- what weighs something narrows
-pub narrows : (found : Option Extracted) (e : Extracted) → found ≡ Some e → 0 < e.weight → narrowing found ≡ e.keys
-narrows found e is some = ap narrowing is ∙ at (eqb e.weight 0) refl
-  where
-    at : (t : Bool) → eqb e.weight 0 ≡ t → cond t [] e.keys ≡ e.keys
-    at true h = absurd (grind (arith, nat_tests))
-    at false h = refl
-
-pub narrows_nothing : (found : Option Extracted) (e : Extracted) → found ≡ Some e → e.weight ≡ 0 → narrowing found ≡ []
-narrows_nothing found e is none = ap narrowing is ∙ ap (λ w. cond (eqb w 0) [] e.keys) none
-
--- once all clauses of a group are read, the second keys are those of what stands second
+-- once all clauses of a group are read, what stands second is what is found
 pub second_is : (q : Query) (v : Vec (Occur × Query) Global) (cs : List (Occur × Query)) (i : ℕ) (r : Ranked) → q ≡ Group v → cs ≡ v.items → length cs ≤ i
     → fold next_ranked r (musts (extracts_of (drop i cs))) ≡ fold next_ranked (None, None) (musts (extracts_of cs))
-    → second_extract (tree_of q) ≡ narrowing r.1
+    → second_found (tree_of q) ≡ r.1
 second_is q v cs i r group whole end is =
-    ap (λ q. second_extract (tree_of q)) group
-    ∙ ap second_extract (tree_of_group v)
-    ∙ ap (λ es. narrowing (heaviest (without_heaviest (musts es)))) (extracts_map v.items ∙ ap extracts_of (sym whole))
-    ∙ ap narrowing (sym (second_found (musts (extracts_of cs))))
-    ∙ ap (λ (p : Ranked). narrowing p.1) (sym is ∙ ap (λ xs. fold next_ranked r (musts (extracts_of xs))) (drop_all i cs end))
+    ap (λ q. second_found (tree_of q)) group
+    ∙ ap second_found (tree_of_group v)
+    ∙ ap (λ es. heaviest (without_heaviest (musts es))) (extracts_map v.items ∙ ap extracts_of (sym whole))
+    ∙ sym (found_second (musts (extracts_of cs)))
+    ∙ ap (λ (p : Ranked). p.1) (sym is ∙ ap (λ xs. fold next_ranked r (musts (extracts_of xs))) (drop_all i cs end))

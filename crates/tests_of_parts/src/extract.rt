@@ -72,7 +72,7 @@ fn a_query_has_the_keys_and_the_weight_of_the_table(rt: HostRuntime) -> Result<(
 
 /// Each the text of a query, and its second keys.
 #[rattlefmt::skip]
-static SECONDS: [(&str, &str); 18] = [
+static SECONDS: [(&str, &str); 20] = [
     ("+tea +coffee", "text:tea "),
     ("+coffee +tea", "text:tea "),
     ("tea AND coffee AND cream", "text:cream "),
@@ -81,9 +81,11 @@ static SECONDS: [(&str, &str); 18] = [
     ("+tea +coffee +mat", "text:tea "),
     ("+coffee +cream +sugar", "text:cream "),
     ("+tea +mat +coffee +ink", "text:tea "),
-    // a group and a prefix
+    // a group, and fronts, which are no second keys
     ("+coffee +(tea ink)", "text:ink text:tea "),
-    ("+coffee +tea*", "text:tea* "),
+    ("+coffee +tea*", ""),
+    ("+coffee +(tea* ink)", ""),
+    ("+tea* +mat", "text:mat "),
     ("+coffee +\"green tea\"", "text:green "),
     // one Must child, or none
     ("+tea coffee", ""),
