@@ -24,6 +24,10 @@ module _ (len : ℕ) (words : List ℕ) (hold : HoldFlags len words) where
   pub held_length : len ≡ length (take len (flags_of words))
   held_length = sym (length-take-le len (flags_of words) (omega (arith, hold.0, length-flags_of words)))
 
+  -- a place of the list
+  pub place_held : (flags : List Bool) (place : ℕ) → take len (flags_of words) ≡ flags → place < length flags → place < len
+  place_held flags place is low = omega (arith, low, held_length, ap length is)
+
   -- another flag at a place
   pub changed_flag : (changed : List ℕ) (place : ℕ) (flag : Bool) → place < len → flags_of changed ≡ set (flags_of words) place flag
       → HoldFlags len changed × (take len (flags_of changed) ≡ set (take len (flags_of words)) place flag)

@@ -10,8 +10,8 @@ use std::marker::Model;
 /// A list of flags whose bits lie in words of 64 bits, and the words in shared pieces: 8,192 flags to a piece of a
 /// kilobyte, and 128 pieces to a block. Contracts see the list of the flags.
 ///
-/// A clone shares all pieces: it takes one counted reference for each 1,048,576 flags. A write copies just the block and
-/// the piece that it touches, each where another list shares it, and is in place where none does.
+/// A clone shares all pieces: it takes one counted reference for each 1,048,576 flags. A write copies just the block
+/// and the piece that it touches, each where another list shares it, and is in place where none does.
 #[derive(Drop)]
 pub struct SharedFlags {
     words: SharedList<u64>,
