@@ -101,7 +101,7 @@ static SECONDS: [(&str, &str); 18] = [
 /// The second keys of the query of a text.
 fn seconds(alloc: Global, text: &str) -> Result<String, Fail> {
     let query = read_query(alloc, text)?;
-    show_keys(alloc, &second_keys(alloc, &query)?)
+    Ok(show_keys(alloc, &second_keys(alloc, &query)?)?)
 }
 
 #[test]
