@@ -2,3 +2,4 @@ pub mod Filled
 pub mod Cuts
 pub mod Flags
 pub mod Words
+pub mod Held

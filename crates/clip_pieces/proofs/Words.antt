@@ -1,13 +1,14 @@
 -- Flags in the bits of words.
-use Rattle.std.proofs.Common.{◌≡◌, ◌≢◌, ℕ, zero, suc, ◌+◌, ◌-◌, ◌*◌, ◌/◌, ◌%◌, ◌^◌, ◌<◌, ◌≤◌, min, nat_eq, true, false, List, [], ◌∷◌, ◌++◌, length, map, take, drop, get_or, set, replicate, refl, sym, ap, ap₂, ◌∙◌, unwrap_or, arith, append-nil, length-append, length-take-le, pow-suc, add-zero, inl, inr}
-use Rattle.std.specs.Int.{bit_at}
+use Rattle.std.proofs.Common.{◌≡◌, ◌≢◌, ℕ, zero, suc, ◌+◌, ◌-◌, ◌*◌, ◌/◌, ◌%◌, ◌^◌, ◌<◌, ◌≤◌, min, nat_eq, Bool, true, false, List, [], ◌∷◌, ◌++◌, length, map, take, drop, get_or, set, replicate, refl, sym, ap, ap₂, ◌∙◌, unwrap_or, w64, arith, append-nil, length-append, length-take-le, pow-suc, add-zero, inl, inr}
+use Rattle.std.specs.Int.{bit_at, bit_not}
 use Rattle.std.specs.Int.Bits.{bit_and, and_step, and_self}
+use Rattle.std.specs.Int.RustNames.{bit_or}
 use Rattle.std.specs.Int.Count.{count_trailing_zeros, under}
 use Rattle.std.proofs.Math.Seq.{take-set-lt}
 use Rattle.std.proofs.lemmas.Bool.{cases_eq}
 use Rattle.std.proofs.lemmas.List.{ext_get_or, length-set, get_or-set_same, get_or-set_other, get_or-take, take_more, map-append, take-append-drop, drop-set-lt, take-replicate, drop-replicate, replicate-append-replicate, length-replicate}
 use Rattle.std.proofs.lemmas.Option.{unwrap_or-slice_get}
-use Rattle.std.proofs.lemmas.Nat.Bits.{bit_at_lowest, bit_at-suc}
+use Rattle.std.proofs.lemmas.Nat.Bits.{bit_at_lowest, bit_at-suc, bit_at_set_same, bit_at_set_other, bit_at_clear_same, bit_at_clear_other}
 use Rattle.clip_pieces.specs.Marked.{marked, marked_from}
 use Rattle.clip_pieces.specs.Pieces.{joined, AreFilled}
 use Rattle.clip_pieces.specs.Steps.Bits.{bits_of, flags_of, HoldMarks}
@@ -28,22 +29,28 @@ get_bit zero w i h = absurd (omega arith)
 get_bit (suc k) w zero h = ap (λ n. nat_eq n 1) (sym (bit_at_lowest w))
 get_bit (suc k) w (suc i) h = get_bit k (w / 2) i (omega arith) ∙ ap (λ n. nat_eq n 1) (sym (bit_at-suc w i))
 
--- a word with one bit more
-pub set_bit : (k v w i : ℕ) → i < k → bit_at v i ≡ 1 → ((j : ℕ) → j ≢ i → bit_at v j ≡ bit_at w j) → bits_of k v ≡ set (bits_of k w) i true
-set_bit k v w i h here others =
-    ext_get_or false (bits_of k v) (set (bits_of k w) i true) (omega (arith, length-bits_of k v, length-bits_of k w, length-set (bits_of k w) i true)) same
+-- a word with one bit that is another
+set_bit : (k v w i : ℕ) (flag : Bool) → i < k → nat_eq (bit_at v i) 1 ≡ flag → ((j : ℕ) → j < k → j ≢ i → bit_at v j ≡ bit_at w j) → bits_of k v ≡ set (bits_of k w) i flag
+set_bit k v w i flag h here others =
+    ext_get_or false (bits_of k v) (set (bits_of k w) i flag) (omega (arith, length-bits_of k v, length-bits_of k w, length-set (bits_of k w) i flag)) same
   where
-    same : (j : ℕ) → j < length (bits_of k v) → get_or (bits_of k v) j false ≡ get_or (set (bits_of k w) i true) j false
+    same : (j : ℕ) → j < length (bits_of k v) → get_or (bits_of k v) j false ≡ get_or (set (bits_of k w) i flag) j false
     same j l =
         let low : j < k = omega (arith, length-bits_of k v) in
         elim (cases_eq j i) [
           | inl e ↦
               let inside : i < length (bits_of k w) = omega (arith, length-bits_of k w) in
-              ap (λ n. get_or (bits_of k v) n false) e ∙ get_bit k v i h ∙ ap (λ n. nat_eq n 1) here
-              ∙ sym (get_or-set_same (bits_of k w) i true false inside) ∙ ap (λ n. get_or (set (bits_of k w) i true) n false) (sym e)
+              ap (λ n. get_or (bits_of k v) n false) e ∙ get_bit k v i h ∙ here
+              ∙ sym (get_or-set_same (bits_of k w) i flag false inside) ∙ ap (λ n. get_or (set (bits_of k w) i flag) n false) (sym e)
           | inr ne ↦
-              get_bit k v j low ∙ ap (λ n. nat_eq n 1) (others j ne) ∙ sym (get_bit k w j low) ∙ sym (get_or-set_other (bits_of k w) i j true false ne)
+              get_bit k v j low ∙ ap (λ n. nat_eq n 1) (others j low ne) ∙ sym (get_bit k w j low) ∙ sym (get_or-set_other (bits_of k w) i j flag false ne)
         ]
+
+pub bit_set : (w i : ℕ) → i < 64 → bits_of 64 (bit_or w (1 * 2 ^ i % 2 ^ 64)) ≡ set (bits_of 64 w) i true
+bit_set w i low = set_bit 64 _ w i true low (ap (λ n. nat_eq n 1) (bit_at_set_same w64 w i low)) (λ j _ ne. bit_at_set_other w64 w i low j ne)
+
+pub bit_cleared : (w i : ℕ) → i < 64 → bits_of 64 (bit_and w (bit_not w64 (1 * 2 ^ i % 2 ^ 64))) ≡ set (bits_of 64 w) i false
+bit_cleared w i low = set_bit 64 _ w i false low (ap (λ n. nat_eq n 1) (bit_at_clear_same w64 w i low)) (λ j l ne. bit_at_clear_other w64 w i low j l ne)
 
 pub no_bits : (k : ℕ) → bits_of k 0 ≡ replicate k false
 unfolding bits_of
@@ -120,16 +127,27 @@ none_held bound count enough few =
       ap (take bound) none ∙ take-replicate bound (64 * count) false enough,
     )
 
-module _ (bound : ℕ) (words : List ℕ) (hold : HoldMarks bound words) where
-  inside : (number : ℕ) → number < bound → number < length (flags_of words)
-  inside number low = omega (arith, hold.0, length-flags_of words)
+-- the bit of one place
+module _ (words : List ℕ) (place w : ℕ) (low : place < 64 * length words) (is : w ≡ get_or words (place / 64) w) where
+  inside : place < length (flags_of words)
+  inside = omega (arith, low, length-flags_of words)
 
+  pub set_flag : (v : ℕ) (flag : Bool) → bits_of 64 v ≡ set (bits_of 64 w) (place % 64) flag → flags_of (set words (place / 64) v) ≡ set (flags_of words) place flag
+  set_flag v flag bits = (set_part (bits_of 64) 64 words (length (flags_of words)) (filled words, refl) place w v flag (omega arith) inside is bits).1
+
+  pub read_flag : nat_eq (bit_at w (place % 64)) 1 ≡ get_or (flags_of words) place false
+  read_flag =
+      sym (get_bit 64 w (place % 64) (omega arith))
+      ∙ sym (unwrap_or-slice_get (bits_of 64 w) (place % 64) false)
+      ∙ ap (λ found. unwrap_or found false) (get_part (bits_of 64) 64 words place w (omega arith) (filled words) inside is)
+      ∙ unwrap_or-slice_get (flags_of words) place false
+
+module _ (bound : ℕ) (words : List ℕ) (hold : HoldMarks bound words) where
   -- one number more is marked
   pub mark_bit : (number v w : ℕ) → number < bound → w ≡ get_or words (number / 64) w → bits_of 64 v ≡ set (bits_of 64 w) (number % 64) true
       → HoldMarks bound (set words (number / 64) v) × (take bound (flags_of (set words (number / 64) v)) ≡ set (take bound (flags_of words)) number true)
   mark_bit number v w low is bits =
-      let flags : flags_of (set words (number / 64) v) ≡ set (flags_of words) number true =
-      (set_part (bits_of 64) 64 words (length (flags_of words)) (filled words, refl) number w v true (omega arith) (inside number low) is bits).1 in
+      let flags = set_flag words number w (omega (arith, hold.0)) is v true bits in
       let long : length (set words (number / 64) v) ≡ length words = length-set words (number / 64) v in (
         (
           omega (arith, hold.0),
@@ -140,12 +158,7 @@ module _ (bound : ℕ) (words : List ℕ) (hold : HoldMarks bound words) where
       )
 
   pub read_bit : (number w : ℕ) → number < bound → w ≡ get_or words (number / 64) w → nat_eq (bit_at w (number % 64)) 1 ≡ get_or (take bound (flags_of words)) number false
-  read_bit number w low is =
-      sym (get_bit 64 w (number % 64) (omega arith))
-      ∙ sym (unwrap_or-slice_get (bits_of 64 w) (number % 64) false)
-      ∙ ap (λ found. unwrap_or found false) (get_part (bits_of 64) 64 words number w (omega arith) (filled words) (inside number low) is)
-      ∙ unwrap_or-slice_get (flags_of words) number false
-      ∙ sym (get_or-take bound (flags_of words) number false low)
+  read_bit number w low is = read_flag words number w (omega (arith, hold.0)) is ∙ sym (get_or-take bound (flags_of words) number false low)
 
   -- all bits that are set are those below the bound
   pub all_marked : marked (flags_of words) ≡ marked (take bound (flags_of words))

@@ -9,3 +9,7 @@ pub trait Exact: Clone {
 impl Exact for bool {
     ghost exact = { λ _ _ same. same };
 }
+
+impl Exact for u64 {
+    ghost exact = { λ _ _ same. same };
+}

@@ -12,6 +12,7 @@ mod part;
 mod parts;
 mod piece;
 mod shared;
+mod shared_flags;
 
 pub use exact::Exact;
 pub use iter::Iter;
@@ -19,3 +20,4 @@ pub use list::SharedList;
 pub use marks::Marks;
 pub use packed::PackedLists;
 pub use shared::Shared;
+pub use shared_flags::SharedFlags;

@@ -38,10 +38,9 @@ flag_above base flags seq h = ap (λ b. b && get_or flags (seq - suc base) false
 flag_below : (base : ℕ) (flags : List Bool) (seq : ℕ) → seq ≤ base → flag_at base flags seq ≡ false
 flag_below base flags seq h = ap (λ b. b && get_or flags (seq - suc base) false) (not_lt base seq h)
 
--- where no flag is found, the seq isn't live
-pub no_flag : (base : ℕ) (flags : List Bool) (seq k : ℕ) → base < seq → k ≡ seq - suc base → slice_get flags k ≡ None → flag_at base flags seq ≡ false
-no_flag base flags seq k above at none =
-    flag_above base flags seq above ∙ ap (λ j. get_or flags j false) (sym at) ∙ sym (unwrap_or-slice_get flags k false) ∙ ap (λ (o : Option Bool). unwrap_or o false) none
+-- what is found at the place of a seq above the base is its flag
+pub flag_found : (base : ℕ) (flags : List Bool) (seq k : ℕ) → base < seq → k ≡ seq - suc base → unwrap_or (slice_get flags k) false ≡ flag_at base flags seq
+flag_found base flags seq k above at = unwrap_or-slice_get flags k false ∙ ap (λ j. get_or flags j false) at ∙ sym (flag_above base flags seq above)
 
 choose : (b c : Bool) (x y : Bool) → b ≡ c → cond b x y ≡ cond c x y
 choose b c x y e = ap (λ d. cond d x y) e

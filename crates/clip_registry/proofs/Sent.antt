@@ -9,6 +9,7 @@ use Rattle.std.proofs.sync.Arc.TheSendSync as arc_sent
 use Rattle.std.proofs.vec.Vec.TheSendSync as vec_sent
 use Rattle.clip_pieces.proofs.list.SharedList.TheSendSync as list_sent
 use Rattle.clip_pieces.proofs.shared.Shared.TheSendSync as shared_sent
+use Rattle.clip_pieces.proofs.shared_flags.SharedFlags.TheSendSync as flags_sent
 use Rattle.clip_segment.proofs.Sent.{segment_send, segment_sync}
 use Rattle.clip_standing.proofs.Sent.{entry_send, entry_sync, history_entry_send, history_entry_sync}
 use Rattle.clip_registry.specs.contracts.by_id.piece.Piece as piece
@@ -43,10 +44,10 @@ by_id_sync : IsSync by_id.the_row
 by_id_sync = view_sync by_id_inside.the_row _ _ _ _ (declared_sync by_id_inside.the_type (search (parts, piece_send, piece_sync), (search global, tt)))
 
 roster_send : IsSend roster.the_row
-roster_send = view_send roster_inside.the_row _ _ _ _ (declared_send roster_inside.the_type (by_id_send, (search global, (search lists, tt))))
+roster_send = view_send roster_inside.the_row _ _ _ _ (declared_send roster_inside.the_type (by_id_send, (search global, (search (global, flags_sent.the_send), tt))))
 
 roster_sync : IsSync roster.the_row
-roster_sync = view_sync roster_inside.the_row _ _ _ _ (declared_sync roster_inside.the_type (by_id_sync, (search global, (search lists, tt))))
+roster_sync = view_sync roster_inside.the_row _ _ _ _ (declared_sync roster_inside.the_type (by_id_sync, (search global, (search (global, flags_sent.the_sync), tt))))
 
 state_send : IsSend state.the_row
 state_send = view_send state_inside.the_row _ _ _ _ (declared_send state_inside.the_type (search (parts, segment_send, segment_sync), (search (lists, history_entry_send, history_entry_sync), (roster_send, (search parts, tt)))))

@@ -8,20 +8,20 @@ ghost use Rattle.clip_model.specs.Steps.Numbered.{IsNumbered};
 ghost use Rattle.clip_registry.specs.Steps.Roster.{SeqsFollow, roster_with, roster_with_all, roster_without};
 
 use crate::by_id::ById;
-use clip_pieces::SharedList;
+use clip_pieces::SharedFlags;
 use clip_standing::Entry;
 use clip_words::NoMemory;
 use std::alloc::{AllocError, Global};
 use std::marker::Model;
 use std::sync::Arc;
 
-/// The live entries by id, and for each seq above a base whether it is live: one flag is held for each query listed
+/// The live entries by id, and for each seq above a base whether it is live: one bit is held for each query listed
 /// since the last clear. A clone shares the pieces of both, and a change of one copies those that it touches.
 #[derive(Drop)]
 pub struct Roster {
     by_id: ById,
     base: u64,
-    live: SharedList<bool>,
+    live: SharedFlags,
 }
 
 impl Model for Roster {
@@ -51,7 +51,7 @@ impl Clone for Roster {
 }
 
 /// Sets the flag of a seq above the base, if it has a place. `NoMemory` where an allocation failed.
-fn mark(flags: &mut SharedList<bool>, base: u64, seq: u64, live: bool) -> Result<(), NoMemory>
+fn mark(flags: &mut SharedFlags, base: u64, seq: u64, live: bool) -> Result<(), NoMemory>
     ensures { OnOk result (flags.new ≡ flags_with base flags.old seq live) }
 {
     if base < seq {
@@ -71,7 +71,7 @@ impl Roster {
         Roster {
             by_id: ById::new(alloc),
             base: listed,
-            live: SharedList::new(alloc),
+            live: SharedFlags::new(alloc),
         }
     }
 
@@ -105,10 +105,8 @@ impl Roster {
         if seq <= self.base {
             return false;
         }
-        match self.live.get((seq - self.base - 1) as usize) {
-            Some(live) => *live,
-            None => false,
-        }
+        let place = (seq - self.base - 1) as usize;
+        self.live.get(place).unwrap_or(false)
     }
 
     /// The roster with the next entry in the place of the one with its id. `NoMemory` where an allocation failed.

@@ -1,6 +1,6 @@
-//! Items over the borders of pieces and blocks, copies that later writes leave as they were, and marks over the
-//! borders of words.
-use clip_pieces::{Marks, PackedLists, Shared, SharedList};
+//! Items over the borders of pieces and blocks, copies that later writes leave as they were, and flags and marks over
+//! the borders of words.
+use clip_pieces::{Marks, PackedLists, Shared, SharedFlags, SharedList};
 use std::alloc::Global;
 use std::test::Fail;
 
@@ -21,23 +21,45 @@ fn each_item_stands_at_its_place_over_the_borders(rt: HostRuntime) -> Result<(),
 
 #[test]
 fn a_write_leaves_the_other_copy_as_it_was(rt: HostRuntime) -> Result<(), Fail> {
-    let mut flags = SharedList::new(rt.alloc());
+    let mut list = SharedList::new(rt.alloc());
     for _ in 0..300 {
-        flags.push(false)?;
+        list.push(0)?;
     }
-    let mut copy = flags.clone()?;
+    let mut copy = list.clone()?;
     for place in [0, 127, 128, 255, 256, 299] {
-        assert!(rt; place < flags.len());
-        flags.set(place, true)?;
-        assert!(rt; flags.get(place) == Some(&true));
-        assert!(rt; copy.get(place) == Some(&false));
+        assert!(rt; place < list.len());
+        list.set(place, 1)?;
+        assert!(rt; list.get(place) == Some(&1));
+        assert!(rt; copy.get(place) == Some(&0));
     }
     assert!(rt; copy.len() == 300);
-    copy.set(1, true)?;
-    copy.push(true)?;
-    assert!(rt; flags.get(1) == Some(&false));
-    assert!(rt; flags.len() == 300);
-    assert!(rt; copy.last() == Some(&true));
+    copy.set(1, 2)?;
+    copy.push(2)?;
+    assert!(rt; list.get(1) == Some(&0));
+    assert!(rt; list.len() == 300);
+    assert!(rt; copy.last() == Some(&2));
+    Ok(())
+}
+
+#[test]
+fn each_flag_stands_at_its_place_over_the_borders(rt: HostRuntime) -> Result<(), Fail> {
+    let mut flags = SharedFlags::new(rt.alloc());
+    for place in 0..8_300u64 {
+        flags.push(place % 3 == 0)?;
+    }
+    let copy = flags.clone()?;
+    for place in [0, 1, 63, 64, 65, 8_191, 8_192, 8_299] {
+        let flag = place % 3 == 0;
+        assert!(rt; place < flags.len());
+        assert!(rt; flags.get(place) == Some(flag));
+        flags.set(place, !flag)?;
+        assert!(rt; flags.get(place) == Some(!flag));
+        assert!(rt; copy.get(place) == Some(flag));
+    }
+    assert!(rt; flags.get(62) == Some(false));
+    assert!(rt; flags.get(66) == Some(true));
+    assert!(rt; flags.len() == 8_300);
+    assert!(rt; flags.get(8_300).is_none());
     Ok(())
 }
 

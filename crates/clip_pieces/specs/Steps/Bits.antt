@@ -1,5 +1,5 @@
 -- Flags that lie in words of 64 bits.
-use Rattle.std.specs.Prelude.{◌≡◌, ℕ, zero, suc, ◌-◌, ◌*◌, ◌/◌, ◌%◌, ◌≤◌, ◌==◌, Bool, false, List, [], ◌∷◌, map, length, drop, replicate}
+use Rattle.std.specs.Prelude.{◌≡◌, ℕ, zero, suc, ◌+◌, ◌-◌, ◌*◌, ◌/◌, ◌%◌, ◌<◌, ◌≤◌, ◌==◌, Bool, false, List, [], ◌∷◌, map, length, drop, replicate}
 use Rattle.clip_pieces.specs.Pieces.{joined}
 use Rattle.clip_pieces.specs.declared.marks.TheConstants.{MOST_NUMBERS}
 
@@ -17,3 +17,7 @@ flags_of words = joined (map (bits_of 64) words)
 abbrev pub HoldMarks : ℕ → List ℕ → Type 0
 HoldMarks bound words = (bound ≤ 64 * length words) × (64 * length words ≤ MOST_NUMBERS)
     × (drop bound (flags_of words) ≡ replicate (64 * length words - bound) false)
+
+-- the words have a bit for each of so many flags, and the last word has one of them
+abbrev pub HoldFlags : ℕ → List ℕ → Type 0
+HoldFlags len words = (len ≤ 64 * length words) × (64 * length words < len + 64)
