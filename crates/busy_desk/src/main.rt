@@ -185,7 +185,8 @@ fn play<N: DeskName, R: Wait>(
     parts: DeskParts<UpdateLog>,
     work: Work,
 ) -> Result<View>
-    requires { (parts.book ≡ N.book) × (parts.callers ≡ N.callers) × (N.heard_before ≡ all_heard parts.updates) }
+    requires { (parts.book ≡ N.book) × (parts.callers ≡ N.callers) × (N.heard_before ≡ all_heard parts.updates)
+        × (parts.keeps ≡ N.keeps) }
 {
     let (desk, seats) = Desk::<N, UpdateLog>::open(parts);
     let last = work_at(rt, alloc, &desk, seats, work);

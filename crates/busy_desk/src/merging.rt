@@ -247,7 +247,8 @@ pub fn measure<N: DeskName + Send + Sync, R: Threads + Wait + Clock + Sync>(
     commits: u64,
     merger: Merger,
 ) -> Result<Report>
-    requires { (parts.book ≡ N.book) × (parts.callers ≡ N.callers) × (N.heard_before ≡ all_heard parts.updates) }
+    requires { (parts.book ≡ N.book) × (parts.callers ≡ N.callers) × (N.heard_before ≡ all_heard parts.updates)
+        × (parts.keeps ≡ N.keeps) }
 {
     let (desk, mut seats) = Desk::<N, UpdateLog>::open(parts);
     let (Some(reader), Some(writer), Ok((sender, nudges))) = (

@@ -188,7 +188,7 @@ impl Front {
             (right.new ≡ right.old) }
         ensures legal { IsLegal registrar.now.history }
     {
-        match registrar.history().last() {
+        match registrar.last_entry() {
             Some(entry) => self.add(head, entry, right),
             None => false,
         }

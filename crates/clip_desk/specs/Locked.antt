@@ -1,5 +1,5 @@
 -- What the lock keeps.
-use Rattle.std.specs.Prelude.{◌≡◌, ℕ, ◌≤◌, List, slice_get, Some, refl}
+use Rattle.std.specs.Prelude.{◌≡◌, ℕ, Bool, ◌≤◌, List, slice_get, Some, refl}
 use Rattle.std.specs.Coded.{Coded, code_by, coded×, coded_list}
 use Rattle.logbook.specs.Pages.{Book, Named}
 use Rattle.clip_model.specs.declared.limits.TheConstants.{MOST_CALLERS}
@@ -19,9 +19,10 @@ abbrev pub locked_code : Coded LockedIs
 locked_code = code_by (RegistryState × List Heard) (coded× state_code (coded_list heard_code))
     (λ s. (s.registry, s.updates)) (λ p. record { registry = p.0; updates = p.1 }) (λ _. refl)
 
--- the registrar, the chronicle and the published value agree, and are those of this desk
-pub record IsSettled (book : Book) (callers : ℕ) (registrar : RegistryState) (head : Named) (front : Front)
-    (shown : Published) : Type 0 where
+-- the registrar, the chronicle and the published value agree, and are those of this desk, which keeps its history or not
+pub record IsSettled (book : Book) (callers : ℕ) (keeps : Bool) (registrar : RegistryState) (head : Named)
+    (front : Front) (shown : Published) : Type 0 where
+  pub keeps_is : registrar.keeps ≡ keeps
   pub log : front.seen.log ≡ registrar.history
   pub book_is : front.seen.book ≡ book
   pub head_is : head ≡ head_of book

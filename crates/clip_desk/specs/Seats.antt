@@ -1,5 +1,5 @@
 -- What contracts see of a seat, of a receipt and of a desk.
-use Rattle.std.specs.Prelude.{◌≡◌, ℕ, ◌+◌, ◌<◌, ◌≤◌, ◌⊎◌, List, [], length, take, slice_get, Some, nat_lt, if◌then◌else◌, refl}
+use Rattle.std.specs.Prelude.{◌≡◌, ℕ, Bool, ◌+◌, ◌<◌, ◌≤◌, ◌⊎◌, List, [], length, take, slice_get, Some, nat_lt, if◌then◌else◌, refl}
 use Rattle.std.specs.Coded.{Coded, code_by, coded×, coded⊎, coded_ℕ, coded_list}
 use Rattle.std.proofs.Common.{inl, inr}
 use mathlib.Core.List.{IsPrefix}
@@ -25,10 +25,11 @@ pub record ReceiptIs : Type 0 where
   pub history : History
   pub applied : Applied
 
--- the parts of a desk: its tag, its callers, its book, and what its listeners have heard
+-- the parts of a desk: its tag, its callers, whether it keeps its history, its book, and what its listeners have heard
 pub record PartsIs : Type 0 where
   pub tag : ℕ
   pub callers : ℕ
+  pub keeps : Bool
   pub book : Book
   pub updates : List Heard
 

@@ -58,7 +58,8 @@ pub struct SeatMissing<N: DeskName, L: UpdateListener> {
 impl<N: DeskName, L: UpdateListener> Desk<N, L> {
     /// A desk, and the seats of callers 1, 2, .. Its name says what its listeners had heard. Constant time.
     pub fn open(parts: DeskParts<L>) -> (Desk<N, L>, Vec<Seat>)
-        requires { (parts.book ≡ N.book) × (parts.callers ≡ N.callers) × (N.heard_before ≡ all_heard parts.updates) }
+        requires { (parts.book ≡ N.book) × (parts.callers ≡ N.callers) × (N.heard_before ≡ all_heard parts.updates)
+            × (parts.keeps ≡ N.keeps) }
         ensures desk { (result.0.tag ≡ parts.tag) × (result.0.callers ≡ parts.callers) }
         ensures seats { AreSeated parts.tag parts.callers parts.book result.1.items
             × (vec_len result.1 ≡ parts.callers) }
@@ -141,6 +142,7 @@ impl<N: DeskName, L: UpdateListener> Desk<N, L> {
         requires { (k : ℕ) (s : SeatIs) → slice_get seats.items k ≡ Some s → s.tag ≡ self.tag
             → IsSeatOf N.book N.callers s }
         ensures legal { IfOk result (λ c. IsLegal c.registrar.history × IsBy self.callers c.registrar.history) }
+        ensures keeps { IfOk result (λ c. c.registrar.keeps ≡ N.keeps) }
         ensures seats { IfOk result (λ c. AreAll self.tag self.callers c.registrar.history seats.items) }
         ensures told { IfOk result (λ c. AllFollow N.heard_before c.registrar.history
             (map (heard_by L.heard) c.updates.items)) }

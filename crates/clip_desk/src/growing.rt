@@ -18,8 +18,7 @@ pub struct Grown {
 }
 
 /// The registry after a caller's next command, where the registrar stays as it is: `Full` where the command has no
-/// room, and `NoMemory` where an allocation failed. It costs that of `Registrar::apply` while a view is held, and a
-/// step for each query or id that the command lists.
+/// room, and `NoMemory` where an allocation failed. It costs that of `Registrar::after`.
 pub fn grow(registrar: &Registrar, caller: u32, command: &Command) -> Result<Grown, Refused>
     requires fits { IsTrue (fits (command_of command.now)) }
     requires caller { (0 < caller) × (caller ≤ MOST_CALLERS) }
@@ -31,11 +30,10 @@ pub fn grow(registrar: &Registrar, caller: u32, command: &Command) -> Result<Gro
     ensures full { result ≡ Err Refused.Full → IsFalse (has_room registrar.now.history (command_of command.now)) }
     ensures never_foreign { result ≢ Err Refused.Foreign }
 {
-    let mut registrar = registrar.copy()?;
-    let applied = match registrar.apply(caller, command.copy()?) {
-        Ok(applied) => applied,
-        Err((_, Declined::Full)) => return Err(Refused::Full),
-        Err((_, Declined::NoMemory)) => return Err(Refused::NoMemory),
+    let (registrar, applied) = match registrar.after(caller, command) {
+        Ok(next) => next,
+        Err(Declined::Full) => return Err(Refused::Full),
+        Err(Declined::NoMemory) => return Err(Refused::NoMemory),
     };
     let view = registrar.view()?;
     Ok(Grown {

@@ -21,10 +21,10 @@ use std::alloc::Global;
 use std::marker::{Brand, Model, PhantomData};
 use std::sync::Wait;
 
-/// Names one desk, in contracts only: its book, how many callers it has, and what each of its listeners had heard
-/// before it.
+/// Names one desk, in contracts only: its book, how many callers it has, whether it keeps its history to be read, and
+/// what each of its listeners had heard before it.
 pub trait DeskName {
-    ghost use Rattle.std.specs.Prelude.{ℕ, List};
+    ghost use Rattle.std.specs.Prelude.{ℕ, Bool, List};
     ghost use Rattle.logbook.specs.Pages.{Book};
     ghost use Rattle.clip_desk.specs.Updates.{Event};
 
@@ -32,16 +32,20 @@ pub trait DeskName {
 
     ghost callers: { ℕ };
 
+    ghost keeps: { Bool };
+
     ghost heard_before: { List (List Event) };
 }
 
 impl DeskName for Brand {
-    ghost use Rattle.std.specs.Prelude.{[]};
+    ghost use Rattle.std.specs.Prelude.{[], true};
     ghost use Rattle.clip_chronicle.specs.Chronicle.{no_book};
 
     ghost book = { no_book };
 
     ghost callers = { 0 };
+
+    ghost keeps = { true };
 
     ghost heard_before = { [] };
 }
@@ -68,7 +72,7 @@ impl<N: DeskName, L: UpdateListener> Model for Locked<N, L> {
 
     ghost view = { λ s. record { registry = s.registrar; updates = s.updates } };
 
-    ghost invariant = { λ s. IsSettled N.book N.callers s.registrar s.head s.front
+    ghost invariant = { λ s. IsSettled N.book N.callers N.keeps s.registrar s.head s.front
         s.writer.desk.shown.value × AllFollow N.heard_before s.registrar.history s.updates };
 }
 
@@ -81,7 +85,7 @@ fn tell_last<L: UpdateListener>(
     ensures { (before : History) (e : HistoryEntry) → registrar.now.history ≡ before ++ e ∷ []
         → AreTold (event_of e.command) updates.old updates.new }
 {
-    if let Some(entry) = registrar.history().last() {
+    if let Some(entry) = registrar.last_entry() {
         updates.tell(alloc, Update::of(&entry.command));
     }
 }
@@ -96,7 +100,7 @@ impl<N: DeskName, L: UpdateListener> Locked<N, L> {
         updates: UpdateListeners<L>,
         alloc: Global,
     ) -> Locked<N, L>
-        requires settled { IsSettled N.book N.callers registrar head front writer.desk.shown.value }
+        requires settled { IsSettled N.book N.callers N.keeps registrar head front writer.desk.shown.value }
         requires follow { AllFollow N.heard_before registrar.history updates }
         ensures { result ≡ record { registry = registrar; updates = updates } }
     {
@@ -191,6 +195,7 @@ impl<N: DeskName, L: UpdateListener> Locked<N, L> {
     pub(crate) fn end<R: Wait>(self, rt: &R) -> (Registrar, Vec<(L, bool)>)
         ensures same { result.0 ≡ self.registry }
         ensures legal { IsLegal result.0.history × IsBy N.callers result.0.history }
+        ensures keeps { result.0.keeps ≡ N.keeps }
         ensures heard { map (heard_by L.heard) result.1.items ≡ self.updates }
         ensures follow { AllFollow N.heard_before result.0.history (map (heard_by L.heard) result.1.items) }
     {
@@ -203,7 +208,7 @@ impl<N: DeskName, L: UpdateListener> Locked<N, L> {
             alloc: _,
             of: _,
         } = self;
-        let _ = registrar.history();
+        let _ = registrar.last_entry();
         writer.take(rt);
         (registrar, updates.into_parts())
     }

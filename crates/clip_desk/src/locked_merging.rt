@@ -16,7 +16,7 @@ impl<N: DeskName, L: UpdateListener> Locked<N, L> {
     /// Publishes a registry of the same history, and keeps it. `NoMemory` where an allocation failed, with nothing
     /// changed. It may wait for readers that look.
     fn put<R: Wait>(&mut self, rt: &R, registrar: Registrar) -> Result<(), NoMemory>
-        requires { registrar.history ≡ self.old.registry.history }
+        requires { (registrar.history ≡ self.old.registry.history) × (registrar.keeps ≡ self.old.registry.keeps) }
         ensures there { OnOk result (self.new ≡ record self.old { registry = registrar }) }
         ensures unchanged { OnErr result (self.new ≡ self.old) }
     {

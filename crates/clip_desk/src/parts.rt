@@ -1,5 +1,5 @@
 //! The ends and seats of a desk, before it has a name.
-ghost use Rattle.std.specs.Prelude.{◌≡◌, ◌↔◌, ◌+◌, ◌<◌, ◌≤◌, [], ◌∷◌, ◌++◌, length, IfOk, IfErr, OnOk, vec_len};
+ghost use Rattle.std.specs.Prelude.{◌≡◌, true, false, ◌↔◌, ◌+◌, ◌<◌, ◌≤◌, [], ◌∷◌, ◌++◌, length, IfOk, IfErr, OnOk, vec_len};
 ghost use Rattle.left_right.specs.Sides.{view};
 ghost use Rattle.clip_chronicle.specs.Ends.{IsOf};
 ghost use Rattle.clip_desk.specs.Seats.{new_seat, AreSeated};
@@ -40,9 +40,15 @@ impl<L: UpdateListener> Model for DeskParts<L> {
 
     ghost Value = { PartsIs };
 
-    ghost view = { λ p. record { tag = p.tag; callers = p.callers; book = p.front.seen.book; updates = p.updates } };
+    ghost view = { λ p. record {
+      tag = p.tag;
+      callers = p.callers;
+      keeps = p.registrar.keeps;
+      book = p.front.seen.book;
+      updates = p.updates;
+    } };
 
-    ghost invariant = { λ p. IsSettled p.front.seen.book p.callers p.registrar p.head p.front
+    ghost invariant = { λ p. IsSettled p.front.seen.book p.callers p.registrar.keeps p.registrar p.head p.front
         p.writer.desk.shown.value × (p.registrar.history ≡ [])
         × AreSeated p.tag p.callers p.front.seen.book p.seats.items
         × (vec_len p.seats ≡ p.callers) };
@@ -140,8 +146,8 @@ fn open_ends<R: Wait>(
 impl<L: UpdateListener> DeskParts<L> {
     /// The parts of a desk of this tag, with an empty registry, a seat for each caller, and these listeners; or the
     /// listeners back: `TooMany` where there are more than `MOST_CALLERS` callers, and `NoMemory` where an allocation
-    /// failed. The listeners are told nothing. It never waits, since nobody reads yet. It
-    /// costs a step for each caller.
+    /// failed. The desk keeps its history, which is read once it is closed. The listeners are told nothing. It never
+    /// waits, since nobody reads yet. It costs a step for each caller.
     pub fn new<R: Wait>(
         rt: &R,
         alloc: Global,
@@ -151,6 +157,46 @@ impl<L: UpdateListener> DeskParts<L> {
     ) -> Result<DeskParts<L>, (UpdateListeners<L>, NewRefused)>
         requires { 0 < callers }
         ensures ok { IfOk result (λ p. (p.tag ≡ tag) × (p.callers ≡ callers) × (p.updates ≡ updates)) }
+        ensures keeps { IfOk result (λ p. p.keeps ≡ true) }
+        ensures back { IfErr result (λ e. e.0 ≡ updates) }
+        ensures few { OnOk result (callers ≤ MOST_CALLERS) }
+        ensures many { (result ≡ Err (updates, NewRefused.TooMany)) ↔ (MOST_CALLERS < callers) }
+    {
+        DeskParts::of(rt, Registrar::new(alloc), alloc, tag, callers, updates)
+    }
+
+    /// The same parts but for the history, which the desk does not keep: its memory follows what is registered, and
+    /// all its promises are the same but that its history can't be read.
+    pub fn without_history<R: Wait>(
+        rt: &R,
+        alloc: Global,
+        tag: u64,
+        callers: u32,
+        updates: UpdateListeners<L>,
+    ) -> Result<DeskParts<L>, (UpdateListeners<L>, NewRefused)>
+        requires { 0 < callers }
+        ensures ok { IfOk result (λ p. (p.tag ≡ tag) × (p.callers ≡ callers) × (p.updates ≡ updates)) }
+        ensures keeps { IfOk result (λ p. p.keeps ≡ false) }
+        ensures back { IfErr result (λ e. e.0 ≡ updates) }
+        ensures few { OnOk result (callers ≤ MOST_CALLERS) }
+        ensures many { (result ≡ Err (updates, NewRefused.TooMany)) ↔ (MOST_CALLERS < callers) }
+    {
+        DeskParts::of(rt, Registrar::without_history(alloc), alloc, tag, callers, updates)
+    }
+
+    /// The parts of a desk with this registrar, which is new.
+    fn of<R: Wait>(
+        rt: &R,
+        registrar: Registrar,
+        alloc: Global,
+        tag: u64,
+        callers: u32,
+        updates: UpdateListeners<L>,
+    ) -> Result<DeskParts<L>, (UpdateListeners<L>, NewRefused)>
+        requires some { 0 < callers }
+        requires empty { registrar.history ≡ [] }
+        ensures ok { IfOk result (λ p. (p.tag ≡ tag) × (p.callers ≡ callers) × (p.updates ≡ updates)) }
+        ensures keeps { IfOk result (λ p. p.keeps ≡ registrar.keeps) }
         ensures back { IfErr result (λ e. e.0 ≡ updates) }
         ensures few { OnOk result (callers ≤ MOST_CALLERS) }
         ensures many { (result ≡ Err (updates, NewRefused.TooMany)) ↔ (MOST_CALLERS < callers) }
@@ -159,7 +205,6 @@ impl<L: UpdateListener> DeskParts<L> {
             return Err((updates, NewRefused::TooMany));
         }
         let (head, front, rights) = open_chronicle();
-        let registrar = Registrar::new(alloc);
         let Ok(mut writer) = open_ends(rt, alloc, &registrar, &front, callers) else {
             return Err((updates, NewRefused::NoMemory));
         };

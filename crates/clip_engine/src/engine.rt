@@ -104,7 +104,7 @@ impl Engine {
         Engine {
             alloc,
             owned: Owned {
-                registrar: Registrar::new(alloc),
+                registrar: Registrar::without_history(alloc),
             },
             lines: 0,
             hits,

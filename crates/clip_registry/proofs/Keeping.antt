@@ -1,5 +1,5 @@
 -- A registry is kept through commands.
-use Rattle.std.proofs.Common.{◌≡◌, ℕ, suc, ◌+◌, ◌-◌, ◌<◌, ◌≤◌, cond, List, length, get_or, set, sym, ap, subst, ◌∙◌, inl, inr, arith, IsTrue}
+use Rattle.std.proofs.Common.{◌≡◌, ℕ, Bool, suc, ◌+◌, ◌-◌, ◌<◌, ◌≤◌, cond, List, length, get_or, set, sym, ap, subst, ◌∙◌, inl, inr, arith, IsTrue}
 use Rattle.std.proofs.lemmas.Bool.{cases_order}
 use Rattle.std.proofs.lemmas.List.{get_or_default, get_or-set_same, get_or-set_other}
 use Rattle.std.proofs.Math.ListN.{length-set}
@@ -18,9 +18,9 @@ use Rattle.clip_model.proofs.Counting.{own_more}
 use Rattle.clip_registry.proofs.Whole.{whole_after, whole_beginning}
 use Rattle.clip_model.proofs.Numbers.{numbers_same, number_less, number_more}
 
-pub consistent_beginning : (counts : List ℕ) (roster : Roster) → roster.registry ≡ finite.empty → roster.listed ≡ 0 → length counts ≡ MOST_CALLERS → ((k : ℕ) → k < MOST_CALLERS → get_or counts k 0 ≡ 0) → IsConsistent beginning roster counts
-consistent_beginning counts roster registry listed callers zeros = record {
-  whole = whole_beginning;
+pub consistent_beginning : (keeps : Bool) (counts : List ℕ) (roster : Roster) → roster.registry ≡ finite.empty → roster.listed ≡ 0 → length counts ≡ MOST_CALLERS → ((k : ℕ) → k < MOST_CALLERS → get_or counts k 0 ≡ 0) → IsConsistent (beginning keeps) roster counts
+consistent_beginning keeps counts roster registry listed callers zeros = record {
+  whole = whole_beginning keeps;
   legal = legal_beginning;
   registry = registry;
   listed = listed;
@@ -53,7 +53,7 @@ counts_after h counts caller command x callers low high is before c above below 
 -- what a change of segments and roster does to the registry
 pub accepted_after : (state new : RegistryState) (roster : Roster) (after : Content) (given : Applied) (counts : List ℕ) (caller : ℕ) (command : Command) → IsConsistent state roster counts
     → length state.history < MOST_ENTRIES → IsChanged command (record { segments = state.segments; roster = roster }) after given
-    → new ≡ record { segments = after.segments; history = with_command state.history caller command } → IsAccepted caller command state new given
+    → new ≡ record state { segments = after.segments; history = with_command state.history caller command } → IsAccepted caller command state new given
 accepted_after state new roster after given counts caller command kept short change is =
     let registry : after.roster.registry ≡ after_command (listed state.history) command (replay state.history) =
     change.registry ∙ ap (λ n. after_command n command roster.registry) kept.listed ∙ ap (after_command (listed state.history) command) kept.registry in
@@ -61,7 +61,7 @@ accepted_after state new roster after given counts caller command kept short cha
     change.segments ∙ ap (λ n. segments_after state.segments n roster.registry command) kept.listed ∙ ap (λ m. segments_after state.segments (listed state.history) m command) kept.registry in
     record {
       room = room_from state.history command (subst (λ m. finite.len m ≤ MOST_LIVE) registry change.small) short;
-      state = is ∙ (λ i. record { segments = segments i; history = with_command state.history caller command });
+      state = is ∙ (λ i. record state { segments = segments i; history = with_command state.history caller command });
       answer = change.answer ∙ ap (λ m. answer_of command (applied_to m command)) kept.registry;
     }
 

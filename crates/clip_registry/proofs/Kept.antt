@@ -19,7 +19,7 @@ use Rattle.clip_registry.proofs.Whole.{shelved, whole_from}
 
 -- the registry with other segments
 abbrev pub with_segments : RegistryState → List (List Registered) → RegistryState
-with_segments state segments = record { segments = segments; history = state.history }
+with_segments state segments = record state { segments = segments }
 
 -- what holds of each element of a list holds of each of a list of some of them
 pub all_of_some : (P : Registered → Type 0) (xs ys : List Registered) → All P xs → ((r : Registered) → Contains ys r → Contains xs r) → All P ys

@@ -12,12 +12,15 @@ use Rattle.clip_pieces.proofs.shared.Shared.TheSendSync as shared_sent
 use Rattle.clip_pieces.proofs.shared_flags.SharedFlags.TheSendSync as flags_sent
 use Rattle.clip_segment.proofs.Sent.{segment_send, segment_sync}
 use Rattle.clip_standing.proofs.Sent.{entry_send, entry_sync, history_entry_send, history_entry_sync}
+use Rattle.clip_registry.proofs.trail.Trail.TheSendSync as trail_sent
 use Rattle.clip_registry.specs.contracts.by_id.piece.Piece as piece
 use Rattle.clip_registry.specs.contracts.by_id.piece.Piece.TheInside as piece_inside
 use Rattle.clip_registry.specs.contracts.by_id.ById as by_id
 use Rattle.clip_registry.specs.contracts.by_id.ById.TheInside as by_id_inside
 use Rattle.clip_registry.specs.contracts.roster.Roster as roster
 use Rattle.clip_registry.specs.contracts.roster.Roster.TheInside as roster_inside
+use Rattle.clip_registry.specs.contracts.log.Log as log
+use Rattle.clip_registry.specs.contracts.log.Log.TheInside as log_inside
 use Rattle.clip_registry.specs.contracts.state.State as state
 use Rattle.clip_registry.specs.contracts.state.State.TheInside as state_inside
 use Rattle.clip_registry.specs.contracts.registrar.Registrar as registrar
@@ -49,20 +52,26 @@ roster_send = view_send roster_inside.the_row _ _ _ _ (declared_send roster_insi
 roster_sync : IsSync roster.the_row
 roster_sync = view_sync roster_inside.the_row _ _ _ _ (declared_sync roster_inside.the_type (by_id_sync, (search global, (search (global, flags_sent.the_sync), tt))))
 
+log_send : IsSend log.the_row
+log_send = view_send log_inside.the_row _ _ _ _ (declared_send log_inside.the_type (trail_sent.the_send, (search global, (search (lists, history_entry_send, history_entry_sync), (search (lists, history_entry_send, history_entry_sync), tt)))))
+
+log_sync : IsSync log.the_row
+log_sync = view_sync log_inside.the_row _ _ _ _ (declared_sync log_inside.the_type (trail_sent.the_sync, (search global, (search (lists, history_entry_send, history_entry_sync), (search (lists, history_entry_send, history_entry_sync), tt)))))
+
 state_send : IsSend state.the_row
-state_send = view_send state_inside.the_row _ _ _ _ (declared_send state_inside.the_type (search (parts, segment_send, segment_sync), (search (lists, history_entry_send, history_entry_sync), (roster_send, (search parts, tt)))))
+state_send = view_send state_inside.the_row _ _ _ _ (declared_send state_inside.the_type (search (parts, segment_send, segment_sync), (log_send, (roster_send, (search parts, tt)))))
 
 state_sync : IsSync state.the_row
-state_sync = view_sync state_inside.the_row _ _ _ _ (declared_sync state_inside.the_type (search (parts, segment_send, segment_sync), (search (lists, history_entry_send, history_entry_sync), (roster_sync, (search parts, tt)))))
+state_sync = view_sync state_inside.the_row _ _ _ _ (declared_sync state_inside.the_type (search (parts, segment_send, segment_sync), (log_sync, (roster_sync, (search parts, tt)))))
 
 pub registrar_send : IsSend registrar.the_row
-registrar_send = view_send registrar_inside.the_row _ _ _ _ (declared_send registrar_inside.the_type (search global, (search (parts, state_send, state_sync), tt)))
+registrar_send = view_send registrar_inside.the_row _ _ _ _ (declared_send registrar_inside.the_type (search global, (search global, (search (parts, state_send, state_sync), tt))))
 
 pub registrar_sync : IsSync registrar.the_row
-registrar_sync = view_sync registrar_inside.the_row _ _ _ _ (declared_sync registrar_inside.the_type (search global, (search (parts, state_send, state_sync), tt)))
+registrar_sync = view_sync registrar_inside.the_row _ _ _ _ (declared_sync registrar_inside.the_type (search global, (search global, (search (parts, state_send, state_sync), tt))))
 
 pub view_is_send : IsSend view.the_row
-view_is_send = view_send view_inside.the_row _ _ _ _ (declared_send view_inside.the_type (search (parts, state_send, state_sync), tt))
+view_is_send = view_send view_inside.the_row _ _ _ _ (declared_send view_inside.the_type (search global, (search (parts, state_send, state_sync), tt)))
 
 pub view_is_sync : IsSync view.the_row
-view_is_sync = view_sync view_inside.the_row _ _ _ _ (declared_sync view_inside.the_type (search (parts, state_send, state_sync), tt))
+view_is_sync = view_sync view_inside.the_row _ _ _ _ (declared_sync view_inside.the_type (search global, (search (parts, state_send, state_sync), tt)))

@@ -1,5 +1,5 @@
 -- The registry stays whole.
-use Rattle.std.proofs.Common.{◌≡◌, ◌↔◌, ℕ, suc, ◌+◌, ◌<◌, ◌≤◌, List, [], ◌∷◌, ◌++◌, length, refl, sym, ap, subst, ◌∙◌, inl, inr, arith, Some, IsTrue, append-nil, append_assoc, add-zero}
+use Rattle.std.proofs.Common.{◌≡◌, ◌↔◌, ℕ, Bool, suc, ◌+◌, ◌<◌, ◌≤◌, List, [], ◌∷◌, ◌++◌, length, refl, sym, ap, subst, ◌∙◌, inl, inr, arith, Some, IsTrue, append-nil, append_assoc, add-zero}
 use Rattle.std.proofs.lemmas.Option.{none-some}
 use Rattle.std.proofs.lemmas.List.Elements.{All-nil, All-append, All-weaker, All-filter, Contains-append_left, Contains-append_right}
 use Rattle.std.specs.List.{All, Contains}
@@ -117,5 +117,5 @@ whole_after state caller command whole =
     (subst (λ n. IsShelved n (all_entries (state_after state caller command).segments) (replay (with_command state.history caller command))) (sym (listed_on state.history e))
     (subst (λ m. IsShelved (listed state.history + lists command) (all_entries (state_after state caller command).segments) m) (sym (replays_on state.history e)) left))
 
-pub whole_beginning : IsWhole beginning
-whole_beginning = whole_from beginning (shelved_nothing 0)
+pub whole_beginning : (keeps : Bool) → IsWhole (beginning keeps)
+whole_beginning keeps = whole_from (beginning keeps) (shelved_nothing 0)

@@ -76,6 +76,7 @@ pub record IsInstalled (old new : RegistryState) (merge : Merge) : Type 0 where
   pub complete : Misses old merge → ⊥
   pub segments : new.segments ≡ take first old.segments ++ shelf merge.entries ++ drop (first + 4) old.segments
   pub history : new.history ≡ old.history
+  pub keeps : new.keeps ≡ old.keeps
 
 -- ---- purging
 
@@ -85,7 +86,7 @@ has_entries (r ∷ rs) = true
 
 -- each segment with just its live entries, and none that is empty
 abbrev pub purged : RegistryState → RegistryState
-purged state = record { segments = filter has_entries (map (live_of state) state.segments); history = state.history }
+purged state = record state { segments = filter has_entries (map (live_of state) state.segments) }
 
 -- ---- late merges
 

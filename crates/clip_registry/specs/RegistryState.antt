@@ -1,23 +1,29 @@
 -- A registry as contracts see it: its segments and its history.
-use Rattle.std.specs.Prelude.{◌≡◌, ◌↔◌, ℕ, suc, ◌≤◌, List, [], ◌∷◌, ◌++◌, filter, Some, IsTrue, All, Contains, refl}
+use Rattle.std.specs.Prelude.{◌≡◌, ◌↔◌, ℕ, suc, ◌≤◌, Bool, true, cond, List, [], ◌∷◌, ◌++◌, filter, Some, IsTrue, All, Contains, refl}
 use Rattle.std.specs.FinMap as finite
-use Rattle.std.specs.Coded.{Coded, code_by, coded×, coded_list}
+use Rattle.std.specs.Coded.{Coded, code_by, coded×, coded_list, coded_bool}
 use Rattle.clip_model.specs.Standing.{Standing}
 use Rattle.clip_model.specs.History.{History, Command, Register, Delete, Clear, Registered, Registry, replay, listed, is_live, is_live_in, after_command, with_command, history_code, registered_code}
 use Rattle.clip_segment.specs.Segment.{IsRising, all_entries}
 
--- segments, each as its list of entries, and the history of accepted commands
+-- segments, each as its list of entries, the history of accepted commands, and whether it is kept to be read
 pub record RegistryState : Type 0 where
   pub segments : List (List Registered)
   pub history : History
+  pub keeps : Bool
 
 abbrev pub state_code : Coded RegistryState
-state_code = code_by (List (List Registered) × History) (coded× (coded_list (coded_list registered_code)) history_code)
-    (λ s. (s.segments, s.history)) (λ p. record { segments = p.0; history = p.1 }) (λ _. refl)
+state_code = code_by (List (List Registered) × (History × Bool))
+    (coded× (coded_list (coded_list registered_code)) (coded× history_code coded_bool))
+    (λ s. (s.segments, (s.history, s.keeps))) (λ p. record { segments = p.0; history = p.1.0; keeps = p.1.1 }) (λ _. refl)
 
--- no segment and no command yet
-abbrev pub beginning : RegistryState
-beginning = record { segments = []; history = [] }
+-- no segment and no command yet, of a history that is kept or not
+abbrev pub beginning : Bool → RegistryState
+beginning keeps = record { segments = []; history = []; keeps = keeps }
+
+-- what can be read of a history: all of it where it is kept, and else nothing
+abbrev pub kept_history : Bool → History → History
+kept_history keeps history = cond keeps history []
 
 -- Seqs rise through all segments, none is above those listed, and the live entries are, by id, exactly the registered
 -- queries.
@@ -48,7 +54,7 @@ segments_after segments n registry Clear = []
 
 -- the registry after a caller's next command
 abbrev pub state_after : RegistryState → ℕ → Command → RegistryState
-state_after state caller command = record {
+state_after state caller command = record state {
   segments = segments_after state.segments (listed state.history) (replay state.history) command;
   history = with_command state.history caller command;
 }

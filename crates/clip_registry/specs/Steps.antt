@@ -1,6 +1,8 @@
 pub mod Change
 pub mod Flags
 pub mod History
+pub mod Log
+pub mod LogInside
 pub mod Merging
 pub mod Roster
 pub mod RosterInside

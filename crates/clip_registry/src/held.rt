@@ -1,31 +1,37 @@
 //! What a registrar and a view hold: the state, or none before the first command.
-ghost use Rattle.std.specs.Prelude.{◌≡◌, ℕ, length, IfOk};
+ghost use Rattle.std.specs.Prelude.{◌≡◌, ℕ, Bool, ◌-◌, length, IfOk, slice_get, option_map, option_copied};
 ghost use Rattle.clip_model.specs.History.{IsLegal, own};
-ghost use Rattle.clip_registry.specs.RegistryState.{IsWhole};
+ghost use Rattle.clip_registry.specs.RegistryState.{IsWhole, kept_history};
 ghost use Rattle.clip_registry.specs.Steps.State.{state_or_beginning};
+ghost use Rattle.clip_standing.specs.Command.{shared_entry};
 
 use crate::history::History;
 use crate::state::State;
+use clip_standing::HistoryEntry;
 use clip_words::NoMemory;
 use std::alloc::Global;
 use std::sync::Arc;
 
 /// A state of one's own with the same content, or `NoMemory` where an allocation failed.
-pub fn own_copy(alloc: Global, held: &Option<Arc<State>>) -> Result<State, NoMemory>
-    ensures { IfOk result (λ state. state ≡ state_or_beginning held.now) }
+pub fn own_copy(
+    alloc: Global,
+    keeps: bool,
+    held: &Option<Arc<State>>,
+) -> Result<State, NoMemory>
+    ensures { IfOk result (λ state. state ≡ state_or_beginning keeps held.now) }
 {
     match held {
         Some(shared) => {
             let state: &State = shared;
             Ok(state.clone()?)
         }
-        None => State::new(alloc),
+        None => State::new(alloc, keeps),
     }
 }
 
 /// The same state, or `NoMemory` where the count of its holders is at its end.
 pub fn copy_of(held: &Option<Arc<State>>) -> Result<Option<Arc<State>>, NoMemory>
-    ensures { IfOk result (λ copy. state_or_beginning copy ≡ state_or_beginning held.now) }
+    ensures { (keeps : Bool) → IfOk result (λ copy. state_or_beginning keeps copy ≡ state_or_beginning keeps held.now) }
 {
     match held {
         Some(state) => Ok(Some(state.clone()?)),
@@ -33,24 +39,36 @@ pub fn copy_of(held: &Option<Arc<State>>) -> Result<Option<Arc<State>>, NoMemory
     }
 }
 
-/// The commands that were accepted.
+/// The commands that were accepted, where they are kept.
 pub fn history_of(held: &Option<Arc<State>>) -> History<'_>
-    ensures history { result ≡ (state_or_beginning held.now).history }
-    ensures whole { IsWhole (state_or_beginning held.now) }
-    ensures legal { IsLegal (state_or_beginning held.now).history }
+    ensures history { (keeps : Bool) → result
+        ≡ kept_history (state_or_beginning keeps held.now).keeps (state_or_beginning keeps held.now).history }
+    ensures whole { (keeps : Bool) → IsWhole (state_or_beginning keeps held.now) }
+    ensures legal { (keeps : Bool) → IsLegal (state_or_beginning keeps held.now).history }
 {
     match held {
-        Some(state) => History {
-            entries: Some(&state.history),
-        },
+        Some(state) => state.log.entries(),
         None => History { entries: None },
+    }
+}
+
+/// The entry of the last command that was accepted, or `None` where there is none.
+pub fn last_of(held: &Option<Arc<State>>) -> Option<&Arc<HistoryEntry>>
+    ensures last { (keeps : Bool) → option_map shared_entry (option_copied result)
+        ≡ slice_get (state_or_beginning keeps held.now).history
+        (length (state_or_beginning keeps held.now).history - 1) }
+    ensures legal { (keeps : Bool) → IsLegal (state_or_beginning keeps held.now).history }
+{
+    match held {
+        Some(state) => state.log.last(),
+        None => None,
     }
 }
 
 /// How many commands of the caller were accepted: 0 for what is no caller.
 pub fn number_of(held: &Option<Arc<State>>, caller: u32) -> u32
-    ensures count { result ≡ length (own (state_or_beginning held.now).history caller) }
-    ensures legal { IsLegal (state_or_beginning held.now).history }
+    ensures count { (keeps : Bool) → result ≡ length (own (state_or_beginning keeps held.now).history caller) }
+    ensures legal { (keeps : Bool) → IsLegal (state_or_beginning keeps held.now).history }
 {
     match held {
         Some(state) => state.number_of(caller),

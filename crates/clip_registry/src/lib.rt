@@ -7,12 +7,14 @@ mod by_id;
 mod change;
 mod held;
 mod history;
+mod log;
 mod merging;
 mod purging;
 mod registrar;
 mod roster;
 mod same;
 mod state;
+mod trail;
 mod turn;
 mod view;
 

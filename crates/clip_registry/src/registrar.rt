@@ -1,14 +1,14 @@
 //! The registrar: it applies commands one by one.
-ghost use Rattle.std.specs.Prelude.{◌≡◌, ◌<◌, ◌≤◌, ℕ, Ok, None, length, IfOk, IfErr, IfSome, OnOk, OnErr, IsTrue, IsFalse};
+ghost use Rattle.std.specs.Prelude.{◌≡◌, ◌-◌, ◌<◌, ◌≤◌, ℕ, true, false, Ok, None, length, IfOk, IfErr, IfSome, OnOk, OnErr, IsTrue, IsFalse, slice_get, option_map, option_copied};
 ghost use Rattle.clip_merge.specs.Plan.{IsRun};
 ghost use Rattle.clip_model.specs.History.{fits, has_room, applied, own, IsLegal};
-ghost use Rattle.clip_standing.specs.Command.{command_of, answer_of};
+ghost use Rattle.clip_standing.specs.Command.{command_of, answer_of, shared_entry};
 ghost use Rattle.clip_registry.specs.Merging.{IsBegun, IsInstalled, IsStale, purged};
-ghost use Rattle.clip_registry.specs.RegistryState.{IsWhole, beginning, state_after};
+ghost use Rattle.clip_registry.specs.RegistryState.{IsWhole, beginning, kept_history, state_after};
 ghost use Rattle.clip_registry.specs.Steps.Change.{IsAccepted};
 ghost use Rattle.clip_standing.specs.declared.command.Refused.TheVariants as refused;
 
-use crate::held::{copy_of, history_of, number_of, own_copy};
+use crate::held::{copy_of, history_of, last_of, number_of, own_copy};
 use crate::history::History;
 use crate::merging::{Installed, MergeJob, Merged};
 use crate::purging::live_segments;
@@ -16,7 +16,7 @@ use crate::state::State;
 use crate::view::View;
 use clip_merge::plan;
 use clip_model::MOST_CALLERS;
-use clip_standing::{Applied, Command, Refused};
+use clip_standing::{Applied, Command, HistoryEntry, Refused};
 use clip_words::NoMemory;
 use std::alloc::Global;
 use std::marker::Model;
@@ -27,6 +27,7 @@ use std::sync::Arc;
 #[derive(Drop)]
 pub struct Registrar {
     alloc: Global,
+    keeps: bool,
     state: Option<Arc<State>>,
 }
 
@@ -38,31 +39,56 @@ impl Model for Registrar {
 
     ghost coded = { state_code };
 
-    ghost view = { λ r. state_or_beginning r.state };
+    ghost view = { λ r. state_or_beginning r.keeps r.state };
 }
 
 impl Registrar {
-    /// A registrar with no segment and an empty history. It takes no memory. Constant time.
+    /// A registrar with no segment and an empty history, which it keeps: `history` gives each command that it will have
+    /// accepted, and its memory grows with them. It takes no memory. Constant time.
     pub fn new(alloc: Global) -> Registrar
-        ensures { result ≡ beginning }
+        ensures { result ≡ beginning true }
     {
-        Registrar { alloc, state: None }
+        Registrar {
+            alloc,
+            keeps: true,
+            state: None,
+        }
     }
 
-    /// The state after a caller's next command, and the answer to it: `Full` where it has no room, and `NoMemory` where
-    /// an allocation failed.
-    fn after(&self, caller: u32, command: &Command) -> Result<(Arc<State>, Applied), Refused>
+    /// A registrar with no segment and an empty history, which it does not keep: its memory follows what is registered,
+    /// and all calls but `history` answer as those of one that keeps it. It takes no memory. Constant time.
+    pub fn without_history(alloc: Global) -> Registrar
+        ensures { result ≡ beginning false }
+    {
+        Registrar {
+            alloc,
+            keeps: false,
+            state: None,
+        }
+    }
+
+    /// The registrar after a caller's next command, beside this one, which stays as it is, and the answer to the
+    /// command: `Full` where more than `MOST_LIVE` queries would then be registered or `MOST_ENTRIES` commands were
+    /// accepted, and `NoMemory` where an allocation failed.
+    ///
+    /// Cost: that of `apply`.
+    pub fn after(&self, caller: u32, command: &Command) -> Result<(Registrar, Applied), Refused>
         requires fits { IsTrue (fits (command_of command.now)) }
         requires caller_from { 0 < caller }
         requires caller_to { caller ≤ MOST_CALLERS }
         ensures accepted { IfOk result (λ next.
-            IsAccepted caller (command_of command.now) self.now next.0.value next.1) }
+            IsAccepted caller (command_of command.now) self.now next.0 next.1) }
         ensures full { IfErr result (λ why. why ≡ refused.Full
             → IsFalse (has_room self.now.history (command_of command.now))) }
     {
-        let copy = own_copy(self.alloc, &self.state)?;
+        let copy = own_copy(self.alloc, self.keeps, &self.state)?;
         let (next, applied) = copy.after(self.alloc, caller, command)?;
-        Ok((Arc::new(self.alloc, next)?, applied))
+        let next = Registrar {
+            alloc: self.alloc,
+            keeps: self.keeps,
+            state: Some(Arc::new(self.alloc, next)?),
+        };
+        Ok((next, applied))
     }
 
     /// Accepts a caller's next command, or refuses it and hands it back with nothing changed: `Full` where more than
@@ -73,8 +99,8 @@ impl Registrar {
     /// ids; a delete costs such a search for each listed id; a clear costs the dropping of what no view holds.
     ///
     /// A command is done to a copy of the registry, which shares all that the command leaves as it is. The copy costs
-    /// a step for each segment, one for each 16,384 history entries, one for each 16,384 queries listed since the last
-    /// clear, and one for each piece of the map by id, which holds up to 512 entries; then, for the entry of the
+    /// a step for each segment, one for each 16,384 history entries that are kept, one for each 1,048,576 queries listed
+    /// since the last clear, and one for each piece of the map by id, which holds up to 512 entries; then, for the entry of the
     /// history and for each query listed, replaced or deleted, at most two pieces of 128 are copied, and for each id
     /// that is listed one piece of the map, of each piece just once. No text of a query and no id of one is copied; the
     /// ids of a delete are, into its history entry.
@@ -93,8 +119,8 @@ impl Registrar {
         ensures unchanged { OnErr result (self.new ≡ self.old) }
     {
         match self.after(caller, &command) {
-            Ok((state, applied)) => {
-                self.state = Some(state);
+            Ok((next, applied)) => {
+                *self = next;
                 Ok(applied)
             }
             Err(refused) => Err((command, refused)),
@@ -169,6 +195,7 @@ impl Registrar {
         ensures { IfOk result (λ view. view ≡ self.now) }
     {
         Ok(View {
+            keeps: self.keeps,
             state: copy_of(&self.state)?,
         })
     }
@@ -180,17 +207,27 @@ impl Registrar {
     {
         Ok(Registrar {
             alloc: self.alloc,
+            keeps: self.keeps,
             state: copy_of(&self.state)?,
         })
     }
 
-    /// The commands that were accepted, in order. Constant time.
+    /// The commands that were accepted, in order, where the registrar keeps them, and else none. Constant time.
     pub fn history(&self) -> History<'_>
-        ensures history { result ≡ self.now.history }
+        ensures history { result ≡ kept_history self.now.keeps self.now.history }
         ensures whole { IsWhole self.now }
         ensures legal { IsLegal self.now.history }
     {
         history_of(&self.state)
+    }
+
+    /// The entry of the last command, whether the history is kept or not, or `None` where there is none. Constant time.
+    pub fn last_entry(&self) -> Option<&Arc<HistoryEntry>>
+        ensures last { option_map shared_entry (option_copied result)
+            ≡ slice_get self.now.history (length self.now.history - 1) }
+        ensures legal { IsLegal self.now.history }
+    {
+        last_of(&self.state)
     }
 
     /// How many commands of the caller were accepted, so the number of its last one: 0 where it gave none, and for what

@@ -9,9 +9,10 @@ ghost use Rattle.clip_registry.specs.RegistryState.{beginning};
 ghost use Rattle.clip_standing.specs.declared.command.Refused.TheVariants as refused;
 
 use crate::change::change;
+use crate::log::Log;
 use crate::roster::Roster;
 use clip_model::{MOST_CALLERS, MOST_ENTRIES};
-use clip_pieces::{Shared, SharedList};
+use clip_pieces::Shared;
 use clip_segment::Segment;
 use clip_standing::{Applied, Command, HistoryEntry, Refused};
 use clip_words::NoMemory;
@@ -24,7 +25,7 @@ use std::sync::Arc;
 #[derive(Drop)]
 pub struct State {
     pub(crate) segments: Vec<Arc<Segment>>,
-    pub(crate) history: SharedList<Shared<HistoryEntry>>,
+    pub(crate) log: Log,
     pub(crate) roster: Roster,
     counts: Vec<u64>,
 }
@@ -49,7 +50,7 @@ impl Clone for State {
     fn clone(&self) -> Result<State, AllocError> {
         Ok(State {
             segments: self.segments.clone()?,
-            history: self.history.clone()?,
+            log: self.log.clone()?,
             roster: self.roster.clone()?,
             counts: self.counts.clone()?,
         })
@@ -57,13 +58,13 @@ impl Clone for State {
 }
 
 impl State {
-    /// No segment and no command yet, or `NoMemory` where an allocation failed.
-    pub fn new(alloc: Global) -> Result<State, NoMemory>
-        ensures { IfOk result (λ state. state ≡ beginning) }
+    /// No segment and no command yet, of a history that is kept or not, or `NoMemory` where an allocation failed.
+    pub fn new(alloc: Global, keeps: bool) -> Result<State, NoMemory>
+        ensures { IfOk result (λ state. state ≡ beginning keeps) }
     {
         Ok(State {
             segments: Vec::new(alloc),
-            history: SharedList::new(alloc),
+            log: Log::new(alloc, keeps),
             roster: Roster::new(alloc, 0),
             counts: vec![in alloc; 0; MOST_CALLERS as usize]?,
         })
@@ -119,22 +120,22 @@ impl State {
         ensures full { IfErr result (λ why. why ≡ refused.Full
             → IsFalse (has_room self.history (command_of command.now))) }
     {
-        if self.history.len() as u64 >= MOST_ENTRIES {
+        if self.log.len() >= MOST_ENTRIES {
             return Err(Refused::Full);
         }
         let entry = self.next_entry(alloc, caller, command)?;
         let State {
             segments,
-            mut history,
+            log,
             roster,
             mut counts,
         } = self;
-        history.push(entry)?;
+        let log = log.with(entry)?;
         counts[caller as usize - 1] += 1;
         let changed = change(alloc, segments, roster, command)?;
         let next = State {
             segments: changed.segments,
-            history,
+            log,
             roster: changed.roster,
             counts,
         };
@@ -150,11 +151,11 @@ impl State {
     ) -> Result<Arc<State>, NoMemory>
         requires { AreKept self.now (map arc_value segments.items) }
         ensures { IfOk result (λ state. state.value
-            ≡ record { segments = map arc_value segments.items; history = self.now.history }) }
+            ≡ record self.now { segments = map arc_value segments.items }) }
     {
         let next = State {
             segments,
-            history: self.history.clone()?,
+            log: self.log.clone()?,
             roster: self.roster.clone()?,
             counts: self.counts.clone()?,
         };

@@ -3,7 +3,7 @@ ghost use Rattle.std.specs.Prelude.{◌≡◌, IfOk, map, length, option_map, op
 ghost use Rattle.std.specs.Arc.{arc_value};
 ghost use Rattle.std.specs.FinMap as finite;
 ghost use Rattle.clip_model.specs.History.{IsLegal, own, replay, is_live};
-ghost use Rattle.clip_registry.specs.RegistryState.{IsWhole};
+ghost use Rattle.clip_registry.specs.RegistryState.{IsWhole, kept_history};
 
 use crate::held::{copy_of, history_of, number_of};
 use crate::history::History;
@@ -19,6 +19,7 @@ use std::sync::Arc;
 /// change it.
 #[derive(Drop)]
 pub struct View {
+    pub(crate) keeps: bool,
     pub(crate) state: Option<Arc<State>>,
 }
 
@@ -30,7 +31,7 @@ impl Model for View {
 
     ghost coded = { state_code };
 
-    ghost view = { λ v. state_or_beginning v.state };
+    ghost view = { λ v. state_or_beginning v.keeps v.state };
 }
 
 impl View {
@@ -39,6 +40,7 @@ impl View {
         ensures { IfOk result (λ copy. copy ≡ self.now) }
     {
         Ok(View {
+            keeps: self.keeps,
             state: copy_of(&self.state)?,
         })
     }
@@ -85,14 +87,15 @@ impl View {
         ensures { result ≡ length self.now.history }
     {
         match &self.state {
-            Some(state) => state.history.len() as u64,
+            Some(state) => state.log.len(),
             None => 0,
         }
     }
 
-    /// The commands that were accepted before the view was taken, in order. Constant time.
+    /// The commands that were accepted before the view was taken, in order, where its registrar keeps them, and else
+    /// none. Constant time.
     pub fn history(&self) -> History<'_>
-        ensures history { result ≡ self.now.history }
+        ensures history { result ≡ kept_history self.now.keeps self.now.history }
         ensures whole { IsWhole self.now }
         ensures legal { IsLegal self.now.history }
     {

@@ -175,7 +175,7 @@ pub fn run_alone<R: Source, W: Sink, A: Audience>(
 {
     let mut server = RunServer {
         registry: Owned {
-            registrar: Registrar::new(alloc),
+            registrar: Registrar::without_history(alloc),
         },
         books: Books::new(alloc, settings),
     };

@@ -126,7 +126,7 @@ fn parts_of_one<R: Wait>(rt: &R, alloc: Global) -> Result<DeskParts<UpdateLog>, 
     let Ok(updates) = UpdateListeners::new(alloc, Vec::new(alloc)) else {
         return Err(NoMemory);
     };
-    match DeskParts::new(rt, alloc, TAG, 1, updates) {
+    match DeskParts::without_history(rt, alloc, TAG, 1, updates) {
         Ok(parts) => Ok(parts),
         Err(_) => Err(NoMemory),
     }
@@ -151,7 +151,8 @@ fn run_desk<
     parts: DeskParts<UpdateLog>,
 ) -> Result<Ended, RunFault>
     requires fresh { AreFresh (devices_at S.Source W.Sink reader.old writer.old) }
-    requires named { (parts.book ≡ N.book) × (parts.callers ≡ N.callers) × (N.heard_before ≡ all_heard parts.updates) }
+    requires named { (parts.book ≡ N.book) × (parts.callers ≡ N.callers) × (N.heard_before ≡ all_heard parts.updates)
+        × (parts.keeps ≡ N.keeps) }
     requires one { parts.callers ≡ 1 }
     ensures { RanToEnd settings
         (told S.Source W.Sink A.Audience reader.old writer.old audience.old)

@@ -54,7 +54,7 @@ impl Tracer {
     {
         Tracer {
             alloc,
-            registrar: Registrar::new(alloc),
+            registrar: Registrar::without_history(alloc),
             merges: Vec::new(alloc),
             batches: Vec::new(alloc),
         }

@@ -137,6 +137,7 @@ fn pop_seat<N: DeskName>(seats: &mut Vec<Seat>) -> Option<Seat>
 fn use_desk<N: DeskName, R: Print + Wait>(rt: &R, alloc: Global, parts: DeskParts<UpdateLog>)
     requires book { (parts.book ≡ N.book) × (parts.callers ≡ N.callers) }
     requires heard { N.heard_before ≡ all_heard parts.updates }
+    requires keeps { parts.keeps ≡ N.keeps }
 {
     let (desk, mut seats) = Desk::<N, UpdateLog>::open(parts);
     let Some(mut seat) = pop_seat::<N>(&mut seats) else {

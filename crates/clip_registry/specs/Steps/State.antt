@@ -1,17 +1,16 @@
 -- The registry as a state holds it.
-use Rattle.std.specs.Prelude.{◌≡◌, ℕ, ◌-◌, ◌<◌, ◌≤◌, List, map, length, slice_index, Option, Some, None}
+use Rattle.std.specs.Prelude.{◌≡◌, ℕ, Bool, ◌-◌, ◌<◌, ◌≤◌, List, map, length, slice_index, Option, Some, None}
 use Rattle.std.specs.Arc.{arc_value}
 use Rattle.std.specs.declared.sync.Arc.{Arc}
 use Rattle.std.specs.declared.alloc.Global.{Global}
 use Rattle.clip_model.specs.declared.limits.TheConstants.{MOST_CALLERS}
 use Rattle.clip_model.specs.History.{IsLegal, replay, listed, own}
-use Rattle.clip_standing.specs.Command.{entry_of}
 use Rattle.clip_registry.specs.Steps.Roster.{Roster}
 use Rattle.clip_registry.specs.RegistryState.{RegistryState, IsWhole, beginning}
 use Rattle.clip_registry.specs.declared.state.State.TheInside.{Inside}
 
 abbrev pub state_of : Inside → RegistryState
-state_of s = record { segments = map arc_value s.segments.items; history = map entry_of s.history }
+state_of s = record { segments = map arc_value s.segments.items; history = s.log.history; keeps = s.log.keeps }
 
 -- The registry is whole over a legal history, the roster is what the history replays to, and each caller's commands are
 -- counted.
@@ -27,7 +26,7 @@ pub record IsConsistent (state : RegistryState) (roster : Roster) (counts : List
 abbrev pub IsConsistentInside : Inside → Type 0
 IsConsistentInside s = IsConsistent (state_of s) s.roster s.counts.items
 
--- what a registrar or a view holds: no state before the first command
-abbrev pub state_or_beginning : Option (Arc RegistryState Global) → RegistryState
-state_or_beginning None = beginning
-state_or_beginning (Some state) = arc_value state
+-- what a registrar or a view holds: no state before the first command, of a history that will be kept or not
+abbrev pub state_or_beginning : Bool → Option (Arc RegistryState Global) → RegistryState
+state_or_beginning keeps None = beginning keeps
+state_or_beginning keeps (Some state) = arc_value state

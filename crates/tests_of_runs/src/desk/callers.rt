@@ -22,6 +22,7 @@ fn a_caller_sees_what_another_committed(rt: HostRuntime) -> Result<(), Fail> {
 fn run_both<N: DeskName, R: Wait + Abort>(rt: &R, alloc: Global, parts: DeskParts<UpdateLog>)
     requires book { (parts.book ≡ N.book) × (parts.callers ≡ N.callers) }
     requires heard { N.heard_before ≡ all_heard parts.updates }
+    requires keeps { parts.keeps ≡ N.keeps }
 {
     let (desk, mut seats) = Desk::<N, UpdateLog>::open(parts);
     match (pop_seat::<N>(&mut seats), pop_seat::<N>(&mut seats)) {

@@ -252,6 +252,7 @@ fn run_four<N: DeskName + Send + Sync, R: Threads + Wait + Abort + Sync>(
 )
     requires book { (parts.book ≡ N.book) × (parts.callers ≡ N.callers) }
     requires heard { N.heard_before ≡ all_heard parts.updates }
+    requires keeps { parts.keeps ≡ N.keeps }
 {
     let (desk, mut seats) = Desk::<N, UpdateLog>::open(parts);
     let (Some(three), Some(two), Some(one)) = (

@@ -23,6 +23,7 @@ fn a_log_hears_four_commits_and_a_purge(rt: HostRuntime) -> Result<(), Fail> {
 fn run_purge<N: DeskName, R: Wait + Abort>(rt: &R, alloc: Global, parts: DeskParts<UpdateLog>)
     requires book { (parts.book ≡ N.book) × (parts.callers ≡ N.callers) }
     requires heard { N.heard_before ≡ all_heard parts.updates }
+    requires keeps { parts.keeps ≡ N.keeps }
 {
     let (desk, mut seats) = Desk::<N, UpdateLog>::open(parts);
     let Some(mut seat) = pop_seat::<N>(&mut seats) else {

@@ -23,6 +23,7 @@ fn a_refused_commit_is_accepted_when_tried_again(rt: HostRuntime) {
 fn run_again<N: DeskName, R: Wait + Abort>(rt: &R, alloc: Global, parts: DeskParts<UpdateLog>)
     requires book { (parts.book ≡ N.book) × (parts.callers ≡ N.callers) }
     requires heard { N.heard_before ≡ all_heard parts.updates }
+    requires keeps { parts.keeps ≡ N.keeps }
 {
     let (desk, mut seats) = Desk::<N, UpdateLog>::open(parts);
     if let Some(mut seat) = pop_seat::<N>(&mut seats) {

@@ -46,6 +46,7 @@ fn four_segments_become_one_and_a_purge_leaves_no_dead_entry(rt: HostRuntime) ->
 fn run_merge<N: DeskName, R: Wait + Abort>(rt: &R, alloc: Global, parts: DeskParts<UpdateLog>)
     requires book { (parts.book ≡ N.book) × (parts.callers ≡ N.callers) }
     requires heard { N.heard_before ≡ all_heard parts.updates }
+    requires keeps { parts.keeps ≡ N.keeps }
 {
     let (desk, mut seats) = Desk::<N, UpdateLog>::open(parts);
     match pop_seat::<N>(&mut seats) {
@@ -75,6 +76,7 @@ fn nudges_are_served_until_stop(rt: HostRuntime) -> Result<(), Fail> {
 fn run_nudges<N: DeskName, R: Wait + Abort>(rt: &R, alloc: Global, parts: DeskParts<UpdateLog>)
     requires book { (parts.book ≡ N.book) × (parts.callers ≡ N.callers) }
     requires heard { N.heard_before ≡ all_heard parts.updates }
+    requires keeps { parts.keeps ≡ N.keeps }
 {
     let (desk, mut seats) = Desk::<N, UpdateLog>::open(parts);
     match pop_seat::<N>(&mut seats) {

@@ -35,6 +35,7 @@ fn a_desk_is_closed_with_all_its_seats(rt: HostRuntime) -> Result<(), Fail> {
 fn run_close<N: DeskName, R: Wait + Abort>(rt: &R, alloc: Global, parts: DeskParts<UpdateLog>)
     requires book { (parts.book ≡ N.book) × (parts.callers ≡ N.callers) }
     requires heard { N.heard_before ≡ all_heard parts.updates }
+    requires keeps { parts.keeps ≡ N.keeps }
 {
     let none = Vec::new(alloc);
     let (desk, mut seats) = Desk::<N, UpdateLog>::open(parts);
@@ -105,8 +106,10 @@ fn run_foreign<N: DeskName, M: DeskName, R: Wait + Abort>(
 )
     requires book { (parts.book ≡ N.book) × (parts.callers ≡ N.callers) }
     requires heard { N.heard_before ≡ all_heard parts.updates }
+    requires keeps { parts.keeps ≡ N.keeps }
     requires other_book { (others.book ≡ M.book) × (others.callers ≡ M.callers) }
     requires other_heard { M.heard_before ≡ all_heard others.updates }
+    requires other_keeps { others.keeps ≡ M.keeps }
 {
     let (desk, _) = Desk::<N, UpdateLog>::open(parts);
     let (other, mut strangers) = Desk::<M, UpdateLog>::open(others);

@@ -8,4 +8,4 @@ returns-clause-legal g c =
     let history = c.self.inside.registrar.history in
     let shown = c.self.inside.writer.desk.shown.value in
     let same : shown.view.history ≡ history = ap (λ s. s.history) i.shown_is in
-    (c.history.ensures.legal, subst (λ (n : ℕ). IsBy n history) i.shown_callers (subst (IsBy shown.callers) same shown.callers_are))
+    (c.last_entry.ensures.legal, subst (λ (n : ℕ). IsBy n history) i.shown_callers (subst (IsBy shown.callers) same shown.callers_are))

@@ -18,7 +18,7 @@ use Rattle.clip_registry.proofs.registrar.Registrar.begin.Goals.{After-plan, Aft
 planned : (c : After-plan) → map arc_value c.deref-2.result.now ≡ c.args.self.now.segments
 planned c =
     ap (map arc_value) c.deref-2.ensures.value
-    ∙ ap (λ (s : RegistryState). s.segments) (c.behind-state.view_is ∙ c.deref.ensures ∙ ap state_or_beginning (sym c.in-Some.is) ∙ c.self.view_is)
+    ∙ ap (λ (s : RegistryState). s.segments) (c.behind-state.view_is ∙ c.deref.ensures ∙ ap (state_or_beginning c.self.inside.keeps) (sym c.in-Some.is) ∙ c.self.view_is)
 
 pub returns-in_default-plan-clause-nothing : goal.returns-in_default-plan-clause-nothing
 returns-in_default-plan-clause-nothing c _ first run =
@@ -27,7 +27,7 @@ returns-in_default-plan-clause-nothing c _ first run =
 state : (c : After-behind-state-3) → IsConsistent c.args.self.now c.behind-state-3.inside.roster c.behind-state-3.inside.counts.items
 state c =
     subst (λ (s : RegistryState). IsConsistent s c.behind-state-3.inside.roster c.behind-state-3.inside.counts.items)
-    (c.behind-state-3.view_is ∙ c.deref-5.ensures ∙ ap state_or_beginning (sym c.in-Some.is) ∙ c.self.view_is) c.behind-state-3.invariant
+    (c.behind-state-3.view_is ∙ c.deref-5.ensures ∙ ap (state_or_beginning c.self.inside.keeps) (sym c.in-Some.is) ∙ c.self.view_is) c.behind-state-3.invariant
 
 -- the sources are the run
 sources : (c : After-behind-state-3) → map arc_value (take (c.in-Some-plan.end - c.in-Some-plan.first) (drop c.in-Some-plan.first c.deref-4.result.now)) ≡ run_at c.args.self.now.segments c.in-Some-plan.first
@@ -36,7 +36,7 @@ sources c =
     let four : c.in-Some-plan.end - first ≡ 4 = let e = c.in-Some-plan.ensures.run.1 in omega arith in
     let here : map arc_value c.deref-4.result.now ≡ c.args.self.now.segments =
     ap (map arc_value) c.deref-4.ensures.value
-    ∙ ap (λ (s : RegistryState). s.segments) (c.behind-state-2.view_is ∙ c.deref-3.ensures ∙ ap state_or_beginning (sym c.in-Some.is) ∙ c.self.view_is) in
+    ∙ ap (λ (s : RegistryState). s.segments) (c.behind-state-2.view_is ∙ c.deref-3.ensures ∙ ap (state_or_beginning c.self.inside.keeps) (sym c.in-Some.is) ∙ c.self.view_is) in
     ap (λ k. map arc_value (take k (drop first c.deref-4.result.now))) four ∙ sym (take-map arc_value 4 (drop first c.deref-4.result.now))
     ∙ ap (take 4) (sym (drop-map arc_value first c.deref-4.result.now)) ∙ ap (λ ss. run_at ss first) here
 

@@ -33,14 +33,16 @@ with_segments-requires c =
 pub returns-clause-done : goal.returns-clause-done
 returns-clause-done c _ =
     let here = goal.at.returns-clause-done c in
-    let was : c.deref.result.now ≡ c.args.self.now = c.deref.ensures ∙ ap state_or_beginning (sym c.in-Some.is) ∙ c.self.view_is in
+    let was : c.deref.result.now ≡ c.args.self.now = c.deref.ensures ∙ ap (state_or_beginning c.self.inside.keeps) (sym c.in-Some.is) ∙ c.self.view_is in
     let next = c.in_ok-with_segments.ensures in
+    let with_others = ap (λ (s : RegistryState). record s { segments = map arc_value c.in_ok-segments.segments.items }) (c.deref-4.ensures ∙ sym c.deref.ensures ∙ was) in
     record {
       first = c.in-Some-place_in.first;
       stood = subst (λ (s : RegistryState). StandsAt s.segments c.args.merged.sources c.in-Some-place_in.first) was c.in-Some-place_in.ensures.stands;
       complete = λ miss. c.in-Some-place_in.ensures.complete (subst (λ s. Misses s c.args.merged) (sym was) miss);
       segments = ap (λ (s : RegistryState). s.segments) next ∙ put here.After-deref-4 (same here.After-deref-3) ∙ ap (λ (s : RegistryState). replaced s.segments c.in-Some-place_in.first c.args.merged.entries) was;
-      history = ap (λ (s : RegistryState). s.history) (next ∙ ap (λ (s : RegistryState). record { segments = map arc_value c.in_ok-segments.segments.items; history = s.history }) (c.deref-4.ensures ∙ sym c.deref.ensures ∙ was));
+      history = ap (λ (s : RegistryState). s.history) (next ∙ with_others);
+      keeps = ap (λ (s : RegistryState). s.keeps) (next ∙ with_others);
     }
 
 pub returns-clause-unchanged : goal.returns-clause-unchanged
@@ -48,5 +50,5 @@ returns-clause-unchanged c never = elim (never refl) [ ]
 
 pub returns-in_default-place_in-clause-stale : goal.returns-in_default-place_in-clause-stale
 returns-in_default-place_in-clause-stale c _ =
-    let was : c.deref.result.now ≡ c.args.self.now = c.deref.ensures ∙ ap state_or_beginning (sym c.in-Some.is) ∙ c.self.view_is in
+    let was : c.deref.result.now ≡ c.args.self.now = c.deref.ensures ∙ ap (state_or_beginning c.self.inside.keeps) (sym c.in-Some.is) ∙ c.self.view_is in
     subst (λ s. IsStale s c.args.merged) was (c.place_in.ensures.stale c.in_default-place_in.is)

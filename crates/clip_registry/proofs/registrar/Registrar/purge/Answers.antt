@@ -31,5 +31,5 @@ pub returns-clause-purged : goal.returns-clause-purged
 returns-clause-purged c =
     let here = (goal.at.returns-clause-purged c).In_ok-segments in
     let next : c.in_ok-with_segments.field-0.value ≡ purged c.in-Some.shared.value =
-    c.in_ok-with_segments.ensures ∙ (λ i. record { segments = segments here i; history = (c.deref-4.ensures i).history }) in
-    next ∙ ap purged (ap state_or_beginning (sym c.in-Some.is) ∙ c.self.view_is)
+    c.in_ok-with_segments.ensures ∙ (λ i. record (c.deref-4.ensures i) { segments = segments here i }) in
+    next ∙ ap purged (ap (state_or_beginning c.self.inside.keeps) (sym c.in-Some.is) ∙ c.self.view_is)

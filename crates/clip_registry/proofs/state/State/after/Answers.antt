@@ -1,12 +1,11 @@
 use Rattle.std.proofs.Common.{◌≡◌, ◌-◌, ◌++◌, ◌∷◌, [], ◌<◌, ◌≤◌, sym, ap, subst, ◌∙◌, arith, length, map, append-nil}
-use Rattle.std.proofs.lemmas.List.{length-map, map-append}
 use Rattle.std.specs.Arc.{arc_value}
 use Rattle.std.specs.FinMap as finite
 use Rattle.clip_model.specs.declared.limits.TheConstants.{MOST_ENTRIES, MOST_LIVE}
 use Rattle.clip_model.specs.History as model
 use Rattle.clip_model.specs.History.{History, own, next_entry, with_command}
 use Rattle.clip_model.proofs.Counting.{listed_bound, own_length}
-use Rattle.clip_standing.specs.Command.{command_of, entry_of}
+use Rattle.clip_standing.specs.Command.{command_of}
 use Rattle.clip_registry.specs.Steps.Change.{content, IsAccepted}
 use Rattle.clip_registry.specs.Steps.State.{state_of}
 use Rattle.clip_registry.specs.RegistryState.{RegistryState}
@@ -37,19 +36,27 @@ overflow_add-index_mut c =
     let short = kept.legal.short in
     omega arith
 
+pub with-requires : goal.with-requires
+with-requires c = let b = c.len.ensures in let d = c.if-len-ge-MOST_ENTRIES.false in omega arith
+
+-- the registry after the command, as its fields hold it
+abbrev next_of : In_ok-changed → RegistryState
+next_of c = record {
+  segments = map arc_value c.in_ok-changed.changed.segments.items;
+  history = c.in_ok-log.log.history;
+  keeps = c.in_ok-log.log.keeps;
+}
+
 -- the command is accepted as the change of segments and roster says
-accepted : (c : In_ok-changed) → IsAccepted c.args.caller (command_of c.args.command.now) (state_of c.self.inside)
-    (record { segments = map arc_value c.in_ok-changed.changed.segments.items; history = map entry_of c.push.new.self }) c.in_ok-changed.changed.applied
+accepted : (c : In_ok-changed) → IsAccepted c.args.caller (command_of c.args.command.now) (state_of c.self.inside) (next_of c) c.in_ok-changed.changed.applied
 accepted c =
     let h : History = (state_of c.self.inside).history in
     let command : model.Command = command_of c.args.command.now in
-    let short : length h < MOST_ENTRIES =
-    let a = length-map c.self.inside.history entry_of in let b = c.len.ensures in let d = c.if-len-ge-MOST_ENTRIES.false in omega arith in
-    let history : map entry_of c.push.new.self ≡ with_command h c.args.caller command = ap (map entry_of) c.in_ok-push.ensures.ok
-    ∙ map-append entry_of c.self.inside.history (c.in_ok-entry.entry ∷ [])
-    ∙ ap (λ (e : model.HistoryEntry). h ++ e ∷ []) (c.in_ok-entry.ensures ∙ ap (λ (s : RegistryState). next_entry s.history c.args.caller command) (sym c.self.view_is)) in
+    let short : length h < MOST_ENTRIES = let b = c.len.ensures in let d = c.if-len-ge-MOST_ENTRIES.false in omega arith in
+    let log : c.in_ok-log.log ≡ record c.self.inside.log { history = with_command h c.args.caller command } = c.in_ok-log.ensures
+    ∙ ap (λ (e : model.HistoryEntry). record c.self.inside.log { history = h ++ e ∷ [] }) (c.in_ok-entry.ensures ∙ ap (λ (s : RegistryState). next_entry s.history c.args.caller command) (sym c.self.view_is)) in
     accepted_after (state_of c.self.inside) _ c.self.inside.roster (content c.in_ok-changed.changed.segments.items c.in_ok-changed.changed.roster) c.in_ok-changed.changed.applied c.self.inside.counts.items c.args.caller command
-    c.self.invariant short c.in_ok-changed.ensures.changed (λ i. record { segments = map arc_value c.in_ok-changed.changed.segments.items; history = history i })
+    c.self.invariant short c.in_ok-changed.ensures.changed (λ i. record { segments = map arc_value c.in_ok-changed.changed.segments.items; history = (log i).history; keeps = (log i).keeps })
 
 pub invariant_of-next : goal.invariant_of-next
 invariant_of-next c =
@@ -64,5 +71,5 @@ invariant_of-next c =
 
 pub returns-clause-accepted : goal.returns-clause-accepted
 returns-clause-accepted c =
-    subst (λ s. IsAccepted c.args.caller (command_of c.args.command.now) s (record { segments = map arc_value c.in_ok-changed.changed.segments.items; history = map entry_of c.push.new.self }) c.in_ok-changed.changed.applied)
+    subst (λ s. IsAccepted c.args.caller (command_of c.args.command.now) s (next_of c) c.in_ok-changed.changed.applied)
     c.self.view_is (accepted (goal.at.returns-clause-accepted c).In_ok-changed)

@@ -2,8 +2,8 @@ use Rattle.std.proofs.Common.{◌≡◌, ℕ, subst, sym, map}
 use Rattle.std.proofs.lemmas.List.Elements.{same_from_all_zip}
 use Rattle.std.specs.Arc.{arc_value}
 use Rattle.clip_registry.specs.RegistryState.{RegistryState}
-use Rattle.clip_standing.specs.Command.{entry_of}
 use Rattle.clip_registry.specs.Steps.Merging.{AreKept}
+use Rattle.clip_registry.specs.Steps.Log.{Log}
 use Rattle.clip_registry.specs.Steps.Roster.{Roster}
 use Rattle.clip_registry.specs.Steps.State.{IsConsistent, state_of}
 use Rattle.clip_registry.proofs.Kept.{consistent_kept}
@@ -14,8 +14,8 @@ invariant_of-next c =
     let segments = map arc_value c.args.segments.items in
     let counts : c.in_ok-clone-3.field-0.items ≡ c.self.inside.counts.items = same_from_all_zip (λ (x y : ℕ). y ≡ x) _ _ c.in_ok-clone-3.ensures.cases.0 (λ x y e. e) in
     let is : AreKept (state_of c.self.inside) segments = subst (λ (s : RegistryState). AreKept s segments) (sym c.self.view_is) c.requires in
-    let kept : IsConsistent (record { segments = segments; history = map entry_of c.self.inside.history }) c.self.inside.roster c.self.inside.counts.items =
+    let kept : IsConsistent (record (state_of c.self.inside) { segments = segments }) c.self.inside.roster c.self.inside.counts.items =
     consistent_kept (state_of c.self.inside) c.self.inside.roster c.self.inside.counts.items segments c.self.invariant is in
-    subst (λ h. IsConsistent (record { segments = segments; history = map entry_of h }) c.in_ok-clone-2.field-0 c.in_ok-clone-3.field-0.items) (sym c.in_ok-clone.ensures.cases)
-    (subst (λ (r : Roster). IsConsistent (record { segments = segments; history = map entry_of c.self.inside.history }) r c.in_ok-clone-3.field-0.items) (sym c.in_ok-clone-2.ensures.cases)
-    (subst (IsConsistent (record { segments = segments; history = map entry_of c.self.inside.history }) c.self.inside.roster) (sym counts) kept))
+    subst (λ (l : Log). IsConsistent (record { segments = segments; history = l.history; keeps = l.keeps }) c.in_ok-clone-2.field-0 c.in_ok-clone-3.field-0.items) (sym c.in_ok-clone.ensures.cases)
+    (subst (λ (r : Roster). IsConsistent (record (state_of c.self.inside) { segments = segments }) r c.in_ok-clone-3.field-0.items) (sym c.in_ok-clone-2.ensures.cases)
+    (subst (IsConsistent (record (state_of c.self.inside) { segments = segments }) c.self.inside.roster) (sym counts) kept))

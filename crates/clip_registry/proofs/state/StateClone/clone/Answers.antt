@@ -1,16 +1,16 @@
 use Rattle.std.proofs.Common.{◌≡◌, ℕ, sym, subst, ◌∙◌, map}
 use Rattle.std.proofs.lemmas.List.Elements.{same_from_all_zip}
 use Rattle.std.specs.Arc.{arc_value}
-use Rattle.clip_standing.specs.Command.{entry_of}
 use Rattle.clip_registry.specs.Steps.State.{IsConsistent, state_of}
 use Rattle.clip_registry.specs.Steps.Roster.{Roster}
 use Rattle.clip_standing.proofs.Clones.{map_shared}
 use Rattle.clip_registry.proofs.state.StateClone.clone.Goals as goal
 
-same_state : (c : goal.In_ok-clone-4) → record { segments = map arc_value c.in_ok-clone.field-0.items; history = map entry_of c.in_ok-clone-2.field-0 } ≡ state_of c.self.inside
+same_state : (c : goal.In_ok-clone-4) → record { segments = map arc_value c.in_ok-clone.field-0.items; history = c.in_ok-clone-2.field-0.history; keeps = c.in_ok-clone-2.field-0.keeps } ≡ state_of c.self.inside
 same_state c = λ i. record {
   segments = map_shared c.self.inside.segments.items c.in_ok-clone.field-0.items c.in_ok-clone.ensures.cases.0 i;
-  history = map entry_of (c.in_ok-clone-2.ensures.cases i);
+  history = (c.in_ok-clone-2.ensures.cases i).history;
+  keeps = (c.in_ok-clone-2.ensures.cases i).keeps;
 }
 
 pub invariant_of-result : goal.invariant_of-result
