@@ -13,11 +13,7 @@ use std::alloc::Global;
 use std::sync::Arc;
 
 /// A state of one's own with the same content, or `NoMemory` where an allocation failed.
-pub fn own_copy(
-    alloc: Global,
-    keeps: bool,
-    held: &Option<Arc<State>>,
-) -> Result<State, NoMemory>
+pub fn own_copy(alloc: Global, keeps: bool, held: &Option<Arc<State>>) -> Result<State, NoMemory>
     ensures { IfOk result (λ state. state ≡ state_or_beginning keeps held.now) }
 {
     match held {

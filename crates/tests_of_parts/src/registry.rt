@@ -84,10 +84,35 @@ static LETTING_GO: [(Step, &str); 8] = [
     (Step::Batch(&[("a1", "tea"), ("a2", "coffee")]), "a1 4 0. a2 4 0. "),
 ];
 
-/// Plays a script with a new registrar.
+/// Plays a script with a new registrar that keeps its history, and with one that doesn't.
 fn play_anew(rt: &impl Abort, alloc: Global, script: &[(Step, &str)]) -> Result<(), Fail> {
-    let mut registrar = Registrar::new(alloc);
-    play(rt, alloc, &mut registrar, script)
+    let mut keeping = Registrar::new(alloc);
+    play(rt, alloc, &mut keeping, script)?;
+    let mut forgetting = Registrar::without_history(alloc);
+    play(rt, alloc, &mut forgetting, script)
+}
+
+/// Whether the last command was the second of caller 1.
+fn ends_with_second(registrar: &Registrar) -> bool {
+    match registrar.last_entry() {
+        Some(entry) => entry.caller == 1 && entry.number == 2,
+        None => false,
+    }
+}
+
+#[test]
+fn a_history_is_kept_where_it_is_asked_for(rt: HostRuntime) -> Result<(), Fail> {
+    let mut keeping = Registrar::new(rt.alloc());
+    let mut forgetting = Registrar::without_history(rt.alloc());
+    assert!(rt; keeping.last_entry().is_none());
+    play(&rt, rt.alloc(), &mut keeping, &NUMBERING)?;
+    play(&rt, rt.alloc(), &mut forgetting, &NUMBERING)?;
+    assert!(rt; keeping.history().len() == 3);
+    assert!(rt; forgetting.history().len() == 0);
+    assert!(rt; ends_with_second(&keeping));
+    assert!(rt; ends_with_second(&forgetting));
+    assert!(rt; forgetting.number_of(64) == 1);
+    Ok(())
 }
 
 #[test]
