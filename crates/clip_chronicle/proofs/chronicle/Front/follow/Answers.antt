@@ -6,5 +6,5 @@ add-requires-clause-counted c =
     let o = c.requires.one_more in
     let long = ap length o.1 in
     let more = length-append c.args.self.now.seen.log (o.0 ∷ []) in
-    let short = c.history.ensures.legal.short in
+    let short = c.last_entry.ensures.legal.short in
     omega (arith, long, more, short, c.requires.counted)
