@@ -54,26 +54,29 @@ pub struct Progress {
 }
 
 impl Progress {
+    /// Before the next clause. `may_end` says whether the group may end here.
+    fn before_clause(self, may_end: bool) -> Progress
+        ensures { result ≡ record self { may_end = may_end; stage = Stage.Fresh } }
+    {
+        Progress {
+            may_end,
+            stage: Stage::Fresh,
+            ..self
+        }
+    }
+
     /// After an item, which ends a clause.
     fn after_item(self) -> Progress
         ensures { result ≡ record self { may_end = true; stage = Stage.Fresh } }
     {
-        Progress {
-            may_end: true,
-            stage: Stage::Fresh,
-            ..self
-        }
+        self.before_clause(true)
     }
 
     /// After an operator, which a clause has to follow.
     fn after_operator(self) -> Progress
         ensures { result ≡ record self { may_end = false; stage = Stage.Fresh } }
     {
-        Progress {
-            may_end: false,
-            stage: Stage::Fresh,
-            ..self
-        }
+        self.before_clause(false)
     }
 
     /// In a group that opens here.

@@ -1,4 +1,4 @@
-use Rattle.std.proofs.Common.{◌≡◌, ◌<◌, length, sym, ap, ◌∙◌, arith, not, ◌==◌, refl, true≢false}
+use Rattle.std.proofs.Common.{◌≡◌, ◌<◌, length, sym, ap, ◌∙◌, arith, rules, not, ◌==◌, refl, true≢false}
 use Rattle.std.proofs.lemmas.Bool.Decides.{nat_tests}
 use Rattle.clip_stream.proofs.Bytes.{cut_short}
 use Rattle.clip_stream.proofs.Cuts.{after_line-no_feed, gathered_found, gathered_more, gathered_end, gathers_nothing, reads_same, reads_kept}
@@ -10,6 +10,10 @@ pub returns-then-branch-clause-line : goal.returns-then-branch-clause-line
 returns-then-branch-clause-line g c =
     let t = c.in_ok-take_front.ensures in
     gathered_found c.args.self.now c.pieces.self c.take_front.new.self (g.R.Source.left c.args.reader.now) (g.R.Source.left c.pieces.reader) c.pieces.line.items c.take_front.new.line.items c.pieces.invariant.gathers (sym t.found ∙ c.if-branch.true) t.line t.rest t.end
+
+-- proved by search alone: it stands here so that a wrong body is refused at once
+pub returns-then-branch-clause-none : goal.returns-then-branch-clause-none
+returns-then-branch-clause-none g c = search rules
 
 pub returns-then-branch-clause-fuel : goal.returns-then-branch-clause-fuel
 returns-then-branch-clause-fuel g c =
