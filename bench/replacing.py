@@ -67,5 +67,4 @@ class Replacing:
 
     def is_right(self, reply: bytes) -> bool:
         """Whether it is the reply to the last article."""
-        (alert,) = json.loads(reply)["alerts"]
-        return alert["article"] == f"a{self._change}" and alert["queries"] == self.due()
+        return json.loads(reply).get("alerts") == [{"article": f"a{self._change}", "queries": self.due()}]
