@@ -94,6 +94,19 @@ class Engine:
         return Exchange([reply for run in runs for reply in run.replies], sum(run.seconds for run in runs),
                         sum(run.cpu_seconds for run in runs))
 
+    def send(self, left: memoryview) -> None:
+        """Sends bytes to an engine that answers nothing before it has them all."""
+        while left:
+            if not select.select([], [self._input], [], PATIENCE_SECONDS)[1]:
+                self._fail("does not read")
+            left = left[self._write(left):]
+
+    def receive(self) -> bytes:
+        """The next bytes of an answer, one at least."""
+        if not select.select([self._output], [], [], PATIENCE_SECONDS)[0]:
+            self._fail("does not answer")
+        return self._read()
+
     def _read(self) -> bytes:
         block = os.read(self._output, 1 << 20)
         if not block:

@@ -1,7 +1,7 @@
-"""Draws microseconds an article against registered queries as an SVG, with a curve for each engine.
+"""Draws figures as an SVG, with a curve for each engine: microseconds an article, or memory.
 
-Both axes are logarithmic. The same figures give the same bytes. The picture
-has colours for light and for dark pages, and brings its own ground for each.
+The same figures give the same bytes. The picture has colours for light and for
+dark pages, and brings its own ground for each.
 """
 
 from __future__ import annotations
@@ -9,7 +9,7 @@ from __future__ import annotations
 import math
 from dataclasses import dataclass
 from html import escape
-from typing import Iterable
+from typing import Callable, Iterable
 
 from figures import Curve, Figure, curves_of
 
@@ -18,10 +18,6 @@ LEFT, RIGHT, TOP, BOTTOM = 84, 700, 66, 376
 # Between the frame and the ends of the axes.
 INSET_ACROSS, INSET_DOWN = 40, 28
 MARGIN = 24
-
-TITLE = "Microseconds per article"
-UNDER = "articles of 400 words, one a line; the best of ten passes; both axes are logarithmic"
-ALONG = "registered queries"
 
 # The marks of the curves in turn: a disc, a square, a triangle, a diamond.
 MARKS = ("M-5 0a5 5 0 1 0 10 0a5 5 0 1 0-10 0", "M-4.5-4.5h9v9h-9z", "M0-6L6 5H-6z", "M0-6.5L6.5 0L0 6.5L-6.5 0z")
@@ -47,44 +43,100 @@ SHAPES = ("text{font:13px system-ui,sans-serif;paint-order:stroke;stroke-width:4
 
 @dataclass(frozen=True)
 class Axis:
-    """A logarithmic axis over whole decades, and where its ends stand in the picture."""
+    """An axis from a number to another, and where its ends stand in the picture."""
 
-    first: int
-    last: int
+    first: float
+    last: float
     start: float
     end: float
 
-    @staticmethod
-    def over(values: Iterable[float], start: float, end: float) -> Axis:
-        """The fewest decades that have all the values, and at least one."""
-        logarithms = [math.log10(value) for value in values]
-        first = math.floor(min(logarithms))
-        return Axis(first, max(math.ceil(max(logarithms)), first + 1), start, end)
-
     def place(self, value: float) -> float:
         """Where a value stands."""
-        part = (math.log10(value) - self.first) / (self.last - self.first)
+        part = (self.scaled(value) - self.first) / (self.last - self.first)
         return round(self.start + part * (self.end - self.start), 1)
 
+    def scaled(self, value: float) -> float:
+        """The value as the axis counts."""
+        return value
+
     def ticks(self) -> list[float]:
-        """The powers of ten on the axis."""
-        return [10.0 ** power for power in range(self.first, self.last + 1)]
+        """The numbers that are written on the axis."""
+        step = even_step(self.last)
+        return [step * count for count in range(round(self.last / step) + 1)]
+
+
+@dataclass(frozen=True)
+class Decades(Axis):
+    """A logarithmic axis over whole decades."""
+
+    def scaled(self, value: float) -> float:
+        return math.log10(value)
+
+    def ticks(self) -> list[float]:
+        return [10.0 ** power for power in range(round(self.first), round(self.last) + 1)]
+
+
+# An axis that has some values, and where it is to begin and to end in the picture.
+Maker = Callable[[Iterable[float], float, float], Axis]
+
+
+def decades(values: Iterable[float], start: float, end: float) -> Axis:
+    """The fewest decades that have all the values, and at least one."""
+    logarithms = [math.log10(value) for value in values]
+    first = math.floor(min(logarithms))
+    return Decades(first, max(math.ceil(max(logarithms)), first + 1), start, end)
+
+
+def even(values: Iterable[float], start: float, end: float) -> Axis:
+    """An axis from 0, in even steps."""
+    most = max(values)
+    step = even_step(most)
+    return Axis(0, step * math.ceil(most / step), start, end)
+
+
+def roomy(values: Iterable[float], start: float, end: float) -> Axis:
+    """One that leaves room for names beyond the greatest value."""
+    return even([1.2 * max(values)], start, end)
+
+
+def even_step(most: float) -> float:
+    """A step of a 1, a 2 or a 5 with noughts, at most five of which reach that far."""
+    power = 10.0 ** math.floor(math.log10(most / 5))
+    return next(power * part for part in (1, 2, 5, 10) if most / (power * part) <= 5)
+
+
+@dataclass(frozen=True)
+class Sheet:
+    """What a picture is of: its heads, what stands along its axis, and how its axes are made."""
+
+    title: str
+    under: str
+    along: str
+    across: Maker
+    up: Maker
+
+
+SPEED = Sheet("Microseconds per article",
+              "articles of 400 words, one a line; the best of ten passes; both axes are logarithmic",
+              "registered queries", decades, decades)
+MEMORY = Sheet("Resident memory in MiB", "1,000 ids get other queries over and over, and articles are matched between",
+               "replaced queries", even, roomy)
 
 
 @dataclass(frozen=True)
 class Plane:
-    """Both axes: queries across, microseconds up."""
+    """Both axes: what was measured at across, and the numbers up."""
 
     across: Axis
     up: Axis
 
     @staticmethod
-    def over(figures: list[Figure]) -> Plane:
+    def over(sheet: Sheet, figures: list[Figure]) -> Plane:
         """The axes that have all the figures."""
-        return Plane(Axis.over((figure.queries for figure in figures), LEFT + INSET_ACROSS, RIGHT - INSET_ACROSS),
-                     Axis.over((figure.micros for figure in figures), BOTTOM - INSET_DOWN, TOP + INSET_DOWN))
+        return Plane(sheet.across((figure.at for figure in figures), LEFT + INSET_ACROSS, RIGHT - INSET_ACROSS),
+                     sheet.up((figure.number for figure in figures), BOTTOM - INSET_DOWN, TOP + INSET_DOWN))
 
-    def grid(self) -> list[str]:
+    def grid(self, along: str) -> list[str]:
         """The lines and numbers of both axes."""
         parts = []
         for value in self.up.ticks():
@@ -95,7 +147,7 @@ class Plane:
             across = self.across.place(value)
             parts += [f'<path class="grid" d="M{across:g} {TOP}V{BOTTOM}"/>',
                       text(across, BOTTOM + 18, plain(value), "quiet", "middle")]
-        return parts + [text((LEFT + RIGHT) / 2, BOTTOM + 40, ALONG, "quiet", "middle")]
+        return parts + [text((LEFT + RIGHT) / 2, BOTTOM + 40, along, "quiet", "middle")]
 
 
 def plain(value: float) -> str:
@@ -123,20 +175,20 @@ def mark(kind: int, across: float, down: float) -> str:
 
 
 def number(figure: Figure, figures: list[Figure], plane: Plane) -> str:
-    """The number at a point: below the least of those at its queries, above the greatest, to the right of others."""
-    words = plain(figure.micros)
-    across, down = plane.across.place(figure.queries), plane.up.place(figure.micros)
-    rivals = [other.micros for other in figures if other.queries == figure.queries]
-    if figure.micros <= min(rivals):
+    """The number at a point: below the least of those across from it, above the greatest, to the right of others."""
+    words = plain(figure.number)
+    across, down = plane.across.place(figure.at), plane.up.place(figure.number)
+    rivals = [other.number for other in figures if other.at == figure.at]
+    if figure.number <= min(rivals):
         return text(across, down + 22, words, "value", "middle")
-    if figure.micros >= max(rivals):
+    if figure.number >= max(rivals):
         return text(across, down - 12, words, "value", "middle")
     return text(across + 11, down + 9, words, "value")
 
 
 def lines_of(kind: int, curve: Curve, plane: Plane) -> list[str]:
     """A curve with its marks."""
-    points = [(plane.across.place(figure.queries), plane.up.place(figure.micros)) for figure in curve.figures]
+    points = [(plane.across.place(figure.at), plane.up.place(figure.number)) for figure in curve.figures]
     line = "L".join(f"{across:g} {down:g}" for across, down in points)
     return [f'<path class="curve c{kind}" d="M{line}"/>', *(mark(kind, across, down) for across, down in points)]
 
@@ -147,24 +199,24 @@ def name(place: int, kind: int, curve: Curve) -> list[str]:
     return [mark(kind, LEFT + 16, down), text(LEFT + 30, down + 4.5, curve.engine)]
 
 
-def told(curves: list[Curve]) -> str:
+def told(along: str, curves: list[Curve]) -> str:
     """All figures in words."""
-    return " ".join(f"{curve.engine}: " + ", ".join(f"{plain(figure.micros)} at {plain(figure.queries)} {ALONG}"
+    return " ".join(f"{curve.engine}: " + ", ".join(f"{plain(figure.number)} at {plain(figure.at)} {along}"
                                                     for figure in curve.figures) + "." for curve in curves)
 
 
-def picture_of(figures: Iterable[Figure]) -> str:
+def picture_of(sheet: Sheet, figures: Iterable[Figure]) -> str:
     """The picture of some figures, of which there is at least one."""
     curves = curves_of(figures)
     least = [figure for curve in curves for figure in curve.figures]
-    plane = Plane.over(least)
+    plane = Plane.over(sheet, least)
     parts = [f'<svg xmlns="http://www.w3.org/2000/svg" width="{WIDTH}" height="{HEIGHT}" '
              f'viewBox="0 0 {WIDTH} {HEIGHT}" role="img" aria-labelledby="title told">',
-             f'<title id="title">{TITLE} by {ALONG}</title>',
-             f'<desc id="told">{escape(told(curves), quote=False)}</desc>',
+             f'<title id="title">{sheet.title} by {sheet.along}</title>',
+             f'<desc id="told">{escape(told(sheet.along, curves), quote=False)}</desc>',
              f"<style>{SHAPES}{rules(LIGHT)}@media(prefers-color-scheme:dark){{{rules(DARK)}}}</style>",
-             f'<rect class="ground" width="{WIDTH}" height="{HEIGHT}" rx="8"/>', *plane.grid(),
-             text(MARGIN, 30, TITLE, "head"), text(MARGIN, 50, UNDER, "quiet")]
+             f'<rect class="ground" width="{WIDTH}" height="{HEIGHT}" rx="8"/>', *plane.grid(sheet.along),
+             text(MARGIN, 30, sheet.title, "head"), text(MARGIN, 50, sheet.under, "quiet")]
     for place, curve in enumerate(curves):
         kind = place % len(MARKS)
         parts += lines_of(kind, curve, plane) + name(place, kind, curve)

@@ -121,6 +121,7 @@ SCENARIOS: dict[str, Callable[[Workload, Size], Scenario]] = {
     "batches": batches,
     "lock-step": lock_step,
     "one-a-line": one_a_line,
+    "embedded": one_a_line,
     "churn": churn,
     "changes": changes,
 }
