@@ -69,6 +69,46 @@ fn order(a: &Posting, b: &Posting) -> Ordering
     )
 }
 
+/// A text that is looked for among postings, and its lead. Contracts see the text.
+#[derive(Drop)]
+struct Sought<'a> {
+    text: &'a str,
+    lead: u64,
+}
+
+impl<'a> Model for Sought<'a> {
+    ghost use Rattle.std.specs.Prelude.{ℕ, List};
+    ghost use Rattle.clip_meaning.specs.Leads.{IsLead};
+
+    ghost Value = { List ℕ };
+
+    ghost view = { λ s. s.text.now };
+
+    ghost invariant = { λ s. IsLead s.text.now s.lead };
+}
+
+impl<'a> Sought<'a> {
+    /// Looks for a text.
+    fn of(text: &'a str) -> Sought<'a>
+        ensures { result ≡ text.now }
+    {
+        Sought {
+            text,
+            lead: lead_of(text),
+        }
+    }
+
+    /// Compares the text with the word of a posting, which is looked at only where both have the same lead.
+    fn order(&self, posting: &Posting) -> Ordering
+        ensures { result ≡ bytes_cmp self.now posting.now.0 }
+    {
+        if self.lead != posting.lead {
+            return self.lead.cmp(&posting.lead);
+        }
+        compare_by_leads(self.text, self.lead, posting.word.as_str(), posting.lead)
+    }
+}
+
 /// The postings of a field, in the byte order of their words.
 #[derive(Debug, Drop)]
 pub(crate) struct WordIndex {
@@ -131,11 +171,12 @@ impl WordIndex {
         ensures value { result.now ≡ from_low (End.With word.now) self.now }
         ensures sorted { IsSortedByKey (λ p. p.0) bytes_cmp self.now }
     {
+        let sought = Sought::of(word);
         let postings = self.postings();
         let place = postings.partition_point(
             |posting: &Posting| -> bool
-                ensures { result ≡ is_gt (bytes_cmp word.entry.now posting.now.0) }
-            { word > posting.word().as_str() },
+                ensures { result ≡ is_gt (bytes_cmp sought.entry posting.now.0) }
+            { sought.order(posting).is_gt() },
         );
         postings.split_at(place).1
     }
@@ -145,11 +186,12 @@ impl WordIndex {
         ensures value { result.now ≡ from_low (End.Without word.now) self.now }
         ensures sorted { IsSortedByKey (λ p. p.0) bytes_cmp self.now }
     {
+        let sought = Sought::of(word);
         let postings = self.postings();
         let place = postings.partition_point(
             |posting: &Posting| -> bool
-                ensures { result ≡ not (is_lt (bytes_cmp word.entry.now posting.now.0)) }
-            { word >= posting.word().as_str() },
+                ensures { result ≡ not (is_lt (bytes_cmp sought.entry posting.now.0)) }
+            { !sought.order(posting).is_lt() },
         );
         postings.split_at(place).1
     }
@@ -170,11 +212,12 @@ impl WordIndex {
     pub(crate) fn occurrences(&self, word: &str) -> &[Posting]
         ensures { result.now ≡ filter (λ p. bytes_eq p.0 word.now) self.now }
     {
+        let sought = Sought::of(word);
         let postings = self.not_below(word);
         let place = postings.partition_point(
             |posting: &Posting| -> bool
-                ensures { result ≡ not (is_lt (bytes_cmp word.entry.now posting.now.0)) }
-            { word >= posting.word().as_str() },
+                ensures { result ≡ not (is_lt (bytes_cmp sought.entry posting.now.0)) }
+            { !sought.order(posting).is_lt() },
         );
         postings.split_at(place).0
     }

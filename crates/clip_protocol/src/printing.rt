@@ -12,7 +12,7 @@ ghost use Rattle.clip_protocol.specs.Steps.Views.{alerts_by_id};
 use crate::form::Form;
 use clip_listen::Note;
 use clip_meaning::Hit;
-use clip_standing::{Alert, Alerts};
+use clip_standing::{Alert, Alerts, bring_near};
 use clip_words::NoMemory;
 use json::Writer;
 use std::alloc::Global;
@@ -74,6 +74,7 @@ fn write_hits(out: &mut Writer, hits: &[Hit]) -> Result<(), NoMemory>
 fn write_hits_of_all(out: &mut Writer, alloc: Global, alerts: &[Alert]) -> Result<(), NoMemory>
     ensures { Appends result out.old out.new (data_tokens (hits_data (map alert_value alerts.now))) }
 {
+    bring_near(alloc, alerts);
     out.begin_array()?;
     for alert in alerts {
         let hits = alert.hits(alloc)?;

@@ -6,6 +6,7 @@ ghost use Rattle.clip_meaning.specs.Hits.{hit_value};
 ghost use Rattle.clip_model.specs.Alerts.{alert_for};
 ghost use Rattle.clip_standing.specs.Alerts.{alert_value};
 
+use crate::reading::Reading;
 use crate::standing::Standing;
 use clip_meaning::{Article, Hit};
 use clip_words::NoMemory;
@@ -64,6 +65,11 @@ impl Alert {
         ensures { IfOk result (λ hits. map hit_value hits.items ≡ (alert_value self.now).hits) }
     {
         self.standing.hits_in(alloc, &self.article)
+    }
+
+    /// The reading of the query's text, if it is kept.
+    pub(crate) fn kept(&self) -> Option<&Reading> {
+        self.standing.kept()
     }
 
     /// The same alert once more. It shares the query and the article. Takes constant time.

@@ -5,10 +5,12 @@
 mod alert;
 mod command;
 mod entry;
+mod nearing;
 mod reading;
 mod standing;
 
 pub use alert::{Alert, Alerts};
 pub use command::{Applied, Command, HistoryEntry, Refused};
 pub use entry::Entry;
+pub use nearing::bring_near;
 pub use standing::{Standing, StandingFault};
