@@ -181,7 +181,14 @@ impl<L: UpdateListener> DeskParts<L> {
         ensures few { OnOk result (callers ≤ MOST_CALLERS) }
         ensures many { (result ≡ Err (updates, NewRefused.TooMany)) ↔ (MOST_CALLERS < callers) }
     {
-        DeskParts::of(rt, Registrar::without_history(alloc), alloc, tag, callers, updates)
+        DeskParts::of(
+            rt,
+            Registrar::without_history(alloc),
+            alloc,
+            tag,
+            callers,
+            updates,
+        )
     }
 
     /// The parts of a desk with this registrar, which is new.
