@@ -143,7 +143,7 @@ def a_journal_stays_short() -> None:
         status, _, told = run_keep(journal, joined(lines), "--rewrite-above", "100")
         need(status == 0, told)
         size = (journal / "journal").stat().st_size
-        need(size < 2_500 * 80, f"the journal has {size} bytes")
+        need(size < len(joined(lines)) * 2 // 3, f"the journal has {size} bytes")
         need(changes_in(journal) == 6_000, "the count of changes is lost")
         due = replies_of_engine(joined(lines) + asked).splitlines()[6_000:]
         shown = replies_of_engine(dump_of(journal) + asked).splitlines()[-10:]
