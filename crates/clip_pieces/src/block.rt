@@ -37,6 +37,20 @@ impl<T: Exact> Clone for Block<T> {
     }
 }
 
+impl Block<u64> {
+    /// Lets the piece of a place and the one behind it lie where the pieces before them do, if they hold the same
+    /// numbers. It changes no number.
+    pub(crate) fn fold(&mut self, place: usize)
+        ensures { self.new ≡ self.old }
+    {
+        let piece = place / PIECE;
+        self.pieces.share_before(piece);
+        if piece < PIECE {
+            self.pieces.share_before(piece + 1);
+        }
+    }
+}
+
 impl<T: Exact> Exact for Block<T> {
     ghost exact = { λ _ _ same. same };
 }

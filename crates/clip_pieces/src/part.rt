@@ -2,6 +2,7 @@
 ghost use Rattle.std.specs.Prelude.{◌≡◌, ℕ, ◌<◌, List, [], ◌∷◌, ◌++◌, length, IfOk, OnOk, OnErr, slice_get, slice_set};
 ghost use Rattle.std.specs.Option.{option_copied};
 
+use crate::block::Block;
 use crate::exact::Exact;
 use crate::shared::Shared;
 use clip_words::NoMemory;
@@ -65,4 +66,13 @@ pub(crate) fn set_in<T: Exact, P: Part<T>>(
     ensures err { OnErr result (P.items part.new ≡ P.items part.old) }
 {
     Arc::make_mut(&mut part.arc)?.set(place, item)
+}
+
+/// Lets the pieces about a place of a block lie where equal neighbours do. It changes no number.
+pub(crate) fn fold_in(block: &mut Shared<Block<u64>>, place: usize)
+    ensures { block.new ≡ block.old }
+{
+    if let Ok(block) = Arc::make_mut(&mut block.arc) {
+        block.fold(place);
+    }
 }

@@ -2,8 +2,10 @@
 ghost use Rattle.std.specs.Prelude.{◌≡◌, ◌<◌, ◌-◌, [], ◌∷◌, ◌++◌, length, IfOk, OnOk, OnErr, slice_get, slice_set};
 ghost use Rattle.std.specs.Option.{option_copied};
 
+use crate::block::Block;
 use crate::exact::Exact;
-use crate::part::{Part, push_to, set_in};
+use crate::part::{Part, fold_in, push_to, set_in};
+use crate::piece::Piece;
 use crate::shared::Shared;
 use clip_words::NoMemory;
 use std::alloc::{AllocError, Global};
@@ -103,5 +105,35 @@ impl<T: Exact, P: Part<T>> Parts<T, P> {
     {
         let part = &mut self.parts[place / P::FULL];
         set_in(part, place % P::FULL, item)
+    }
+}
+
+impl Parts<u64, Piece<u64>> {
+    /// Lets a piece lie where the piece before it does, if both hold the same numbers. It changes no number. Cost: that
+    /// of comparing the two.
+    pub(crate) fn share_before(&mut self, piece: usize)
+        ensures { self.new ≡ self.old }
+    {
+        if piece == 0 || piece >= self.parts.len() {
+            return;
+        }
+        let before = &self.parts[piece - 1];
+        if self.parts[piece].value().is_same(before.value())
+            && let Ok(before) = before.clone()
+        {
+            self.parts[piece] = before;
+        }
+    }
+}
+
+impl Parts<u64, Block<u64>> {
+    /// Lets the pieces about a place lie where equal neighbours do. It changes no number.
+    pub(crate) fn fold(&mut self, place: usize)
+        ensures { self.new ≡ self.old }
+    {
+        let block = place / Block::<u64>::FULL;
+        if block < self.parts.len() {
+            fold_in(&mut self.parts[block], place % Block::<u64>::FULL);
+        }
     }
 }

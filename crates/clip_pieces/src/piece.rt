@@ -1,5 +1,5 @@
 //! The lowest one of the three levels of a list.
-ghost use Rattle.std.specs.Prelude.{◌≡◌};
+ghost use Rattle.std.specs.Prelude.{◌≡◌, IsTrue};
 ghost use Rattle.std.proofs.Common.{arith};
 
 use crate::exact::Exact;
@@ -32,6 +32,15 @@ impl<T: Exact> Clone for Piece<T> {
         let mut items = Vec::with_capacity(*self.items.allocator(), PIECE)?;
         items.extend_with_clones(&self.items)?;
         Ok(Piece { items })
+    }
+}
+
+impl Piece<u64> {
+    /// Whether both hold the same numbers. Cost: the numbers up to the first that differs.
+    pub(crate) fn is_same(&self, other: &Piece<u64>) -> bool
+        ensures { IsTrue result → self.now ≡ other.now }
+    {
+        self.items == other.items
     }
 }
 

@@ -56,14 +56,26 @@ fn word_at(words: &SharedList<u64>, place: usize) -> u64
     words.get(place / 64).copied().unwrap_or(0)
 }
 
-/// Sets or clears the bit of a place, or gives `NoMemory` with the words as they were.
+/// Lets the piece of a word without a set bit lie where equal neighbours do. It changes no word.
+fn fold_clear(words: &mut SharedList<u64>, word: usize)
+    ensures { words.new ≡ words.old }
+{
+    if words.get(word) == Some(&0) {
+        words.fold(word);
+    }
+}
+
+/// Sets or clears the bit of a place, or gives `NoMemory` with the words as they were. Pieces without a set bit lie in
+/// one where they are neighbours.
 fn set_bit(words: &mut SharedList<u64>, place: usize, flag: bool) -> Result<(), NoMemory>
     requires { place < 64 * length words.old }
     ensures ok { OnOk result (flags_of words.new ≡ slice_set (flags_of words.old) place flag) }
     ensures err { OnErr result (words.new ≡ words.old) }
 {
-    let word = word_at(words, place);
-    words.set(place / 64, with_bit(word, place % 64, flag))
+    let word = with_bit(word_at(words, place), place % 64, flag);
+    words.set(place / 64, word)?;
+    fold_clear(words, place / 64);
+    Ok(())
 }
 
 impl SharedFlags {
