@@ -49,13 +49,13 @@ impl Model for Segment {
     ghost invariant = { IsSegment };
 }
 
-/// The queries of these entries, read again from their texts.
+/// The queries of these entries: as they were read where nobody took them before, and else read again.
 fn queries_of(alloc: Global, entries: &[Arc<Entry>]) -> Result<Vec<Query>, NoMemory>
     ensures { IfOk result (λ queries. map tree_of queries.items ≡ trees_of (map arc_value entries.now)) }
 {
     let mut queries = Vec::with_capacity(alloc, entries.len())?;
     for entry in entries {
-        queries.push(entry.standing().query(alloc)?)?;
+        queries.push(entry.standing().take_query(alloc)?)?;
     }
     Ok(queries)
 }

@@ -63,4 +63,13 @@ impl Reading {
     {
         &self.query
     }
+
+    /// The query, where the text is not needed any more.
+    pub(crate) fn into_query(self) -> Query
+        ensures query { tree_of result ≡ self.1 }
+        ensures reads { Reads self.0 self.1 }
+    {
+        let Reading { text: _, query } = self;
+        query
+    }
 }

@@ -4,8 +4,7 @@ ghost use Rattle.std.specs.Arc.{arc_str_bytes};
 ghost use Rattle.std.specs.Option.{option_copied};
 ghost use Rattle.clip_standing.specs.Standing.{IsStanding, IsStandingFault};
 ghost use Rattle.clip_standing.specs.Steps.KeptReading.{KeptReading, one_tree_of};
-ghost use Rattle.clip_grammar.specs.Laws.{IsRead};
-ghost use Rattle.clip_grammar.specs.Reading.{IsFault};
+ghost use Rattle.clip_grammar.specs.Reading.{IsFault, Reads};
 ghost use Rattle.clip_grammar.specs.Tree.{tree_of};
 ghost use Rattle.clip_meaning.specs.Hits.{hit_value, hits};
 
@@ -20,7 +19,7 @@ use once_cell::race::OnceBox;
 use std::alloc::{AllocError, Global};
 use std::fmt;
 use std::marker::Model;
-use std::sync::ArcStr;
+use std::sync::{ArcStr, Mutex};
 use thiserror::Error;
 
 /// Why a standing query is refused, the first that holds in this order; `NoMemory` comes wherever an allocation failed.
@@ -72,14 +71,16 @@ impl From<QueryFault> for StandingFault {
 
 /// A standing query: a query under an id, with the name of a listener or none.
 ///
-/// Its query is the reading of its text; it isn't kept until hits are asked for, since a query's tree takes far more
-/// memory than its text. Its texts are shared by clones. No reader but `query` and `hits_in` takes memory, and each
-/// other takes constant time.
+/// Its query is the reading of its text. The tree that was made when it was read goes to the first who takes it, which
+/// is the segment that it is listed in; after that none is kept until hits are asked for, since a query's tree takes far
+/// more memory than its text. Its texts are shared by clones. No reader but `query`, `take_query` and `hits_in` takes
+/// memory, and each other takes constant time.
 #[derive(Drop)]
 pub struct Standing {
     id: ArcStr,
     text: ArcStr,
     listener: Option<ArcStr>,
+    fresh: Mutex<Option<Box<Reading>>>,
     kept: OnceBox<Reading>,
     ghost reading: { KeptReading (arc_str_bytes text) } by { one_tree_of _ },
 }
@@ -134,13 +135,16 @@ fn shared_texts(
     Ok((id, ArcStr::from_string(text)?, listener))
 }
 
-/// Reads a text as a query, which isn't kept.
-fn check_text(alloc: Global, text: &str) -> Result<(), QueryFault>
-    ensures read { IfOk result (λ _. IsRead text.now) }
-    ensures refused { IfErr result (λ fault. IsFault text.now fault) }
+/// A query beside the text that it was read from, for the first who takes it.
+fn fresh(
+    alloc: Global,
+    text: &ArcStr,
+    query: Query,
+) -> Result<Mutex<Option<Box<Reading>>>, NoMemory>
+    requires { Reads (arc_str_bytes text.now) (tree_of query) }
 {
-    read_query(alloc, text)?;
-    Ok(())
+    let reading = Box::new(alloc, Reading::new(text.clone()?, query))?;
+    Ok(Mutex::new(Some(reading)))
 }
 
 impl Standing {
@@ -167,12 +171,14 @@ impl Standing {
         if !is_id(id.as_str()) {
             return Err(StandingFault::Id);
         }
-        check_text(alloc, text.as_str())?;
+        let query = read_query(alloc, text.as_str())?;
         let (id, text, listener) = shared_texts(id, text, listener)?;
+        let fresh = fresh(alloc, &text, query)?;
         Ok(Standing {
             id,
             text,
             listener,
+            fresh,
             kept: OnceBox::new(alloc),
         })
     }
@@ -210,6 +216,27 @@ impl Standing {
             Err(QueryFault::NoMemory) => Err(NoMemory),
             Err(_) => unreachable!(),
         }
+    }
+
+    /// The reading that was made when the query was read, if nobody took it before, and nobody does now.
+    fn taken(&self) -> Option<Box<Reading>> {
+        let mut fresh = self.fresh.try_lock()?;
+        fresh.take()
+    }
+
+    /// The query that the text is read as: the one that was made when it was read for the first who takes it, and one
+    /// that is read again after that.
+    ///
+    /// `NoMemory` where an allocation failed. Cost: for the first constant time, after that the reading of the text.
+    pub fn take_query(&self, alloc: Global) -> Result<Query, NoMemory>
+        ensures { IfOk result (λ query. tree_of query ≡ self.now.tree) }
+    {
+        if let Some(reading) = self.taken()
+            && reading.is_of(self.text.as_str())
+        {
+            return Ok(Box::into_inner(reading).into_query());
+        }
+        self.query(alloc)
     }
 
     /// The reading of the text, if it is kept.

@@ -1,8 +1,8 @@
-use Rattle.std.proofs.Common.{◌≡◌, ◌∙◌, ℕ, List, IfOk, ap, sym, subst, map}
+use Rattle.std.proofs.Common.{◌≡◌, ◌∙◌, IfOk, ap, sym, subst, map}
 use Rattle.std.specs.Arc.{arc_str_bytes}
 use Rattle.std.proofs.lemmas.Slice.Eq.{bytes_eq-Decides}
 use Rattle.clip_grammar.specs.Reading.{Reads}
-use Rattle.clip_grammar.specs.Tree.{Tree, tree_of}
+use Rattle.clip_grammar.specs.Tree.{tree_of}
 use Rattle.clip_grammar.proofs.Uniqueness.{one_tree}
 use Rattle.clip_meaning.specs.Hits.{hit_value, hits}
 use Rattle.clip_model.specs.Standing as value
