@@ -8,12 +8,13 @@ use Rattle.std.proofs.sync.ArcStr.TheSendSync as arc_str_sent
 use Rattle.std.proofs.option.Option.TheSendSync as option_sent
 use Rattle.std.proofs.sync.Arc.TheSendSync as arc_sent
 use Rattle.std.proofs.vec.Vec.TheSendSync as vec_sent
-use Rattle.std.proofs.sync.Mutex.TheSendSync as mutex_sent
+use Rattle.counted_slot.proofs.Counted.TheSendSync as slot_sent
 use Rattle.std.proofs.boxed.Box.TheSendSync as box_sent
 use Rattle.once_cell.proofs.race.once_box.OnceBox.TheSendSync as once_sent
 use Rattle.clip_grammar.proofs.Sent.{query_send, query_sync}
 use Rattle.clip_standing.specs.contracts.reading.Reading as reading
 use Rattle.clip_standing.specs.contracts.reading.Reading.TheInside as reading_inside
+use Rattle.clip_standing.specs.contracts.fresh.Fresh as fresh
 use Rattle.clip_standing.specs.contracts.standing.Standing as standing
 use Rattle.clip_standing.specs.contracts.standing.Standing.TheInside as standing_inside
 use Rattle.clip_standing.specs.contracts.entry.Entry as entry
@@ -31,11 +32,17 @@ reading_send = view_send reading_inside.the_row _ _ _ _ (declared_send reading_i
 reading_sync : IsSync reading.the_row
 reading_sync = view_sync reading_inside.the_row _ _ _ _ (declared_sync reading_inside.the_type (search (global, arc_str_sent.the_sync), (query_sync, tt)))
 
+fresh_send : IsSend fresh.the_row
+fresh_send = declared_send fresh.the_type (search (global, box_sent.the_send, reading_send), tt)
+
+fresh_sync : IsSync fresh.the_row
+fresh_sync = declared_sync fresh.the_type (search (global, box_sent.the_sync, reading_sync), tt)
+
 pub standing_send : IsSend standing.the_row
-standing_send = view_send standing_inside.the_row _ _ _ _ (declared_send standing_inside.the_type (search (global, arc_str_sent.the_send), (search (global, arc_str_sent.the_send), (search (global, arc_str_sent.the_send, option_sent.the_send), (search (global, mutex_sent.the_send, option_sent.the_send, box_sent.the_send, reading_send), (once_sent.the_send reading.the_row reading_send, tt))))))
+standing_send = view_send standing_inside.the_row _ _ _ _ (declared_send standing_inside.the_type (search (global, arc_str_sent.the_send), (search (global, arc_str_sent.the_send), (search (global, arc_str_sent.the_send, option_sent.the_send), (search (global, slot_sent.the_send, option_sent.the_send, fresh_send), (once_sent.the_send reading.the_row reading_send, tt))))))
 
 pub standing_sync : IsSync standing.the_row
-standing_sync = view_sync standing_inside.the_row _ _ _ _ (declared_sync standing_inside.the_type (search (global, arc_str_sent.the_sync), (search (global, arc_str_sent.the_sync), (search (global, arc_str_sent.the_sync, option_sent.the_sync), (search (global, mutex_sent.the_sync, option_sent.the_send, box_sent.the_send, reading_send), (once_sent.the_sync reading.the_row reading_send reading_sync, tt))))))
+standing_sync = view_sync standing_inside.the_row _ _ _ _ (declared_sync standing_inside.the_type (search (global, arc_str_sent.the_sync), (search (global, arc_str_sent.the_sync), (search (global, arc_str_sent.the_sync, option_sent.the_sync), (search (global, slot_sent.the_sync, option_sent.the_send, option_sent.the_sync, fresh_send, fresh_sync), (once_sent.the_sync reading.the_row reading_send reading_sync, tt))))))
 
 pub entry_send : IsSend entry.the_row
 entry_send = view_send entry_inside.the_row _ _ _ _ (declared_send entry_inside.the_type (search global, (search (global, arc_sent.the_send, standing_send, standing_sync), tt)))

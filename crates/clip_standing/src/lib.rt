@@ -5,6 +5,7 @@
 mod alert;
 mod command;
 mod entry;
+mod fresh;
 mod nearing;
 mod reading;
 mod standing;

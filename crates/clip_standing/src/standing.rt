@@ -8,6 +8,7 @@ ghost use Rattle.clip_grammar.specs.Reading.{IsFault, Reads};
 ghost use Rattle.clip_grammar.specs.Tree.{tree_of};
 ghost use Rattle.clip_meaning.specs.Hits.{hit_value, hits};
 
+use crate::fresh::{FreshSlot, slot_of, take_from};
 use crate::reading::Reading;
 use clip_grammar::fault::QueryFault;
 use clip_grammar::laws::one_reading;
@@ -19,7 +20,7 @@ use once_cell::race::OnceBox;
 use std::alloc::{AllocError, Global};
 use std::fmt;
 use std::marker::Model;
-use std::sync::{ArcStr, Mutex};
+use std::sync::ArcStr;
 use thiserror::Error;
 
 /// Why a standing query is refused, the first that holds in this order; `NoMemory` comes wherever an allocation failed.
@@ -80,7 +81,7 @@ pub struct Standing {
     id: ArcStr,
     text: ArcStr,
     listener: Option<ArcStr>,
-    fresh: Mutex<Option<Box<Reading>>>,
+    fresh: FreshSlot,
     kept: OnceBox<Reading>,
     ghost reading: { KeptReading (arc_str_bytes text) } by { one_tree_of _ },
 }
@@ -136,15 +137,11 @@ fn shared_texts(
 }
 
 /// A query beside the text that it was read from, for the first who takes it.
-fn fresh(
-    alloc: Global,
-    text: &ArcStr,
-    query: Query,
-) -> Result<Mutex<Option<Box<Reading>>>, NoMemory>
+fn fresh(alloc: Global, text: &ArcStr, query: Query) -> Result<FreshSlot, NoMemory>
     requires { Reads (arc_str_bytes text.now) (tree_of query) }
 {
     let reading = Box::new(alloc, Reading::new(text.clone()?, query))?;
-    Ok(Mutex::new(Some(reading)))
+    Ok(slot_of(reading))
 }
 
 impl Standing {
@@ -218,12 +215,6 @@ impl Standing {
         }
     }
 
-    /// The reading that was made when the query was read, if nobody took it before, and nobody does now.
-    fn taken(&self) -> Option<Box<Reading>> {
-        let mut fresh = self.fresh.try_lock()?;
-        fresh.take()
-    }
-
     /// The query that the text is read as: the one that was made when it was read for the first who takes it, and one
     /// that is read again after that.
     ///
@@ -231,10 +222,10 @@ impl Standing {
     pub fn take_query(&self, alloc: Global) -> Result<Query, NoMemory>
         ensures { IfOk result (λ query. tree_of query ≡ self.now.tree) }
     {
-        if let Some(reading) = self.taken()
-            && reading.is_of(self.text.as_str())
+        if let Some(fresh) = take_from(&self.fresh)
+            && fresh.reading.is_of(self.text.as_str())
         {
-            return Ok(Box::into_inner(reading).into_query());
+            return Ok(Box::into_inner(fresh.reading).into_query());
         }
         self.query(alloc)
     }
