@@ -9,7 +9,7 @@ use std::test::Fail;
 
 /// Each an id and a query's text, and the standing query or why it is refused.
 static STANDINGS: [(&str, &str, &str); 6] = [
-    ("q1", "+Tea", "q1 `+Tea` (+text=tea) desk"),
+    ("q1", "+Tea", "q1 `+Tea` (+text=tea) (+text=tea) (+text=tea) desk"),
     ("", "tea", "Id"),
     ("", "", "Id"),
     ("q1", "", "Query(Structure)"),
@@ -17,12 +17,14 @@ static STANDINGS: [(&str, &str, &str); 6] = [
     ("q1", "tea \"", "Query(Lexical(4))"),
 ];
 
-/// A standing query as text.
+/// A standing query as text: its query as it is taken first, as it is taken once more, and as it is read.
 fn show(alloc: Global, standing: &Standing) -> Result<String, NoMemory> {
+    let first = tree(alloc, &standing.take_query(alloc)?)?;
+    let more = tree(alloc, &standing.take_query(alloc)?)?;
     let query = tree(alloc, &standing.query(alloc)?)?;
     let (id, text) = (standing.id(), standing.text());
     let listener = standing.listener().unwrap_or("-");
-    Ok(format!(in alloc; "{id} `{text}` {query} {listener}")?)
+    Ok(format!(in alloc; "{id} `{text}` {first} {more} {query} {listener}")?)
 }
 
 /// A fault as text.
