@@ -51,16 +51,19 @@ fn first_of_lead(leads: &[u64], part: &Range<usize>, lead: u64) -> usize
     ensures below { (n : ℕ) → part.now.start ≤ n → n < result → slice_index leads.now n < lead }
 {
     let mut low = part.start;
-    let mut high = part.end;
-    while low < high {
-        let middle = low + (high - low) / 2;
-        if leads[middle] < lead {
-            low = middle + 1;
-        } else {
-            high = middle;
-        }
+    let mut left = part.end.saturating_sub(part.start);
+    while left > 1 {
+        let half = left / 2;
+        let middle = low + half;
+        // Chosen and not branched to: which way it goes can't be foreseen.
+        low = if leads[middle] < lead { middle } else { low };
+        left -= half;
     }
-    low
+    if left == 1 && leads[low] < lead {
+        low + 1
+    } else {
+        low
+    }
 }
 
 /// Where the key of a text, which has this lead, stands among keys whose texts rise.
