@@ -100,6 +100,7 @@ pub fn show<R: Wait>(
     requires book { front.seen.book ≡ writer.old.desk.shown.value.front.seen.book }
     requires later { IsPrefix writer.old.desk.shown.value.view.history view.history }
     requires callers { IsBy writer.old.desk.shown.value.callers view.history }
+    requires keeps { view.keeps ≡ writer.old.desk.shown.value.view.keeps }
     ensures { MatchResult result (λ _. Shows writer.old.desk.shown.value view
         writer.new.desk.shown.value) (λ _. writer.new.desk.shown.value
         ≡ writer.old.desk.shown.value) }
@@ -119,6 +120,7 @@ pub fn show_surely<R: Wait>(rt: &R, writer: &mut WriterEnd, view: View, front: F
     requires book { front.seen.book ≡ writer.old.desk.shown.value.front.seen.book }
     requires later { IsPrefix writer.old.desk.shown.value.view.history view.history }
     requires callers { IsBy writer.old.desk.shown.value.callers view.history }
+    requires keeps { view.keeps ≡ writer.old.desk.shown.value.view.keeps }
     ensures { Shows writer.old.desk.shown.value view writer.new.desk.shown.value }
 {
     let callers = writer.published().callers;

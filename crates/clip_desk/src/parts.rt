@@ -1,7 +1,7 @@
 //! The ends and seats of a desk, before it has a name.
 ghost use Rattle.std.specs.Prelude.{◌≡◌, true, false, ◌↔◌, ◌+◌, ◌<◌, ◌≤◌, [], ◌∷◌, ◌++◌, length, IfOk, IfErr, OnOk, vec_len};
 ghost use Rattle.left_right.specs.Sides.{view};
-ghost use Rattle.clip_chronicle.specs.Ends.{IsOf};
+ghost use Rattle.clip_chronicle.specs.Ends.{IsOf, seen_keeps};
 ghost use Rattle.clip_desk.specs.Seats.{new_seat, AreSeated};
 ghost use Rattle.clip_desk.specs.Locked.{IsSettled};
 
@@ -50,7 +50,7 @@ impl<L: UpdateListener> Model for DeskParts<L> {
 
     ghost invariant = { λ p. IsSettled p.front.seen.book p.callers p.registrar.keeps p.registrar p.head p.front
         p.writer.desk.shown.value × (p.registrar.history ≡ [])
-        × AreSeated p.tag p.callers p.front.seen.book p.seats.items
+        × AreSeated p.tag p.callers p.registrar.keeps p.front.seen.book p.seats.items
         × (vec_len p.seats ≡ p.callers) };
 }
 
@@ -66,7 +66,8 @@ fn seat_one(
     requires caller { (0 < right.caller) × (right.caller ≤ callers) × (callers ≤ MOST_CALLERS) }
     requires right { (right.book ≡ front.now.seen.book) × (right.made ≡ 0) }
     requires empty { front.now.seen.log ≡ [] }
-    ensures seat { IfOk result (λ s. s ≡ new_seat tag callers front.now.seen.book right.caller) }
+    ensures seat { IfOk result (λ s. s ≡ new_seat tag callers (seen_keeps (view writer.old.desk.place))
+        front.now.seen.book right.caller) }
     ensures kept { (view writer.new.desk.place ≡ view writer.old.desk.place)
         × (writer.new.desk.shown ≡ writer.old.desk.shown) }
 {
@@ -88,7 +89,8 @@ fn seat_all(
     requires told { IsOf front.now.seen.book callers (view writer.old.desk.place) }
     requires few { callers ≤ MOST_CALLERS }
     requires empty { front.now.seen.log ≡ [] }
-    ensures seats { IfOk result (λ v. AreSeated tag callers front.now.seen.book v.items × (vec_len v ≡ callers)) }
+    ensures seats { IfOk result (λ v. AreSeated tag callers (seen_keeps (view writer.old.desk.place))
+        front.now.seen.book v.items × (vec_len v ≡ callers)) }
     ensures kept { writer.new.desk.shown ≡ writer.old.desk.shown }
 {
     let mut seats = Vec::new(alloc);
@@ -132,6 +134,7 @@ fn open_ends<R: Wait>(
     ensures shown { IfOk result (λ w. (w.desk.shown.value.view ≡ registrar.now)
         × (w.desk.shown.value.front ≡ front.now) × (w.desk.shown.value.callers ≡ callers)) }
     ensures told { IfOk result (λ w. IsOf front.now.seen.book callers (view w.desk.place)) }
+    ensures keeps { IfOk result (λ w. seen_keeps (view w.desk.place) ≡ registrar.now.keeps) }
 {
     let (first, second, third) = first_values(registrar, front, callers)?;
     let writer = Writer::new(alloc, first, second, callers as usize)?;

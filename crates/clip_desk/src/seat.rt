@@ -6,7 +6,7 @@ ghost use Rattle.clip_model.specs.History as model;
 ghost use Rattle.clip_model.specs.History.{own, IsLegal};
 ghost use Rattle.clip_chronicle.specs.Callers.{IsBy};
 ghost use Rattle.clip_chronicle.specs.Chronicle.{head_of};
-ghost use Rattle.clip_chronicle.specs.Ends.{IsOf};
+ghost use Rattle.clip_chronicle.specs.Ends.{IsOf, seen_keeps};
 ghost use Rattle.clip_desk.specs.Seats.{longer};
 
 use clip_chronicle::{Front, Head, Published, ReaderEnd, Right, read_here};
@@ -32,7 +32,7 @@ impl Model for Seat {
     ghost use Rattle.left_right.specs.Sides.{view as known_at};
     ghost use Rattle.clip_model.specs.declared.limits.TheConstants.{MOST_CALLERS};
     ghost use Rattle.clip_model.specs.History.{own};
-    ghost use Rattle.clip_chronicle.specs.Ends.{IsOf};
+    ghost use Rattle.clip_chronicle.specs.Ends.{IsOf, seen_keeps};
     ghost use Rattle.clip_desk.specs.Seats.{SeatIs, seat_code, mine_of};
 
     ghost Value = { SeatIs };
@@ -43,6 +43,7 @@ impl Model for Seat {
       tag = s.tag;
       caller = s.right.caller;
       callers = s.callers;
+      keeps = seen_keeps (known_at s.end.place);
       book =
           s.front.seen.book;
       seen = s.front.seen.log;
@@ -117,6 +118,7 @@ impl Seat {
           tag = tag;
           caller = right.caller;
           callers = callers;
+          keeps = seen_keeps (view end.place);
           book =
               front.seen.book;
           seen = [];
@@ -148,10 +150,11 @@ impl Seat {
     }
 
     /// The registry as it was last published, whose history goes on from all that the seat has seen, with the commands
-    /// that were committed with the seat as all of its caller's. `NoMemory` where a count of holders is at its end. It
-    /// waits for nobody, and costs that of `View::number_of`.
+    /// that were committed with the seat as all of its caller's, and can be read just where the desk keeps it.
+    /// `NoMemory` where a count of holders is at its end. It waits for nobody, and costs that of `View::number_of`.
     pub fn look(&mut self) -> Result<View, NoMemory>
         ensures seen { IfOk result (λ v. v.history ≡ self.new.seen) }
+        ensures keeps { IfOk result (λ v. v.keeps ≡ self.old.keeps) }
         ensures mine { IfOk result (λ v. own v.history self.old.caller ≡ self.old.mine) }
         ensures legal { IfOk result (λ v. IsLegal v.history × IsBy self.old.callers v.history) }
         ensures later { IsPrefix self.old.seen self.new.seen }
