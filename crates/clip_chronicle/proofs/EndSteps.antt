@@ -7,7 +7,7 @@ use Rattle.atomic_table.proofs.Lists.{at_set, at_snoc}
 use Rattle.logbook.specs.Pages.{Book}
 use Rattle.clip_chronicle.specs.declared.published.Published.{Published}
 use Rattle.clip_chronicle.specs.Ends.{Continues, Fits, Keeps, Sees, IsOf, StaysOf, seen_keeps}
-use Rattle.clip_chronicle.proofs.Fronts.{prefix_self, prefix_trans}
+use Rattle.clip_chronicle.proofs.Beginnings.{prefix_self, prefix_trans}
 
 pub continues_self : (x : Published) → Continues x x
 continues_self x = (refl, refl, refl, prefix_self x.view.history)

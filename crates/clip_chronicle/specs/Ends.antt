@@ -9,7 +9,7 @@ use Rattle.clip_chronicle.specs.declared.published.Published.{Published}
 
 -- y is of the desk of x, its history is kept just where that of x is, and goes on from it
 abbrev pub Continues : Published → Published → Type 0
-Continues x y = (y.front.seen.book ≡ x.front.seen.book) × (y.callers ≡ x.callers)
+Continues x y = (y.seen_history.seen.book ≡ x.seen_history.seen.book) × (y.callers ≡ x.callers)
     × (y.view.keeps ≡ x.view.keeps) × IsPrefix x.view.history y.view.history
 
 -- what an end saw last, if anything, is continued by x
@@ -28,7 +28,7 @@ Sees v x y w = (w ≡ Some y) × Fits y v
 -- an end that has seen a value of this book, with so many callers
 abbrev pub IsOf : Book → ℕ → Option Published → Type 0
 IsOf book callers None = ⊥
-IsOf book callers (Some p) = (p.front.seen.book ≡ book) × (p.callers ≡ callers)
+IsOf book callers (Some p) = (p.seen_history.seen.book ≡ book) × (p.callers ≡ callers)
 
 -- whether the history of what an end saw last is kept to be read
 abbrev pub seen_keeps : Option Published → Bool
@@ -38,7 +38,7 @@ seen_keeps (Some p) = p.view.keeps
 -- this view is shown, with the book and the callers as before
 pub record Shows (before : Published) (view : RegistryState) (after : Published) : Type 0 where
   pub view_is : after.view ≡ view
-  pub book_is : after.front.seen.book ≡ before.front.seen.book
+  pub book_is : after.seen_history.seen.book ≡ before.seen_history.seen.book
   pub callers_are : after.callers ≡ before.callers
 
 -- what is seen later is of the desk of what was seen before, and its history is kept just where that was

@@ -70,7 +70,7 @@ impl<N: DeskName, L: UpdateListener> Desk<N, L> {
             registrar,
             writer,
             head,
-            front,
+            seen_history,
             seats,
             updates,
             alloc,
@@ -78,7 +78,7 @@ impl<N: DeskName, L: UpdateListener> Desk<N, L> {
             callers,
         } = parts;
         let desk = Desk {
-            locked: Mutex::new(Locked::new(registrar, writer, head, front, updates, alloc)),
+            locked: Mutex::new(Locked::new(registrar, writer, head, seen_history, updates, alloc)),
             tag,
             callers,
         };

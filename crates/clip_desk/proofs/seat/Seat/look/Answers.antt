@@ -18,6 +18,6 @@ returns-in_default-clause-same c =
       callers = (c.self.view_is i).callers;
       keeps = keeps i;
       book = (c.self.view_is i).book;
-      seen = s.front.seen.log;
+      seen = s.seen_history.seen.log;
       mine = (c.self.view_is i).mine;
     }
