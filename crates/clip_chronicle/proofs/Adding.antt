@@ -7,7 +7,7 @@ use prog.Atomic.{either}
 use Rattle.logbook.specs.Pages.{Cell, cell, keeps, no_nib, step, Moves, Goes}
 use Rattle.clip_model.specs.History.{HistoryEntry}
 use Rattle.clip_chronicle.specs.Chronicle.{IsKept, Adds}
-use Rattle.clip_chronicle.proofs.Fronts.{prefix_whole}
+use Rattle.clip_chronicle.proofs.Beginnings.{prefix_whole}
 
 abbrev pub shown : List HistoryEntry → List HistoryEntry
 shown log = []

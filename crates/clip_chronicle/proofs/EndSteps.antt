@@ -1,20 +1,20 @@
 -- Each step of an end keeps the rule.
-use Rattle.std.proofs.Common.{◌≡◌, ℕ, ◌≢◌, List, [], ◌∷◌, ◌++◌, fold, set, sym, refl, ◌∙◌, subst, ⊎_elim, Option, None, Some, zero, suc, Result, Ok, Err, MatchResult}
+use Rattle.std.proofs.Common.{◌≡◌, ℕ, ◌≢◌, List, [], ◌∷◌, ◌++◌, fold, set, sym, refl, ap, ◌∙◌, subst, ⊎_elim, Option, None, Some, zero, suc, Result, Ok, Err, MatchResult}
 use mathlib.Core.Option.{some, some-injective, some-ne-none}
 use lib.ListN.{get_elem?}
 use Rattle.left_right.specs.Register.{Admits, TurnsAt, Forks, Merges}
 use Rattle.atomic_table.proofs.Lists.{at_set, at_snoc}
 use Rattle.logbook.specs.Pages.{Book}
 use Rattle.clip_chronicle.specs.declared.published.Published.{Published}
-use Rattle.clip_chronicle.specs.Ends.{Continues, Fits, Keeps, Sees, IsOf, StaysOf}
-use Rattle.clip_chronicle.proofs.Fronts.{prefix_self, prefix_trans}
+use Rattle.clip_chronicle.specs.Ends.{Continues, Fits, Keeps, Sees, IsOf, StaysOf, seen_keeps}
+use Rattle.clip_chronicle.proofs.Beginnings.{prefix_self, prefix_trans}
 
 pub continues_self : (x : Published) → Continues x x
-continues_self x = (refl, refl, prefix_self x.view.history)
+continues_self x = (refl, refl, refl, prefix_self x.view.history)
 
 pub fits_later : (x y : Published) (v : Option Published) → Continues x y → Fits x v → Fits y v
 fits_later x y None on fits = tt
-fits_later x y (Some p) on fits = (on.0 ∙ fits.0, on.1 ∙ fits.1, prefix_trans p.view.history x.view.history y.view.history fits.2 on.2)
+fits_later x y (Some p) on fits = (on.0 ∙ fits.0, on.1 ∙ fits.1, on.2 ∙ fits.2, prefix_trans p.view.history x.view.history y.view.history fits.3 on.3)
 
 fits_set : (x : Published) (views : List (Option Published)) (seat : ℕ) (w : Option Published) → ((j : ℕ) (u : Option Published) → get_elem? views j ≡ some u → Fits x u) → Fits x w → Keeps x (set views seat w)
 fits_set x views seat w others mine j u e = ⊎_elim
@@ -56,6 +56,11 @@ pub of_later : (book : Book) (n : ℕ) (v : Option Published) (y : Published) �
 of_later book n None y fits of = absurd of
 of_later book n (Some p) y fits of = (fits.0 ∙ of.0, fits.1 ∙ of.1)
 
+-- an end of a desk sees a later value whose history is kept just where it was
+pub keeps_later : (book : Book) (n : ℕ) (v : Option Published) (y : Published) → Fits y v → IsOf book n v → y.view.keeps ≡ seen_keeps v
+keeps_later book n None y fits of = absurd of
+keeps_later book n (Some p) y fits of = fits.2
+
 -- the last of the operations decides
 pub last_decides : (s : Published) (ops : List Published) (next : Published) → fold (λ (x y : Published). y) s (ops ++ next ∷ []) ≡ next
 last_decides s [] next = refl
@@ -67,7 +72,10 @@ both_ways P Q S P' Q' S' (Ok a) p q f g = f a p q
 both_ways P Q S P' Q' S' (Err e) p q f g = g e p q
 
 pub stays_same : (v : Option Published) → StaysOf v v
-stays_same v = record { of = λ b n h. h }
+stays_same v = record { of = λ b n h. h; keeps = λ b n h. refl }
 
 pub stays_seen : (v w : Option Published) (y : Published) → w ≡ Some y → Fits y v → StaysOf v w
-stays_seen v w y is fits = record { of = λ b n h. subst (IsOf b n) (sym is) (of_later b n v y fits h) }
+stays_seen v w y is fits = record {
+  of = λ b n h. subst (IsOf b n) (sym is) (of_later b n v y fits h);
+  keeps = λ b n h. ap seen_keeps is ∙ keeps_later b n v y fits h;
+}

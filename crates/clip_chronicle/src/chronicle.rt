@@ -14,12 +14,12 @@ use logbook::{Gain, Offer, Plain, Play, Rule, Seen, Start, Word};
 use std::marker::Model;
 
 /// An entry of the history, as the chronicle keeps it. No value of it is made.
-pub struct Line {
+pub struct LoggedEntry {
     /// The entry.
     pub entry: HistoryEntry,
 }
 
-impl Model for Line {
+impl Model for LoggedEntry {
     ghost use Rattle.clip_model.specs.History.{HistoryEntry, entry_code};
     ghost use Rattle.clip_standing.specs.Command.{entry_of};
 
@@ -33,7 +33,7 @@ impl Model for Line {
 /// The rule of the chronicle: its word is the length of the history.
 pub struct Law;
 
-impl Rule<Line, u64> for Law {
+impl Rule<LoggedEntry, u64> for Law {
     ghost use Rattle.std.specs.Prelude.{[]};
     ghost use base.Fml.{ftrue};
     ghost use Rattle.clip_chronicle.specs.Chronicle.{IsKept};
@@ -54,7 +54,7 @@ impl Rule<Line, u64> for Law {
 /// Callers trade nothing.
 pub struct Nothing;
 
-impl Gain<Line, u64> for Nothing {
+impl Gain<LoggedEntry, u64> for Nothing {
     ghost use base.Fml.{ftrue};
 
     ghost after = { λ names about answer. ftrue };
@@ -63,14 +63,14 @@ impl Gain<Line, u64> for Nothing {
 /// A step that adds an entry.
 pub struct Add;
 
-impl Play<Line, u64> for Add {
+impl Play<LoggedEntry, u64> for Add {
     ghost use Rattle.clip_chronicle.specs.Chronicle.{Adds};
 
     ghost then = { Adds };
 }
 
 /// What a step asks for: the entry.
-impl Plain<HistoryEntry, Line, u64> for Add {
+impl Plain<HistoryEntry, LoggedEntry, u64> for Add {
     ghost use Rattle.std.specs.Prelude.{None};
     ghost use Rattle.clip_standing.specs.Command.{entry_of};
 
@@ -79,10 +79,10 @@ impl Plain<HistoryEntry, Line, u64> for Add {
     ghost state = { λ e. None };
 }
 
-/// The word of a chronicle: the length of its history. Only `Front::follow` changes it.
+/// The word of a chronicle: the length of its history. Only `SeenHistory::follow` changes it.
 #[derive(Drop)]
 pub struct Head {
-    word: Word<Line, u64, Law>,
+    word: Word<LoggedEntry, u64, Law>,
 }
 
 impl Model for Head {
@@ -97,16 +97,16 @@ impl Model for Head {
 
 /// A beginning of the history, which any later history begins with, and its length.
 #[derive(Drop)]
-pub struct Front {
+pub struct SeenHistory {
     /// How many entries it has.
     pub count: usize,
     /// What was seen, a token of no bytes.
-    pub seen: Seen<Line, u64, Law>,
+    pub seen: Seen<LoggedEntry, u64, Law>,
     pub ghost counted: { count ≡ length seen.log },
 }
 
 /// The word of a new chronicle, its empty history, and the rights to add to it. Constant time.
-pub fn open_chronicle() -> (Head, Front, Rights)
+pub fn open_chronicle() -> (Head, SeenHistory, Rights)
     ensures head { result.0 ≡ head_of result.1.seen.book }
     ensures empty { result.1.seen.log ≡ [] }
     ensures rights { result.2 ≡ record { book = result.1.seen.book; given = 0 } }
@@ -116,22 +116,22 @@ pub fn open_chronicle() -> (Head, Front, Rights)
         word: Word::tracked(0, &mut first),
     };
     let rights = Rights::new(&seen);
-    (head, Front { count: 0, seen }, rights)
+    (head, SeenHistory { count: 0, seen }, rights)
 }
 
-impl Front {
+impl SeenHistory {
     /// A copy. Constant time.
-    pub fn again(&self) -> Front
+    pub fn again(&self) -> SeenHistory
         ensures { result ≡ self.now }
     {
-        Front {
+        SeenHistory {
             count: self.count,
             seen: self.seen.again(),
         }
     }
 
     /// Shows that of two beginnings of one history one begins the other. It does nothing at run time.
-    pub fn meet(&self, other: &Front)
+    pub fn meet(&self, other: &SeenHistory)
         requires { other.now.seen.book ≡ self.now.seen.book }
         ensures shorter { length self.now.seen.log ≤ length other.now.seen.log
             → IsPrefix self.now.seen.log other.now.seen.log }
@@ -156,7 +156,7 @@ impl Front {
         ensures right { MatchBool result (right.new ≡ record right.old { made = right.old.made + 1 })
             (right.new ≡ right.old) }
     {
-        let mut offer: Offer<Line, u64, Law, Nothing> = self
+        let mut offer: Offer<LoggedEntry, u64, Law, Nothing> = self
             .seen
             .plain::<Nothing, HistoryEntry, Add>(entry);
         let mut pen = self.seen.no_pen();

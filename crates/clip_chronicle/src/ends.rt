@@ -5,7 +5,7 @@ ghost use mathlib.Core.List.{IsPrefix};
 ghost use Rattle.clip_chronicle.specs.Callers.{IsBy};
 ghost use Rattle.clip_chronicle.specs.Ends.{Fits, StaysOf, Continues, Shows};
 
-use crate::chronicle::Front;
+use crate::chronicle::SeenHistory;
 use crate::published::{Published, ReaderEnd, Sight, WriterEnd};
 use clip_registry::View;
 use core::mem::replace_with;
@@ -88,18 +88,19 @@ fn publish_surely<R: Wait>(rt: &R, writer: WriterEnd, next: &Published) -> Write
     unreachable!()
 }
 
-/// Publishes a view whose history is the front's and goes on from the one before; after an `AllocError` that one stays
-/// published. It may wait for readers that read. Constant time.
+/// Publishes a view whose history is the one that was seen and goes on from the one before; after an `AllocError` that
+/// one stays published. It may wait for readers that read. Constant time.
 pub fn show<R: Wait>(
     rt: &R,
     writer: &mut WriterEnd,
     view: View,
-    front: Front,
+    seen_history: SeenHistory,
 ) -> Result<(), AllocError>
-    requires log { front.seen.log ≡ view.history }
-    requires book { front.seen.book ≡ writer.old.desk.shown.value.front.seen.book }
+    requires log { seen_history.seen.log ≡ view.history }
+    requires book { seen_history.seen.book ≡ writer.old.desk.shown.value.seen_history.seen.book }
     requires later { IsPrefix writer.old.desk.shown.value.view.history view.history }
     requires callers { IsBy writer.old.desk.shown.value.callers view.history }
+    requires keeps { view.keeps ≡ writer.old.desk.shown.value.view.keeps }
     ensures { MatchResult result (λ _. Shows writer.old.desk.shown.value view
         writer.new.desk.shown.value) (λ _. writer.new.desk.shown.value
         ≡ writer.old.desk.shown.value) }
@@ -107,24 +108,25 @@ pub fn show<R: Wait>(
     let callers = writer.published().callers;
     let next = Published {
         view,
-        front,
+        seen_history,
         callers,
     };
     publish_here(rt, writer, next)
 }
 
 /// The same, and it is never refused: it tries again, and so waits until a count of holders falls or memory comes.
-pub fn show_surely<R: Wait>(rt: &R, writer: &mut WriterEnd, view: View, front: Front)
-    requires log { front.seen.log ≡ view.history }
-    requires book { front.seen.book ≡ writer.old.desk.shown.value.front.seen.book }
+pub fn show_surely<R: Wait>(rt: &R, writer: &mut WriterEnd, view: View, seen_history: SeenHistory)
+    requires log { seen_history.seen.log ≡ view.history }
+    requires book { seen_history.seen.book ≡ writer.old.desk.shown.value.seen_history.seen.book }
     requires later { IsPrefix writer.old.desk.shown.value.view.history view.history }
     requires callers { IsBy writer.old.desk.shown.value.callers view.history }
+    requires keeps { view.keeps ≡ writer.old.desk.shown.value.view.keeps }
     ensures { Shows writer.old.desk.shown.value view writer.new.desk.shown.value }
 {
     let callers = writer.published().callers;
     let next = Published {
         view,
-        front,
+        seen_history,
         callers,
     };
     publish_surely_here(rt, writer, next);

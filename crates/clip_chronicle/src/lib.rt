@@ -7,7 +7,7 @@ mod ends;
 mod published;
 mod rights;
 
-pub use chronicle::{Front, Head, Line, open_chronicle};
+pub use chronicle::{Head, LoggedEntry, SeenHistory, open_chronicle};
 pub use ends::{publish, read_here, show, show_surely};
-pub use published::{Notes, Published, ReaderEnd, WriterEnd};
+pub use published::{Handover, Published, ReaderEnd, WriterEnd};
 pub use rights::{Right, Rights};

@@ -4,7 +4,7 @@ ghost use Rattle.std.specs.Coded.{Coded-set};
 ghost use Rattle.clip_model.specs.History.{history_code};
 ghost use Rattle.clip_chronicle.specs.Callers.{IsBy};
 
-use crate::chronicle::Front;
+use crate::chronicle::SeenHistory;
 use atomic_table::{Join, Split};
 use clip_registry::View;
 use crossbeam_utils::rule::{Outcome, Protocol};
@@ -19,10 +19,10 @@ pub struct Published {
     /// The registry as it stood.
     pub view: View,
     /// Its history.
-    pub front: Front,
+    pub seen_history: SeenHistory,
     /// Callers are numbered from 1 to this.
     pub callers: u32,
-    pub ghost same: { front.seen.log ≡ view.history } by { Coded-set history_code _ _ },
+    pub ghost same: { seen_history.seen.log ≡ view.history } by { Coded-set history_code _ _ },
     pub ghost callers_are: { IsBy callers view.history },
 }
 
@@ -36,7 +36,7 @@ impl Published {
         };
         Ok(Published {
             view,
-            front: self.front.again(),
+            seen_history: self.seen_history.again(),
             callers: self.callers,
         })
     }
@@ -87,15 +87,15 @@ impl Outcome<Published, Option<Published>> for Sight {
 }
 
 /// What the writer saw goes to a reader.
-pub struct Notes;
+pub struct Handover;
 
-impl Split<Option<Published>> for Notes {
+impl Split<Option<Published>> for Handover {
     ghost left = { λ v. v };
 
     ghost right = { λ v. v };
 }
 
-impl Join<Option<Published>> for Notes {
+impl Join<Option<Published>> for Handover {
     ghost use Rattle.std.specs.Prelude.{None};
 
     ghost both = { λ v w. w };

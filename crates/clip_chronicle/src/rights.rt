@@ -1,7 +1,7 @@
 //! The right to add entries of one caller, which the caller's seat keeps.
 ghost use Rattle.std.specs.Prelude.{◌≡◌, ◌+◌, ◌<◌};
 
-use crate::chronicle::{Law, Line};
+use crate::chronicle::{Law, LoggedEntry};
 use clip_model::{MOST_CALLERS, MOST_ENTRIES};
 use logbook::Seen;
 use std::marker::Model;
@@ -10,7 +10,7 @@ use std::marker::Model;
 /// asks for it. A chronicle gives one for each caller where it is opened, and none can be made or copied after that.
 #[derive(Drop)]
 pub struct Right {
-    seen: Seen<Line, u64, Law>,
+    seen: Seen<LoggedEntry, u64, Law>,
     caller: u32,
     made: u32,
 }
@@ -28,7 +28,7 @@ impl Model for Right {
 /// The rights of a new chronicle that are still to be given, seen as how many were given.
 #[derive(Drop)]
 pub struct Rights {
-    seen: Seen<Line, u64, Law>,
+    seen: Seen<LoggedEntry, u64, Law>,
     given: u32,
 }
 
@@ -44,7 +44,7 @@ impl Model for Rights {
 
 impl Rights {
     /// The rights of all callers, of which none was given. Constant time.
-    pub(crate) fn new(seen: &Seen<Line, u64, Law>) -> Rights
+    pub(crate) fn new(seen: &Seen<LoggedEntry, u64, Law>) -> Rights
         ensures { result ≡ record { book = seen.now.book; given = 0 } }
     {
         Rights {

@@ -1,5 +1,5 @@
 -- Seats in the order of their callers.
-use Rattle.std.proofs.Common.{◌≡◌, ℕ, zero, suc, ◌+◌, List, [], ◌∷◌, ◌++◌, length, Some, slice_get, refl, ap, sym, ◌∙◌, subst, arith, ◌⊎◌, inl, inr, ⊎_elim, ◌<◌, ◌≤◌, get_or, lt_of_not-le}
+use Rattle.std.proofs.Common.{◌≡◌, ℕ, Bool, zero, suc, ◌+◌, List, [], ◌∷◌, ◌++◌, length, Some, slice_get, refl, ap, sym, ◌∙◌, subst, arith, ◌⊎◌, inl, inr, ⊎_elim, ◌<◌, ◌≤◌, get_or, lt_of_not-le}
 use mathlib.Core.Logic.{dite}
 use native.Mathlib.Decide.{dec_le}
 use Rattle.logbook.specs.Pages.{Book}
@@ -12,14 +12,14 @@ get_more [] e x (suc k) is = absurd (cc is)
 get_more (y ∷ xs) e x zero is = inl is
 get_more (y ∷ xs) e x (suc k) is = ⊎_elim (λ t. inl t) (λ (t : (k ≡ length xs) × (e ≡ x)). inr (ap suc t.0, t.1)) (get_more xs e x k is)
 
-pub seated_none : (tag callers : ℕ) (book : Book) → AreSeated tag callers book []
-seated_none tag callers book = record { each = λ k s is. absurd (cc is) }
+pub seated_none : (tag callers : ℕ) (keeps : Bool) (book : Book) → AreSeated tag callers keeps book []
+seated_none tag callers keeps book = record { each = λ k s is. absurd (cc is) }
 
-pub seated_more : (tag callers : ℕ) (book : Book) (xs : List SeatIs) (s : SeatIs) (n : ℕ) → AreSeated tag callers book xs → length xs ≡ n → s ≡ new_seat tag callers book (n + 1) → AreSeated tag callers book (xs ++ s ∷ [])
-seated_more tag callers book xs s n seated len is = record {
+pub seated_more : (tag callers : ℕ) (keeps : Bool) (book : Book) (xs : List SeatIs) (s : SeatIs) (n : ℕ) → AreSeated tag callers keeps book xs → length xs ≡ n → s ≡ new_seat tag callers keeps book (n + 1) → AreSeated tag callers keeps book (xs ++ s ∷ [])
+seated_more tag callers keeps book xs s n seated len is = record {
   each = λ k x at. ⊎_elim
       (λ (t : slice_get xs k ≡ Some x). seated.each k x t)
-      (λ (t : (k ≡ length xs) × (s ≡ x)). sym t.1 ∙ (is ∙ ap (λ (m : ℕ). new_seat tag callers book (m + 1)) (sym len ∙ sym t.0)))
+      (λ (t : (k ≡ length xs) × (s ≡ x)). sym t.1 ∙ (is ∙ ap (λ (m : ℕ). new_seat tag callers keeps book (m + 1)) (sym len ∙ sym t.0)))
       (get_more xs s x k at);
 }
 
@@ -42,8 +42,8 @@ item_inside (x ∷ xs) zero s at = omega arith
 item_inside (x ∷ xs) (suc k) s at = let h = item_inside xs k s at in omega (arith, h)
 
 -- seats in order are seats of the desk
-pub seated_of : (tag callers n : ℕ) (book b : Book) (xs : List SeatIs) → AreSeated tag callers book xs → book ≡ b → callers ≡ n → AreSeatsOf b n xs
-seated_of tag callers n book b xs seated is as_many = record { each = λ k s at. let e = seated.each k s at in (ap (λ x. x.book) e ∙ is, ap (λ x. x.callers) e ∙ as_many) }
+pub seated_of : (tag callers n : ℕ) (keeps : Bool) (book b : Book) (xs : List SeatIs) → AreSeated tag callers keeps book xs → book ≡ b → callers ≡ n → AreSeatsOf b n xs
+seated_of tag callers n keeps book b xs seated is as_many = record { each = λ k s at. let e = seated.each k s at in (ap (λ x. x.book) e ∙ is, ap (λ x. x.callers) e ∙ as_many) }
 
 get_front : (xs : List SeatIs) (e s : SeatIs) (k : ℕ) → slice_get xs k ≡ Some s → slice_get (xs ++ e ∷ []) k ≡ Some s
 get_front [] e s k at = absurd (cc at)

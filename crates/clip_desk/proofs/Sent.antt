@@ -13,7 +13,7 @@ use Rattle.std.proofs.sync.Mutex.TheSendSync as mutex_sent
 use Rattle.left_right.proofs.reader.Reader.TheSendSync as reader_sent
 use Rattle.left_right.proofs.writer.Writer.TheSendSync as writer_sent
 use Rattle.clip_registry.proofs.Sent.{registrar_send}
-use Rattle.clip_chronicle.proofs.chronicle.Front.TheSendSync as front_sent
+use Rattle.clip_chronicle.proofs.chronicle.SeenHistory.TheSendSync as seen_history_sent
 use Rattle.clip_chronicle.proofs.chronicle.Head.TheSendSync as head_sent
 use Rattle.clip_chronicle.proofs.rights.Right.TheSendSync as right_sent
 use Rattle.clip_chronicle.proofs.Sent.{published_send, published_sync}
@@ -31,7 +31,7 @@ use Rattle.clip_desk.specs.contracts.desk.Desk.TheInside as desk_inside
 ruleset global = (sendable, global_sent.the_send, global_sent.the_sync, allocator_sent.the_frees, published_send, published_sync)
 
 pub seat_send : IsSend seat.the_row
-seat_send = view_send seat_inside.the_row _ _ _ _ (declared_send seat_inside.the_type (search (global, reader_sent.the_send) depth 20, (front_sent.the_send, (search sendable, (search sendable, (right_sent.the_send, tt))))))
+seat_send = view_send seat_inside.the_row _ _ _ _ (declared_send seat_inside.the_type (search (global, reader_sent.the_send) depth 20, (seen_history_sent.the_send, (search sendable, (search sendable, (right_sent.the_send, tt))))))
 
 module _ (N L : RattleType) (g : Ghosts N.Denot) (h : heard.Ghosts L.Denot) (sent : IsSend L) where
   part_send : IsSend (Tuple (L ∷ bool ∷ []))
@@ -42,7 +42,7 @@ module _ (N L : RattleType) (g : Ghosts N.Denot) (h : heard.Ghosts L.Denot) (sen
 
   locked_send : IsSend (locked.the_row N L g h)
   locked_send = view_send (locked_inside.the_row N L g h) _ _ _ _
-      (declared_send (locked_inside.the_type N L g h) (registrar_send, (search (global, writer_sent.the_send) depth 20, (head_sent.the_send, (front_sent.the_send, (updates_send, (search global, (search sendable, tt))))))))
+      (declared_send (locked_inside.the_type N L g h) (registrar_send, (search (global, writer_sent.the_send) depth 20, (head_sent.the_send, (seen_history_sent.the_send, (updates_send, (search global, (search sendable, tt))))))))
 
   pub desk_sync : IsSync (desk.the_row N L g h)
   desk_sync = view_sync (desk_inside.the_row N L g h) _ _ _ _ (declared_sync (desk_inside.the_type N L g h) (search (global, mutex_sent.the_sync, locked_send), (search sendable, (search sendable, tt))))

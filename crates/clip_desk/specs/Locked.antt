@@ -4,7 +4,7 @@ use Rattle.std.specs.Coded.{Coded, code_by, coded×, coded_list}
 use Rattle.logbook.specs.Pages.{Book, Named}
 use Rattle.clip_model.specs.declared.limits.TheConstants.{MOST_CALLERS}
 use Rattle.clip_registry.specs.RegistryState.{RegistryState, state_code}
-use Rattle.clip_chronicle.specs.declared.chronicle.Front.{Front}
+use Rattle.clip_chronicle.specs.declared.chronicle.SeenHistory.{SeenHistory}
 use Rattle.clip_chronicle.specs.declared.published.Published.{Published}
 use Rattle.clip_chronicle.specs.Chronicle.{head_of}
 use Rattle.clip_desk.specs.Seats.{SeatIs}
@@ -19,15 +19,15 @@ abbrev pub locked_code : Coded LockedIs
 locked_code = code_by (RegistryState × List Heard) (coded× state_code (coded_list heard_code))
     (λ s. (s.registry, s.updates)) (λ p. record { registry = p.0; updates = p.1 }) (λ _. refl)
 
--- the registrar, the chronicle and the published value agree, and are those of this desk, which keeps its history or not
+-- the registrar, the chronicle and the published value agree, and are this desk's, which keeps its history or not
 pub record IsSettled (book : Book) (callers : ℕ) (keeps : Bool) (registrar : RegistryState) (head : Named)
-    (front : Front) (shown : Published) : Type 0 where
+    (seen_history : SeenHistory) (shown : Published) : Type 0 where
   pub keeps_is : registrar.keeps ≡ keeps
-  pub log : front.seen.log ≡ registrar.history
-  pub book_is : front.seen.book ≡ book
+  pub log : seen_history.seen.log ≡ registrar.history
+  pub book_is : seen_history.seen.book ≡ book
   pub head_is : head ≡ head_of book
   pub shown_is : shown.view ≡ registrar
-  pub shown_book : shown.front.seen.book ≡ book
+  pub shown_book : shown.seen_history.seen.book ≡ book
   pub shown_callers : shown.callers ≡ callers
   pub few : callers ≤ MOST_CALLERS
 

@@ -1,6 +1,6 @@
 -- What contracts see of a seat, of a receipt and of a desk.
 use Rattle.std.specs.Prelude.{◌≡◌, ℕ, Bool, ◌+◌, ◌<◌, ◌≤◌, ◌⊎◌, List, [], length, take, slice_get, Some, nat_lt, if◌then◌else◌, refl}
-use Rattle.std.specs.Coded.{Coded, code_by, coded×, coded⊎, coded_ℕ, coded_list}
+use Rattle.std.specs.Coded.{Coded, code_by, coded×, coded⊎, coded_ℕ, coded_bool, coded_list}
 use Rattle.std.proofs.Common.{inl, inr}
 use mathlib.Core.List.{IsPrefix}
 use Rattle.logbook.specs.Pages.{Book, book_coded}
@@ -9,11 +9,13 @@ use Rattle.clip_standing.specs.declared.command.Applied.{Applied}
 use Rattle.clip_desk.specs.Updates.{Heard}
 use Rattle.clip_standing.specs.declared.command.Applied.TheVariants as answer
 
--- seen: the longest history that the seat got; mine: the commands committed with it, in order
+-- keeps: whether the history of the views that it looks at is kept to be read; seen: the longest history that the seat
+-- got; mine: the commands committed with it, in order
 pub record SeatIs : Type 0 where
   pub tag : ℕ
   pub caller : ℕ
   pub callers : ℕ
+  pub keeps : Bool
   pub book : Book
   pub seen : History
   pub mine : List Command
@@ -47,13 +49,13 @@ abbrev pub longer : History → History → History
 longer xs ys = if nat_lt (length xs) (length ys) then ys else xs
 
 -- a seat that has seen nothing
-abbrev pub new_seat : ℕ → ℕ → Book → ℕ → SeatIs
-new_seat tag callers book caller =
-    record { tag = tag; caller = caller; callers = callers; book = book; seen = []; mine = [] }
+abbrev pub new_seat : ℕ → ℕ → Bool → Book → ℕ → SeatIs
+new_seat tag callers keeps book caller =
+    record { tag = tag; caller = caller; callers = callers; keeps = keeps; book = book; seen = []; mine = [] }
 
 -- the seats of callers 1, 2, ..
-pub record AreSeated (tag callers : ℕ) (book : Book) (seats : List SeatIs) : Type 0 where
-  pub each : (k : ℕ) (s : SeatIs) → slice_get seats k ≡ Some s → s ≡ new_seat tag callers book (k + 1)
+pub record AreSeated (tag callers : ℕ) (keeps : Bool) (book : Book) (seats : List SeatIs) : Type 0 where
+  pub each : (k : ℕ) (s : SeatIs) → slice_get seats k ≡ Some s → s ≡ new_seat tag callers keeps book (k + 1)
 
 -- the seat is of this tag, saw a beginning of the history, and gave its caller's commands there
 abbrev pub IsAccounted : ℕ → History → SeatIs → Type 0
@@ -69,17 +71,18 @@ pub record AreAll (tag callers : ℕ) (history : History) (seats : List SeatIs) 
 
 abbrev pub seat_code : Coded SeatIs
 seat_code =
-    code_by (ℕ × (ℕ × (ℕ × (Book × (History × List Command)))))
+    code_by (ℕ × (ℕ × (ℕ × (Bool × (Book × (History × List Command))))))
     (coded× coded_ℕ (coded× coded_ℕ
-    (coded× coded_ℕ (coded× book_coded (coded× history_code (coded_list command_code))))))
-    (λ s. (s.tag, (s.caller, (s.callers, (s.book, (s.seen, s.mine))))))
+    (coded× coded_ℕ (coded× coded_bool (coded× book_coded (coded× history_code (coded_list command_code)))))))
+    (λ s. (s.tag, (s.caller, (s.callers, (s.keeps, (s.book, (s.seen, s.mine)))))))
     (λ p. record {
       tag = p.0;
       caller = p.1.0;
       callers = p.1.1.0;
-      book = p.1.1.1.0;
-      seen = p.1.1.1.1.0;
-      mine = p.1.1.1.1.1;
+      keeps = p.1.1.1.0;
+      book = p.1.1.1.1.0;
+      seen = p.1.1.1.1.1.0;
+      mine = p.1.1.1.1.1.1;
     }) (λ _. refl)
 
 abbrev answer_parts : Applied → ℕ ⊎ (ℕ ⊎ ℕ)

@@ -61,15 +61,16 @@ impl<N: DeskName, L: UpdateListener> Desk<N, L> {
         requires { (parts.book ≡ N.book) × (parts.callers ≡ N.callers) × (N.heard_before ≡ all_heard parts.updates)
             × (parts.keeps ≡ N.keeps) }
         ensures desk { (result.0.tag ≡ parts.tag) × (result.0.callers ≡ parts.callers) }
-        ensures seats { AreSeated parts.tag parts.callers parts.book result.1.items
+        ensures seats { AreSeated parts.tag parts.callers parts.keeps parts.book result.1.items
             × (vec_len result.1 ≡ parts.callers) }
         ensures all { AreSeatsOf N.book N.callers result.1.items }
+        ensures keeps { (k : ℕ) (s : SeatIs) → slice_get result.1.items k ≡ Some s → s.keeps ≡ N.keeps }
     {
         let DeskParts {
             registrar,
             writer,
             head,
-            front,
+            seen_history,
             seats,
             updates,
             alloc,
@@ -77,7 +78,7 @@ impl<N: DeskName, L: UpdateListener> Desk<N, L> {
             callers,
         } = parts;
         let desk = Desk {
-            locked: Mutex::new(Locked::new(registrar, writer, head, front, updates, alloc)),
+            locked: Mutex::new(Locked::new(registrar, writer, head, seen_history, updates, alloc)),
             tag,
             callers,
         };

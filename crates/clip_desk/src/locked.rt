@@ -14,7 +14,7 @@ use crate::refused::Refused;
 use crate::seat::{Receipt, Seat};
 use crate::update_listener::UpdateListener;
 use crate::update_listeners::UpdateListeners;
-use clip_chronicle::{Front, Head, WriterEnd, show_surely};
+use clip_chronicle::{Head, SeenHistory, WriterEnd, show_surely};
 use clip_registry::Registrar;
 use clip_standing::Command;
 use std::alloc::Global;
@@ -56,7 +56,7 @@ pub struct Locked<N: DeskName, L: UpdateListener> {
     pub(crate) registrar: Registrar,
     pub(crate) writer: WriterEnd,
     pub(crate) head: Head,
-    pub(crate) front: Front,
+    pub(crate) seen_history: SeenHistory,
     pub(crate) updates: UpdateListeners<L>,
     pub(crate) alloc: Global,
     of: PhantomData<N>,
@@ -72,7 +72,7 @@ impl<N: DeskName, L: UpdateListener> Model for Locked<N, L> {
 
     ghost view = { λ s. record { registry = s.registrar; updates = s.updates } };
 
-    ghost invariant = { λ s. IsSettled N.book N.callers N.keeps s.registrar s.head s.front
+    ghost invariant = { λ s. IsSettled N.book N.callers N.keeps s.registrar s.head s.seen_history
         s.writer.desk.shown.value × AllFollow N.heard_before s.registrar.history s.updates };
 }
 
@@ -96,11 +96,11 @@ impl<N: DeskName, L: UpdateListener> Locked<N, L> {
         registrar: Registrar,
         writer: WriterEnd,
         head: Head,
-        front: Front,
+        seen_history: SeenHistory,
         updates: UpdateListeners<L>,
         alloc: Global,
     ) -> Locked<N, L>
-        requires settled { IsSettled N.book N.callers N.keeps registrar head front writer.desk.shown.value }
+        requires settled { IsSettled N.book N.callers N.keeps registrar head seen_history writer.desk.shown.value }
         requires follow { AllFollow N.heard_before registrar.history updates }
         ensures { result ≡ record { registry = registrar; updates = updates } }
     {
@@ -108,7 +108,7 @@ impl<N: DeskName, L: UpdateListener> Locked<N, L> {
             registrar,
             writer,
             head,
-            front,
+            seen_history,
             updates,
             alloc,
             of: PhantomData,
@@ -151,14 +151,14 @@ impl<N: DeskName, L: UpdateListener> Locked<N, L> {
         ensures never_foreign { IfErr result (λ e. e.1 ≢ Refused.Foreign) }
     {
         let caller = seat.caller();
-        if !seat.agrees(&self.front, self.registrar.number_of(caller)) {
+        if !seat.agrees(&self.seen_history, self.registrar.number_of(caller)) {
             return Err((command, Refused::NoMemory));
         }
         let grown = match grow(&self.registrar, caller, &command) {
             Ok(grown) => grown,
             Err(refused) => {
                 if refused == Refused::Full {
-                    seat.see(&self.front);
+                    seat.see(&self.seen_history);
                 }
                 return Err((command, refused));
             }
@@ -168,15 +168,15 @@ impl<N: DeskName, L: UpdateListener> Locked<N, L> {
             view,
             applied,
         } = grown;
-        let mut front = self.front.again();
-        if !seat.add(&mut front, &self.head, &registrar) {
+        let mut seen_history = self.seen_history.again();
+        if !seat.add(&mut seen_history, &self.head, &registrar) {
             return Err((command, Refused::NoMemory));
         }
-        show_surely(rt, &mut self.writer, view, front.again());
+        show_surely(rt, &mut self.writer, view, seen_history.again());
         self.registrar = registrar;
-        self.front = front;
+        self.seen_history = seen_history;
         tell_last(self.alloc, &self.registrar, &mut self.updates);
-        Ok(Receipt::new(seat.tag(), self.front.again(), applied))
+        Ok(Receipt::new(seat.tag(), self.seen_history.again(), applied))
     }
 
     /// Whether two numbers agree at a seat, and it is of this tag. It costs that of `Registrar::number_of`.
@@ -188,7 +188,7 @@ impl<N: DeskName, L: UpdateListener> Locked<N, L> {
         if seat.tag() != tag {
             return false;
         }
-        seat.agrees(&self.front, self.registrar.number_of(seat.caller()))
+        seat.agrees(&self.seen_history, self.registrar.number_of(seat.caller()))
     }
 
     /// Ends the writer, and gives the registrar, and the listeners with their marks. It may wait for readers that look.
@@ -203,7 +203,7 @@ impl<N: DeskName, L: UpdateListener> Locked<N, L> {
             registrar,
             writer,
             head: _,
-            front: _,
+            seen_history: _,
             updates,
             alloc: _,
             of: _,

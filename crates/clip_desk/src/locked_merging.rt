@@ -21,8 +21,8 @@ impl<N: DeskName, L: UpdateListener> Locked<N, L> {
         ensures unchanged { OnErr result (self.new ≡ self.old) }
     {
         let view = registrar.view()?;
-        let front = self.front.again();
-        show(rt, &mut self.writer, view, front)?;
+        let seen_history = self.seen_history.again();
+        show(rt, &mut self.writer, view, seen_history)?;
         self.registrar = registrar;
         Ok(())
     }

@@ -1,7 +1,7 @@
 //! The ends and seats of a desk, before it has a name.
 ghost use Rattle.std.specs.Prelude.{◌≡◌, true, false, ◌↔◌, ◌+◌, ◌<◌, ◌≤◌, [], ◌∷◌, ◌++◌, length, IfOk, IfErr, OnOk, vec_len};
 ghost use Rattle.left_right.specs.Sides.{view};
-ghost use Rattle.clip_chronicle.specs.Ends.{IsOf};
+ghost use Rattle.clip_chronicle.specs.Ends.{IsOf, seen_keeps};
 ghost use Rattle.clip_desk.specs.Seats.{new_seat, AreSeated};
 ghost use Rattle.clip_desk.specs.Locked.{IsSettled};
 
@@ -10,7 +10,7 @@ use crate::seat::Seat;
 use crate::update_listener::UpdateListener;
 use crate::update_listeners::UpdateListeners;
 use clip_chronicle::{
-    Front, Head, Notes, Published, Right, Rights, WriterEnd, open_chronicle, publish,
+    Handover, Head, Published, Right, Rights, SeenHistory, WriterEnd, open_chronicle, publish,
 };
 use clip_model::MOST_CALLERS;
 use clip_registry::Registrar;
@@ -25,7 +25,7 @@ pub struct DeskParts<L: UpdateListener> {
     pub(crate) registrar: Registrar,
     pub(crate) writer: WriterEnd,
     pub(crate) head: Head,
-    pub(crate) front: Front,
+    pub(crate) seen_history: SeenHistory,
     pub(crate) seats: Vec<Seat>,
     pub(crate) updates: UpdateListeners<L>,
     pub(crate) alloc: Global,
@@ -44,57 +44,59 @@ impl<L: UpdateListener> Model for DeskParts<L> {
       tag = p.tag;
       callers = p.callers;
       keeps = p.registrar.keeps;
-      book = p.front.seen.book;
+      book = p.seen_history.seen.book;
       updates = p.updates;
     } };
 
-    ghost invariant = { λ p. IsSettled p.front.seen.book p.callers p.registrar.keeps p.registrar p.head p.front
-        p.writer.desk.shown.value × (p.registrar.history ≡ [])
-        × AreSeated p.tag p.callers p.front.seen.book p.seats.items
+    ghost invariant = { λ p. IsSettled p.seen_history.seen.book p.callers p.registrar.keeps p.registrar p.head
+        p.seen_history p.writer.desk.shown.value × (p.registrar.history ≡ [])
+        × AreSeated p.tag p.callers p.registrar.keeps p.seen_history.seen.book p.seats.items
         × (vec_len p.seats ≡ p.callers) };
 }
 
 /// The seat of a caller, whose end knows what the writer has shown.
 fn seat_one(
     writer: &mut WriterEnd,
-    front: &Front,
+    seen_history: &SeenHistory,
     tag: u64,
     right: Right,
     callers: u32,
 ) -> Result<Seat, NoMemory>
-    requires told { IsOf front.now.seen.book callers (view writer.old.desk.place) }
+    requires told { IsOf seen_history.now.seen.book callers (view writer.old.desk.place) }
     requires caller { (0 < right.caller) × (right.caller ≤ callers) × (callers ≤ MOST_CALLERS) }
-    requires right { (right.book ≡ front.now.seen.book) × (right.made ≡ 0) }
-    requires empty { front.now.seen.log ≡ [] }
-    ensures seat { IfOk result (λ s. s ≡ new_seat tag callers front.now.seen.book right.caller) }
+    requires right { (right.book ≡ seen_history.now.seen.book) × (right.made ≡ 0) }
+    requires empty { seen_history.now.seen.log ≡ [] }
+    ensures seat { IfOk result (λ s. s ≡ new_seat tag callers (seen_keeps (view writer.old.desk.place))
+        seen_history.now.seen.book right.caller) }
     ensures kept { (view writer.new.desk.place ≡ view writer.old.desk.place)
         × (writer.new.desk.shown ≡ writer.old.desk.shown) }
 {
     let mut end = writer.factory().reader()?;
-    end.learn::<Notes>(writer.tell::<Notes>());
-    Ok(Seat::new(end, front.again(), tag, right, callers))
+    end.learn::<Handover>(writer.tell::<Handover>());
+    Ok(Seat::new(end, seen_history.again(), tag, right, callers))
 }
 
 /// The seats of callers 1, 2, ..
 fn seat_all(
     alloc: Global,
     writer: &mut WriterEnd,
-    front: &Front,
+    seen_history: &SeenHistory,
     rights: Rights,
     tag: u64,
     callers: u32,
 ) -> Result<Vec<Seat>, NoMemory>
-    requires rights { (rights.book ≡ front.now.seen.book) × (rights.given ≡ 0) }
-    requires told { IsOf front.now.seen.book callers (view writer.old.desk.place) }
+    requires rights { (rights.book ≡ seen_history.now.seen.book) × (rights.given ≡ 0) }
+    requires told { IsOf seen_history.now.seen.book callers (view writer.old.desk.place) }
     requires few { callers ≤ MOST_CALLERS }
-    requires empty { front.now.seen.log ≡ [] }
-    ensures seats { IfOk result (λ v. AreSeated tag callers front.now.seen.book v.items × (vec_len v ≡ callers)) }
+    requires empty { seen_history.now.seen.log ≡ [] }
+    ensures seats { IfOk result (λ v. AreSeated tag callers (seen_keeps (view writer.old.desk.place))
+        seen_history.now.seen.book v.items × (vec_len v ≡ callers)) }
     ensures kept { writer.new.desk.shown ≡ writer.old.desk.shown }
 {
     let mut seats = Vec::new(alloc);
     let mut left = rights;
     for number in 0..callers {
-        let seat = seat_one(writer, front, tag, left.give(), callers)?;
+        let seat = seat_one(writer, seen_history, tag, left.give(), callers)?;
         seats.push(seat)?;
     }
     Ok(seats)
@@ -103,16 +105,17 @@ fn seat_all(
 /// Three times the value that a desk publishes first.
 fn first_values(
     registrar: &Registrar,
-    front: &Front,
+    seen_history: &SeenHistory,
     callers: u32,
 ) -> Result<(Published, Published, Published), NoMemory>
-    requires { (front.now.seen.log ≡ []) × (registrar.now.history ≡ []) }
+    requires { (seen_history.now.seen.log ≡ []) × (registrar.now.history ≡ []) }
     ensures same { IfOk result (λ t. (t.1 ≡ t.0) × (t.2 ≡ t.0)) }
-    ensures first { IfOk result (λ t. (t.0.view ≡ registrar.now) × (t.0.front ≡ front.now) × (t.0.callers ≡ callers)) }
+    ensures first { IfOk result (λ t. (t.0.view ≡ registrar.now) × (t.0.seen_history ≡ seen_history.now)
+        × (t.0.callers ≡ callers)) }
 {
     let first = Published {
         view: registrar.view()?,
-        front: front.again(),
+        seen_history: seen_history.again(),
         callers,
     };
     let second = first.copy()?;
@@ -125,15 +128,17 @@ fn open_ends<R: Wait>(
     rt: &R,
     alloc: Global,
     registrar: &Registrar,
-    front: &Front,
+    seen_history: &SeenHistory,
     callers: u32,
 ) -> Result<WriterEnd, NoMemory>
-    requires { (front.now.seen.log ≡ []) × (registrar.now.history ≡ []) × (0 < callers) × (callers ≤ MOST_CALLERS) }
+    requires { (seen_history.now.seen.log ≡ []) × (registrar.now.history ≡ []) × (0 < callers)
+        × (callers ≤ MOST_CALLERS) }
     ensures shown { IfOk result (λ w. (w.desk.shown.value.view ≡ registrar.now)
-        × (w.desk.shown.value.front ≡ front.now) × (w.desk.shown.value.callers ≡ callers)) }
-    ensures told { IfOk result (λ w. IsOf front.now.seen.book callers (view w.desk.place)) }
+        × (w.desk.shown.value.seen_history ≡ seen_history.now) × (w.desk.shown.value.callers ≡ callers)) }
+    ensures told { IfOk result (λ w. IsOf seen_history.now.seen.book callers (view w.desk.place)) }
+    ensures keeps { IfOk result (λ w. seen_keeps (view w.desk.place) ≡ registrar.now.keeps) }
 {
-    let (first, second, third) = first_values(registrar, front, callers)?;
+    let (first, second, third) = first_values(registrar, seen_history, callers)?;
     let writer = Writer::new(alloc, first, second, callers as usize)?;
     let (writer, shown) = publish(rt, writer, third);
     if shown.is_err() {
@@ -211,11 +216,11 @@ impl<L: UpdateListener> DeskParts<L> {
         if callers > MOST_CALLERS {
             return Err((updates, NewRefused::TooMany));
         }
-        let (head, front, rights) = open_chronicle();
-        let Ok(mut writer) = open_ends(rt, alloc, &registrar, &front, callers) else {
+        let (head, seen_history, rights) = open_chronicle();
+        let Ok(mut writer) = open_ends(rt, alloc, &registrar, &seen_history, callers) else {
             return Err((updates, NewRefused::NoMemory));
         };
-        let Ok(seats) = seat_all(alloc, &mut writer, &front, rights, tag, callers) else {
+        let Ok(seats) = seat_all(alloc, &mut writer, &seen_history, rights, tag, callers) else {
             writer.take(rt);
             return Err((updates, NewRefused::NoMemory));
         };
@@ -223,7 +228,7 @@ impl<L: UpdateListener> DeskParts<L> {
             registrar,
             writer,
             head,
-            front,
+            seen_history,
             seats,
             updates,
             alloc,

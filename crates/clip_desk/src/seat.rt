@@ -6,10 +6,10 @@ ghost use Rattle.clip_model.specs.History as model;
 ghost use Rattle.clip_model.specs.History.{own, IsLegal};
 ghost use Rattle.clip_chronicle.specs.Callers.{IsBy};
 ghost use Rattle.clip_chronicle.specs.Chronicle.{head_of};
-ghost use Rattle.clip_chronicle.specs.Ends.{IsOf};
+ghost use Rattle.clip_chronicle.specs.Ends.{IsOf, seen_keeps};
 ghost use Rattle.clip_desk.specs.Seats.{longer};
 
-use clip_chronicle::{Front, Head, Published, ReaderEnd, Right, read_here};
+use clip_chronicle::{Head, Published, ReaderEnd, Right, SeenHistory, read_here};
 use clip_model::MOST_CALLERS;
 use clip_registry::{Registrar, View};
 use clip_standing::Applied;
@@ -21,7 +21,7 @@ use std::marker::Model;
 #[derive(Drop)]
 pub struct Seat {
     end: ReaderEnd,
-    front: Front,
+    seen_history: SeenHistory,
     tag: u64,
     callers: u32,
     right: Right,
@@ -32,7 +32,7 @@ impl Model for Seat {
     ghost use Rattle.left_right.specs.Sides.{view as known_at};
     ghost use Rattle.clip_model.specs.declared.limits.TheConstants.{MOST_CALLERS};
     ghost use Rattle.clip_model.specs.History.{own};
-    ghost use Rattle.clip_chronicle.specs.Ends.{IsOf};
+    ghost use Rattle.clip_chronicle.specs.Ends.{IsOf, seen_keeps};
     ghost use Rattle.clip_desk.specs.Seats.{SeatIs, seat_code, mine_of};
 
     ghost Value = { SeatIs };
@@ -43,23 +43,24 @@ impl Model for Seat {
       tag = s.tag;
       caller = s.right.caller;
       callers = s.callers;
+      keeps = seen_keeps (known_at s.end.place);
       book =
-          s.front.seen.book;
-      seen = s.front.seen.log;
-      mine = mine_of s.front.seen.log s.right.caller
+          s.seen_history.seen.book;
+      seen = s.seen_history.seen.log;
+      mine = mine_of s.seen_history.seen.log s.right.caller
           s.right.made;
     } };
 
-    ghost invariant = { λ s. IsOf s.front.seen.book s.callers (known_at s.end.place)
-        × (s.right.made ≤ length (own s.front.seen.log s.right.caller)) × (0 < s.right.caller)
+    ghost invariant = { λ s. IsOf s.seen_history.seen.book s.callers (known_at s.end.place)
+        × (s.right.made ≤ length (own s.seen_history.seen.log s.right.caller)) × (0 < s.right.caller)
         × (s.right.caller ≤ s.callers) × (s.callers ≤ MOST_CALLERS)
-        × (s.right.book ≡ s.front.seen.book) };
+        × (s.right.book ≡ s.seen_history.seen.book) };
 }
 
 /// What a commit answers, seen as the history that ends with its command, and the answer.
 #[derive(Drop)]
 pub struct Receipt {
-    front: Front,
+    seen_history: SeenHistory,
     tag: u64,
     applied: Applied,
 }
@@ -73,19 +74,24 @@ impl Model for Receipt {
 
     ghost view = { λ r. record {
       tag = r.tag;
-      book = r.front.seen.book;
-      history = r.front.seen.log;
+      book = r.seen_history.seen.book;
+      history = r.seen_history.seen.log;
       applied = r.applied;
     } };
 }
 
 impl Receipt {
     /// The receipt of the last command of a history. Constant time.
-    pub(crate) fn new(tag: u64, front: Front, applied: Applied) -> Receipt
-        ensures { result ≡ record { tag = tag; book = front.seen.book; history = front.seen.log; applied = applied } }
+    pub(crate) fn new(tag: u64, seen_history: SeenHistory, applied: Applied) -> Receipt
+        ensures { result ≡ record {
+          tag = tag;
+          book = seen_history.seen.book;
+          history = seen_history.seen.log;
+          applied = applied;
+        } }
     {
         Receipt {
-            front,
+            seen_history,
             tag,
             applied,
         }
@@ -95,7 +101,7 @@ impl Receipt {
     pub fn place(&self) -> u64
         ensures { result ≡ length self.now.history }
     {
-        self.front.count as u64
+        self.seen_history.count as u64
     }
 
     /// The answer to the command. Constant time.
@@ -108,24 +114,31 @@ impl Receipt {
 
 impl Seat {
     /// The seat of a caller, which has seen nothing. Constant time.
-    pub(crate) fn new(end: ReaderEnd, front: Front, tag: u64, right: Right, callers: u32) -> Seat
-        requires end { IsOf front.seen.book callers (view end.place) }
+    pub(crate) fn new(
+        end: ReaderEnd,
+        seen_history: SeenHistory,
+        tag: u64,
+        right: Right,
+        callers: u32,
+    ) -> Seat
+        requires end { IsOf seen_history.seen.book callers (view end.place) }
         requires caller { (0 < right.caller) × (right.caller ≤ callers) × (callers ≤ MOST_CALLERS) }
-        requires right { (right.book ≡ front.seen.book) × (right.made ≡ 0) }
-        requires empty { front.seen.log ≡ [] }
+        requires right { (right.book ≡ seen_history.seen.book) × (right.made ≡ 0) }
+        requires empty { seen_history.seen.log ≡ [] }
         ensures { result ≡ record {
           tag = tag;
           caller = right.caller;
           callers = callers;
+          keeps = seen_keeps (view end.place);
           book =
-              front.seen.book;
+              seen_history.seen.book;
           seen = [];
           mine = [];
         } }
     {
         Seat {
             end,
-            front,
+            seen_history,
             tag,
             callers,
             right,
@@ -148,25 +161,31 @@ impl Seat {
     }
 
     /// The registry as it was last published, whose history goes on from all that the seat has seen, with the commands
-    /// that were committed with the seat as all of its caller's. `NoMemory` where a count of holders is at its end. It
-    /// waits for nobody, and costs that of `View::number_of`.
+    /// that were committed with the seat as all of its caller's, and can be read just where the desk keeps it.
+    /// `NoMemory` where a count of holders is at its end. It waits for nobody, and costs that of `View::number_of`.
     pub fn look(&mut self) -> Result<View, NoMemory>
         ensures seen { IfOk result (λ v. v.history ≡ self.new.seen) }
+        ensures keeps { IfOk result (λ v. v.keeps ≡ self.old.keeps) }
         ensures mine { IfOk result (λ v. own v.history self.old.caller ≡ self.old.mine) }
         ensures legal { IfOk result (λ v. IsLegal v.history × IsBy self.old.callers v.history) }
         ensures later { IsPrefix self.old.seen self.new.seen }
         ensures same { self.new ≡ record self.old { seen = self.new.seen } }
     {
         let answer = read_here(&mut self.end);
-        let Ok(Published { view, front, .. }) = answer else {
+        let Ok(shown) = answer else {
             return Err(NoMemory);
         };
-        if front.count < self.front.count {
+        let Published {
+            view,
+            seen_history,
+            ..
+        } = shown;
+        if seen_history.count < self.seen_history.count {
             return Err(NoMemory);
         }
-        self.front.meet(&front);
+        self.seen_history.meet(&seen_history);
         let there = view.number_of(self.right.caller());
-        self.front = front;
+        self.seen_history = seen_history;
         if there != self.right.made() {
             return Err(NoMemory);
         }
@@ -181,53 +200,58 @@ impl Seat {
         ensures seen { self.new ≡ record self.old { seen = longer self.old.seen receipt.now.history } }
         ensures mine { IsPrefix self.new.mine (own self.new.seen self.new.caller) }
     {
-        self.front.meet(&receipt.front);
-        if self.front.count < receipt.front.count {
-            self.front = receipt.front.again();
+        self.seen_history.meet(&receipt.seen_history);
+        if self.seen_history.count < receipt.seen_history.count {
+            self.seen_history = receipt.seen_history.again();
         }
     }
 
     /// Whether two numbers agree: the history is as long as what was seen at least, and has as many of the caller's
     /// commands as were committed with the seat. Constant time.
-    pub(crate) fn agrees(&self, front: &Front, there: u32) -> bool
-        requires desk { front.now.seen.book ≡ self.now.book }
-        requires there { there ≡ length (own front.now.seen.log self.now.caller) }
-        ensures { IsTrue result → IsPrefix self.now.seen front.now.seen.log
-            × (own front.now.seen.log self.now.caller ≡ self.now.mine) }
+    pub(crate) fn agrees(&self, seen_history: &SeenHistory, there: u32) -> bool
+        requires desk { seen_history.now.seen.book ≡ self.now.book }
+        requires there { there ≡ length (own seen_history.now.seen.log self.now.caller) }
+        ensures { IsTrue result → IsPrefix self.now.seen seen_history.now.seen.log
+            × (own seen_history.now.seen.log self.now.caller ≡ self.now.mine) }
     {
-        self.front.meet(front);
-        self.front.count <= front.count && self.right.made() == there
+        self.seen_history.meet(seen_history);
+        self.seen_history.count <= seen_history.count && self.right.made() == there
     }
 
     /// Sees a history that goes on from what was seen. Constant time.
-    pub(crate) fn see(&mut self, front: &Front)
-        requires desk { front.now.seen.book ≡ self.old.book }
-        requires later { IsPrefix self.old.seen front.now.seen.log }
-        ensures { self.new ≡ record self.old { seen = front.now.seen.log } }
+    pub(crate) fn see(&mut self, seen_history: &SeenHistory)
+        requires desk { seen_history.now.seen.book ≡ self.old.book }
+        requires later { IsPrefix self.old.seen seen_history.now.seen.log }
+        ensures { self.new ≡ record self.old { seen = seen_history.now.seen.log } }
     {
-        self.front = front.again();
+        self.seen_history = seen_history.again();
     }
 
     /// Adds the newest command of a registrar, which is its caller's next, to the history by the seat's right, and sees
     /// the history with it; or says that it did not, where the history is longer than was seen. Constant time.
-    pub(crate) fn add(&mut self, front: &mut Front, head: &Head, registrar: &Registrar) -> bool
-        requires desk { (front.old.seen.book ≡ self.old.book) × (head.now ≡ head_of self.old.book) }
-        requires one_more { (e : model.HistoryEntry) × (registrar.now.history ≡ front.old.seen.log ++ e ∷ [])
+    pub(crate) fn add(
+        &mut self,
+        seen_history: &mut SeenHistory,
+        head: &Head,
+        registrar: &Registrar,
+    ) -> bool
+        requires desk { (seen_history.old.seen.book ≡ self.old.book) × (head.now ≡ head_of self.old.book) }
+        requires one_more { (e : model.HistoryEntry) × (registrar.now.history ≡ seen_history.old.seen.log ++ e ∷ [])
             × (e.caller ≡ self.old.caller) }
         requires own { length self.old.mine + 1 ≤ length (own registrar.now.history self.old.caller) }
-        ensures book { front.new.seen.book ≡ front.old.seen.book }
-        ensures added { MatchBool result (front.new.seen.log ≡ registrar.now.history)
-            (IsPrefix front.old.seen.log front.new.seen.log) }
+        ensures book { seen_history.new.seen.book ≡ seen_history.old.seen.book }
+        ensures added { MatchBool result (seen_history.new.seen.log ≡ registrar.now.history)
+            (IsPrefix seen_history.old.seen.log seen_history.new.seen.log) }
         ensures legal { IsLegal registrar.now.history }
         ensures seat { MatchBool result
             ((self.new ≡ record self.old { seen = registrar.now.history; mine = self.new.mine })
             × (self.new.mine ≡ take (length self.old.mine + 1) (own registrar.now.history self.old.caller)))
             (self.new ≡ self.old) }
     {
-        if !front.follow(head, registrar, &mut self.right) {
+        if !seen_history.follow(head, registrar, &mut self.right) {
             return false;
         }
-        self.front = front.again();
+        self.seen_history = seen_history.again();
         true
     }
 }

@@ -5,7 +5,7 @@ use Rattle.clip_chronicle.specs.Callers.{IsBy}
 use Rattle.clip_chronicle.specs.Chronicle.{head_of}
 use Rattle.clip_desk.specs.Updates.{AllFollow, AreTold, Heard, event_of}
 use mathlib.Core.List.{IsPrefix}
-use Rattle.clip_chronicle.proofs.Fronts.{prefix_self}
+use Rattle.clip_chronicle.proofs.Beginnings.{prefix_self}
 use Rattle.clip_desk.specs.Seats.{SeatIs}
 use Rattle.clip_desk.proofs.Following.{all_follow_entry}
 use Rattle.clip_desk.proofs.Commits.{followed, own_grown, mine_grown, own_fits, seen_grown, by_grown}
@@ -26,7 +26,7 @@ invariant_of-self g c =
 pub show_surely-requires-clause-callers : goal.show_surely-requires-clause-callers
 show_surely-requires-clause-callers g c =
     let i = c.self.invariant.0 in
-    let seen = c.self.inside.front.seen.log in
+    let seen = c.self.inside.seen_history.seen.log in
     let caller = c.args.seat.now.caller in
     let command = command_of c.args.command in
     let view = c.in-Ok.grown.view.history in
@@ -41,19 +41,19 @@ show_surely-requires-clause-callers g c =
 pub add-requires-clause-desk : goal.add-requires-clause-desk
 add-requires-clause-desk g c =
     let i = c.self.invariant.0 in
-    (ap (λ f. f.seen.book) c.again-front.ensures ∙ (i.book_is ∙ sym c.requires.desk.0), i.head_is ∙ ap head_of (sym c.requires.desk.0))
+    (ap (λ f. f.seen.book) c.again-seen_history.ensures ∙ (i.book_is ∙ sym c.requires.desk.0), i.head_is ∙ ap head_of (sym c.requires.desk.0))
 
 pub add-requires-clause-one_more : goal.add-requires-clause-one_more
 add-requires-clause-one_more g c =
     let before = c.self.inside.registrar.history in
     let e = next_entry before c.caller-caller.result (command_of c.args.command) in
     let history : c.in-Ok.grown.registrar.history ≡ before ++ e ∷ [] = ap (λ s. s.history) c.in-Ok.ensures.registrar in
-    let front = ap (λ f. f.seen.log) c.again-front.ensures ∙ c.self.invariant.0.log in
-    (e, history ∙ ap (λ l. l ++ e ∷ []) (sym front), c.caller-caller.ensures.caller)
+    let seen_history = ap (λ f. f.seen.log) c.again-seen_history.ensures ∙ c.self.invariant.0.log in
+    (e, history ∙ ap (λ l. l ++ e ∷ []) (sym seen_history), c.caller-caller.ensures.caller)
 
 pub add-requires-clause-own : goal.add-requires-clause-own
 add-requires-clause-own g c =
-    let seen = c.self.inside.front.seen.log in
+    let seen = c.self.inside.seen_history.seen.log in
     let caller = c.args.seat.now.caller in
     let command = command_of c.args.command in
     let after = c.in-Ok.grown.registrar.history in
@@ -71,7 +71,7 @@ returns-clause-told g c =
 pub returns-clause-legal : goal.returns-clause-legal
 returns-clause-legal g c =
     let i = c.self.invariant.0 in
-    let seen = c.self.inside.front.seen.log in
+    let seen = c.self.inside.seen_history.seen.log in
     let caller = c.args.seat.now.caller in
     let command = command_of c.args.command in
     let after = c.new.result.history in
@@ -88,7 +88,7 @@ returns-clause-legal g c =
 
 pub returns-clause-seen : goal.returns-clause-seen
 returns-clause-seen g c =
-    let seen = c.self.inside.front.seen.log in
+    let seen = c.self.inside.seen_history.seen.log in
     let caller = c.args.seat.now.caller in
     let command = command_of c.args.command in
     let after = c.new.result.history in
@@ -98,7 +98,7 @@ returns-clause-seen g c =
 
 pub returns-clause-mine : goal.returns-clause-mine
 returns-clause-mine g c =
-    let seen = c.self.inside.front.seen.log in
+    let seen = c.self.inside.seen_history.seen.log in
     let caller = c.args.seat.now.caller in
     let command = command_of c.args.command in
     let mine = c.args.seat.now.mine in
@@ -111,7 +111,7 @@ returns-clause-mine g c =
 
 pub returns-clause-later : goal.returns-clause-later
 returns-clause-later g c =
-    let seen = c.self.inside.front.seen.log in
+    let seen = c.self.inside.seen_history.seen.log in
     let caller = c.args.seat.now.caller in
     let command = command_of c.args.command in
     let after = c.add.new.self.seen in

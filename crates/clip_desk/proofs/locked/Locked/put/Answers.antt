@@ -1,7 +1,7 @@
 use Rattle.std.proofs.Common.{◌≡◌, ◌∙◌, ap, sym, subst}
 use mathlib.Core.List.{IsPrefix}
 use Rattle.clip_chronicle.specs.Callers.{IsBy}
-use Rattle.clip_chronicle.proofs.Fronts.{prefix_self}
+use Rattle.clip_chronicle.proofs.Beginnings.{prefix_self}
 use Rattle.clip_desk.proofs.locked.Locked.put.Goals as goal
 
 pub show-requires-clause-later : goal.show-requires-clause-later

@@ -19,8 +19,8 @@ follow-requires-clause-counted c =
     let s = c.self.inside in
     let history = c.args.registrar.now.history in
     let o = c.requires.one_more in
-    let m = length-take-le s.right.made (own s.front.seen.log s.right.caller) c.self.invariant.1 in
+    let m = length-take-le s.right.made (own s.seen_history.seen.log s.right.caller) c.self.invariant.1 in
     let is = ap (λ v. length v.mine) c.self.view_is in
     let there = ap (λ v. length (own history v.caller)) c.self.view_is in
-    let long = ap length o.1 ∙ length-append c.args.front.now.seen.log (o.0 ∷ []) in
+    let long = ap length o.1 ∙ length-append c.args.seen_history.now.seen.log (o.0 ∷ []) in
     omega (arith, m, is, there, long, own_length history s.right.caller, c.requires.own)

@@ -13,7 +13,7 @@ returns-then-self-receipt-clause-mine c =
 pub returns-else-self-receipt-clause-mine : goal.returns-else-self-receipt-clause-mine
 returns-else-self-receipt-clause-mine c =
     let s = c.self.inside in
-    let all = own s.front.seen.log s.right.caller in
+    let all = own s.seen_history.seen.log s.right.caller in
     let begins : IsPrefix (take s.right.made all) all = (drop s.right.made all, take-append-drop s.right.made all) in
     subst (λ (v : SeatIs). IsPrefix v.mine (own v.seen v.caller)) c.self.view_is begins
 

@@ -1,6 +1,23 @@
+use Rattle.std.proofs.Common.{◌≡◌, ◌∙◌, ap}
+use Rattle.left_right.specs.Sides.{view}
+use Rattle.clip_chronicle.specs.Ends.{seen_keeps}
 use Rattle.clip_desk.proofs.seat.Seat.look.Goals as goal
 
 pub invariant_of-self : goal.invariant_of-self
 invariant_of-self c =
     let i = c.self.invariant in
     (c.read_here-answer.ensures.kept.of _ _ i.0, i.1, i.2, i.3, i.4, i.5)
+
+pub returns-in_default-clause-same : goal.returns-in_default-clause-same
+returns-in_default-clause-same c =
+    let s = c.self.inside in
+    let keeps : seen_keeps (view c.read_here-answer.new.end.place) ≡ c.args.self.now.keeps = c.read_here-answer.ensures.kept.keeps _ _ c.self.invariant.0 ∙ ap (λ v. v.keeps) c.self.view_is in
+    λ i. record {
+      tag = (c.self.view_is i).tag;
+      caller = (c.self.view_is i).caller;
+      callers = (c.self.view_is i).callers;
+      keeps = keeps i;
+      book = (c.self.view_is i).book;
+      seen = s.seen_history.seen.log;
+      mine = (c.self.view_is i).mine;
+    }

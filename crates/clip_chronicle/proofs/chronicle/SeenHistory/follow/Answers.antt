@@ -1,5 +1,5 @@
 use Rattle.std.proofs.Common.{[], ◌∷◌, length, ap, arith, length-append}
-use Rattle.clip_chronicle.proofs.chronicle.Front.follow.Goals as goal
+use Rattle.clip_chronicle.proofs.chronicle.SeenHistory.follow.Goals as goal
 
 pub add-requires-clause-counted : goal.add-requires-clause-counted
 add-requires-clause-counted c =

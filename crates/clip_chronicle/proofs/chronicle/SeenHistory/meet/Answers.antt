@@ -1,8 +1,8 @@
 use Rattle.std.proofs.Common.{ap, subst, List}
 use mathlib.Core.List.{IsPrefix}
 use Rattle.clip_model.specs.History.{HistoryEntry}
-use Rattle.clip_chronicle.proofs.Fronts.{prefix_shorter}
-use Rattle.clip_chronicle.proofs.chronicle.Front.meet.Goals as goal
+use Rattle.clip_chronicle.proofs.Beginnings.{prefix_shorter}
+use Rattle.clip_chronicle.proofs.chronicle.SeenHistory.meet.Goals as goal
 
 pub returns-clause-shorter : goal.returns-clause-shorter
 returns-clause-shorter c le =

@@ -1,7 +1,7 @@
 use Rattle.std.proofs.Common.{sym, ◌∙◌, ap}
 use Rattle.clip_standing.specs.Command.{entry_of}
 use Rattle.clip_chronicle.proofs.Adding.{adds_moves}
-use Rattle.clip_chronicle.proofs.chronicle.Front.add.Goals as goal
+use Rattle.clip_chronicle.proofs.chronicle.SeenHistory.add.Goals as goal
 
 pub compare_exchange-found-requires : goal.compare_exchange-found-requires
 compare_exchange-found-requires c =
