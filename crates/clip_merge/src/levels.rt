@@ -39,3 +39,18 @@ pub fn plan(segments: &[Arc<Segment>]) -> Option<(usize, usize)>
     }
     None
 }
+
+#[cfg(test)]
+mod tests {
+    use super::level;
+
+    /// Each a length and its level.
+    static LEVELS: [(usize, u32); 6] = [(0, 0), (3, 0), (4, 1), (15, 1), (16, 2), (63, 2)];
+
+    #[test]
+    fn levels_change_at_powers_of_4(rt: HostRuntime) {
+        for (len, wanted) in &LEVELS {
+            assert!(rt; level(*len) == *wanted);
+        }
+    }
+}
