@@ -4,6 +4,7 @@ use Rattle.std.proofs.lemmas.Bool.{cases_lt}
 use Rattle.std.proofs.lemmas.List.{get_or-drop, get_or-map, get_or-take}
 use Rattle.std.proofs.lemmas.List.Elements.{All-get_or, All-from_get_or}
 use Rattle.clip_model.specs.History.{Registered}
+use Rattle.clip_model.specs.declared.limits.TheConstants.{RUN_LENGTH}
 use Rattle.clip_merge.specs.Plan.{IsLevel, IsRun, IsOldestRun, run_at}
 use Rattle.clip_merge.proofs.Division.{one_level}
 
@@ -13,12 +14,12 @@ HasLevel segments at level = IsLevel (length (get_or segments at [])) level
 
 -- Before this place stand so many neighbours of one level and no more, and no run.
 pub record Walked (segments : List (List Registered)) (at count level : ℕ) : Type 0 where
-  pub few : count < 4
+  pub few : count < RUN_LENGTH
   pub within : count ≤ at
   pub some : 0 < at → 0 < count
   pub same : (k : ℕ) → k < at → at ≤ k + count → HasLevel segments k level
   pub apart : (k : ℕ) → k + count + 1 ≡ at → HasLevel segments k level → ⊥
-  pub none : (k : ℕ) → k + 4 ≤ at → IsRun segments k → ⊥
+  pub none : (k : ℕ) → k + RUN_LENGTH ≤ at → IsRun segments k → ⊥
 
 -- the level of a segment that stands at a place
 pub level_at : {X : Type 0} (entries_of : X → List Registered) (segments : List X) (at : ℕ) (segment : X) (n level : ℕ) → at < length segments → segment ≡ get_or segments at segment
@@ -28,25 +29,25 @@ level_at entries_of segments at segment n level inside is len has =
 
 module _ (segments : List (List Registered)) where
   -- each of a run's segments has its level
-  run_level : (first : ℕ) (run : IsRun segments first) (k : ℕ) → k < 4 → HasLevel segments (first + k) run.level
+  run_level : (first : ℕ) (run : IsRun segments first) (k : ℕ) → k < RUN_LENGTH → HasLevel segments (first + k) run.level
   run_level first run k lt =
       let there = run.there in
-      let inside : k < length (take 4 (drop first segments)) = omega (arith, length-take 4 (drop first segments), length-drop first segments) in
+      let inside : k < length (take RUN_LENGTH (drop first segments)) = omega (arith, length-take RUN_LENGTH (drop first segments), length-drop first segments) in
       rw (get_or-take, get_or-drop) at (All-get_or (λ segment. IsLevel (length segment) run.level) (run_at segments first) k [] inside run.levels)
 
   -- four neighbours of one level are a run
-  run_of : (first level : ℕ) → first + 4 ≤ length segments → ((k : ℕ) → k < 4 → HasLevel segments (first + k) level) → IsRun segments first
+  run_of : (first level : ℕ) → first + RUN_LENGTH ≤ length segments → ((k : ℕ) → k < RUN_LENGTH → HasLevel segments (first + k) level) → IsRun segments first
   run_of first level there each = record {
     level = level;
     there = there;
     levels = All-from_get_or (λ segment. IsLevel (length segment) level) (run_at segments first) [] (λ k inside.
-        let lt : k < 4 = omega (arith, length-take 4 (drop first segments)) in
+        let lt : k < RUN_LENGTH = omega (arith, length-take RUN_LENGTH (drop first segments)) in
         rw (get_or-take, get_or-drop) (each k lt));
   }
 
   -- no run ends with a segment whose level fewer than four neighbours have
-  none_more : (at count level : ℕ) → 0 < count → count < 4 → ((k : ℕ) → k + 4 ≤ at → IsRun segments k → ⊥) → HasLevel segments at level
-      → ((k : ℕ) → k + count ≡ at → HasLevel segments k level → ⊥) → (k : ℕ) → k + 4 ≤ at + 1 → IsRun segments k → ⊥
+  none_more : (at count level : ℕ) → 0 < count → count < RUN_LENGTH → ((k : ℕ) → k + RUN_LENGTH ≤ at → IsRun segments k → ⊥) → HasLevel segments at level
+      → ((k : ℕ) → k + count ≡ at → HasLevel segments k level → ⊥) → (k : ℕ) → k + RUN_LENGTH ≤ at + 1 → IsRun segments k → ⊥
   none_more at count level some few none here apart k le run = elim (cases_lt (k + 3) at) [
     | inl earlier ↦ none k (omega arith) run
     | inr last ↦
@@ -68,7 +69,7 @@ module _ (segments : List (List Registered)) where
   }
 
   -- one neighbour more of that level
-  pub walked_alike : (at count level : ℕ) → Walked segments at count level → count + 1 < 4 → HasLevel segments at level → Walked segments (at + 1) (count + 1) level
+  pub walked_alike : (at count level : ℕ) → Walked segments at count level → count + 1 < RUN_LENGTH → HasLevel segments at level → Walked segments (at + 1) (count + 1) level
   walked_alike at count level is few here = record {
     few = few;
     within = let h = is.within in omega arith;

@@ -3,17 +3,18 @@ ghost use Rattle.std.specs.Prelude.{◌≡◌, ℕ, ◌+◌, IfSome, None, map};
 ghost use Rattle.std.specs.Arc.{arc_value};
 ghost use Rattle.clip_merge.specs.Plan.{IsLevel, IsRun, IsOldestRun};
 
+use clip_model::RUN_LENGTH;
 use clip_segment::Segment;
 use std::sync::Arc;
 
-/// The level of a length: how many divisions by 4, rounding down, bring it below 4.
+/// The level of a length: how many divisions by `RUN_LENGTH`, rounding down, bring it below that.
 fn level(len: usize) -> u32
     ensures { IsLevel len result }
 {
     let mut level = 0;
     let mut rest = len;
-    while rest >= 4 {
-        rest /= 4;
+    while rest >= RUN_LENGTH {
+        rest /= RUN_LENGTH;
         level += 1;
     }
     level
@@ -23,7 +24,7 @@ fn level(len: usize) -> u32
 /// last segment. `None` where there is no such run. Takes no memory. Cost: a step for each segment, and for each of its
 /// levels.
 pub fn plan(segments: &[Arc<Segment>]) -> Option<(usize, usize)>
-    ensures run { IfSome result (λ at. IsOldestRun (map arc_value segments.now) at.0 × (at.1 ≡ at.0 + 4)) }
+    ensures run { IfSome result (λ at. IsOldestRun (map arc_value segments.now) at.0 × (at.1 ≡ at.0 + RUN_LENGTH)) }
     ensures none { result ≡ None → (first : ℕ) → IsRun (map arc_value segments.now) first → ⊥ }
 {
     // The level of the last segment, and how many neighbours up to it have that level.
@@ -31,10 +32,25 @@ pub fn plan(segments: &[Arc<Segment>]) -> Option<(usize, usize)>
     for (at, segment) in segments.iter().enumerate() {
         let here = level(segment.len());
         count = if here == last { count + 1 } else { 1 };
-        if count == 4 {
+        if count == RUN_LENGTH {
             return Some((at + 1 - count, at + 1));
         }
         last = here;
     }
     None
+}
+
+#[cfg(test)]
+mod tests {
+    use super::level;
+
+    /// Each a length and its level.
+    static LEVELS: [(usize, u32); 6] = [(0, 0), (3, 0), (4, 1), (15, 1), (16, 2), (63, 2)];
+
+    #[test]
+    fn levels_change_at_powers_of_4(rt: HostRuntime) {
+        for (len, wanted) in &LEVELS {
+            assert!(rt; level(*len) == *wanted);
+        }
+    }
 }

@@ -7,7 +7,7 @@ ghost use Rattle.clip_model.specs.Laws.{ReplaysOn, FrontsAreLegal, GoesOn, Liste
 mod limits;
 mod shards;
 
-pub use limits::{MOST_ARTICLES, MOST_CALLERS, MOST_ENTRIES, MOST_LISTED, MOST_LIVE};
+pub use limits::{MOST_ARTICLES, MOST_CALLERS, MOST_ENTRIES, MOST_LISTED, MOST_LIVE, RUN_LENGTH};
 pub use shards::law_of_shards;
 
 /// What holds of histories.

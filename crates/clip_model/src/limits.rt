@@ -14,3 +14,7 @@ pub const MOST_CALLERS: u32 = 64;
 
 /// The most articles of a match line, and of a batch of a trace.
 pub const MOST_ARTICLES: usize = 256;
+
+/// How many neighbouring segments of one level are merged into one. The level of a length is how many divisions by it,
+/// rounding down, bring the length below it.
+pub const RUN_LENGTH: usize = 4;

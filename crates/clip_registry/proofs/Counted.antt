@@ -12,6 +12,7 @@ use Rattle.clip_words.specs.Order.{bytes_cmp}
 use Rattle.clip_merge.specs.Plan.{run_at}
 use Rattle.clip_registry.proofs.Entries.{all_entries-append}
 use Rattle.clip_segment.specs.Segment.{IsRising, all_entries}
+use Rattle.clip_model.specs.declared.limits.TheConstants.{RUN_LENGTH}
 use Rattle.clip_model.specs.History.{Registered, Registry, replay, is_live}
 use Rattle.clip_model.proofs.ById.{bytes_same}
 use Rattle.clip_model.proofs.Live.{removed_else}
@@ -62,19 +63,19 @@ few_given (r ∷ rs) m is given =
     omega arith
 
 -- the segments of a run are part of all segments
-parts : (segments : List (List Registered)) (first : ℕ) → all_entries segments ≡ all_entries (take first segments) ++ (all_entries (run_at segments first) ++ all_entries (drop 4 (drop first segments)))
+parts : (segments : List (List Registered)) (first : ℕ) → all_entries segments ≡ all_entries (take first segments) ++ (all_entries (run_at segments first) ++ all_entries (drop RUN_LENGTH (drop first segments)))
 parts segments first =
     ap all_entries (sym (take-append-drop first segments)) ∙ all_entries-append (take first segments) (drop first segments)
-    ∙ ap (λ es. all_entries (take first segments) ++ es) (ap all_entries (sym (take-append-drop 4 (drop first segments))) ∙ all_entries-append (take 4 (drop first segments)) (drop 4 (drop first segments)))
+    ∙ ap (λ es. all_entries (take first segments) ++ es) (ap all_entries (sym (take-append-drop RUN_LENGTH (drop first segments))) ∙ all_entries-append (take RUN_LENGTH (drop first segments)) (drop RUN_LENGTH (drop first segments)))
 
 pub run_among : (segments : List (List Registered)) (first : ℕ) (r : Registered) → Contains (all_entries (run_at segments first)) r → Contains (all_entries segments) r
 run_among segments first r h =
     subst (λ es. Contains es r) (sym (parts segments first))
-    (Contains-append_right (all_entries (take first segments)) _ r (Contains-append_left (all_entries (run_at segments first)) (all_entries (drop 4 (drop first segments))) r h))
+    (Contains-append_right (all_entries (take first segments)) _ r (Contains-append_left (all_entries (run_at segments first)) (all_entries (drop RUN_LENGTH (drop first segments))) r h))
 
 pub run_rises : (segments : List (List Registered)) (first : ℕ) → IsRising (all_entries segments) → IsRising (all_entries (run_at segments first))
 run_rises segments first is =
-    rising_left (all_entries (run_at segments first)) (all_entries (drop 4 (drop first segments)))
+    rising_left (all_entries (run_at segments first)) (all_entries (drop RUN_LENGTH (drop first segments)))
     (rising_right (all_entries (take first segments)) _ (subst IsRising (parts segments first) is))
   where
     rising_right : (xs ys : List Registered) → IsRising (xs ++ ys) → IsRising ys

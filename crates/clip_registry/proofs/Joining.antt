@@ -14,7 +14,7 @@ use Rattle.std.specs.FinMap as finite
 use Rattle.std.specs.FinMap.{entries-from_sorted, entries-insert, get-entries, get-from_sorted, get-empty, len-entries, len-insert, len-remove, len-empty, empty_of_len, find, put, is_sorted}
 use Rattle.std.specs.FinMap.Entries.{below_all, by_order}
 use Rattle.clip_words.specs.Order.{bytes_cmp}
-use Rattle.clip_grammar.proofs.Booleans.{first, second, both}
+use Rattle.clip_grammar.proofs.Booleans.{first, second}
 use Rattle.clip_grammar.proofs.Orderings.{greater, less}
 use Rattle.clip_model.specs.History.{Registered, Registry}
 use Rattle.clip_registry.specs.Steps.Pieces.{AreFilled, AreInOrder, AreHalves, HasRoomFor, IsPlaceFor, ends_below, joined, map_of}

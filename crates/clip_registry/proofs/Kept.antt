@@ -4,6 +4,7 @@ use Rattle.std.proofs.lemmas.List.{take-append-drop, drop-drop, get_or_default, 
 use Rattle.std.proofs.lemmas.List.Elements.{All-contains, Contains-append_left, Contains-append_right, Contains-append_cases, filter-append}
 use Rattle.std.specs.List.{All, Contains, filter}
 use Rattle.clip_segment.specs.Segment.{IsRising, all_entries}
+use Rattle.clip_model.specs.declared.limits.TheConstants.{RUN_LENGTH}
 use Rattle.clip_model.specs.History.{Registered, replay, listed, is_live}
 use Rattle.clip_model.proofs.Live.{given_live}
 use Rattle.clip_model.proofs.Numbering.{replay_numbered}
@@ -120,35 +121,35 @@ kept_purged state whole =
 
 -- ---- installing
 
--- where four segments stand as the sources there are four
-pub four_there : (segments sources : List (List Registered)) (first : ℕ) → length sources ≡ 4 → StandsAt segments sources first → first + 4 ≤ length segments
-four_there segments sources first four stands =
+-- where segments stand as the sources there are as many
+pub run_there : (segments sources : List (List Registered)) (first : ℕ) → length sources ≡ RUN_LENGTH → StandsAt segments sources first → first + RUN_LENGTH ≤ length segments
+run_there segments sources first count stands =
     let e = ap length stands in
-    omega (arith, length-take 4 (drop first segments), length-drop first segments)
+    omega (arith, length-take RUN_LENGTH (drop first segments), length-drop first segments)
 
 entries_apart : (segments : List (List Registered)) (first : ℕ)
-    → all_entries segments ≡ all_entries (take first segments) ++ (all_entries (run_at segments first) ++ all_entries (drop (first + 4) segments))
+    → all_entries segments ≡ all_entries (take first segments) ++ (all_entries (run_at segments first) ++ all_entries (drop (first + RUN_LENGTH) segments))
 entries_apart segments first =
     ap all_entries (sym (take-append-drop first segments)) ∙ all_entries-append (take first segments) (drop first segments)
     ∙ ap (λ es. all_entries (take first segments) ++ es)
-    (ap all_entries (sym (take-append-drop 4 (drop first segments))) ∙ all_entries-append (take 4 (drop first segments)) (drop 4 (drop first segments))
-    ∙ ap (λ ss. all_entries (run_at segments first) ++ all_entries ss) (drop-drop 4 first segments ∙ ap (λ k. drop k segments) (omega arith)))
+    (ap all_entries (sym (take-append-drop RUN_LENGTH (drop first segments))) ∙ all_entries-append (take RUN_LENGTH (drop first segments)) (drop RUN_LENGTH (drop first segments))
+    ∙ ap (λ ss. all_entries (run_at segments first) ++ all_entries ss) (drop-drop RUN_LENGTH first segments ∙ ap (λ k. drop k segments) (omega arith)))
 
 entries_shelved : (es : List Registered) → all_entries (shelf es) ≡ es
 entries_shelved [] = refl
 entries_shelved (e ∷ es) = append-nil (e ∷ es)
 
-entries_replaced : (segments : List (List Registered)) (first : ℕ) (es : List Registered) → all_entries (replaced segments first es) ≡ all_entries (take first segments) ++ (es ++ all_entries (drop (first + 4) segments))
+entries_replaced : (segments : List (List Registered)) (first : ℕ) (es : List Registered) → all_entries (replaced segments first es) ≡ all_entries (take first segments) ++ (es ++ all_entries (drop (first + RUN_LENGTH) segments))
 entries_replaced segments first es =
-    all_entries-append (take first segments ++ shelf es) (drop (first + 4) segments)
-    ∙ ap (λ x. x ++ all_entries (drop (first + 4) segments)) (all_entries-append (take first segments) (shelf es) ∙ ap (λ x. all_entries (take first segments) ++ x) (entries_shelved es))
-    ∙ append_assoc (all_entries (take first segments)) es (all_entries (drop (first + 4) segments))
+    all_entries-append (take first segments ++ shelf es) (drop (first + RUN_LENGTH) segments)
+    ∙ ap (λ x. x ++ all_entries (drop (first + RUN_LENGTH) segments)) (all_entries-append (take first segments) (shelf es) ∙ ap (λ x. all_entries (take first segments) ++ x) (entries_shelved es))
+    ∙ append_assoc (all_entries (take first segments)) es (all_entries (drop (first + RUN_LENGTH) segments))
 
 pub kept_replaced : (state : RegistryState) (sources : List (List Registered)) (first : ℕ) (p : Registered → Bool) → IsWhole state → StandsAt state.segments sources first
     → ((r : Registered) → Contains (all_entries sources) r → IsTrue (is_live state.history r.seq) → p r ≡ true) → AreKept state (replaced state.segments first (filter p (all_entries sources)))
 kept_replaced state sources first p whole stands complete =
     let before = all_entries (take first state.segments) in
-    let after = all_entries (drop (first + 4) state.segments) in
+    let after = all_entries (drop (first + RUN_LENGTH) state.segments) in
     let middle = all_entries sources in
     let was : all_entries state.segments ≡ before ++ (middle ++ after) = entries_apart state.segments first ∙ ap (λ ss. before ++ (all_entries ss ++ after)) stands in
     let is = entries_replaced state.segments first (filter p middle) in

@@ -1,6 +1,6 @@
 -- Threads may hand over and share registrars and views.
 use denote.Param.Send.{IsSend, IsSync, view_send, view_sync, sendable}
-use denote.Param.SendFields.{declared_send, declared_sync, variants_send, variants_sync}
+use denote.Param.SendFields.{declared_send, declared_sync}
 use Rattle.std.proofs.alloc.Global.TheSendSync as global_sent
 use Rattle.std.below.std_heap.proofs.GlobalAllocator.TheSendSync as allocator_sent
 use Rattle.std.proofs.string.String.TheSendSync as string_sent

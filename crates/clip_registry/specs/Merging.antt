@@ -1,6 +1,7 @@
 -- Merges: what a job and a merge hold, and what installing and purging do.
 use Rattle.std.specs.Prelude.{◌≡◌, ℕ, ◌+◌, Bool, true, false, List, [], ◌∷◌, ◌++◌, map, filter, take, drop, Contains, IsTrue, refl}
 use Rattle.std.specs.Coded.{Coded, code_by, coded×, coded_ℕ, coded_list}
+use Rattle.clip_model.specs.declared.limits.TheConstants.{RUN_LENGTH}
 use Rattle.clip_model.specs.History.{History, Registered, registered_code, is_live}
 use Rattle.clip_segment.specs.Segment.{all_entries}
 use Rattle.clip_merge.specs.Live.{named}
@@ -74,7 +75,7 @@ pub record IsInstalled (old new : RegistryState) (merge : Merge) : Type 0 where
   pub first : ℕ
   pub stood : StandsAt old.segments merge.sources first
   pub complete : Misses old merge → ⊥
-  pub segments : new.segments ≡ take first old.segments ++ shelf merge.entries ++ drop (first + 4) old.segments
+  pub segments : new.segments ≡ take first old.segments ++ shelf merge.entries ++ drop (first + RUN_LENGTH) old.segments
   pub history : new.history ≡ old.history
   pub keeps : new.keeps ≡ old.keeps
 

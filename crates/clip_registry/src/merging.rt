@@ -13,6 +13,7 @@ use crate::roster::Roster;
 use crate::same::place_of;
 use crate::state::State;
 use clip_merge::{Live, merge};
+use clip_model::RUN_LENGTH;
 use clip_segment::Segment;
 use clip_standing::Entry;
 use clip_words::NoMemory;
@@ -124,7 +125,7 @@ impl MergeJob {
         sources: &[Arc<Segment>],
         roster: &Roster,
     ) -> Result<MergeJob, NoMemory>
-        requires four { length sources.now ≡ 4 }
+        requires count { length sources.now ≡ RUN_LENGTH }
         requires rising { IsRising (all_entries (map arc_value sources.now)) }
         requires few { length (live_in roster.now.registry (all_entries (map arc_value sources.now))) ≤ MOST_LIVE }
         ensures { IfOk result (λ job. job ≡ job_over roster.now.registry (map arc_value sources.now)) }
@@ -161,7 +162,7 @@ impl MergeJob {
 impl Merged {
     /// The place at which it is to be installed, or `None` where it is stale.
     pub(crate) fn place_in(&self, state: &State) -> Option<usize>
-        ensures there { IfSome result (λ first. first + 4 ≤ length state.now.segments) }
+        ensures there { IfSome result (λ first. first + RUN_LENGTH ≤ length state.now.segments) }
         ensures stands { IfSome result (λ first. StandsAt state.now.segments self.now.sources first) }
         ensures complete { OnSome result (Misses state.now self.now → ⊥) }
         ensures kept { IfSome result (λ first. AreKept state.now (replaced state.now.segments first self.now.entries)) }
@@ -183,12 +184,12 @@ impl Merged {
         segments: &[Arc<Segment>],
         first: usize,
     ) -> Result<Vec<Arc<Segment>>, NoMemory>
-        requires { first + 4 ≤ length segments.now }
+        requires { first + RUN_LENGTH ≤ length segments.now }
         ensures { IfOk result (λ list. map arc_value list.items
             ≡ replaced (map arc_value segments.now) first self.entries) }
     {
         let (before, rest) = segments.split_at(first);
-        let (_, after) = rest.split_at(4);
+        let (_, after) = rest.split_at(RUN_LENGTH);
         let mut list = Vec::with_capacity(alloc, segments.len())?;
         list.extend_with_clones(before)?;
         if !self.segment.is_empty() {

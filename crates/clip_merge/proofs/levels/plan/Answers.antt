@@ -6,8 +6,8 @@ use Rattle.clip_merge.proofs.Runs.{HasLevel, Walked, level_at, walked_alike, wal
 use Rattle.clip_merge.proofs.levels.plan.Goals as goal
 use Rattle.clip_merge.proofs.levels.plan.Goals.{then-here-last, else-here-last}
 
-pub returns-then-count-eq4-clause-run : goal.returns-then-count-eq4-clause-run
-returns-then-count-eq4-clause-run c =
+pub returns-then-count-eq-RUN_LENGTH-clause-run : goal.returns-then-count-eq-RUN_LENGTH-clause-run
+returns-then-count-eq-RUN_LENGTH-clause-run c =
     let segments : List (List Registered) = map arc_value c.args.segments.now in
     let at : ℕ = c.loop-at.at in
     let few = c.loop-at.invariant.few in

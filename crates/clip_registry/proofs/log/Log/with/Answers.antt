@@ -1,9 +1,8 @@
-use Rattle.std.proofs.Common.{◌≡◌, ◌-◌, [], ◌∷◌, ◌++◌, ◌∙◌, ℕ, suc, List, length, map, refl, sym, ap, subst, arith, ◌+◌, length-append, slice_get, Some, option_map}
+use Rattle.std.proofs.Common.{◌≡◌, ◌-◌, [], ◌∷◌, ◌++◌, ◌∙◌, length, map, refl, sym, ap, arith, length-append, slice_get, Some}
 use Rattle.std.proofs.lemmas.List.{map-append}
 use Rattle.std.proofs.lemmas.Option.{none-some, same_Some}
 use Rattle.clip_model.specs.History as model
 use Rattle.clip_model.specs.History.{History}
-use Rattle.clip_standing.specs.declared.command.HistoryEntry.{HistoryEntry}
 use Rattle.clip_standing.specs.Command.{entry_of}
 use Rattle.clip_registry.proofs.log.Log.with.Goals as goal
 use Rattle.clip_registry.proofs.log.Log.with.Goals.{in-Some+in_ok-clone+in_ok-push, in_default}

@@ -17,7 +17,7 @@ entries c =
 
 pub invariant_of-result : goal.invariant_of-result
 invariant_of-result c = record {
-  four = ap length (sources c) ∙ c.self.invariant.four;
+  count = ap length (sources c) ∙ c.self.invariant.count;
   rising = subst (λ (ss : List (List Registered)). IsRising (all_entries ss)) (sym (sources c)) c.self.invariant.rising;
   named = entries c ∙ (λ i. named (sym c.in_ok-clone-2.ensures.cases i) (all_entries (sym (sources c) i)));
 }

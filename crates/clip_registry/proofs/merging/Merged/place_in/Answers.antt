@@ -8,7 +8,7 @@ use Rattle.clip_registry.specs.Merging.IsStale.{misses}
 use Rattle.clip_registry.specs.RegistryState.{RegistryState}
 use Rattle.clip_registry.specs.Steps.Merging.{IsMerged, has_seq_if_live}
 use Rattle.clip_registry.specs.Steps.State.{IsConsistent}
-use Rattle.clip_registry.proofs.Kept.{four_there}
+use Rattle.clip_registry.proofs.Kept.{run_there}
 use Rattle.clip_registry.proofs.Missing.{misses_none, kept_merge, misses_one}
 use Rattle.clip_registry.proofs.merging.Merged.place_in.Goals as goal
 use Rattle.clip_registry.proofs.merging.Merged.place_in.Goals.{After-misses_none}
@@ -33,7 +33,7 @@ tested c =
 pub returns-then-misses_none-clause-there : goal.returns-then-misses_none-clause-there
 returns-then-misses_none-clause-there c =
     let here = (goal.at.returns-then-misses_none-clause-there c).After-misses_none in
-    four_there c.args.state.now.segments c.args.self.now.sources c.in_ok-first.first (merged here).four (stands here)
+    run_there c.args.state.now.segments c.args.self.now.sources c.in_ok-first.first (merged here).count (stands here)
 
 pub returns-then-misses_none-clause-stands : goal.returns-then-misses_none-clause-stands
 returns-then-misses_none-clause-stands c = stands (goal.at.returns-then-misses_none-clause-stands c).After-misses_none

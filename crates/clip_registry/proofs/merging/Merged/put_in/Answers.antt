@@ -5,6 +5,7 @@ use Rattle.std.specs.Arc.{arc_value}
 use Rattle.std.specs.declared.vec.Vec.{Vec}
 use Rattle.std.specs.declared.alloc.Global.{Global}
 use Rattle.std.specs.declared.sync.Arc.{Arc}
+use Rattle.clip_model.specs.declared.limits.TheConstants.{RUN_LENGTH}
 use Rattle.clip_model.specs.History.{Registered}
 use Rattle.clip_registry.specs.Merging.{Merge, shelf}
 use Rattle.clip_standing.proofs.Clones.{map_shared}
@@ -45,5 +46,5 @@ returns c =
     let added = c.in_ok-extend_with_clones-2.ensures.items in
     ap (map arc_value) added.1 ∙ map-append arc_value c.if-not-is_empty.list.items added.0 ∙ ap (λ l. l ++ map arc_value added.0) (middle c)
     ∙ ap (λ l. take c.args.first (map arc_value c.args.segments.now) ++ shelf c.args.self.entries ++ l)
-    (map_shared c.split_at-2.result.1.now added.0 added.2 ∙ ap (map arc_value) (c.split_at-2.ensures.back ∙ ap (drop 4) c.split_at.ensures.back ∙ drop-drop 4 c.args.first c.args.segments.now ∙ ap (λ k. drop k c.args.segments.now) (omega arith))
-    ∙ sym (drop-map arc_value (c.args.first + 4) c.args.segments.now))
+    (map_shared c.split_at-2.result.1.now added.0 added.2 ∙ ap (map arc_value) (c.split_at-2.ensures.back ∙ ap (drop RUN_LENGTH) c.split_at.ensures.back ∙ drop-drop RUN_LENGTH c.args.first c.args.segments.now ∙ ap (λ k. drop k c.args.segments.now) (omega arith))
+    ∙ sym (drop-map arc_value (c.args.first + RUN_LENGTH) c.args.segments.now))

@@ -3,7 +3,7 @@ use Rattle.std.proofs.lemmas.List.{take-map, drop-map}
 use Rattle.std.specs.Arc.{arc_value}
 use Rattle.clip_merge.specs.Plan.{IsRun, IsOldestRun, run_at}
 use Rattle.clip_segment.specs.Segment.{IsRising, all_entries}
-use Rattle.clip_model.specs.declared.limits.TheConstants.{MOST_LIVE}
+use Rattle.clip_model.specs.declared.limits.TheConstants.{MOST_LIVE, RUN_LENGTH}
 use Rattle.clip_model.specs.History.{Registered, replay}
 use Rattle.clip_registry.specs.Merging.{Job, live_of}
 use Rattle.clip_registry.specs.RegistryState.{RegistryState}
@@ -33,12 +33,12 @@ state c =
 sources : (c : After-behind-state-3) → map arc_value (take (c.in-Some-plan.end - c.in-Some-plan.first) (drop c.in-Some-plan.first c.deref-4.result.now)) ≡ run_at c.args.self.now.segments c.in-Some-plan.first
 sources c =
     let first = c.in-Some-plan.first in
-    let four : c.in-Some-plan.end - first ≡ 4 = let e = c.in-Some-plan.ensures.run.1 in omega arith in
+    let count : c.in-Some-plan.end - first ≡ RUN_LENGTH = let e = c.in-Some-plan.ensures.run.1 in omega arith in
     let here : map arc_value c.deref-4.result.now ≡ c.args.self.now.segments =
     ap (map arc_value) c.deref-4.ensures.value
     ∙ ap (λ (s : RegistryState). s.segments) (c.behind-state-2.view_is ∙ c.deref-3.ensures ∙ ap (state_or_beginning c.self.inside.keeps) (sym c.in-Some.is) ∙ c.self.view_is) in
-    ap (λ k. map arc_value (take k (drop first c.deref-4.result.now))) four ∙ sym (take-map arc_value 4 (drop first c.deref-4.result.now))
-    ∙ ap (take 4) (sym (drop-map arc_value first c.deref-4.result.now)) ∙ ap (λ ss. run_at ss first) here
+    ap (λ k. map arc_value (take k (drop first c.deref-4.result.now))) count ∙ sym (take-map arc_value RUN_LENGTH (drop first c.deref-4.result.now))
+    ∙ ap (take RUN_LENGTH) (sym (drop-map arc_value first c.deref-4.result.now)) ∙ ap (λ ss. run_at ss first) here
 
 pub over-requires-clause-rising : goal.over-requires-clause-rising
 over-requires-clause-rising c =
