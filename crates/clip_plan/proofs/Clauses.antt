@@ -67,26 +67,26 @@ child_nodes query v cs i c group items lt is =
 -- ---- what is added
 
 -- one clause more
-pub clause_added : {terms : List KeyValue} {runs₀ runs₁ runs₂ : List (List ℕ)} {asked₀ asked₁ asked₂ : List Query} {steps₀ steps₁ steps₂ : List Step} (front : List (Mark KeyValue)) (cs : List (Occur × Query)) (i : ℕ) (c : Occur × Query) → i < length cs → c ≡ get_or cs i c
-    → Adds terms runs₀ asked₀ steps₀ runs₁ asked₁ steps₁ (front ++ group_marks (trees (take i cs))) → Adds terms runs₁ asked₁ steps₁ runs₂ asked₂ steps₂ (clause_marks c.0 (tree_of c.1))
-    → Adds terms runs₀ asked₀ steps₀ runs₂ asked₂ steps₂ (front ++ group_marks (trees (take (i + 1) cs)))
-clause_added {terms} {runs₀} {runs₁} {runs₂} {asked₀} {asked₁} {asked₂} {steps₀} {steps₁} {steps₂} front cs i c lt is f g =
-    subst (Adds terms runs₀ asked₀ steps₀ runs₂ asked₂ steps₂)
+pub clause_added : {terms : List KeyValue} {runs₀ runs₁ runs₂ : List (List ℕ)} {queries₀ queries₁ queries₂ : List Query} {steps₀ steps₁ steps₂ : List Step} (front : List (Mark KeyValue)) (cs : List (Occur × Query)) (i : ℕ) (c : Occur × Query) → i < length cs → c ≡ get_or cs i c
+    → Adds terms runs₀ queries₀ steps₀ runs₁ queries₁ steps₁ (front ++ group_marks (trees (take i cs))) → Adds terms runs₁ queries₁ steps₁ runs₂ queries₂ steps₂ (clause_marks c.0 (tree_of c.1))
+    → Adds terms runs₀ queries₀ steps₀ runs₂ queries₂ steps₂ (front ++ group_marks (trees (take (i + 1) cs)))
+clause_added {terms} {runs₀} {runs₁} {runs₂} {queries₀} {queries₁} {queries₂} {steps₀} {steps₁} {steps₂} front cs i c lt is f g =
+    subst (Adds terms runs₀ queries₀ steps₀ runs₂ queries₂ steps₂)
     (append_assoc front (group_marks (trees (take i cs))) (clause_marks c.0 (tree_of c.1)) ∙ ap (λ ms. front ++ ms) (sym (next_marks cs i c lt is)))
-    (adds_then terms runs₀ runs₁ runs₂ asked₀ asked₁ asked₂ steps₀ steps₁ steps₂ (front ++ group_marks (trees (take i cs))) (clause_marks c.0 (tree_of c.1)) f g)
+    (adds_then terms runs₀ runs₁ runs₂ queries₀ queries₁ queries₂ steps₀ steps₁ steps₂ (front ++ group_marks (trees (take i cs))) (clause_marks c.0 (tree_of c.1)) f g)
 
 -- all clauses of a plan
-pub plan_added : {terms : List KeyValue} {runs new_runs : List (List ℕ)} {asked new_asked : List Query} {steps new : List Step} (query : Query) (v : Vec (Occur × Query) Global) (cs : List (Occur × Query)) (i : ℕ) → query ≡ Group v → cs ≡ v.items → length cs ≤ i
-    → Adds terms runs asked steps new_runs new_asked new (group_marks (trees (take i cs))) → Adds terms runs asked steps new_runs new_asked new (plan_of (tree_of query))
-plan_added {terms} {runs} {new_runs} {asked} {new_asked} {steps} {new} query v cs i group items le f =
-    subst (Adds terms runs asked steps new_runs new_asked new)
+pub plan_added : {terms : List KeyValue} {runs new_runs : List (List ℕ)} {queries new_queries : List Query} {steps new : List Step} (query : Query) (v : Vec (Occur × Query) Global) (cs : List (Occur × Query)) (i : ℕ) → query ≡ Group v → cs ≡ v.items → length cs ≤ i
+    → Adds terms runs queries steps new_runs new_queries new (group_marks (trees (take i cs))) → Adds terms runs queries steps new_runs new_queries new (plan_of (tree_of query))
+plan_added {terms} {runs} {new_runs} {queries} {new_queries} {steps} {new} query v cs i group items le f =
+    subst (Adds terms runs queries steps new_runs new_queries new)
     (all_marks cs i le ∙ ap (λ l. group_marks (trees l)) items ∙ sym (ap plan_of (ap tree_of group ∙ tree_of_group v))) f
 
 -- a group as a clause, where the last step is its end
-pub group_added : {terms : List KeyValue} {runs new_runs : List (List ℕ)} {asked new_asked : List Query} {steps most : List Step} (query : Query) (v : Vec (Occur × Query) Global) (cs : List (Occur × Query)) (i : ℕ) (occur : Occur) (new : List Step) → query ≡ Group v → cs ≡ v.items → length cs ≤ i
-    → Adds terms runs asked steps new_runs new_asked most (Open ∷ group_marks (trees (take i cs))) → new ≡ most ++ step.Close occur ∷ [] → Adds terms runs asked steps new_runs new_asked new (clause_marks occur (tree_of query))
-group_added {terms} {runs} {new_runs} {asked} {new_asked} {steps} {most} query v cs i occur new group items le f e =
-    subst (Adds terms runs asked steps new_runs new_asked new)
+pub group_added : {terms : List KeyValue} {runs new_runs : List (List ℕ)} {queries new_queries : List Query} {steps most : List Step} (query : Query) (v : Vec (Occur × Query) Global) (cs : List (Occur × Query)) (i : ℕ) (occur : Occur) (new : List Step) → query ≡ Group v → cs ≡ v.items → length cs ≤ i
+    → Adds terms runs queries steps new_runs new_queries most (Open ∷ group_marks (trees (take i cs))) → new ≡ most ++ step.Close occur ∷ [] → Adds terms runs queries steps new_runs new_queries new (clause_marks occur (tree_of query))
+group_added {terms} {runs} {new_runs} {queries} {new_queries} {steps} {most} query v cs i occur new group items le f e =
+    subst (Adds terms runs queries steps new_runs new_queries new)
     (ap (λ ms. Open ∷ ms ++ Close occur ∷ []) (all_marks cs i le ∙ ap (λ l. group_marks (trees l)) items) ∙ sym (ap (clause_marks occur) (ap tree_of group ∙ tree_of_group v)))
-    (adds_then terms runs new_runs new_runs asked new_asked new_asked steps most new (Open ∷ group_marks (trees (take i cs))) (Close occur ∷ []) f
-    (adds_step terms new_runs new_asked most new (step.Close occur) (Close occur) e tt refl))
+    (adds_then terms runs new_runs new_runs queries new_queries new_queries steps most new (Open ∷ group_marks (trees (take i cs))) (Close occur ∷ []) f
+    (adds_step terms new_runs new_queries most new (step.Close occur) (Close occur) e tt refl))

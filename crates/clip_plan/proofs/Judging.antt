@@ -182,59 +182,59 @@ pair_fails fields first second fails = lacks fields (first ∷ second ∷ []) (a
 
 -- ---- steps
 
-module _ (runs : List (List ℕ)) (asked : List Tree) (terms : List KeyValue) where
-  pub decoded_step : (steps : List Step) → decoded terms (map (mark_of runs asked) steps) ≡ map (meant runs asked terms) steps
+module _ (runs : List (List ℕ)) (queries : List Tree) (terms : List KeyValue) where
+  pub decoded_step : (steps : List Step) → decoded terms (map (mark_of runs queries) steps) ≡ map (meant runs queries terms) steps
   decoded_step [] = refl
-  decoded_step (step ∷ steps) = ap (λ marks. meant runs asked terms step ∷ marks) (decoded_step steps)
+  decoded_step (step ∷ steps) = ap (λ marks. meant runs queries terms step ∷ marks) (decoded_step steps)
 
   -- a plan among plans
-  pub decoded_at : (plans : List (List Step)) (place : ℕ) → decoded terms (unwrap_or (slice_get (map (map (mark_of runs asked)) plans) place) []) ≡ map (meant runs asked terms) (unwrap_or (slice_get plans place) [])
+  pub decoded_at : (plans : List (List Step)) (place : ℕ) → decoded terms (unwrap_or (slice_get (map (map (mark_of runs queries)) plans) place) []) ≡ map (meant runs queries terms) (unwrap_or (slice_get plans place) [])
   decoded_at [] place = refl
   decoded_at (steps ∷ plans) zero = decoded_step steps
   decoded_at (steps ∷ plans) (suc place) = decoded_at plans place
 
-  pub plan_of_steps : (marks : List (List (Mark ℕ))) (plans : List (List Step)) (place : ℕ) (steps : List Step) (tree : Tree) → map (map (mark_of runs asked)) plans ≡ marks → steps ≡ unwrap_or (slice_get plans place) []
-      → decoded terms (unwrap_or (slice_get marks place) []) ≡ plan_of tree → map (meant runs asked terms) steps ≡ plan_of tree
+  pub plan_of_steps : (marks : List (List (Mark ℕ))) (plans : List (List Step)) (place : ℕ) (steps : List Step) (tree : Tree) → map (map (mark_of runs queries)) plans ≡ marks → steps ≡ unwrap_or (slice_get plans place) []
+      → decoded terms (unwrap_or (slice_get marks place) []) ≡ plan_of tree → map (meant runs queries terms) steps ≡ plan_of tree
   plan_of_steps marks plans place steps tree seen at plan =
-      ap (map (meant runs asked terms)) at ∙ sym (decoded_at plans place) ∙ ap (λ ms. decoded terms (unwrap_or (slice_get ms place) [])) seen ∙ plan
+      ap (map (meant runs queries terms)) at ∙ sym (decoded_at plans place) ∙ ap (λ ms. decoded terms (unwrap_or (slice_get ms place) [])) seen ∙ plan
 
   -- what is answered by its steps is answered by its marks
-  pub judged_at : {E : Type 0} (fields : Fields) (marks : List (List (Mark ℕ))) (plans : List (List Step)) (place : ℕ) (steps : List Step) (r : Result Bool E) → map (map (mark_of runs asked)) plans ≡ marks → steps ≡ unwrap_or (slice_get plans place) []
-      → IfOk r (λ held. (tree : Tree) → map (meant runs asked terms) steps ≡ plan_of tree → held ≡ holds tree fields)
+  pub judged_at : {E : Type 0} (fields : Fields) (marks : List (List (Mark ℕ))) (plans : List (List Step)) (place : ℕ) (steps : List Step) (r : Result Bool E) → map (map (mark_of runs queries)) plans ≡ marks → steps ≡ unwrap_or (slice_get plans place) []
+      → IfOk r (λ held. (tree : Tree) → map (meant runs queries terms) steps ≡ plan_of tree → held ≡ holds tree fields)
       → IfOk r (λ held. (tree : Tree) → decoded terms (unwrap_or (slice_get marks place) []) ≡ plan_of tree → held ≡ holds tree fields)
   judged_at fields marks plans place steps (Err e) seen at h = tt
   judged_at fields marks plans place steps (Ok held) seen at h =
       λ tree plan. h tree (plan_of_steps marks plans place steps tree seen at plan)
 
-  first_ruled_out : (fields : Fields) (tree : Tree) (steps : List Step) (s : Step) (asks : Asks KeyValue) → 0 < length steps → s ≡ get_or steps 0 s → meant runs asked terms s ≡ Leaf Must asks → leaf_holds fields asks ≡ false
-      → map (meant runs asked terms) steps ≡ plan_of tree → holds tree fields ≡ false
+  first_ruled_out : (fields : Fields) (tree : Tree) (steps : List Step) (s : Step) (asks : Asks KeyValue) → 0 < length steps → s ≡ get_or steps 0 s → meant runs queries terms s ≡ Leaf Must asks → leaf_holds fields asks ≡ false
+      → map (meant runs queries terms) steps ≡ plan_of tree → holds tree fields ≡ false
   first_ruled_out fields tree [] s asks inside is mark fails plan = absurd (omega arith)
   first_ruled_out fields tree (x ∷ steps) s asks inside is mark fails plan =
-      first_fails fields tree asks (map (meant runs asked terms) steps) fails (ap (λ m. m ∷ map (meant runs asked terms) steps) (sym mark ∙ ap (meant runs asked terms) is) ∙ plan)
+      first_fails fields tree asks (map (meant runs queries terms) steps) fails (ap (λ m. m ∷ map (meant runs queries terms) steps) (sym mark ∙ ap (meant runs queries terms) is) ∙ plan)
 
   -- the first step is a word that must be there and is not
   pub term_ruled_out : (fields : Fields) (tree : Tree) (steps : List Step) (s : Step) (occur : Occur) (n : ℕ) → 0 < length steps → s ≡ get_or steps 0 s → s ≡ step.Term occur n → occur ≡ Must
-      → has_key fields (term_at terms n) ≡ false → map (meant runs asked terms) steps ≡ plan_of tree → holds tree fields ≡ false
+      → has_key fields (term_at terms n) ≡ false → map (meant runs queries terms) steps ≡ plan_of tree → holds tree fields ≡ false
   term_ruled_out fields tree steps s occur n inside is term must =
-      first_ruled_out fields tree steps s (Has (term_at terms n)) inside is (ap (meant runs asked terms) (term ∙ ap (λ o. step.Term o n) must))
+      first_ruled_out fields tree steps s (Has (term_at terms n)) inside is (ap (meant runs queries terms) (term ∙ ap (λ o. step.Term o n) must))
 
   -- it is a pair that must be there, of which a word is not
   pub pair_ruled_out : (fields : Fields) (tree : Tree) (steps : List Step) (s : Step) (occur : Occur) (m n : ℕ) → 0 < length steps → s ≡ get_or steps 0 s → s ≡ step.Pair occur m n → occur ≡ Must
-      → (has_key fields (term_at terms m) && has_key fields (term_at terms n)) ≡ false → map (meant runs asked terms) steps ≡ plan_of tree → holds tree fields ≡ false
+      → (has_key fields (term_at terms m) && has_key fields (term_at terms n)) ≡ false → map (meant runs queries terms) steps ≡ plan_of tree → holds tree fields ≡ false
   pair_ruled_out fields tree steps s occur m n inside is pair must fails =
-      first_ruled_out fields tree steps s (Run (term_at terms m ∷ term_at terms n ∷ [])) inside is (ap (meant runs asked terms) (pair ∙ ap (λ o. step.Pair o m n) must)) (pair_fails fields (term_at terms m) (term_at terms n) fails)
+      first_ruled_out fields tree steps s (Run (term_at terms m ∷ term_at terms n ∷ [])) inside is (ap (meant runs queries terms) (pair ∙ ap (λ o. step.Pair o m n) must)) (pair_fails fields (term_at terms m) (term_at terms n) fails)
 
   -- one step of those that are left
   pub one_step : (fields : Fields) (steps : List Step) (i : ℕ) (d : Step) (top next : Tally) (around left : List Tally) (held : Bool) → i < length steps
-      → held ≡ mark_holds fields (meant runs asked terms (get_or steps i d)) → (next, left) ≡ marked (meant runs asked terms (get_or steps i d)) held top around
-      → stepped_all fields (map (meant runs asked terms) (drop (i + 1) steps)) (next, left) ≡ stepped_all fields (map (meant runs asked terms) (drop i steps)) (top, around)
+      → held ≡ mark_holds fields (meant runs queries terms (get_or steps i d)) → (next, left) ≡ marked (meant runs queries terms (get_or steps i d)) held top around
+      → stepped_all fields (map (meant runs queries terms) (drop (i + 1) steps)) (next, left) ≡ stepped_all fields (map (meant runs queries terms) (drop i steps)) (top, around)
   one_step fields steps i d top next around left held inside asks moved =
-      ap (stepped_all fields (map (meant runs asked terms) (drop (i + 1) steps))) (moved ∙ ap (λ b. marked (meant runs asked terms (get_or steps i d)) b top around) asks)
-      ∙ ap (λ ss. stepped_all fields (map (meant runs asked terms) ss) (top, around)) (sym (drop_more steps i d inside))
+      ap (stepped_all fields (map (meant runs queries terms) (drop (i + 1) steps))) (moved ∙ ap (λ b. marked (meant runs queries terms (get_or steps i d)) b top around) asks)
+      ∙ ap (λ ss. stepped_all fields (map (meant runs queries terms) ss) (top, around)) (sym (drop_more steps i d inside))
 
   -- no step is left
-  pub no_step : (fields : Fields) (steps : List Step) (i : ℕ) (groups : Groups) → length steps ≤ i → groups ≡ stepped_all fields (map (meant runs asked terms) (drop i steps)) groups
-  no_step fields steps i groups all = ap (λ ss. stepped_all fields (map (meant runs asked terms) ss) groups) (sym (drop_all i steps all))
+  pub no_step : (fields : Fields) (steps : List Step) (i : ℕ) (groups : Groups) → length steps ≤ i → groups ≡ stepped_all fields (map (meant runs queries terms) (drop i steps)) groups
+  no_step fields steps i groups all = ap (λ ss. stepped_all fields (map (meant runs queries terms) ss) groups) (sym (drop_all i steps all))
 
 -- ---- the stack
 

@@ -66,25 +66,26 @@ impl Tally {
 }
 
 /// Whether the query of a place holds; past the last one it does.
-fn asked_holds(asked: &[Query], place: usize, reading: &Reading) -> bool
-    ensures { result ≡ holds (unwrap_or (slice_get (map tree_of asked.now) place) Tree.All) reading.now.article.fields }
+fn query_holds(queries: &[Query], place: usize, reading: &Reading) -> bool
+    ensures { result
+        ≡ holds (unwrap_or (slice_get (map tree_of queries.now) place) Tree.All) reading.now.article.fields }
 {
-    match asked.get(place) {
+    match queries.get(place) {
         Some(query) => holds(query, reading.article()),
         None => true,
     }
 }
 
 /// Whether what a leaf asks is so; of a step that is no leaf it is.
-fn step_holds(runs: &PackedLists<u32>, asked: &[Query], step: Step, reading: &Reading) -> bool
+fn step_holds(runs: &PackedLists<u32>, queries: &[Query], step: Step, reading: &Reading) -> bool
     ensures { result ≡ mark_holds reading.now.article.fields
-        (meant runs.now (map tree_of asked.now) reading.now.terms step) }
+        (meant runs.now (map tree_of queries.now) reading.now.terms step) }
 {
     match step {
         Step::Term(_, number) => reading.has(number),
         Step::Pair(_, first, second) => reading.has_run(&[first, second]),
         Step::Phrase(_, place) => reading.has_run(runs.get(place as usize)),
-        Step::Asked(_, place) => asked_holds(asked, place as usize, reading),
+        Step::Query(_, place) => query_holds(queries, place as usize, reading),
         Step::Open | Step::Close(_) => true,
     }
 }
@@ -97,8 +98,8 @@ fn tally_after(
     top: Tally,
     stack: &mut Vec<Tally>,
 ) -> Result<Tally, NoMemory>
-    ensures { IfOk result (λ next. (runs : List (List ℕ)) (asked : List Tree) (terms : List KeyValue)
-        → (next, reverse stack.new.items) ≡ marked (meant runs asked terms step) held top (reverse stack.old.items)) }
+    ensures { IfOk result (λ next. (runs : List (List ℕ)) (queries : List Tree) (terms : List KeyValue)
+        → (next, reverse stack.new.items) ≡ marked (meant runs queries terms step) held top (reverse stack.old.items)) }
 {
     match step {
         Step::Open => {
@@ -112,7 +113,7 @@ fn tally_after(
         Step::Term(occur, _)
         | Step::Pair(occur, _, _)
         | Step::Phrase(occur, _)
-        | Step::Asked(occur, _) => Ok(top.counted(occur, held)),
+        | Step::Query(occur, _) => Ok(top.counted(occur, held)),
     }
 }
 
@@ -120,18 +121,18 @@ fn tally_after(
 fn holds_by(
     steps: &[Step],
     runs: &PackedLists<u32>,
-    asked: &[Query],
+    queries: &[Query],
     reading: &Reading,
     stack: &mut Vec<Tally>,
 ) -> Result<bool, NoMemory>
     ensures { IfOk result (λ held. (tree : Tree)
-        → map (meant runs.now (map tree_of asked.now) reading.now.terms) steps.now ≡ plan_of tree
+        → map (meant runs.now (map tree_of queries.now) reading.now.terms) steps.now ≡ plan_of tree
         → held ≡ holds tree reading.now.article.fields) }
 {
     let mut top = Tally::new();
     stack.clear();
     for step in steps {
-        let held = step_holds(runs, asked, *step, reading);
+        let held = step_holds(runs, queries, *step, reading);
         top = tally_after(*step, held, top, stack)?;
         if !top.may_hold && stack.is_empty() {
             return Ok(false);
@@ -143,8 +144,8 @@ fn holds_by(
 /// Whether the query of these steps may hold of the article that is read, by the words of its first clause, if that is
 /// one that must hold.
 fn may_hold_by(steps: &[Step], reading: &Reading) -> bool
-    ensures { (runs : List (List ℕ)) (asked : List Tree) (tree : Tree)
-        → map (meant runs asked reading.now.terms) steps.now ≡ plan_of tree
+    ensures { (runs : List (List ℕ)) (queries : List Tree) (tree : Tree)
+        → map (meant runs queries reading.now.terms) steps.now ≡ plan_of tree
         → result ≡ false → holds tree reading.now.article.fields ≡ false }
 {
     match steps.first() {
@@ -184,7 +185,7 @@ impl Plans {
         holds_by(
             self.steps.get(place),
             &self.runs,
-            &self.asked,
+            &self.queries,
             reading,
             stack,
         )

@@ -27,7 +27,7 @@ const MOST_PLACE: usize = 4_294_967_295;
 pub struct Plans {
     pub(crate) steps: PackedLists<Step>,
     pub(crate) runs: PackedLists<u32>,
-    pub(crate) asked: Vec<Query>,
+    pub(crate) queries: Vec<Query>,
 }
 
 impl Model for Plans {
@@ -119,8 +119,8 @@ fn add_phrase(
 ) -> Result<(), NoMemory>
     requires { IsTrue (are_terms terms.now (map (Word (arc_str_bytes field.now)) (map arc_str_bytes words.now))) }
     ensures long { length runs.old ≤ length runs.new }
-    ensures added { OnOk result ((asked : List Query) → Adds terms.now runs.old asked steps.old.items
-        runs.new asked steps.new.items (Leaf occur
+    ensures added { OnOk result ((queries : List Query) → Adds terms.now runs.old queries steps.old.items
+        runs.new queries steps.new.items (Leaf occur
         (Run (map (Word (arc_str_bytes field.now)) (map arc_str_bytes words.now))) ∷ [])) }
 {
     let step = match words {
@@ -135,21 +135,21 @@ fn add_phrase(
     Ok(())
 }
 
-/// Adds a query that is asked as it is, as a clause.
-pub(crate) fn add_asked(
+/// Adds a query that is kept as it is, as a clause.
+pub(crate) fn add_query(
     occur: Occur,
     query: Query,
-    asked: &mut Vec<Query>,
+    queries: &mut Vec<Query>,
     steps: &mut Vec<Step>,
 ) -> Result<(), NoMemory>
-    ensures long { length asked.old.items ≤ length asked.new.items }
+    ensures long { length queries.old.items ≤ length queries.new.items }
     ensures added { OnOk result ((terms : List KeyValue) (runs : List (List ℕ))
-        → Adds terms runs asked.old.items steps.old.items runs asked.new.items steps.new.items
+        → Adds terms runs queries.old.items steps.old.items runs queries.new.items steps.new.items
         (Leaf occur (Is (tree_of query)) ∷ [])) }
 {
-    let place = kept_place(asked.len())?;
-    asked.push(query)?;
-    steps.push(Step::Asked(occur, place))?;
+    let place = kept_place(queries.len())?;
+    queries.push(query)?;
+    steps.push(Step::Query(occur, place))?;
     Ok(())
 }
 
@@ -160,15 +160,15 @@ fn add_leaf(
     occur: Occur,
     query: &Query,
     runs: &mut PackedLists<u32>,
-    asked: &mut Vec<Query>,
+    queries: &mut Vec<Query>,
     steps: &mut Vec<Step>,
 ) -> Result<(), NoMemory>
     requires leaf { IsNoGroup query.now }
     requires words { IsTrue (are_terms terms.now (word_keys (tree_of query.now))) }
     ensures runs { length runs.old ≤ length runs.new }
-    ensures asked { length asked.old.items ≤ length asked.new.items }
-    ensures added { OnOk result (Adds terms.now runs.old asked.old.items steps.old.items
-        runs.new asked.new.items steps.new.items (clause_marks occur (tree_of query.now))) }
+    ensures queries { length queries.old.items ≤ length queries.new.items }
+    ensures added { OnOk result (Adds terms.now runs.old queries.old.items steps.old.items
+        runs.new queries.new.items steps.new.items (clause_marks occur (tree_of query.now))) }
 {
     match query {
         Query::Term { field, word } => {
@@ -179,14 +179,14 @@ fn add_leaf(
             add_phrase(alloc, terms, occur, field, words, runs, steps)
         }
         Query::Prefix { field: _, front: _ } => {
-            add_asked(occur, copied(alloc, query)?, asked, steps)
+            add_query(occur, copied(alloc, query)?, queries, steps)
         }
         Query::Span {
             field: _,
             low: _,
             high: _,
-        } => add_asked(occur, copied(alloc, query)?, asked, steps),
-        Query::All => add_asked(occur, Query::All, asked, steps),
+        } => add_query(occur, copied(alloc, query)?, queries, steps),
+        Query::All => add_query(occur, Query::All, queries, steps),
         Query::Group(_) => Ok(()),
     }
 }
@@ -198,25 +198,25 @@ fn add_clause(
     occur: Occur,
     query: &Query,
     runs: &mut PackedLists<u32>,
-    asked: &mut Vec<Query>,
+    queries: &mut Vec<Query>,
     steps: &mut Vec<Step>,
 ) -> Result<(), NoMemory>
     requires { IsTrue (are_terms terms.now (word_keys (tree_of query.now))) }
     ensures runs { length runs.old ≤ length runs.new }
-    ensures asked { length asked.old.items ≤ length asked.new.items }
-    ensures added { OnOk result (Adds terms.now runs.old asked.old.items steps.old.items
-        runs.new asked.new.items steps.new.items (clause_marks occur (tree_of query.now))) }
+    ensures queries { length queries.old.items ≤ length queries.new.items }
+    ensures added { OnOk result (Adds terms.now runs.old queries.old.items steps.old.items
+        runs.new queries.new.items steps.new.items (clause_marks occur (tree_of query.now))) }
 {
     match query {
         Query::Group(clauses) => {
             steps.push(Step::Open)?;
             for (occur, child) in clauses {
-                add_clause(alloc, terms, *occur, child, runs, asked, steps)?;
+                add_clause(alloc, terms, *occur, child, runs, queries, steps)?;
             }
             steps.push(Step::Close(occur))?;
             Ok(())
         }
-        _ => add_leaf(alloc, terms, occur, query, runs, asked, steps),
+        _ => add_leaf(alloc, terms, occur, query, runs, queries, steps),
     }
 }
 
@@ -226,23 +226,23 @@ fn add_plan(
     terms: &Terms,
     query: &Query,
     runs: &mut PackedLists<u32>,
-    asked: &mut Vec<Query>,
+    queries: &mut Vec<Query>,
     steps: &mut Vec<Step>,
 ) -> Result<(), NoMemory>
     requires { IsTrue (are_terms terms.now (word_keys (tree_of query.now))) }
     ensures runs { length runs.old ≤ length runs.new }
-    ensures asked { length asked.old.items ≤ length asked.new.items }
-    ensures added { OnOk result (Adds terms.now runs.old asked.old.items steps.old.items
-        runs.new asked.new.items steps.new.items (plan_of (tree_of query.now))) }
+    ensures queries { length queries.old.items ≤ length queries.new.items }
+    ensures added { OnOk result (Adds terms.now runs.old queries.old.items steps.old.items
+        runs.new queries.new.items steps.new.items (plan_of (tree_of query.now))) }
 {
     match query {
         Query::Group(clauses) => {
             for (occur, child) in clauses {
-                add_clause(alloc, terms, *occur, child, runs, asked, steps)?;
+                add_clause(alloc, terms, *occur, child, runs, queries, steps)?;
             }
             Ok(())
         }
-        _ => add_leaf(alloc, terms, Occur::Must, query, runs, asked, steps),
+        _ => add_leaf(alloc, terms, Occur::Must, query, runs, queries, steps),
     }
 }
 
@@ -254,7 +254,7 @@ impl Plans {
         Plans {
             steps: PackedLists::new(alloc),
             runs: PackedLists::new(alloc),
-            asked: Vec::new(alloc),
+            queries: Vec::new(alloc),
         }
     }
 
@@ -281,7 +281,7 @@ impl Plans {
             terms,
             query,
             &mut self.runs,
-            &mut self.asked,
+            &mut self.queries,
             &mut steps,
         )?;
         self.steps.push(&steps)?;

@@ -6,7 +6,7 @@ ghost use Rattle.clip_plan.specs.Plan.{decoded, mark_names, names, renumbered, r
 ghost use Rattle.clip_plan.specs.Steps.Plans.{Adds, mark_of};
 
 use crate::copy::copied;
-use crate::plans::{Plans, add_asked, kept_place};
+use crate::plans::{Plans, add_query, kept_place};
 use crate::step::Step;
 use clip_grammar::query::Query;
 use clip_pieces::PackedLists;
@@ -15,8 +15,8 @@ use std::alloc::Global;
 
 /// Adds the numbers that a step names, in order.
 fn add_named(runs: &PackedLists<u32>, step: Step, numbers: &mut Vec<u32>) -> Result<(), NoMemory>
-    ensures { OnOk result ((asked : List Tree) → numbers.new.items ≡ numbers.old.items
-        ++ mark_names (mark_of runs.now asked step)) }
+    ensures { OnOk result ((queries : List Tree) → numbers.new.items ≡ numbers.old.items
+        ++ mark_names (mark_of runs.now queries step)) }
 {
     match step {
         Step::Term(_, number) => {
@@ -31,7 +31,7 @@ fn add_named(runs: &PackedLists<u32>, step: Step, numbers: &mut Vec<u32>) -> Res
             numbers.extend_from_slice(runs.get(place as usize))?;
             Ok(())
         }
-        Step::Asked(_, _) | Step::Open | Step::Close(_) => Ok(()),
+        Step::Query(_, _) | Step::Open | Step::Close(_) => Ok(()),
     }
 }
 
@@ -41,8 +41,8 @@ fn add_all_named(
     steps: &[Step],
     numbers: &mut Vec<u32>,
 ) -> Result<(), NoMemory>
-    ensures { OnOk result ((asked : List Tree) → numbers.new.items ≡ numbers.old.items
-        ++ names (map (mark_of runs.now asked) steps.now)) }
+    ensures { OnOk result ((queries : List Tree) → numbers.new.items ≡ numbers.old.items
+        ++ names (map (mark_of runs.now queries) steps.now)) }
 {
     for step in steps {
         add_named(runs, *step, numbers)?;
@@ -73,10 +73,10 @@ fn renumbered_run(alloc: Global, run: &[u32], numbers: &[Option<u32>]) -> Result
 }
 
 /// A copy of the query of a place; past the last one it is `All`.
-fn asked_at(alloc: Global, asked: &[Query], place: usize) -> Result<Query, NoMemory>
-    ensures { IfOk result (λ copy. tree_of copy ≡ unwrap_or (slice_get (map tree_of asked.now) place) Tree.All) }
+fn query_at(alloc: Global, queries: &[Query], place: usize) -> Result<Query, NoMemory>
+    ensures { IfOk result (λ copy. tree_of copy ≡ unwrap_or (slice_get (map tree_of queries.now) place) Tree.All) }
 {
-    match asked.get(place) {
+    match queries.get(place) {
         Some(query) => copied(alloc, query),
         None => Ok(Query::All),
     }
@@ -86,7 +86,7 @@ fn asked_at(alloc: Global, asked: &[Query], place: usize) -> Result<Query, NoMem
 #[derive(Drop)]
 struct Source<'a> {
     runs: &'a PackedLists<u32>,
-    asked: &'a [Query],
+    queries: &'a [Query],
     numbers: &'a [Option<u32>],
 }
 
@@ -97,15 +97,15 @@ impl<'a> Source<'a> {
         alloc: Global,
         step: Step,
         runs: &mut PackedLists<u32>,
-        asked: &mut Vec<Query>,
+        queries: &mut Vec<Query>,
         steps: &mut Vec<Step>,
     ) -> Result<(), NoMemory>
         ensures runs { length runs.old ≤ length runs.new }
-        ensures asked { length asked.old.items ≤ length asked.new.items }
+        ensures queries { length queries.old.items ≤ length queries.new.items }
         ensures added { OnOk result ((terms : List KeyValue)
-            → Adds terms runs.old asked.old.items steps.old.items runs.new asked.new.items steps.new.items
+            → Adds terms runs.old queries.old.items steps.old.items runs.new queries.new.items steps.new.items
             (decoded terms (renamed self.now.numbers.now
-            (mark_of self.now.runs.now (map tree_of self.now.asked.now) step ∷ [])))) }
+            (mark_of self.now.runs.now (map tree_of self.now.queries.now) step ∷ [])))) }
     {
         match step {
             Step::Term(occur, number) => {
@@ -125,9 +125,9 @@ impl<'a> Source<'a> {
                 steps.push(Step::Phrase(occur, new))?;
                 Ok(())
             }
-            Step::Asked(occur, place) => {
-                let query = asked_at(alloc, self.asked, place as usize)?;
-                add_asked(occur, query, asked, steps)
+            Step::Query(occur, place) => {
+                let query = query_at(alloc, self.queries, place as usize)?;
+                add_query(occur, query, queries, steps)
             }
             Step::Open => {
                 steps.push(Step::Open)?;
@@ -146,18 +146,18 @@ impl<'a> Source<'a> {
         alloc: Global,
         from: &[Step],
         runs: &mut PackedLists<u32>,
-        asked: &mut Vec<Query>,
+        queries: &mut Vec<Query>,
         steps: &mut Vec<Step>,
     ) -> Result<(), NoMemory>
         ensures runs { length runs.old ≤ length runs.new }
-        ensures asked { length asked.old.items ≤ length asked.new.items }
+        ensures queries { length queries.old.items ≤ length queries.new.items }
         ensures added { OnOk result ((terms : List KeyValue)
-            → Adds terms runs.old asked.old.items steps.old.items runs.new asked.new.items steps.new.items
+            → Adds terms runs.old queries.old.items steps.old.items runs.new queries.new.items steps.new.items
             (decoded terms (renamed self.now.numbers.now
-            (map (mark_of self.now.runs.now (map tree_of self.now.asked.now)) from.now)))) }
+            (map (mark_of self.now.runs.now (map tree_of self.now.queries.now)) from.now)))) }
     {
         for step in from {
-            self.add_step(alloc, *step, runs, asked, steps)?;
+            self.add_step(alloc, *step, runs, queries, steps)?;
         }
         Ok(())
     }
@@ -193,12 +193,12 @@ impl Plans {
     {
         let source = Source {
             runs: &other.runs,
-            asked: &other.asked,
+            queries: &other.queries,
             numbers,
         };
         let mut steps = Vec::new(alloc);
         let from = other.steps.get(place);
-        source.add_steps(alloc, from, &mut self.runs, &mut self.asked, &mut steps)?;
+        source.add_steps(alloc, from, &mut self.runs, &mut self.queries, &mut steps)?;
         self.steps.push(&steps)?;
         Ok(())
     }

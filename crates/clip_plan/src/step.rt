@@ -11,7 +11,7 @@ pub(crate) enum Step {
     /// The words of the run of this place stand next to each other in a field, in order.
     Phrase(Occur, u32),
     /// The query of this place holds.
-    Asked(Occur, u32),
+    Query(Occur, u32),
     /// A group begins.
     Open,
     /// The group that was begun last ends, and is a clause of the one around it.

@@ -43,8 +43,8 @@ mark_holds fields Open = true
 mark_holds fields (Close occur) = true
 
 -- the mark that a step is, over keys
-abbrev pub meant : (runs : List (List ℕ)) (asked : List Tree) (terms : List KeyValue) → Step → Mark KeyValue
-meant runs asked terms step = named (term_at terms) (mark_of runs asked step)
+abbrev pub meant : (runs : List (List ℕ)) (queries : List Tree) (terms : List KeyValue) → Step → Mark KeyValue
+meant runs queries terms step = named (term_at terms) (mark_of runs queries step)
 
 -- ---- groups that are open
 

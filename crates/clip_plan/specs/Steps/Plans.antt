@@ -14,29 +14,29 @@ use Rattle.clip_plan.specs.declared.step.Step.TheVariants as step
 use Rattle.clip_plan.specs.declared.plans.Plans.TheInside.{Inside}
 
 -- a step, with the run or the query of its place
-abbrev pub mark_of : (runs : List (List ℕ)) (asked : List Tree) → Step → Mark ℕ
-mark_of runs asked (step.Term occur n) = Leaf occur (Has n)
-mark_of runs asked (step.Pair occur m n) = Leaf occur (Run (m ∷ n ∷ []))
-mark_of runs asked (step.Phrase occur place) = Leaf occur (Run (unwrap_or (slice_get runs place) []))
-mark_of runs asked (step.Asked occur place) = Leaf occur (Is (unwrap_or (slice_get asked place) Tree.All))
-mark_of runs asked step.Open = Open
-mark_of runs asked (step.Close occur) = Close occur
+abbrev pub mark_of : (runs : List (List ℕ)) (queries : List Tree) → Step → Mark ℕ
+mark_of runs queries (step.Term occur n) = Leaf occur (Has n)
+mark_of runs queries (step.Pair occur m n) = Leaf occur (Run (m ∷ n ∷ []))
+mark_of runs queries (step.Phrase occur place) = Leaf occur (Run (unwrap_or (slice_get runs place) []))
+mark_of runs queries (step.Query occur place) = Leaf occur (Is (unwrap_or (slice_get queries place) Tree.All))
+mark_of runs queries step.Open = Open
+mark_of runs queries (step.Close occur) = Close occur
 
 abbrev pub marks_of : Inside → List (List (Mark ℕ))
-marks_of plans = map (map (mark_of plans.runs (map tree_of plans.asked.items))) plans.steps
+marks_of plans = map (map (mark_of plans.runs (map tree_of plans.queries.items))) plans.steps
 
 -- a step's run or query is there, of this many
-abbrev pub HasPlace : (runs asked : ℕ) → Step → Type 0
-HasPlace runs asked (step.Term occur n) = Unit {0}
-HasPlace runs asked (step.Pair occur m n) = Unit {0}
-HasPlace runs asked (step.Phrase occur place) = place < runs
-HasPlace runs asked (step.Asked occur place) = place < asked
-HasPlace runs asked step.Open = Unit {0}
-HasPlace runs asked (step.Close occur) = Unit {0}
+abbrev pub HasPlace : (runs queries : ℕ) → Step → Type 0
+HasPlace runs queries (step.Term occur n) = Unit {0}
+HasPlace runs queries (step.Pair occur m n) = Unit {0}
+HasPlace runs queries (step.Phrase occur place) = place < runs
+HasPlace runs queries (step.Query occur place) = place < queries
+HasPlace runs queries step.Open = Unit {0}
+HasPlace runs queries (step.Close occur) = Unit {0}
 
 -- each step of each plan has its run or query
 abbrev pub HavePlaces : Inside → Type 0
-HavePlaces plans = All (All (HasPlace (length plans.runs) (length plans.asked.items))) plans.steps
+HavePlaces plans = All (All (HasPlace (length plans.runs) (length plans.queries.items))) plans.steps
 
 -- ---- adding
 
@@ -46,19 +46,19 @@ pub record Grows {A : Type 0} (old new : List A) : Type 0 where
   pub is : new ≡ old ++ more
 
 -- Each step has its run or query, and decoded the steps are these marks.
-pub record StandFor (terms : List KeyValue) (runs : List (List ℕ)) (asked : List Query) (steps : List Step)
+pub record StandFor (terms : List KeyValue) (runs : List (List ℕ)) (queries : List Query) (steps : List Step)
     (marks : List (Mark KeyValue)) : Type 0 where
-  pub places : All (HasPlace (length runs) (length asked)) steps
-  pub decode : decoded terms (map (mark_of runs (map tree_of asked)) steps) ≡ marks
+  pub places : All (HasPlace (length runs) (length queries)) steps
+  pub decode : decoded terms (map (mark_of runs (map tree_of queries)) steps) ≡ marks
 
 -- Behind the steps stand those of these marks, and of the runs and the queries there may be more.
-pub record Adds (terms : List KeyValue) (runs : List (List ℕ)) (asked : List Query) (steps : List Step)
-    (new_runs : List (List ℕ)) (new_asked : List Query) (new_steps : List Step) (more : List (Mark KeyValue)) : Type 0
+pub record Adds (terms : List KeyValue) (runs : List (List ℕ)) (queries : List Query) (steps : List Step)
+    (new_runs : List (List ℕ)) (new_queries : List Query) (new_steps : List Step) (more : List (Mark KeyValue)) : Type 0
   where
     pub runs_grow : Grows runs new_runs
-    pub asked_grow : Grows asked new_asked
-    pub stand : (marks : List (Mark KeyValue)) → StandFor terms runs asked steps marks
-        → StandFor terms new_runs new_asked new_steps (marks ++ more)
+    pub queries_grow : Grows queries new_queries
+    pub stand : (marks : List (Mark KeyValue)) → StandFor terms runs queries steps marks
+        → StandFor terms new_runs new_queries new_steps (marks ++ more)
 
 -- the query is no group
 abbrev pub IsNoGroup : Query → Type 0

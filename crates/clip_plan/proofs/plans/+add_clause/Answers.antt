@@ -7,7 +7,7 @@ use Rattle.clip_plan.proofs.Standing.{adds_step, as_long, longer}
 use Rattle.clip_plan.proofs.plans.+add_clause.Goals as goal
 
 pub loop-occur-init : goal.loop-occur-init
-loop-occur-init t c = adds_step c.args.terms.now c.args.runs.now c.args.asked.now.items c.args.steps.now.items _ step.Open Open c.in_ok-push-in-Group.ensures.items tt refl
+loop-occur-init t c = adds_step c.args.terms.now c.args.runs.now c.args.queries.now.items c.args.steps.now.items _ step.Open Open c.in_ok-push-in-Group.ensures.items tt refl
 
 pub add_clause-requires : goal.add_clause-requires
 add_clause-requires t c =
@@ -24,14 +24,14 @@ loop-occur-preserved t c =
 pub returns-in_err-add_clause-in-Group-clause-runs : goal.returns-in_err-add_clause-in-Group-clause-runs
 returns-in_err-add_clause-in-Group-clause-runs t c = as_long _ c.loop-occur.invariant.runs_grow c.add_clause.ensures.runs
 
-pub returns-in_err-add_clause-in-Group-clause-asked : goal.returns-in_err-add_clause-in-Group-clause-asked
-returns-in_err-add_clause-in-Group-clause-asked t c = as_long _ c.loop-occur.invariant.asked_grow c.add_clause.ensures.asked
+pub returns-in_err-add_clause-in-Group-clause-queries : goal.returns-in_err-add_clause-in-Group-clause-queries
+returns-in_err-add_clause-in-Group-clause-queries t c = as_long _ c.loop-occur.invariant.queries_grow c.add_clause.ensures.queries
 
 pub returns-in_ok-push-in-Group-2-clause-runs : goal.returns-in_ok-push-in-Group-2-clause-runs
 returns-in_ok-push-in-Group-2-clause-runs t c = longer c.loop-occur.invariant.runs_grow
 
-pub returns-in_ok-push-in-Group-2-clause-asked : goal.returns-in_ok-push-in-Group-2-clause-asked
-returns-in_ok-push-in-Group-2-clause-asked t c = longer c.loop-occur.invariant.asked_grow
+pub returns-in_ok-push-in-Group-2-clause-queries : goal.returns-in_ok-push-in-Group-2-clause-queries
+returns-in_ok-push-in-Group-2-clause-queries t c = longer c.loop-occur.invariant.queries_grow
 
 pub returns-in_ok-push-in-Group-2-clause-added : goal.returns-in_ok-push-in-Group-2-clause-added
 returns-in_ok-push-in-Group-2-clause-added t c =

@@ -9,4 +9,4 @@ abbrev pub decreases-add_clause : goal.decreases-add_clause
 decreases-add_clause l = nodes (tree_of l.query.now)
 
 abbrev pub invariant-loop-occur : goal.invariant-loop-occur
-invariant-loop-occur l = Adds l.terms l.fn.runs l.fn.asked.items l.fn.steps.items l.runs l.asked.items l.steps.items (Open ∷ group_marks (trees (take l.occur-index l.occur-items)))
+invariant-loop-occur l = Adds l.terms l.fn.runs l.fn.queries.items l.fn.steps.items l.runs l.queries.items l.steps.items (Open ∷ group_marks (trees (take l.occur-index l.occur-items)))

@@ -4,7 +4,7 @@ use Rattle.clip_plan.proofs.Standing.{adds_nothing, as_long, grows_not, longer}
 use Rattle.clip_plan.proofs.plans.add_plan.Goals as goal
 
 pub loop-occur-init : goal.loop-occur-init
-loop-occur-init c = adds_nothing c.args.terms.now c.args.runs.now c.args.runs.now c.args.asked.now.items c.args.asked.now.items c.args.steps.now.items (grows_not c.args.runs.now) (grows_not c.args.asked.now.items)
+loop-occur-init c = adds_nothing c.args.terms.now c.args.runs.now c.args.runs.now c.args.queries.now.items c.args.queries.now.items c.args.steps.now.items (grows_not c.args.runs.now) (grows_not c.args.queries.now.items)
 
 pub add_clause-requires : goal.add_clause-requires
 add_clause-requires c =
@@ -18,14 +18,14 @@ loop-occur-preserved c =
 pub returns-in_err-add_clause-in-Group-clause-runs : goal.returns-in_err-add_clause-in-Group-clause-runs
 returns-in_err-add_clause-in-Group-clause-runs c = as_long _ c.loop-occur.invariant.runs_grow c.add_clause.ensures.runs
 
-pub returns-in_err-add_clause-in-Group-clause-asked : goal.returns-in_err-add_clause-in-Group-clause-asked
-returns-in_err-add_clause-in-Group-clause-asked c = as_long _ c.loop-occur.invariant.asked_grow c.add_clause.ensures.asked
+pub returns-in_err-add_clause-in-Group-clause-queries : goal.returns-in_err-add_clause-in-Group-clause-queries
+returns-in_err-add_clause-in-Group-clause-queries c = as_long _ c.loop-occur.invariant.queries_grow c.add_clause.ensures.queries
 
 pub returns-after-loop-occur-clause-runs : goal.returns-after-loop-occur-clause-runs
 returns-after-loop-occur-clause-runs c = longer c.loop-occur.invariant.runs_grow
 
-pub returns-after-loop-occur-clause-asked : goal.returns-after-loop-occur-clause-asked
-returns-after-loop-occur-clause-asked c = longer c.loop-occur.invariant.asked_grow
+pub returns-after-loop-occur-clause-queries : goal.returns-after-loop-occur-clause-queries
+returns-after-loop-occur-clause-queries c = longer c.loop-occur.invariant.queries_grow
 
 pub returns-after-loop-occur-clause-added : goal.returns-after-loop-occur-clause-added
 returns-after-loop-occur-clause-added c =

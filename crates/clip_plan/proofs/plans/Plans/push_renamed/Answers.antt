@@ -12,7 +12,7 @@ invariant_of-self-2 c =
 
 pub returns : goal.returns
 returns c = λ terms.
-    let marks = map (mark_of c.other.inside.runs (map tree_of c.other.inside.asked.items)) in
+    let marks = map (mark_of c.other.inside.runs (map tree_of c.other.inside.queries.items)) in
     marks_pushed c.self.inside.steps c.push.new.self c.deref-2.result.now c.args.self.now c.new-steps.ensures.items (c.in_ok-add_steps.ensures.added terms) c.self.invariant c.deref-2.ensures.value c.in_ok-push.ensures.ok c.self.view_is
     ∙ ap (λ ms. map (decoded terms) c.args.self.now ++ decoded terms (renamed c.args.numbers.now ms) ∷ [])
     (ap (λ qs. map (mark_of c.other.inside.runs (map tree_of qs)) c.get-from.result.now) c.deref.ensures.value

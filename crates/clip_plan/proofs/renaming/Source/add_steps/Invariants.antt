@@ -8,8 +8,8 @@ use Rattle.clip_plan.proofs.renaming.Source.add_steps.Given as goal
 abbrev pub invariant-loop-step : goal.invariant-loop-step
 invariant-loop-step l = record {
   runs : length l.fn.runs ≤ length l.runs;
-  asked : length l.fn.asked.items ≤ length l.asked.items;
+  queries : length l.fn.queries.items ≤ length l.queries.items;
   added : (terms : List KeyValue)
-      → Adds terms l.fn.runs l.fn.asked.items l.fn.steps.items l.runs l.asked.items l.steps.items
-      (marks_renamed terms l.self.numbers.now l.self.runs.now (map tree_of l.self.asked.now) (take l.step-index l.from));
+      → Adds terms l.fn.runs l.fn.queries.items l.fn.steps.items l.runs l.queries.items l.steps.items
+      (marks_renamed terms l.self.numbers.now l.self.runs.now (map tree_of l.self.queries.now) (take l.step-index l.from));
 }

@@ -1,8 +1,0 @@
-use Rattle.std.proofs.Common.{arith}
-use Rattle.clip_plan.proofs.Standing.{adds_asked}
-use Rattle.clip_plan.proofs.plans.add_asked.Goals as goal
-
-pub returns-clause-added : goal.returns-clause-added
-returns-clause-added c = λ terms runs.
-    adds_asked terms runs c.args.asked.now.items c.push.new.self.items c.args.steps.now.items c.push-2.new.self.items c.args.occur c.args.query c.in_ok-place.place
-    c.in_ok-push.ensures.items (omega (arith, c.in_ok-place.ensures, c.len.ensures, c.args.asked.now.ok)) c.in_ok-push-2.ensures.items
