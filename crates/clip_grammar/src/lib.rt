@@ -8,8 +8,8 @@
 ghost use Rattle.std.specs.Prelude.{◌≡◌};
 
 pub mod fault;
+pub mod glyph;
 pub mod laws;
 pub mod limits;
-pub mod mark;
 pub mod query;
 pub mod stage;

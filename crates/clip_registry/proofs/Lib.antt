@@ -2,7 +2,7 @@ pub mod Numbering
 pub mod Rising
 pub mod Registering
 pub mod Whole
-pub mod Marks
+pub mod Flags
 pub mod Entering
 pub mod Entries
 pub mod Entered

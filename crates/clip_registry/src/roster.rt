@@ -51,7 +51,7 @@ impl Clone for Roster {
 }
 
 /// Sets the flag of a seq above the base, if it has a place. `NoMemory` where an allocation failed.
-fn mark(flags: &mut SharedFlags, base: u64, seq: u64, live: bool) -> Result<(), NoMemory>
+fn set_flag(flags: &mut SharedFlags, base: u64, seq: u64, live: bool) -> Result<(), NoMemory>
     ensures { OnOk result (flags.new ≡ flags_with base flags.old seq live) }
 {
     if base < seq {
@@ -121,7 +121,7 @@ impl Roster {
         } = self;
         live.push(true)?;
         if let Some(old) = by_id.insert(alloc, entry.clone()?)? {
-            mark(&mut live, base, old.seq(), false)?;
+            set_flag(&mut live, base, old.seq(), false)?;
         }
         Ok(Roster { by_id, base, live })
     }
@@ -149,7 +149,7 @@ impl Roster {
             mut live,
         } = self;
         if let Some(gone) = by_id.remove(id)? {
-            mark(&mut live, base, gone.seq(), false)?;
+            set_flag(&mut live, base, gone.seq(), false)?;
         }
         Ok(Roster { by_id, base, live })
     }

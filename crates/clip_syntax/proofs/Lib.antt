@@ -1,7 +1,7 @@
 pub mod Colons
+pub mod Glyphs
 pub mod Growing
 pub mod Hexes
-pub mod Marking
 pub mod Ranging
 pub mod Refusing
 pub mod Saying

@@ -6,7 +6,7 @@ use Rattle.clip_grammar.specs.Lexemes.{Lexeme}
 use Rattle.clip_grammar.specs.Steps.Lexer.{lexeme_at}
 use Rattle.clip_syntax.specs.Steps.Lexing.{with_tokens, IsLexing}
 use Rattle.clip_grammar.specs.Tokens.{Token, tokens_of, tokens_of_lexeme}
-use Rattle.clip_syntax.proofs.Marking.{mapped_some}
+use Rattle.clip_syntax.proofs.Glyphs.{mapped_some}
 use Rattle.clip_grammar.proofs.Lexing.{finds_more}
 use Rattle.clip_grammar.proofs.Refusals.{lexeme_shorter}
 

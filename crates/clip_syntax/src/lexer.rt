@@ -7,20 +7,20 @@ ghost use Rattle.clip_grammar.specs.Characters.{is_white, is_start, is_one_of, i
 ghost use Rattle.clip_grammar.specs.Steps.Lexer.{ending_at, piece_at, code_at, escape_at, pieces_at, quoted_at, word_at, range_at, lexeme_at, span_white, gap_at, to_at, bracket_at};
 ghost use Rattle.clip_syntax.specs.Steps.Lexing.{with_tokens, token_and_rest, tokens_and_rest, IsLexed};
 ghost use Rattle.std.specs.List.{list_any};
-ghost use Rattle.clip_syntax.specs.Steps.Marks.{class_test, and_rest, mark_and_rest, marks_and_rest, marks_after};
+ghost use Rattle.clip_syntax.specs.Steps.Glyphs.{class_test, and_rest, glyph_and_rest, glyphs_and_rest, glyphs_after};
 ghost use Rattle.clip_grammar.specs.Tokens.{text_of, is_spelled, is_bare, is_wild, has_operator, is_and, is_or, ends_in_star, word_token, sign_token};
 ghost use Rattle.clip_syntax.specs.Steps.TokenOf.{token_of};
 ghost use Rattle.clip_syntax.specs.Steps.Ends.{text_and_rest, end_text_and_rest, end_with, quoted_end_at, bare_end_at};
 ghost use Rattle.clip_grammar.specs.Tree.{end_of};
 
 use crate::token::Token;
-use clip_grammar::mark::Mark;
+use clip_grammar::glyph::Glyph;
 use clip_grammar::query::Bound;
 use clip_words::NoMemory;
 use std::alloc::Global;
 
-/// As many marks as most words and quoted texts have: a list of so many rarely grows.
-const USUAL_MARKS: usize = 24;
+/// As many glyphs as most words and quoted texts have: a list of so many rarely grows.
+const USUAL_GLYPHS: usize = 24;
 
 /// As many tokens as most queries have.
 const USUAL_TOKENS: usize = 12;
@@ -119,8 +119,8 @@ fn code_char(a: char, b: char, c: char, d: char) -> Option<char>
 }
 
 /// What stands after `\u`.
-fn code(text: &[char]) -> Option<(Mark, &[char])>
-    ensures found { option_map and_rest result ≡ option_map mark_and_rest (code_at text.now) }
+fn code(text: &[char]) -> Option<(Glyph, &[char])>
+    ensures found { option_map and_rest result ≡ option_map glyph_and_rest (code_at text.now) }
     ensures shorter { IfSome result (λ found. length found.1.now < length text.now) }
 {
     let (a, rest) = text.split_first()?;
@@ -128,112 +128,112 @@ fn code(text: &[char]) -> Option<(Mark, &[char])>
     let (c, rest) = rest.split_first()?;
     let (d, rest) = rest.split_first()?;
     match code_char(*a, *b, *c, *d) {
-        Some(value) => Some((Mark::Escaped(value), rest)),
+        Some(value) => Some((Glyph::Escaped(value), rest)),
         None => None,
     }
 }
 
 /// What stands after a backslash.
 #[tactic(auto, unfolding(clip_grammar::specs::Steps::Lexer::escape_at))]
-fn escape(text: &[char]) -> Option<(Mark, &[char])>
-    ensures found { option_map and_rest result ≡ option_map mark_and_rest (escape_at text.now) }
+fn escape(text: &[char]) -> Option<(Glyph, &[char])>
+    ensures found { option_map and_rest result ≡ option_map glyph_and_rest (escape_at text.now) }
     ensures shorter { IfSome result (λ found. length found.1.now < length text.now) }
 {
     match text {
         ['u', rest @ ..] => code(rest),
-        [first, rest @ ..] => Some((Mark::Escaped(*first), rest)),
+        [first, rest @ ..] => Some((Glyph::Escaped(*first), rest)),
         [] => None,
     }
 }
 
 /// One character or escape at the front of the text, and what is left.
 #[tactic(auto, unfolding(clip_grammar::specs::Steps::Lexer::piece_at))]
-fn piece(text: &[char], place: Place) -> Option<(Mark, &[char])>
-    ensures found { option_map and_rest result ≡ option_map mark_and_rest (piece_at (class_test place) text.now) }
+fn piece(text: &[char], place: Place) -> Option<(Glyph, &[char])>
+    ensures found { option_map and_rest result ≡ option_map glyph_and_rest (piece_at (class_test place) text.now) }
     ensures shorter { IfSome result (λ found. length found.1.now < length text.now) }
 {
     match text {
         ['\\', rest @ ..] => escape(rest),
-        [first, rest @ ..] if allows(place, *first) => Some((Mark::Bare(*first), rest)),
+        [first, rest @ ..] if allows(place, *first) => Some((Glyph::Bare(*first), rest)),
         _ => None,
     }
 }
 
-/// The marks, and then those of the characters and escapes at the front of the text, and what is left.
-#[tactic(auto, using(crate::proofs::Marking::marked_step, crate::proofs::Marking::marked_end))]
+/// The glyphs, and then those of the characters and escapes at the front of the text, and what is left.
+#[tactic(auto, using(crate::proofs::Glyphs::glyph_step, crate::proofs::Glyphs::glyph_end))]
 fn pieces(
-    mut marks: Vec<Mark>,
+    mut glyphs: Vec<Glyph>,
     text: &[char],
     place: Place,
-) -> Result<(Vec<Mark>, &[char]), NoMemory>
-    ensures { IfOk result (λ found. marks_and_rest found
-        ≡ marks_after marks.items (pieces_at (class_test place) text.now)) }
+) -> Result<(Vec<Glyph>, &[char]), NoMemory>
+    ensures { IfOk result (λ found. glyphs_and_rest found
+        ≡ glyphs_after glyphs.items (pieces_at (class_test place) text.now)) }
 {
     let mut rest = text;
-    while let Some((mark, after)) = piece(rest, place) {
-        marks.push(mark)?;
+    while let Some((glyph, after)) = piece(rest, place) {
+        glyphs.push(glyph)?;
         rest = after;
     }
-    Ok((marks, rest))
+    Ok((glyphs, rest))
 }
 
-/// The text that the marks stand for.
-fn text_of(alloc: Global, marks: &[Mark]) -> Result<String, NoMemory>
-    ensures { IfOk result (λ text. string_bytes text ≡ text_of marks.now) }
+/// The text that the glyphs stand for.
+fn text_of(alloc: Global, glyphs: &[Glyph]) -> Result<String, NoMemory>
+    ensures { IfOk result (λ text. string_bytes text ≡ text_of glyphs.now) }
 {
-    let mut text = String::with_capacity(alloc, marks.len())?;
-    for mark in marks {
-        let c = match mark {
-            Mark::Bare(c) => *c,
-            Mark::Escaped(c) => *c,
+    let mut text = String::with_capacity(alloc, glyphs.len())?;
+    for glyph in glyphs {
+        let c = match glyph {
+            Glyph::Bare(c) => *c,
+            Glyph::Escaped(c) => *c,
         };
         text.push(c)?;
     }
     Ok(text)
 }
 
-/// Whether the marks are these characters as they stand.
-fn is_spelled(chars: &[char], marks: &[Mark]) -> bool
-    ensures { result ≡ is_spelled chars.now marks.now }
+/// Whether the glyphs are these characters as they stand.
+fn is_spelled(chars: &[char], glyphs: &[Glyph]) -> bool
+    ensures { result ≡ is_spelled chars.now glyphs.now }
 {
     let Some((c, chars)) = chars.split_first() else {
-        return marks.is_empty();
+        return glyphs.is_empty();
     };
-    let Some((mark, marks)) = marks.split_first() else {
+    let Some((glyph, glyphs)) = glyphs.split_first() else {
         return false;
     };
-    is_bare(*c, *mark) && is_spelled(chars, marks)
+    is_bare(*c, *glyph) && is_spelled(chars, glyphs)
 }
 
-/// Whether the mark is this character as it stands.
-fn is_bare(c: char, mark: Mark) -> bool
-    ensures { result ≡ is_bare c mark }
+/// Whether the glyph is this character as it stands.
+fn is_bare(c: char, glyph: Glyph) -> bool
+    ensures { result ≡ is_bare c glyph }
 {
-    match mark {
-        Mark::Bare(d) => c == d,
-        Mark::Escaped(_) => false,
+    match glyph {
+        Glyph::Bare(d) => c == d,
+        Glyph::Escaped(_) => false,
     }
 }
 
-/// Whether the mark is a star or a question mark as it stands.
-fn is_wild(mark: Mark) -> bool
-    ensures { result ≡ is_wild mark }
+/// Whether the glyph is a star or a question mark as it stands.
+fn is_wild(glyph: Glyph) -> bool
+    ensures { result ≡ is_wild glyph }
 {
-    is_bare('*', mark) || is_bare('?', mark)
+    is_bare('*', glyph) || is_bare('?', glyph)
 }
 
-/// Whether some mark is a wild card.
-fn has_wild(marks: &[Mark]) -> bool
-    ensures { result ≡ list_any is_wild marks.now }
+/// Whether some glyph is a wild card.
+fn has_wild(glyphs: &[Glyph]) -> bool
+    ensures { result ≡ list_any is_wild glyphs.now }
 {
-    marks.iter().any(|mark| is_wild(*mark))
+    glyphs.iter().any(|glyph| is_wild(*glyph))
 }
 
 /// Whether two ampersands or two bars follow each other as they stand.
-fn has_operator(marks: &[Mark]) -> bool
-    ensures { result ≡ has_operator marks.now }
+fn has_operator(glyphs: &[Glyph]) -> bool
+    ensures { result ≡ has_operator glyphs.now }
 {
-    let mut rest = marks;
+    let mut rest = glyphs;
     while let Some((first, after)) = rest.split_first() {
         let Some(second) = after.first() else {
             return false;
@@ -248,25 +248,25 @@ fn has_operator(marks: &[Mark]) -> bool
     false
 }
 
-/// Whether the marks are `AND` or `&&`.
-fn is_and(marks: &[Mark]) -> bool
-    ensures { result ≡ is_and marks.now }
+/// Whether the glyphs are `AND` or `&&`.
+fn is_and(glyphs: &[Glyph]) -> bool
+    ensures { result ≡ is_and glyphs.now }
 {
-    is_spelled(&['A', 'N', 'D'], marks) || is_spelled(&['&', '&'], marks)
+    is_spelled(&['A', 'N', 'D'], glyphs) || is_spelled(&['&', '&'], glyphs)
 }
 
-/// Whether the marks are `OR` or `||`.
-fn is_or(marks: &[Mark]) -> bool
-    ensures { result ≡ is_or marks.now }
+/// Whether the glyphs are `OR` or `||`.
+fn is_or(glyphs: &[Glyph]) -> bool
+    ensures { result ≡ is_or glyphs.now }
 {
-    is_spelled(&['O', 'R'], marks) || is_spelled(&['|', '|'], marks)
+    is_spelled(&['O', 'R'], glyphs) || is_spelled(&['|', '|'], glyphs)
 }
 
 /// Whether a star is last, and no star or question mark is before it.
-fn ends_in_star(marks: &[Mark]) -> bool
-    ensures { result ≡ ends_in_star marks.now }
+fn ends_in_star(glyphs: &[Glyph]) -> bool
+    ensures { result ≡ ends_in_star glyphs.now }
 {
-    let mut rest = marks;
+    let mut rest = glyphs;
     while let Some((first, after)) = rest.split_first() {
         if after.is_empty() {
             return is_bare('*', *first);
@@ -281,31 +281,31 @@ fn ends_in_star(marks: &[Mark]) -> bool
 
 /// What a word says.
 #[tactic(auto, unfolding(clip_grammar::specs::Tokens::word_token))]
-fn word_token(alloc: Global, marks: &[Mark]) -> Result<Token, NoMemory>
-    ensures { IfOk result (λ token. token_of token ≡ word_token marks.now) }
+fn word_token(alloc: Global, glyphs: &[Glyph]) -> Result<Token, NoMemory>
+    ensures { IfOk result (λ token. token_of token ≡ word_token glyphs.now) }
 {
-    if is_spelled(&['*'], marks) {
+    if is_spelled(&['*'], glyphs) {
         return Ok(Token::Star);
     }
-    if is_and(marks) {
+    if is_and(glyphs) {
         return Ok(Token::And);
     }
-    if is_or(marks) {
+    if is_or(glyphs) {
         return Ok(Token::Or);
     }
-    if has_operator(marks) {
+    if has_operator(glyphs) {
         return Ok(Token::Other);
     }
-    if is_spelled(&['N', 'O', 'T'], marks) {
+    if is_spelled(&['N', 'O', 'T'], glyphs) {
         return Ok(Token::Not);
     }
-    if !has_wild(marks) {
-        return Ok(Token::Plain(text_of(alloc, marks)?));
+    if !has_wild(glyphs) {
+        return Ok(Token::Plain(text_of(alloc, glyphs)?));
     }
-    if !ends_in_star(marks) {
+    if !ends_in_star(glyphs) {
         return Ok(Token::Other);
     }
-    let front = &marks[..marks.len().saturating_sub(1)];
+    let front = &glyphs[..glyphs.len().saturating_sub(1)];
     Ok(Token::Front(text_of(alloc, front)?))
 }
 
@@ -329,12 +329,12 @@ fn sign_token(c: char) -> Token
 fn quoted(alloc: Global, text: &[char]) -> Result<Option<(Token, &[char])>, NoMemory>
     ensures { IfOk result (λ found. option_map token_and_rest found ≡ option_map with_tokens (quoted_at text.now)) }
 {
-    let marks = Vec::with_capacity(alloc, USUAL_MARKS)?;
-    let (marks, rest) = pieces(marks, text, Place::Quoted)?;
+    let glyphs = Vec::with_capacity(alloc, USUAL_GLYPHS)?;
+    let (glyphs, rest) = pieces(glyphs, text, Place::Quoted)?;
     let ['"', rest @ ..] = rest else {
         return Ok(None);
     };
-    Ok(Some((Token::Phrase(text_of(alloc, &marks)?), rest)))
+    Ok(Some((Token::Phrase(text_of(alloc, &glyphs)?), rest)))
 }
 
 /// A word at the front of the text, as long as it goes on.
@@ -345,10 +345,10 @@ fn word(alloc: Global, text: &[char]) -> Result<Option<(Token, &[char])>, NoMemo
     let Some((first, rest)) = piece(text, Place::WordStart) else {
         return Ok(None);
     };
-    let mut marks = Vec::with_capacity(alloc, USUAL_MARKS)?;
-    marks.push(first)?;
-    let (marks, rest) = pieces(marks, rest, Place::Word)?;
-    Ok(Some((word_token(alloc, &marks)?, rest)))
+    let mut glyphs = Vec::with_capacity(alloc, USUAL_GLYPHS)?;
+    glyphs.push(first)?;
+    let (glyphs, rest) = pieces(glyphs, rest, Place::Word)?;
+    Ok(Some((word_token(alloc, &glyphs)?, rest)))
 }
 
 /// What is left after white space.
@@ -407,9 +407,11 @@ fn bracket(text: &[char]) -> Option<(char, &[char])>
 fn quoted_end(alloc: Global, text: &[char]) -> Result<Option<(Option<String>, &[char])>, NoMemory>
     ensures { IfOk result (λ found. option_map text_and_rest found ≡ quoted_end_at text.now) }
 {
-    let (marks, rest) = pieces(Vec::new(alloc), text, Place::Quoted)?;
+    let (glyphs, rest) = pieces(Vec::new(alloc), text, Place::Quoted)?;
     match rest {
-        ['"', rest @ ..] if !marks.is_empty() => { Ok(Some((Some(text_of(alloc, &marks)?), rest))) }
+        ['"', rest @ ..] if !glyphs.is_empty() => {
+            Ok(Some((Some(text_of(alloc, &glyphs)?), rest)))
+        }
         _ => Ok(None),
     }
 }
@@ -418,14 +420,14 @@ fn quoted_end(alloc: Global, text: &[char]) -> Result<Option<(Option<String>, &[
 fn bare_end(alloc: Global, text: &[char]) -> Result<Option<(Option<String>, &[char])>, NoMemory>
     ensures { IfOk result (λ found. option_map text_and_rest found ≡ bare_end_at text.now) }
 {
-    let (marks, rest) = pieces(Vec::new(alloc), text, Place::End)?;
-    if marks.is_empty() || is_spelled(&['T', 'O'], &marks) {
+    let (glyphs, rest) = pieces(Vec::new(alloc), text, Place::End)?;
+    if glyphs.is_empty() || is_spelled(&['T', 'O'], &glyphs) {
         return Ok(None);
     }
-    if is_spelled(&['*'], &marks) {
+    if is_spelled(&['*'], &glyphs) {
         return Ok(Some((None, rest)));
     }
-    Ok(Some((Some(text_of(alloc, &marks)?), rest)))
+    Ok(Some((Some(text_of(alloc, &glyphs)?), rest)))
 }
 
 /// An end of a range: its text, or none for a star alone.
@@ -512,7 +514,7 @@ fn lexeme(alloc: Global, text: &[char]) -> Result<Option<(Option<Token>, &[char]
 /// What the lexemes say, as far as there are any, and what is left: nothing, or a text at which no lexeme begins.
 ///
 /// The cost is linear in the characters.
-#[tactic(auto, using(crate::proofs::Saying::lexing_more, crate::proofs::Saying::tokens_shorter, crate::proofs::Marking::mapped_none))]
+#[tactic(auto, using(crate::proofs::Saying::lexing_more, crate::proofs::Saying::tokens_shorter, crate::proofs::Glyphs::mapped_none))]
 pub fn lex(alloc: Global, text: &[char]) -> Result<(Vec<Token>, &[char]), NoMemory>
     ensures { IfOk result (λ found. IsLexed text.now (map token_of found.0.items) found.1.now) }
 {

@@ -6,17 +6,17 @@ use Rattle.std.specs.Option.{option_map}
 use Rattle.clip_grammar.specs.Lexemes.{RangeEnd, BareEnd, QuotedEnd}
 use Rattle.clip_grammar.specs.Characters.{quotable_char, end_char}
 use Rattle.clip_grammar.specs.Steps.Lexer.{pieces_at, span_white, gap_at, to_at, bracket_at, ending_at, ◌>>=◌}
-use Rattle.clip_grammar.specs.Tokens.{Token, Range, End, Free, mark_of, is_spelled, text_of, closing}
-use Rattle.clip_grammar.specs.declared.mark.Mark.{Mark}
-use Rattle.clip_syntax.specs.Steps.Marks.{marks_after}
+use Rattle.clip_grammar.specs.Tokens.{Token, Range, End, Free, glyph_of, is_spelled, text_of, closing}
+use Rattle.clip_grammar.specs.declared.glyph.Glyph.{Glyph}
+use Rattle.clip_syntax.specs.Steps.Glyphs.{glyphs_after}
 
 -- the text of an end, and none for a star as it stands
-abbrev pub free_text : List Mark → Option (List ℕ)
-free_text ms = if is_spelled (codes "*") ms then None else Some (text_of ms)
+abbrev pub free_text : List Glyph → Option (List ℕ)
+free_text gs = if is_spelled (codes "*") gs then None else Some (text_of gs)
 
 abbrev pub end_text : RangeEnd → Option (List ℕ)
-end_text (BareEnd ps) = free_text (map mark_of ps)
-end_text (QuotedEnd ps) = Some (text_of (map mark_of ps))
+end_text (BareEnd ps) = free_text (map glyph_of ps)
+end_text (QuotedEnd ps) = Some (text_of (map glyph_of ps))
 
 -- the same of the code's text
 abbrev pub text_and_rest : Option (String Global) × Bor (List ℕ) → Option (List ℕ) × List ℕ
@@ -30,23 +30,23 @@ abbrev pub end_with : Bool → Option (List ℕ) → End
 end_with closed None = Free
 end_with closed (Some text) = closing closed text
 
--- a quoted end, of the marks after its opening quote and what is left
-abbrev pub quoted_end_of : List Mark × List ℕ → Option (Option (List ℕ) × List ℕ)
-quoted_end_of (ms, []) = None
+-- a quoted end, of the glyphs after its opening quote and what is left
+abbrev pub quoted_end_of : List Glyph × List ℕ → Option (Option (List ℕ) × List ℕ)
+quoted_end_of (gs, []) = None
 quoted_end_of ([], c ∷ cs) = None
-quoted_end_of (m ∷ ms, c ∷ cs) = if c == 34 then Some (Some (text_of (m ∷ ms)), cs) else None
+quoted_end_of (g ∷ gs, c ∷ cs) = if c == 34 then Some (Some (text_of (g ∷ gs)), cs) else None
 
--- a bare end, of its marks and what is left
-abbrev pub bare_end_of : List Mark × List ℕ → Option (Option (List ℕ) × List ℕ)
+-- a bare end, of its glyphs and what is left
+abbrev pub bare_end_of : List Glyph × List ℕ → Option (Option (List ℕ) × List ℕ)
 bare_end_of ([], cs) = None
-bare_end_of (m ∷ ms, cs) = if is_spelled (codes "TO") (m ∷ ms) then None else Some (free_text (m ∷ ms), cs)
+bare_end_of (g ∷ gs, cs) = if is_spelled (codes "TO") (g ∷ gs) then None else Some (free_text (g ∷ gs), cs)
 
 -- the same, of the text
 abbrev pub quoted_end_at : List ℕ → Option (Option (List ℕ) × List ℕ)
-quoted_end_at cs = quoted_end_of (marks_after [] (pieces_at quotable_char cs))
+quoted_end_at cs = quoted_end_of (glyphs_after [] (pieces_at quotable_char cs))
 
 abbrev pub bare_end_at : List ℕ → Option (Option (List ℕ) × List ℕ)
-bare_end_at cs = bare_end_of (marks_after [] (pieces_at end_char cs))
+bare_end_at cs = bare_end_of (glyphs_after [] (pieces_at end_char cs))
 
 -- what stands after an opening bracket
 unfoldable pub range_tokens : ℕ → List ℕ → Option (List Token × List ℕ)

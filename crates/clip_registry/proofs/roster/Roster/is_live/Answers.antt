@@ -1,7 +1,7 @@
 use Rattle.std.proofs.Common.{◌-◌, false, unwrap_or, ap, ◌∙◌, arith}
 use Rattle.clip_model.specs.History.{is_live_in}
 use Rattle.clip_registry.specs.Steps.Roster.{Roster}
-use Rattle.clip_registry.proofs.Marks.{flag_found}
+use Rattle.clip_registry.proofs.Flags.{flag_found}
 use Rattle.clip_registry.proofs.roster.Roster.is_live.Goals as goal
 
 pub returns : goal.returns

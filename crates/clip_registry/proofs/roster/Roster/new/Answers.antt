@@ -4,7 +4,7 @@ use Rattle.clip_registry.specs.Steps.Flags.{flag_at}
 use Rattle.clip_model.specs.Steps.Numbered.{IsNumbered}
 use Rattle.clip_model.proofs.Numbering.{numbered_empty}
 use Rattle.clip_registry.proofs.Numbering.{none_live}
-use Rattle.clip_registry.proofs.Marks.{flag_at-nil}
+use Rattle.clip_registry.proofs.Flags.{flag_at-nil}
 use Rattle.clip_registry.proofs.roster.Roster.new.Goals as goal
 
 pub invariant_of-result : goal.invariant_of-result

@@ -5,9 +5,9 @@ use Rattle.std.specs.FinMap as finite
 use Rattle.clip_model.specs.History.{Registered}
 use Rattle.clip_registry.specs.Steps.Roster.{Roster, insert_one}
 use Rattle.clip_registry.specs.Steps.Flags.{AreLiveFlags, flags_with}
-use Rattle.clip_registry.proofs.Marks.{flags_new, flags_again}
+use Rattle.clip_registry.proofs.Flags.{flags_new, flags_again}
 use Rattle.clip_registry.proofs.roster.Roster.with_entry.Goals as goal
-use Rattle.clip_registry.proofs.roster.Roster.with_entry.Goals.{in-Some+in_ok-mark, in_default}
+use Rattle.clip_registry.proofs.roster.Roster.with_entry.Goals.{in-Some+in_ok-set_flag, in_default}
 
 pub invariant_of-result : goal.invariant_of-result
 invariant_of-result c =
@@ -19,12 +19,12 @@ invariant_of-result c =
     let pushed : c.push.new.self ≡ flags ++ true ∷ [] = c.in_ok-push.ensures.ok in
     let there : c.insert.new.self ≡ insert_one c.self.inside.by_id r = c.in_ok-old.ensures.inserted in
     elim c.match-branch-4.branch [
-      | in-Some+in_ok-mark w ↦
+      | in-Some+in_ok-set_flag w ↦
           let old : Registered = w.in-Some.old.value in
           let found : finite.get c.self.inside.by_id r.standing.id ≡ Some old = sym c.in_ok-old.ensures.replaced ∙ ap (option_map arc_value) w.in-Some.is in
           let seq : w.seq.result ≡ old.seq = w.seq.ensures ∙ ap (λ (r : Registered). r.seq) w.deref.ensures in
           let new : c.match-branch-4.live ≡ flags_with base (flags ++ true ∷ []) old.seq false =
-          w.live-is ∙ w.in_ok-mark.ensures ∙ (λ i. flags_with base (pushed i) (seq i) false) in
+          w.live-is ∙ w.in_ok-set_flag.ensures ∙ (λ i. flags_with base (pushed i) (seq i) false) in
           subst (AreLiveFlags base c.match-branch-4.live) (sym there)
           (subst (λ fs. AreLiveFlags base fs (insert_one c.self.inside.by_id r)) (sym new) (flags_again base flags c.self.inside.by_id r old c.self.invariant next found))
       | in_default w ↦

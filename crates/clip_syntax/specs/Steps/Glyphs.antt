@@ -4,8 +4,8 @@ use Rattle.std.specs.Global.{Global}
 use Rattle.std.specs.Borrow.{Bor}
 use Rattle.clip_grammar.specs.Lexemes.{Piece}
 use Rattle.clip_grammar.specs.Characters.{word_char, first_char, quotable_char, end_char}
-use Rattle.clip_grammar.specs.Tokens.{mark_of}
-use Rattle.clip_grammar.specs.declared.mark.Mark.{Mark}
+use Rattle.clip_grammar.specs.Tokens.{glyph_of}
+use Rattle.clip_grammar.specs.declared.glyph.Glyph.{Glyph}
 use Rattle.clip_syntax.specs.declared.lexer.Place.{Place}
 use Rattle.clip_syntax.specs.declared.lexer.Place.TheVariants as place
 
@@ -20,12 +20,12 @@ class_test place.End = end_char
 abbrev pub and_rest : {A : Type 0} → A × Bor (List ℕ) → A × List ℕ
 and_rest found = (found.0, found.1.now)
 
-abbrev pub marks_and_rest : Vec Mark Global × Bor (List ℕ) → List Mark × List ℕ
-marks_and_rest found = (found.0.items, found.1.now)
+abbrev pub glyphs_and_rest : Vec Glyph Global × Bor (List ℕ) → List Glyph × List ℕ
+glyphs_and_rest found = (found.0.items, found.1.now)
 
-abbrev pub mark_and_rest : Piece × List ℕ → Mark × List ℕ
-mark_and_rest found = (mark_of found.0, found.1)
+abbrev pub glyph_and_rest : Piece × List ℕ → Glyph × List ℕ
+glyph_and_rest found = (glyph_of found.0, found.1)
 
--- these marks, and then those of the pieces
-abbrev pub marks_after : List Mark → List Piece × List ℕ → List Mark × List ℕ
-marks_after ms found = (ms ++ map mark_of found.0, found.1)
+-- these glyphs, and then those of the pieces
+abbrev pub glyphs_after : List Glyph → List Piece × List ℕ → List Glyph × List ℕ
+glyphs_after gs found = (gs ++ map glyph_of found.0, found.1)
