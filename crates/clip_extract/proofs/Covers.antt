@@ -1,5 +1,5 @@
 -- A query's keys cover the articles of which it holds.
-use Rattle.std.proofs.Common.{◌≡◌, ℕ, Bool, true, false, ◌&&◌, ◌||◌, cond, ltb, List, [], ◌∷◌, ◌++◌, map, drop, length, fold, Some, unwrap_or, flat_map, refl, sym, ap, ◌∙◌, subst}
+use Rattle.std.proofs.Common.{◌≡◌, ℕ, Bool, true, false, ◌&&◌, ◌||◌, cond, ltb, List, [], ◌∷◌, ◌++◌, map, drop, length, fold, Option, None, Some, unwrap_or, flat_map, refl, sym, ap, ◌∙◌, subst}
 use Rattle.std.specs.FinMap as finite
 use Rattle.std.specs.List.{list_any, list_all, starts_with}
 use Rattle.std.specs.Str.{bytes_eq}
@@ -16,12 +16,12 @@ use Rattle.clip_grammar.proofs.Booleans.{either}
 use Rattle.clip_meaning.specs.Article.{Fields, words_in}
 use Rattle.clip_meaning.proofs.Fields.{bytes_exact}
 use Rattle.clip_meaning.specs.Meaning.{holds, begins_with, verdicts, group_holds, has_run, is_nonempty, meets_must, meets_must_not, meets_should, is_must}
-use Rattle.clip_extract.specs.Keys.{KeyValue, Any, Word, Front, is_same, share}
+use Rattle.clip_extract.specs.Keys.{KeyValue, Any, Word, Front, in_order, is_same, share}
 use Rattle.clip_extract.specs.Fronts.{key_front, fronts}
-use Rattle.clip_extract.specs.Extraction.{Extracted, unnarrowed, word_extract, front_extract, heavier, together, heaviest, union, musts, shoulds, group_extract, extract, extracts}
-use Rattle.clip_extract.specs.Covering.{field_keys, front_keys, Covers}
+use Rattle.clip_extract.specs.Extraction.{Extracted, unnarrowed, word_extract, front_extract, heavier, together, heaviest, union, musts, shoulds, group_extract, extract, extracts, without_heaviest, is_word, only_words, second_extract}
+use Rattle.clip_extract.specs.Covering.{field_keys, front_keys, Covers, CoversTwice}
 use Rattle.clip_extract.proofs.FrontsOfWords.{front_of_longer}
-use Rattle.clip_extract.proofs.Order.{same_itself, share_in_order}
+use Rattle.clip_extract.proofs.Order.{same_itself, share_in_order, nothing_in_order}
 
 -- the word is one of these
 abbrev pub is_word_of : List (List ℕ) → List ℕ → Bool
@@ -226,3 +226,35 @@ pub covering : Covers
 covering tree fields h =
     share_in_order (extract tree).keys (all_keys fields)
     ∙ share_of_covers fields (extract tree).keys (tree_covers tree fields h)
+
+-- ---- second keys
+
+left_cover : (fields : Fields) (es : List Extracted) → list_all (covers fields) es ≡ true → list_all (covers fields) (without_heaviest es) ≡ true
+left_cover fields [] all = refl
+left_cover fields (e ∷ es) all =
+    let parts = and_parts (covers fields e) (list_all (covers fields) es) all in
+    elim (list_any (λ f. ltb e.weight f.weight) es) as (λ t. list_all (covers fields) (cond t (e ∷ without_heaviest es) es) ≡ true) [
+      | true ↦ and_from (covers fields e) _ parts.0 (left_cover fields es parts.1)
+      | false ↦ parts.1
+    ]
+
+words_cover_too : (fields : Fields) (ks : List KeyValue) → list_any (has_key fields) ks ≡ true → ¬ (only_words ks ≡ []) → list_any (has_key fields) (only_words ks) ≡ true
+words_cover_too fields ks all some =
+    elim (list_all is_word ks) as (λ t. ¬ (cond t ks [] ≡ []) → list_any (has_key fields) (cond t ks []) ≡ true) [
+      | true ↦ λ some. all
+      | false ↦ λ some. absurd (some refl)
+    ] some
+
+second_covers : (tree : Tree) (fields : Fields) → holds tree fields ≡ true → ¬ (second_extract tree ≡ []) → list_any (has_key fields) (second_extract tree) ≡ true
+unfolding group_holds
+second_covers (Tree.Group clauses) fields h some =
+    let parts = and_parts (list_all meets_must (verdicts clauses fields) && list_all meets_must_not (verdicts clauses fields)) (list_any is_must (verdicts clauses fields) || list_any meets_should (verdicts clauses fields)) h in
+    let all = and_parts (list_all meets_must (verdicts clauses fields)) (list_all meets_must_not (verdicts clauses fields)) parts.0 in
+    let left = without_heaviest (musts (extracts clauses)) in
+    words_cover_too fields (unwrap_or (heaviest left) unnarrowed).keys (heaviest_covers fields left unnarrowed refl (left_cover fields (musts (extracts clauses)) (musts_cover clauses fields all.0))) some
+second_covers _ fields h some = absurd (some refl)
+
+pub covering_twice : CoversTwice
+covering_twice tree fields h some =
+    share_in_order (second_extract tree) (all_keys fields)
+    ∙ share_of_covers fields (second_extract tree) (second_covers tree fields h (λ none. some (ap in_order none ∙ nothing_in_order)))

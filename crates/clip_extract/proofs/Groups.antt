@@ -104,7 +104,7 @@ next_weight found occur e ks ls cs so =
 abbrev pub extracts_of : List (Occur × Query) → List (Occur × Extracted)
 extracts_of cs = map (λ c. (c.0, extract (tree_of c.1))) cs
 
-extracts_map : (cs : List (Occur × Query)) → extracts (clauses_of (map (λ c. (c.0, tree_of c.1)) cs)) ≡ extracts_of cs
+pub extracts_map : (cs : List (Occur × Query)) → extracts (clauses_of (map (λ c. (c.0, tree_of c.1)) cs)) ≡ extracts_of cs
 extracts_map [] = refl
 extracts_map (c ∷ cs) = ap (λ es. (c.0, extract (tree_of c.1)) ∷ es) (extracts_map cs)
 

@@ -6,3 +6,4 @@ pub mod Cuts
 pub mod SortedKeys
 pub mod FrontsOfWords
 mod FrontKeys
+pub mod Seconds

@@ -1,14 +1,15 @@
 -- The order of keys, and lists of keys in it.
-use Rattle.std.proofs.Common.{◌≡◌, ℕ, Bool, true, List, [], ◌∷◌, refl, ap, ◌∙◌}
+use Rattle.std.proofs.Common.{◌≡◌, ℕ, Bool, true, List, [], ◌∷◌, refl, sym, ap, ◌∙◌}
 use Rattle.std.specs.Ordering.{is_eq}
 use Rattle.std.specs.Cmp.{IsTotalOrder, Equal-is, tied_itself, on_total, then_total, nat_cmp_total}
 use Rattle.std.specs.Cmp.Lexicographic.{lists_total, nat_list_cmp_total}
 use Rattle.std.specs.FinMap.{IsAntisymmetric, slice_cmp-IsAntisymmetric}
 use Rattle.std.specs.List.{list_any}
+use Rattle.std.specs.List.Sorted.{IsStrictlySortedBy}
 use Rattle.std.proofs.lemmas.Bool.{false≢true}
 use Rattle.clip_meaning.proofs.Fields.{bytes_exact}
 use Rattle.clip_extract.specs.Keys.{KeyValue, Any, Word, Front, rank, texts, key_cmp, is_same, in_order, share}
-use Rattle.clip_extract.proofs.Members.{same_members, keys_members}
+use Rattle.clip_extract.proofs.Members.{same_members, keys_members, strict_keys}
 
 pub key_cmp_total : IsTotalOrder key_cmp
 key_cmp_total = then_total (on_total rank nat_cmp_total) (on_total texts (lists_total nat_list_cmp_total))
@@ -49,3 +50,8 @@ any_in_order p ks = same_members key_cmp_total key_cmp_same p (in_order ks) ks (
 -- order and repetition say nothing of what is in common
 pub share_in_order : (ks ls : List KeyValue) → share (in_order ks) (in_order ls) ≡ share ks ls
 share_in_order ks ls = any_in_order (λ k. list_any (is_same k) (in_order ls)) ks ∙ ap (λ f. list_any f ks) (λ i k. among_in_order ls k i)
+
+-- nothing stays nothing
+pub nothing_in_order : in_order [] ≡ []
+unfolding IsStrictlySortedBy
+nothing_in_order = sym (strict_keys key_cmp_total key_cmp_same [] [] tt (λ k. refl))

@@ -1,12 +1,12 @@
 -- The keys of an article, and the law that a query's keys cover it.
-use Rattle.std.specs.Prelude.{◌≡◌, ℕ, true, List, ◌∷◌, ◌++◌, map, flat_map}
+use Rattle.std.specs.Prelude.{◌≡◌, ℕ, true, List, [], ◌∷◌, ◌++◌, map, flat_map}
 use Rattle.std.specs.FinMap as finite
 use Rattle.clip_grammar.specs.Tree.{Tree}
 use Rattle.clip_meaning.specs.Article.{Fields}
 use Rattle.clip_meaning.specs.Meaning.{holds}
 use Rattle.clip_extract.specs.Keys.{KeyValue, Any, Word, Front, in_order, share}
 use Rattle.clip_extract.specs.Fronts.{fronts}
-use Rattle.clip_extract.specs.Extraction.{query_keys}
+use Rattle.clip_extract.specs.Extraction.{query_keys, second_keys}
 
 -- a field's words as keys
 abbrev pub field_keys : List ℕ × List (List ℕ) → List KeyValue
@@ -25,3 +25,8 @@ article_keys fields = in_order
 abbrev pub Covers : Type 0
 Covers = (tree : Tree) (fields : Fields) → holds tree fields ≡ true
     → share (query_keys tree) (article_keys fields) ≡ true
+
+-- where a query holds of an article and has second keys, these and the article's keys have one in common
+abbrev pub CoversTwice : Type 0
+CoversTwice = (tree : Tree) (fields : Fields) → holds tree fields ≡ true → ¬ (second_keys tree ≡ [])
+    → share (second_keys tree) (article_keys fields) ≡ true

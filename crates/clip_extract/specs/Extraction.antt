@@ -1,6 +1,7 @@
 -- The keys that are extracted of a query: an article of which it holds has one of them. Lucene's term-filtered
 -- presearcher extracts terms in this way.
-use Rattle.std.specs.Prelude.{ℕ, min, nat_lt, List, [], ◌∷◌, ◌++◌, map, fold, length, Option, Some, None, unwrap_or, if◌then◌else◌}
+use Rattle.std.specs.Prelude.{ℕ, Bool, true, false, min, nat_lt, List, [], ◌∷◌, ◌++◌, map, fold, length, Option, Some, None, unwrap_or, if◌then◌else◌}
+use Rattle.std.specs.List.{list_all, list_any}
 use Rattle.std.specs.Str.{chars}
 use Rattle.clip_grammar.specs.Tree.{Tree, Clauses, none, clause}
 use Rattle.clip_grammar.specs.declared.query.Occur.{Occur}
@@ -80,3 +81,31 @@ query_keys tree = in_order (extract tree).keys
 
 abbrev pub query_weight : Tree → ℕ
 query_weight tree = (extract tree).weight
+
+-- ---- second keys
+
+-- the list without its heaviest, which is the first that none behind it outweighs
+abbrev pub without_heaviest : List Extracted → List Extracted
+without_heaviest [] = []
+without_heaviest (e ∷ es) = if list_any (λ f. nat_lt e.weight f.weight) es then e ∷ without_heaviest es else es
+
+-- of a group's Must children without the heaviest, whose keys are the query's, the heaviest
+abbrev pub second_found : Tree → Option Extracted
+second_found (Tree.Group clauses) = heaviest (without_heaviest (musts (extracts clauses)))
+second_found _ = None
+
+abbrev pub is_word : KeyValue → Bool
+is_word Any = false
+is_word (Word field word) = true
+is_word (Front field front) = false
+
+-- the keys, if all of them are words
+abbrev pub only_words : List KeyValue → List KeyValue
+only_words keys = if list_all is_word keys then keys else []
+
+abbrev pub second_extract : Tree → List KeyValue
+second_extract tree = only_words (unwrap_or (second_found tree) unnarrowed).keys
+
+-- the second keys of a query, in order, each once
+abbrev pub second_keys : Tree → List KeyValue
+second_keys tree = in_order (second_extract tree)

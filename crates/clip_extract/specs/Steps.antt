@@ -2,3 +2,4 @@
 pub mod Fronts
 pub mod Groups
 pub mod Leaves
+pub mod Seconds

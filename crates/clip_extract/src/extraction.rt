@@ -245,7 +245,7 @@ fn add_leaf_key(alloc: Global, query: &Query, keys: &mut Vec<Key>) -> Result<u64
 }
 
 /// Adds a query's keys, and gives its weight.
-fn add_keys(alloc: Global, query: &Query, keys: &mut Vec<Key>) -> Result<u64, NoMemory>
+pub(crate) fn add_keys(alloc: Global, query: &Query, keys: &mut Vec<Key>) -> Result<u64, NoMemory>
     ensures added { IfOk result (λ _. Adds (extract (tree_of query.now)) keys.old.items keys.new.items) }
     ensures weight { IfOk result (λ weight. weight ≡ query_weight (tree_of query.now)) }
 {

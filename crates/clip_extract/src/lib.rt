@@ -7,10 +7,13 @@ mod extraction;
 mod front;
 mod key;
 mod laws;
+mod second;
 mod sorting;
+mod weighed;
 
 pub use extraction::{keys, weight};
 pub use front::{Fronts, has_front_key};
 pub use key::{Key, MOST_FRONT_CHARACTERS};
-pub use laws::covering_law;
+pub use laws::{covering_law, second_covering_law};
+pub use second::second_keys;
 pub use sorting::sorted;

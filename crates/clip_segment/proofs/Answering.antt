@@ -1,16 +1,15 @@
 -- What an index answers of the queries that it is of.
-use Rattle.std.proofs.Common.{◌≡◌, ℕ, zero, suc, ◌<◌, Bool, true, false, cond, ◌||◌, nat_eq, List, [], ◌∷◌, ◌++◌, All, map, filter, flat_map, length, Some, None, is_some, unwrap_or, option_map, slice_get, refl, sym, ap, ◌∙◌, subst, arith, inl, inr}
+use Rattle.std.proofs.Common.{◌≡◌, ℕ, zero, suc, ◌<◌, Bool, true, false, cond, nat_eq, List, [], ◌∷◌, ◌++◌, All, map, filter, flat_map, length, Some, None, is_some, unwrap_or, option_map, slice_get, refl, sym, ap, ◌∙◌, subst, arith, inl, inr}
 use Rattle.std.specs.List.{list_any}
 use Rattle.std.specs.List.Sorted.{IsStrictlySortedBy}
-use Rattle.std.proofs.lemmas.Bool.{cases_lt}
+use Rattle.std.proofs.lemmas.Bool.{cases_lt, false_from_ne_true, false≢true}
 use Rattle.std.proofs.lemmas.List.{length-map}
-use Rattle.std.proofs.lemmas.List.Folds.{list_any-append, flat_map-map}
+use Rattle.std.proofs.lemmas.List.Folds.{flat_map-map}
 use Rattle.std.proofs.lemmas.Option.{slice_get-map}
 use Rattle.clip_grammar.specs.Tree.{Tree}
 use Rattle.clip_meaning.specs.Article.{Fields}
 use Rattle.clip_extract.specs.Keys.{KeyValue, key_cmp, is_same}
 use Rattle.clip_extract.specs.Covering.{article_keys}
-use Rattle.clip_extract.specs.Extraction.{query_keys}
 use Rattle.clip_extract.proofs.Order.{among_in_order}
 use Rattle.clip_terms.specs.Terms.{term_at, number_of}
 use Rattle.clip_terms.proofs.NumberedKeys.{term_of_number}
@@ -18,9 +17,10 @@ use Rattle.clip_terms.specs.Reading.{has_key as article_has}
 use Rattle.clip_terms.specs.Steps.Numbers.{known}
 use Rattle.clip_terms.proofs.Numbers.{in_order_rises}
 use Rattle.clip_terms.proofs.ReadingOf.{has_number, known_within, known_terms, known_is}
-use Rattle.clip_plan.specs.Plan.{decoded, plan_of, word_keys}
-use Rattle.clip_segment.specs.Index.{IndexValue, IsIndexOf, asked_of, has_key, query_positions_with, query_positions_sharing}
-use Rattle.clip_segment.proofs.AnyOf.{any_or, any_flat_map}
+use Rattle.clip_plan.specs.Plan.{decoded, plan_of}
+use Rattle.clip_segment.specs.Index.{IndexValue, IsIndexOf, asked_of, has_key, positions_by, query_positions_with, query_positions_sharing, terms_of}
+use Rattle.clip_segment.proofs.Asked.{AreAsked, had_asked}
+use Rattle.clip_segment.proofs.AnyOf.{any_flat_map}
 use Rattle.clip_segment.proofs.Numbers.{same_tests, none_below}
 use Rattle.clip_segment.proofs.Sharing.{no_positions, any_position}
 
@@ -35,33 +35,26 @@ listed_at f [] n lt = absurd (omega arith)
 listed_at f (t ∷ ts) zero lt = refl
 listed_at f (t ∷ ts) (suc n) lt = listed_at f ts n (omega arith)
 
-or_first : (a b : Bool) → (a || b) ≡ false → a ≡ false
-or_first true b none = none
-or_first false b none = refl
-
-module _ (trees : List Tree) (index : IndexValue) (is : IsIndexOf trees index) where
-  -- the list of a number has the positions of its term
-  pub list_of_number : (n : ℕ) → n < length index.terms → list_at index.positions n ≡ query_positions_with (term_at index.terms n) trees
-  list_of_number n lt = ap (λ lists. list_at lists n) is.positions ∙ listed_at (λ term. query_positions_with term trees) index.terms n lt
-
-  pub list_of_key : (key : KeyValue) (n : ℕ) → Some n ≡ number_of index.terms key → list_at index.positions n ≡ query_positions_with key trees
-  list_of_key key n there =
-      let term = term_of_number index.terms key n (sym there) in
-      list_of_number n term.1 ∙ ap (λ k. query_positions_with k trees) term.0
-
+module _ (keys_of : Tree → List KeyValue) (trees : List Tree) (terms : List KeyValue) where
   -- no query has a key that is no term
-  pub no_term : (key : KeyValue) → list_any (is_same key) index.terms ≡ false → query_positions_with key trees ≡ []
-  no_term key none =
-      let among : list_any (is_same key) index.terms ≡ (list_any (has_key key) trees || list_any (λ tree. list_any (is_same key) (word_keys tree)) trees) =
-      ap (list_any (is_same key)) is.terms
-      ∙ among_in_order (flat_map asked_of trees) key
-      ∙ any_flat_map (is_same key) asked_of trees
-      ∙ ap (λ f. list_any f trees) (λ i tree. list_any-append (is_same key) (query_keys tree) (word_keys tree) i)
-      ∙ any_or (has_key key) (λ tree. list_any (is_same key) (word_keys tree)) trees in
-      no_positions (has_key key) 0 trees (or_first _ _ (sym among ∙ none))
+  pub no_term : AreAsked keys_of → terms ≡ terms_of trees → (key : KeyValue) → list_any (is_same key) terms ≡ false → query_positions_with keys_of key trees ≡ []
+  no_term asked are key none =
+      no_positions (has_key keys_of key) 0 trees
+      (false_from_ne_true _
+      (λ there. false≢true (sym none ∙ ap (list_any (is_same key)) are ∙ among_in_order (flat_map asked_of trees) key ∙ had_asked keys_of asked key trees there)))
 
-  pub no_number : (key : KeyValue) → None ≡ number_of index.terms key → query_positions_with key trees ≡ []
-  no_number key missing = no_term key (sym (has_number index.terms key) ∙ ap is_some (sym missing))
+  pub no_number : AreAsked keys_of → terms ≡ terms_of trees → (key : KeyValue) → None ≡ number_of terms key → query_positions_with keys_of key trees ≡ []
+  no_number asked are key missing = no_term asked are key (sym (has_number terms key) ∙ ap is_some (sym missing))
+
+  module _ (lists : List (List ℕ)) (placed : lists ≡ positions_by keys_of terms trees) where
+    -- the list of a number has the positions of its term
+    pub list_of_number : (n : ℕ) → n < length terms → list_at lists n ≡ query_positions_with keys_of (term_at terms n) trees
+    list_of_number n lt = ap (λ ls. list_at ls n) placed ∙ listed_at (λ term. query_positions_with keys_of term trees) terms n lt
+
+    pub list_of_key : (key : KeyValue) (n : ℕ) → Some n ≡ number_of terms key → list_at lists n ≡ query_positions_with keys_of key trees
+    list_of_key key n there =
+        let term = term_of_number terms key n (sym there) in
+        list_of_number n term.1 ∙ ap (λ k. query_positions_with keys_of k trees) term.0
 
 -- ---- the lists of an article's numbers
 
@@ -81,15 +74,15 @@ flat_map_filter f t empty (k ∷ ks) = by_test (t k) refl (flat_map_filter f t e
     by_test false is later = later ∙ sym (ap (λ xs. xs ++ flat_map f ks) (empty k is))
 
 -- the lists of the numbers of those keys that are terms are the positions of all the keys
-lists_of_keys : (trees : List Tree) (index : IndexValue) → IsIndexOf trees index → (keys : List KeyValue) (ns : List ℕ) → All (λ n. n < length index.terms) ns
-    → map (term_at index.terms) ns ≡ filter (λ k. list_any (is_same k) index.terms) keys
-    → flat_map (list_at index.positions) ns ≡ flat_map (λ k. query_positions_with k trees) keys
-lists_of_keys trees index is keys ns within named =
-    let with_positions : KeyValue → List ℕ = λ k. query_positions_with k trees in
-    flat_map_within (list_at index.positions) (λ n. with_positions (term_at index.terms n)) (length index.terms) ns within (list_of_number trees index is)
-    ∙ sym (flat_map-map with_positions (term_at index.terms) ns)
+lists_of_keys : (keys_of : Tree → List KeyValue) → AreAsked keys_of → (trees : List Tree) (terms : List KeyValue) → terms ≡ terms_of trees → (lists : List (List ℕ)) → lists ≡ positions_by keys_of terms trees
+    → (keys : List KeyValue) (ns : List ℕ) → All (λ n. n < length terms) ns → map (term_at terms) ns ≡ filter (λ k. list_any (is_same k) terms) keys
+    → flat_map (list_at lists) ns ≡ flat_map (λ k. query_positions_with keys_of k trees) keys
+lists_of_keys keys_of asked trees terms are lists placed keys ns within named =
+    let with_positions : KeyValue → List ℕ = λ k. query_positions_with keys_of k trees in
+    flat_map_within (list_at lists) (λ n. with_positions (term_at terms n)) (length terms) ns within (list_of_number keys_of trees terms lists placed)
+    ∙ sym (flat_map-map with_positions (term_at terms) ns)
     ∙ ap (flat_map with_positions) named
-    ∙ flat_map_filter with_positions (λ k. list_any (is_same k) index.terms) (no_term trees index is) keys
+    ∙ flat_map_filter with_positions (λ k. list_any (is_same k) terms) (no_term keys_of trees terms asked are) keys
 
 -- the numbers of the terms that an article has are those of its keys
 had_known : (terms : List KeyValue) → IsStrictlySortedBy key_cmp terms → (fields : Fields) (ns : List ℕ) → All (λ n. n < length terms) ns
@@ -102,19 +95,19 @@ had_known terms strict fields ns within had n =
       | inr le ↦ none_below (length terms) n ns le within ∙ sym (none_below (length terms) n (known (map (number_of terms) keys)) le (known_within terms keys))
     ]
 
--- the positions under those numbers are the positions of the queries that share a key
-pub sharing : (trees : List Tree) (index : IndexValue) → IsIndexOf trees index → (fields : Fields) (ns : List ℕ) → All (λ n. n < length index.terms) ns
-    → ((n : ℕ) → n < length index.terms → list_any (nat_eq n) ns ≡ article_has fields (term_at index.terms n))
-    → (q : ℕ) → list_any (nat_eq q) (flat_map (list_at index.positions) ns) ≡ list_any (nat_eq q) (query_positions_sharing (article_keys fields) trees)
-sharing trees index is fields ns within had q =
+-- the positions under those numbers are the positions of the queries that share one of those keys
+pub sharing : (keys_of : Tree → List KeyValue) → AreAsked keys_of → (trees : List Tree) (terms : List KeyValue) → terms ≡ terms_of trees → (lists : List (List ℕ)) → lists ≡ positions_by keys_of terms trees
+    → (fields : Fields) (ns : List ℕ) → All (λ n. n < length terms) ns → ((n : ℕ) → n < length terms → list_any (nat_eq n) ns ≡ article_has fields (term_at terms n))
+    → (q : ℕ) → list_any (nat_eq q) (flat_map (list_at lists) ns) ≡ list_any (nat_eq q) (query_positions_sharing keys_of (article_keys fields) trees)
+sharing keys_of asked trees terms are lists placed fields ns within had q =
     let keys = article_keys fields in
-    let all = known (map (number_of index.terms) keys) in
-    let strict = subst (IsStrictlySortedBy key_cmp) (sym is.terms) (in_order_rises (flat_map asked_of trees)) in
-    any_flat_map (nat_eq q) (list_at index.positions) ns
-    ∙ same_tests (λ n. list_any (nat_eq q) (list_at index.positions n)) ns all (had_known index.terms strict fields ns within had)
-    ∙ sym (any_flat_map (nat_eq q) (list_at index.positions) all)
-    ∙ ap (list_any (nat_eq q)) (lists_of_keys trees index is keys all (known_within index.terms keys) (known_terms index.terms keys))
-    ∙ any_position keys trees q
+    let all = known (map (number_of terms) keys) in
+    let strict = subst (IsStrictlySortedBy key_cmp) (sym are) (in_order_rises (flat_map asked_of trees)) in
+    any_flat_map (nat_eq q) (list_at lists) ns
+    ∙ same_tests (λ n. list_any (nat_eq q) (list_at lists n)) ns all (had_known terms strict fields ns within had)
+    ∙ sym (any_flat_map (nat_eq q) (list_at lists) all)
+    ∙ ap (list_any (nat_eq q)) (lists_of_keys keys_of asked trees terms are lists placed keys all (known_within terms keys) (known_terms terms keys))
+    ∙ any_position keys_of keys trees q
 
 -- ---- plans
 

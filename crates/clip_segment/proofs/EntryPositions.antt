@@ -24,10 +24,10 @@ positions_from test n (e ∷ es) =
       | false ↦ later
     ]
 
-pub positions_of_key : (key : KeyValue) (es : List Registered) → query_positions_with key (trees_of es) ≡ positions_with key es
-positions_of_key key es = positions_from (has_key key) 0 es
+pub positions_of_key : (key : KeyValue) (es : List Registered) → query_positions_with query_keys key (trees_of es) ≡ positions_with key es
+positions_of_key key es = positions_from (has_key query_keys key) 0 es
 
-pub sharing_positions : (keys : List KeyValue) (es : List Registered) → query_positions_sharing keys (trees_of es) ≡ positions_sharing keys es
+pub sharing_positions : (keys : List KeyValue) (es : List Registered) → query_positions_sharing query_keys keys (trees_of es) ≡ positions_sharing keys es
 sharing_positions keys es = positions_from (λ tree. share (query_keys tree) keys) 0 es
 
 -- the plan at the position of an entry is that of its query

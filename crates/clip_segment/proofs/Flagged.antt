@@ -1,9 +1,10 @@
 -- Items whose flags are set.
-use Rattle.std.proofs.Common.{◌≡◌, ℕ, zero, suc, ◌+◌, ◌<◌, ◌≤◌, Bool, true, false, cond, ◌||◌, nat_eq, List, [], ◌∷◌, ◌++◌, length, map, flat_map, filter, take, drop, set, get_or, unwrap_or, slice_get, Option, Some, None, refl, sym, ap, ◌∙◌, arith, add-one, append-nil, append_assoc, length-append, eq-eqb, ne_eqb, get_or-set_same, get_or-set_other, inl, inr}
+use Rattle.std.proofs.Common.{◌≡◌, ℕ, zero, suc, ◌+◌, ◌<◌, ◌≤◌, Bool, true, false, cond, ◌||◌, ◌&&◌, nat_eq, ltb, List, [], ◌∷◌, ◌++◌, length, map, flat_map, filter, take, drop, set, replicate, get_or, unwrap_or, slice_get, Option, Some, None, refl, sym, ap, ap₂, ◌∙◌, arith, add-one, append-nil, append_assoc, length-append, eq-eqb, ne_eqb, get_or-set_same, get_or-set_other, inl, inr}
 use Rattle.std.specs.Prelude.{option_to_list}
 use Rattle.std.specs.List.{list_any, enumerate_from, count_by}
 use Rattle.std.proofs.Math.Bool.{or-true, or-false}
 use Rattle.std.proofs.lemmas.Bool.{cases_eq, false≢true}
+use Rattle.std.proofs.lemmas.Bool.Decides.{nat_tests}
 use Rattle.std.proofs.lemmas.List.{drop_all, map_more}
 use Rattle.std.proofs.lemmas.List.Folds.{list_any_more}
 use Rattle.std.proofs.lemmas.List.Sums.{sum_by-cons}
@@ -256,6 +257,31 @@ flags_more n numbers i d old before new lt so e =
     or_assoc : (a b c : Bool) → ((a || b) || c) ≡ (a || (b || c))
     or_assoc true b c = refl
     or_assoc false b c = refl
+
+-- a test of one number more
+pub set_more : (n i : ℕ) (old before new here there : Bool) → before ≡ (old || (ltb n i && there)) → (n ≡ i → here ≡ there) → new ≡ (before || (nat_eq n i && here)) → new ≡ (old || (ltb n (i + 1) && there))
+set_more n i old before new here there so at e =
+    e ∙ ap (λ b. b || (nat_eq n i && here)) so
+    ∙ elim (cases_eq n i) [
+      | inl same ↦
+          let before_it : ltb n i ≡ false = grind (arith, nat_tests) in
+          let up_to_it : ltb n (i + 1) ≡ true = grind (arith, nat_tests) in
+          ap₂ (λ a b. (old || (a && there)) || (b && here)) before_it (eq-eqb n i same)
+          ∙ ap (λ b. b || here) (or-false old)
+          ∙ ap (λ b. old || b) (at same)
+          ∙ ap (λ a. old || (a && there)) (sym up_to_it)
+      | inr other ↦
+          let as_before : ltb n (i + 1) ≡ ltb n i = grind (arith, nat_tests) in
+          ap (λ b. (old || (ltb n i && there)) || (b && here)) (ne_eqb n i other)
+          ∙ or-false (old || (ltb n i && there))
+          ∙ ap (λ a. old || (a && there)) (sym as_before)
+    ]
+
+-- no flag is set
+pub none_set : (count n : ℕ) → flag_at (replicate count false) n ≡ false
+none_set zero n = refl
+none_set (suc count) zero = refl
+none_set (suc count) (suc n) = none_set count n
 
 -- ---- lists, one after another
 

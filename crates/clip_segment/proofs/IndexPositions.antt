@@ -25,23 +25,23 @@ positions_push test ts t =
       last false = refl
 
 -- the positions up to one item more of a list, each seen as a query
-pub query_added : {A : Type 0} (seen : A → Tree) (key : KeyValue) (items : List A) (j : ℕ) (d : A) → j < length items
-    → query_positions_with key (map seen (take (j + 1) items)) ≡ query_positions_with key (map seen (take j items)) ++ cond (has_key key (seen (get_or items j d))) (j ∷ []) []
-query_added seen key items j d inside =
+pub query_added : (keys_of : Tree → List KeyValue) {A : Type 0} (seen : A → Tree) (key : KeyValue) (items : List A) (j : ℕ) (d : A) → j < length items
+    → query_positions_with keys_of key (map seen (take (j + 1) items)) ≡ query_positions_with keys_of key (map seen (take j items)) ++ cond (has_key keys_of key (seen (get_or items j d))) (j ∷ []) []
+query_added keys_of seen key items j d inside =
     let long : length (map seen (take j items)) ≡ j = length-map (take j items) seen ∙ length-take-le j items (omega arith) in
-    ap (λ xs. query_positions_with key (map seen xs)) (take_more items j d inside)
-    ∙ ap (query_positions_with key) (map-append seen (take j items) (get_or items j d ∷ []))
-    ∙ positions_push (has_key key) (map seen (take j items)) (seen (get_or items j d))
-    ∙ ap (λ n. query_positions_with key (map seen (take j items)) ++ cond (has_key key (seen (get_or items j d))) (n ∷ []) []) long
+    ap (λ xs. query_positions_with keys_of key (map seen xs)) (take_more items j d inside)
+    ∙ ap (query_positions_with keys_of key) (map-append seen (take j items) (get_or items j d ∷ []))
+    ∙ positions_push (has_key keys_of key) (map seen (take j items)) (seen (get_or items j d))
+    ∙ ap (λ n. query_positions_with keys_of key (map seen (take j items)) ++ cond (has_key keys_of key (seen (get_or items j d))) (n ∷ []) []) long
 
 -- the list of each term after one query more
-pub next_query : {A : Type 0} (seen : A → Tree) (terms : List KeyValue) (items : List A) (j : ℕ) (query : A) (position : ℕ) (old new : List (List ℕ))
+pub next_query : (keys_of : Tree → List KeyValue) {A : Type 0} (seen : A → Tree) (terms : List KeyValue) (items : List A) (j : ℕ) (query : A) (position : ℕ) (old new : List (List ℕ))
     → j < length items → query ≡ get_or items j query → position ≡ j
-    → old ≡ map (λ term. query_positions_with term (map seen (take j items))) terms
-    → ((f : KeyValue → List ℕ) → old ≡ map f terms → new ≡ map (λ term. f term ++ cond (has_key term (seen query)) (position ∷ []) []) terms)
-    → new ≡ map (λ term. query_positions_with term (map seen (take (j + 1) items))) terms
-next_query seen terms items j query position old new inside is same before added =
+    → old ≡ map (λ term. query_positions_with keys_of term (map seen (take j items))) terms
+    → ((f : KeyValue → List ℕ) → old ≡ map f terms → new ≡ map (λ term. f term ++ cond (has_key keys_of term (seen query)) (position ∷ []) []) terms)
+    → new ≡ map (λ term. query_positions_with keys_of term (map seen (take (j + 1) items))) terms
+next_query keys_of seen terms items j query position old new inside is same before added =
     added _ before
-    ∙ ap (λ n. map (λ term. query_positions_with term (map seen (take j items)) ++ cond (has_key term (seen query)) (n ∷ []) []) terms) same
-    ∙ ap (λ q. map (λ term. query_positions_with term (map seen (take j items)) ++ cond (has_key term (seen q)) (j ∷ []) []) terms) is
-    ∙ ap (λ f. map f terms) (λ i term. sym (query_added seen term items j query inside) i)
+    ∙ ap (λ n. map (λ term. query_positions_with keys_of term (map seen (take j items)) ++ cond (has_key keys_of term (seen query)) (n ∷ []) []) terms) same
+    ∙ ap (λ q. map (λ term. query_positions_with keys_of term (map seen (take j items)) ++ cond (has_key keys_of term (seen q)) (j ∷ []) []) terms) is
+    ∙ ap (λ f. map f terms) (λ i term. sym (query_added keys_of seen term items j query inside) i)

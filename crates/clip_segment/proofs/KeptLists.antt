@@ -1,5 +1,5 @@
 -- The positions and the plans of the kept queries of an index, behind those of others.
-use Rattle.std.proofs.Common.{◌≡◌, ℕ, ◌+◌, ◌<◌, ◌≤◌, Bool, true, false, cond, ◌||◌, List, [], ◌∷◌, ◌++◌, length, map, flat_map, take, get_or, unwrap_or, slice_get, Option, Some, None, is_some, refl, sym, ap, ◌∙◌, arith, append-nil, append_assoc, length-append, length-set, subst, IsTrue}
+use Rattle.std.proofs.Common.{◌≡◌, ℕ, ◌+◌, ◌<◌, ◌≤◌, Bool, true, false, cond, ◌||◌, List, [], ◌∷◌, ◌++◌, length, map, flat_map, take, get_or, unwrap_or, slice_get, Option, Some, None, is_some, refl, sym, ap, ◌∙◌, arith, append-nil, append_assoc, length-append, length-set, subst, vec_items, IsTrue}
 use Rattle.std.specs.Prelude.{IfSome}
 use Rattle.std.specs.List.{All, count_by, list_any, AllByRecursion}
 use Rattle.std.specs.List.Sorted.{IsStrictlySortedBy}
@@ -12,19 +12,21 @@ use Rattle.std.proofs.lemmas.List.{length-map, get_or-map, take_more, map-append
 use Rattle.std.proofs.lemmas.Option.{unwrap_or-slice_get}
 use Rattle.clip_grammar.specs.Tree.{Tree}
 use Rattle.clip_extract.specs.Keys.{KeyValue, Any, key_cmp, is_same}
-use Rattle.clip_extract.specs.Extraction.{query_keys}
+use Rattle.clip_extract.specs.Extraction.{query_keys, second_keys}
 use Rattle.clip_extract.proofs.Order.{same_key}
 use Rattle.clip_terms.specs.Terms.{number_of}
 use Rattle.clip_terms.proofs.NumberedKeys.{term_of_number}
 use Rattle.clip_terms.proofs.Numbers.{in_order_rises}
 use Rattle.clip_terms.proofs.ReadingOf.{has_number}
-use Rattle.clip_plan.specs.Plan.{Mark, decoded, renamed, plan_of, are_terms, word_keys}
+use Rattle.clip_plan.specs.Plan.{Mark, decoded, renamed, plan_of, are_terms}
 use Rattle.clip_plan.proofs.Names.{plan_renamed}
 use Rattle.clip_plan.proofs.Numbering.{are_parts}
-use Rattle.clip_segment.specs.Index.{IndexValue, IsIndexOf, asked_of, has_key, query_positions_with}
+use Rattle.clip_segment.specs.Index.{IndexValue, IsIndexOf, asked_of, has_key, positions_by, query_positions_with, terms_of}
 use Rattle.clip_segment.specs.Selecting.{flagged}
 use Rattle.clip_segment.specs.Steps.Parts.{AreMadeOf, list_added, moved, new_positions, with_more}
+use Rattle.clip_segment.specs.declared.term_lists.TermLists.{TermLists}
 use Rattle.clip_segment.proofs.Answering.{no_term}
+use Rattle.clip_segment.proofs.Asked.{AreAsked, asked_parts, keys_asked, seconds_asked}
 use Rattle.clip_segment.proofs.Flagged.{flagged_few, positions_moved}
 use Rattle.clip_segment.proofs.Keys.{above_apart, flipped}
 use Rattle.clip_segment.proofs.Lists.{with_list, position_added}
@@ -116,23 +118,23 @@ gathered g t (k ∷ ks) rising = by_test (is_same k t) refl (gathered g t ks ris
         ap (λ b. cond b (g k) [] ++ rest) other ∙ later
         ∙ ap (λ b. cond (b || list_any (is_same t) ks) (g t) []) (sym (flipped t k ∙ other))
 
-module _ (trees : List Tree) (index : IndexValue) (is : IsIndexOf trees index) where
-  rising : IsStrictlySortedBy key_cmp index.terms
-  rising = subst (IsStrictlySortedBy key_cmp) (sym is.terms) (in_order_rises _)
+module _ (keys_of : Tree → List KeyValue) (asked : AreAsked keys_of) (trees : List Tree) (old : List KeyValue) (are : old ≡ terms_of trees) where
+  rising : IsStrictlySortedBy key_cmp old
+  rising = subst (IsStrictlySortedBy key_cmp) (sym are) (in_order_rises _)
 
   -- what comes to a term is moved from its positions in the index
-  moved_under : (moves : List (Option ℕ)) (term : KeyValue) → flat_map (λ key. cond (is_same key term) (moved moves (query_positions_with key trees)) []) index.terms ≡ moved moves (query_positions_with term trees)
-  moved_under moves term = gathered (λ key. moved moves (query_positions_with key trees)) term index.terms rising ∙ by_term (list_any (is_same term) index.terms) refl
+  moved_under : (moves : List (Option ℕ)) (term : KeyValue) → flat_map (λ key. cond (is_same key term) (moved moves (query_positions_with keys_of key trees)) []) old ≡ moved moves (query_positions_with keys_of term trees)
+  moved_under moves term = gathered (λ key. moved moves (query_positions_with keys_of key trees)) term old rising ∙ by_term (list_any (is_same term) old) refl
     where
-      by_term : (b : Bool) → list_any (is_same term) index.terms ≡ b → cond (list_any (is_same term) index.terms) (moved moves (query_positions_with term trees)) [] ≡ moved moves (query_positions_with term trees)
-      by_term true e = ap (λ b. cond b (moved moves (query_positions_with term trees)) []) e
-      by_term false e = ap (λ b. cond b (moved moves (query_positions_with term trees)) []) e ∙ ap (moved moves) (sym (no_term trees index is term e))
+      by_term : (b : Bool) → list_any (is_same term) old ≡ b → cond (list_any (is_same term) old) (moved moves (query_positions_with keys_of term trees)) [] ≡ moved moves (query_positions_with keys_of term trees)
+      by_term true e = ap (λ b. cond b (moved moves (query_positions_with keys_of term trees)) []) e
+      by_term false e = ap (λ b. cond b (moved moves (query_positions_with keys_of term trees)) []) e ∙ ap (moved moves) (sym (no_term keys_of trees old asked are term e))
 
   -- the lists with those of the kept queries
   pub lists_made : (terms : List KeyValue) (before : List Tree) (flags : List Bool) (first : ℕ) → first ≡ length before → length flags ≡ length trees
-      → map (with_more index.terms (λ key. moved (new_positions first flags) (query_positions_with key trees)) (λ term. query_positions_with term before)) terms ≡ map (λ term. query_positions_with term (before ++ flagged flags trees)) terms
+      → map (with_more old (λ key. moved (new_positions first flags) (query_positions_with keys_of key trees)) (λ term. query_positions_with keys_of term before)) terms ≡ positions_by keys_of terms (before ++ flagged flags trees)
   lists_made terms before flags first at long =
-      ap (λ f. map f terms) (λ i term. (ap (λ l. query_positions_with term before ++ l) (moved_under (new_positions first flags) term) ∙ positions_moved (has_key term) before flags trees first at long) i)
+      ap (λ f. map f terms) (λ i term. (ap (λ l. query_positions_with keys_of term before ++ l) (moved_under (new_positions first flags) term) ∙ positions_moved (has_key keys_of term) before flags trees first at long) i)
 
 -- ---- plans
 
@@ -146,7 +148,7 @@ plans_made old new (true ∷ flags) (p ∷ ps) (t ∷ ts) e among =
     let first : decoded old p ≡ plan_of t = cc in
     let others : map (decoded old) ps ≡ map plan_of ts = cc in
     let parts = are_parts new (asked_of t) (flat_map asked_of (flagged flags ts)) among in
-    ap (λ x. x ∷ map (λ plan. decoded new (renamed (map (number_of new) old) plan)) (flagged flags ps)) (plan_renamed old new p t first (are_parts new (query_keys t) (word_keys t) parts.0).1)
+    ap (λ x. x ∷ map (λ plan. decoded new (renamed (map (number_of new) old) plan)) (flagged flags ps)) (plan_renamed old new p t first (asked_parts new t parts.0).2)
     ∙ ap (λ l. plan_of t ∷ l) (plans_made old new flags ps ts others parts.1)
 plans_made old new (false ∷ flags) (p ∷ ps) (t ∷ ts) e among =
     let others : map (decoded old) ps ≡ map plan_of ts = cc in
@@ -170,18 +172,37 @@ abbrev pub PlansAdded : (numbers : List (Option ℕ)) (flags : List Bool) (other
 PlansAdded numbers flags others plans new =
     (terms : List KeyValue) → map (decoded terms) new ≡ map (decoded terms) plans ++ map (λ plan. decoded terms (renamed numbers plan)) (flagged flags others)
 
-pub kept_made : (trees before : List Tree) (index : IndexValue) (terms : List KeyValue) (flags : List Bool) (first : ℕ) (numbers moves : List (Option ℕ)) (lists new_lists : List (List ℕ)) (plans new_plans : List (List (Mark ℕ)))
+-- the same numbers and moves by other names
+pub lists_added : (numbers ns moves ms : List (Option ℕ)) (positions lists new : List (List ℕ)) → numbers ≡ ns → moves ≡ ms → ListsAdded numbers moves positions lists new → ListsAdded ns ms positions lists new
+lists_added numbers ns moves ms positions lists new same_numbers same_moves added terms keys under old rising numbered placed start =
+    added terms keys under old rising (same_numbers ∙ numbered) placed start
+    ∙ ap (λ table. map (with_more keys (λ key. moved table (old key)) under) terms) same_moves
+
+-- the lists by those keys
+lists_kept : (keys_of : Tree → List KeyValue) → AreAsked keys_of → (trees before : List Tree) (old terms : List KeyValue) → old ≡ terms_of trees → IsStrictlySortedBy key_cmp terms
+    → (flags : List Bool) (first : ℕ) → first ≡ length before → length flags ≡ length trees
+    → (numbers moves : List (Option ℕ)) → numbers ≡ map (number_of terms) old → moves ≡ new_positions first flags
+    → (positions lists new : List (List ℕ)) → positions ≡ positions_by keys_of old trees → ListsAdded numbers moves positions lists new
+    → lists ≡ positions_by keys_of terms before → new ≡ positions_by keys_of terms (before ++ flagged flags trees)
+lists_kept keys_of asked trees before old terms are rising flags first many long numbers moves numbered placed positions lists new of_index added made =
+    added terms old (λ term. query_positions_with keys_of term before) (λ key. query_positions_with keys_of key trees) rising numbered of_index made
+    ∙ ap (λ table. map (with_more old (λ key. moved table (query_positions_with keys_of key trees)) (λ term. query_positions_with keys_of term before)) terms) placed
+    ∙ lists_made keys_of asked trees old are terms before flags first many long
+
+pub kept_made : (trees before : List Tree) (index : IndexValue) (terms : List KeyValue) (flags : List Bool) (first : ℕ) (numbers moves : List (Option ℕ)) (lists new_lists : TermLists) (plans new_plans : List (List (Mark ℕ)))
     → IsIndexOf trees index → IsStrictlySortedBy key_cmp terms → length flags ≡ length trees → IsTrue (are_terms terms (flat_map asked_of (flagged flags trees)))
     → first ≡ length plans → numbers ≡ map (number_of terms) index.terms → moves ≡ new_positions first flags
-    → ListsAdded numbers moves index.positions lists new_lists → PlansAdded numbers flags index.plans plans new_plans
+    → ListsAdded numbers moves index.positions (map vec_items lists.positions.items) (map vec_items new_lists.positions.items)
+    → ListsAdded numbers moves index.seconds (map vec_items lists.seconds.items) (map vec_items new_lists.seconds.items)
+    → PlansAdded numbers flags index.plans plans new_plans
     → AreMadeOf terms before lists plans → AreMadeOf terms (before ++ flagged flags trees) new_lists new_plans
-kept_made trees before index terms flags first numbers moves lists new_lists plans new_plans is rising long among at numbered placed added_lists added_plans made =
+kept_made trees before index terms flags first numbers moves lists new_lists plans new_plans is rising long among at numbered placed added_lists added_seconds added_plans made =
     let many : first ≡ length before = omega (arith, at, ap length made.planned, length-map plans (decoded terms), length-map before plan_of) in
     record {
-      placed =
-          added_lists terms index.terms (λ term. query_positions_with term before) (λ key. query_positions_with key trees) rising numbered is.positions made.placed
-          ∙ ap (λ table. map (with_more index.terms (λ key. moved table (query_positions_with key trees)) (λ term. query_positions_with term before)) terms) placed
-          ∙ lists_made trees index is terms before flags first many long;
+      placed = record {
+        positions = lists_kept query_keys keys_asked trees before index.terms terms is.terms rising flags first many long numbers moves numbered placed index.positions _ _ is.positions added_lists made.placed.positions;
+        seconds = lists_kept second_keys seconds_asked trees before index.terms terms is.terms rising flags first many long numbers moves numbered placed index.seconds _ _ is.seconds added_seconds made.placed.seconds;
+      };
       planned =
           added_plans terms
           ∙ ap (λ l. l ++ map (λ plan. decoded terms (renamed numbers plan)) (flagged flags index.plans)) made.planned

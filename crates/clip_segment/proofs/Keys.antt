@@ -12,8 +12,9 @@ use Rattle.std.specs.FinMap as finite
 use Rattle.std.specs.FinMap.Entries.{below_all}
 use Rattle.std.specs.List.{list_any, take-map}
 use Rattle.clip_grammar.proofs.Booleans.{truth, first, second}
-use Rattle.clip_extract.proofs.Members.{marked}
-use Rattle.clip_extract.proofs.Order.{key_cmp_total, same_key}
+use Rattle.clip_extract.proofs.Members.{marked, strict_keys}
+use Rattle.clip_extract.proofs.Order.{key_cmp_total, key_cmp_same, among_in_order, same_key}
+use Rattle.clip_terms.proofs.Numbers.{in_order_rises}
 use Rattle.clip_extract.specs.Keys.{KeyValue, key_of, key_cmp, is_same, in_order}
 use Rattle.clip_extract.specs.declared.key.Key.{Key}
 
@@ -85,3 +86,9 @@ key_added under position ks all j d o are inside =
     one_of under position _ _ (not_before ks all j d o are inside)
     ∙ ap (λ b. under ++ cond (list_any (is_same o) (map key_of (take j ks)) || b) (position ∷ []) []) (flipped (key_of (get_or ks j d)) o)
     ∙ ap (λ b. under ++ cond b (position ∷ []) []) (sym (any_more (is_same o) ks j d inside))
+
+-- ---- keys in order
+
+-- keys with the same members are the same in order
+pub same_in_order : (ks ls : List KeyValue) → ((q : KeyValue) → list_any (is_same q) ks ≡ list_any (is_same q) ls) → in_order ks ≡ in_order ls
+same_in_order ks ls same = strict_keys key_cmp_total key_cmp_same (in_order ks) ls (in_order_rises ks) (λ q. among_in_order ks q ∙ same q)

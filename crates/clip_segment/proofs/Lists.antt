@@ -4,12 +4,13 @@ use Rattle.std.specs.Ordering.{is_eq}
 use Rattle.std.specs.declared.cmp.Ordering.TheVariants.{Less}
 use Rattle.std.specs.List.{list_any, AllByRecursion}
 use Rattle.std.specs.List.Sorted.{IsStrictlySortedBy}
-use Rattle.clip_extract.proofs.Order.{same_key}
+use Rattle.clip_extract.proofs.Order.{among_in_order, same_key}
 use Rattle.clip_extract.specs.Keys.{KeyValue, key_of, key_cmp, is_same, in_order}
 use Rattle.clip_extract.specs.declared.key.Key.{Key}
 use Rattle.clip_terms.specs.Terms.{number_of}
-use Rattle.clip_segment.specs.Index.{query_positions_with}
-use Rattle.clip_segment.proofs.Keys.{key_added}
+use Rattle.clip_grammar.specs.Tree.{Tree}
+use Rattle.clip_segment.specs.Index.{positions_by}
+use Rattle.clip_segment.proofs.Keys.{key_added, same_in_order}
 
 -- what stands under a term, with more where it is the key
 abbrev pub with_list : KeyValue → List ℕ → (KeyValue → List ℕ) → KeyValue → List ℕ
@@ -53,17 +54,27 @@ abbrev pub with_positions : List KeyValue → ℕ → (KeyValue → List ℕ) �
 with_positions keys position under term = under term ++ cond (list_any (is_same term) keys) (position ∷ []) []
 
 -- a position under one more key of a query
-pub next_key : (terms : List KeyValue) (position : ℕ) (under : KeyValue → List ℕ) (ks : List Key) (all : List KeyValue) (j : ℕ) (key : Key) (old new : List (List ℕ))
-    → map key_of ks ≡ in_order all → j < length ks → key ≡ get_or ks j key
+pub next_key : (terms : List KeyValue) (position : ℕ) (under : KeyValue → List ℕ) (ks : List Key) (j : ℕ) (key : Key) (old new : List (List ℕ))
+    → map key_of ks ≡ in_order (map key_of ks) → j < length ks → key ≡ get_or ks j key
     → old ≡ map (with_positions (map key_of (take j ks)) position under) terms
     → ((f : KeyValue → List ℕ) → old ≡ map f terms → new ≡ map (with_position (key_of key) position f) terms)
     → new ≡ map (with_positions (map key_of (take (j + 1) ks)) position under) terms
-next_key terms position under ks all j key old new are inside is before added =
+next_key terms position under ks j key old new once inside is before added =
     added _ before
     ∙ ap (λ k. map (with_position (key_of k) position (with_positions (map key_of (take j ks)) position under)) terms) is
-    ∙ ap (λ f. map f terms) (λ i t. key_added (under t) position ks all j key t are inside i)
+    ∙ ap (λ f. map f terms) (λ i t. key_added (under t) position ks (map key_of ks) j key t once inside i)
 
 -- no query has any term
-pub none_yet : (terms : List KeyValue) → replicate (length terms) [] ≡ map (λ term. query_positions_with term []) terms
-none_yet [] = refl
-none_yet (t ∷ ts) = ap (λ xs. [] ∷ xs) (none_yet ts)
+pub none_yet : (keys_of : Tree → List KeyValue) (terms : List KeyValue) → replicate (length terms) [] ≡ positions_by keys_of terms []
+none_yet keys_of [] = refl
+none_yet keys_of (t ∷ ts) = ap (λ xs. [] ∷ xs) (none_yet keys_of ts)
+
+-- the same with the query's keys by another name
+pub added_keys : (terms : List KeyValue) (position : ℕ) (ks ls : List KeyValue) (old new : List (List ℕ)) → ks ≡ ls
+    → ((f : KeyValue → List ℕ) → old ≡ map f terms → new ≡ map (with_positions ks position f) terms)
+    → (f : KeyValue → List ℕ) → old ≡ map f terms → new ≡ map (with_positions ls position f) terms
+added_keys terms position ks ls old new same added f before = added f before ∙ ap (λ keys. map (with_positions keys position f) terms) same
+
+-- keys in order stay so
+pub in_order_still : (ks all : List KeyValue) → ks ≡ in_order all → ks ≡ in_order ks
+in_order_still ks all are = are ∙ sym (ap in_order are ∙ same_in_order (in_order all) all (among_in_order all))

@@ -5,6 +5,7 @@ use Rattle.std.proofs.alloc.Global.TheSendSync as global_sent
 use Rattle.std.below.std_heap.proofs.GlobalAllocator.TheSendSync as allocator_sent
 use Rattle.std.proofs.sync.Arc.TheSendSync as arc_sent
 use Rattle.std.proofs.vec.Vec.TheSendSync as vec_sent
+use Rattle.clip_pieces.proofs.marks.Marks.TheSendSync as marks_sent
 use Rattle.clip_pieces.proofs.packed.PackedLists.TheSendSync as lists_sent
 use Rattle.clip_terms.proofs.terms.Terms.TheSendSync as terms_sent
 use Rattle.clip_plan.proofs.Sent.{plans_send, plans_sync}
@@ -17,10 +18,10 @@ use Rattle.clip_segment.specs.contracts.segment.Segment.TheInside as segment_ins
 ruleset global = (sendable, global_sent.the_send, global_sent.the_sync, allocator_sent.the_frees)
 
 index_send : IsSend index.the_row
-index_send = view_send index_inside.the_row _ _ _ _ (declared_send index_inside.the_type (search (global, terms_sent.the_send), (search (global, lists_sent.the_send), (plans_send, tt))))
+index_send = view_send index_inside.the_row _ _ _ _ (declared_send index_inside.the_type (search (global, terms_sent.the_send), (search (global, lists_sent.the_send), (search (global, lists_sent.the_send), (search (global, marks_sent.the_send), (plans_send, tt))))))
 
 index_sync : IsSync index.the_row
-index_sync = view_sync index_inside.the_row _ _ _ _ (declared_sync index_inside.the_type (search (global, terms_sent.the_sync), (search (global, lists_sent.the_sync), (plans_sync, tt))))
+index_sync = view_sync index_inside.the_row _ _ _ _ (declared_sync index_inside.the_type (search (global, terms_sent.the_sync), (search (global, lists_sent.the_sync), (search (global, lists_sent.the_sync), (search (global, marks_sent.the_sync), (plans_sync, tt))))))
 
 pub segment_send : IsSend segment.the_row
 segment_send = view_send segment_inside.the_row _ _ _ _ (declared_send segment_inside.the_type (search (global, vec_sent.the_send, arc_sent.the_send, entry_send, entry_sync), (search (global, vec_sent.the_send), (index_send, tt))))

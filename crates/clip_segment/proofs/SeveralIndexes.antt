@@ -5,19 +5,13 @@ use Rattle.std.proofs.lemmas.Grind.{flat_map-append}
 use Rattle.std.proofs.lemmas.List.{length-map, get_or-map, take_all}
 use Rattle.std.proofs.lemmas.List.Folds.{list_any-append}
 use Rattle.clip_grammar.specs.Tree.{Tree}
-use Rattle.clip_extract.specs.Keys.{KeyValue, is_same, in_order}
-use Rattle.clip_extract.proofs.Members.{strict_keys}
-use Rattle.clip_extract.proofs.Order.{key_cmp_total, key_cmp_same, among_in_order}
-use Rattle.clip_terms.proofs.Numbers.{in_order_rises}
+use Rattle.clip_extract.specs.Keys.{KeyValue, is_same}
+use Rattle.clip_extract.proofs.Order.{among_in_order}
 use Rattle.clip_plan.specs.Plan.{are_terms}
 use Rattle.clip_segment.specs.Index.{IndexValue, IsIndexOf, asked_of, terms_of}
 use Rattle.clip_segment.specs.Selecting.{AreFlagsOf, AreIndexesOf, flagged, kept_of}
 use Rattle.clip_segment.proofs.Asked.{in_first, in_second, terms_from}
 use Rattle.clip_segment.proofs.Flagged.{kept_more}
-
--- keys with the same members are the same in order
-pub same_in_order : (ks ls : List KeyValue) → ((q : KeyValue) → list_any (is_same q) ks ≡ list_any (is_same q) ls) → in_order ks ≡ in_order ls
-same_in_order ks ls same = strict_keys key_cmp_total key_cmp_same (in_order ks) ls (in_order_rises ks) (λ q. among_in_order ks q ∙ same q)
 
 -- ---- one of the indexes
 

@@ -8,7 +8,6 @@ use Rattle.std.proofs.lemmas.List.{ext_get_or, length-map}
 use Rattle.clip_pieces.specs.Marked.{marked, marked_from}
 use Rattle.clip_grammar.specs.Tree.{Tree}
 use Rattle.clip_extract.specs.Keys.{KeyValue, is_same, share}
-use Rattle.clip_extract.specs.Extraction.{query_keys}
 use Rattle.clip_extract.proofs.Order.{key_cmp_total}
 use Rattle.clip_segment.specs.Index.{has_key, query_positions, query_positions_with, query_positions_sharing}
 use Rattle.clip_segment.proofs.AnyOf.{any_swap, any_and, any_flat_map, any_map_filter}
@@ -18,20 +17,21 @@ fronts = map (λ (e : ℕ × Tree). e.0)
 
 -- ---- the positions of the keys are those of the queries that share one
 
-share_swap : (ks : List KeyValue) (tree : Tree) → list_any (λ k. has_key k tree) ks ≡ share (query_keys tree) ks
-share_swap ks tree =
-    any_swap is_same ks (query_keys tree)
-    ∙ ap (λ f. list_any f (query_keys tree)) (λ i l. list_any (λ k. (eq_by_cmp_equiv key_cmp_total).symm k l i) ks)
+share_swap : (keys_of : Tree → List KeyValue) (ks : List KeyValue) (tree : Tree) → list_any (λ k. has_key keys_of k tree) ks ≡ share (keys_of tree) ks
+share_swap keys_of ks tree =
+    any_swap is_same ks (keys_of tree)
+    ∙ ap (λ f. list_any f (keys_of tree)) (λ i l. list_any (λ k. (eq_by_cmp_equiv key_cmp_total).symm k l i) ks)
 
-pub any_position : (ks : List KeyValue) (trees : List Tree) (q : ℕ) → list_any (nat_eq q) (flat_map (λ k. query_positions_with k trees) ks) ≡ list_any (nat_eq q) (query_positions_sharing ks trees)
-any_position ks trees q =
+pub any_position : (keys_of : Tree → List KeyValue) (ks : List KeyValue) (trees : List Tree) (q : ℕ)
+    → list_any (nat_eq q) (flat_map (λ k. query_positions_with keys_of k trees) ks) ≡ list_any (nat_eq q) (query_positions_sharing keys_of ks trees)
+any_position keys_of ks trees q =
     let all = enumerate_from 0 trees in
-    any_flat_map (nat_eq q) (λ k. query_positions_with k trees) ks
-    ∙ ap (λ f. list_any f ks) (λ i k. any_map_filter (nat_eq q) (λ (e : ℕ × Tree). e.0) (λ (e : ℕ × Tree). has_key k e.1) all i)
-    ∙ any_swap (λ k (e : ℕ × Tree). has_key k e.1 && nat_eq q e.0) ks all
-    ∙ ap (λ f. list_any f all) (λ i (e : ℕ × Tree). any_and (λ k. has_key k e.1) (nat_eq q e.0) ks i)
-    ∙ ap (λ f. list_any f all) (λ i (e : ℕ × Tree). share_swap ks e.1 i && nat_eq q e.0)
-    ∙ sym (any_map_filter (nat_eq q) (λ (e : ℕ × Tree). e.0) (λ (e : ℕ × Tree). share (query_keys e.1) ks) all)
+    any_flat_map (nat_eq q) (λ k. query_positions_with keys_of k trees) ks
+    ∙ ap (λ f. list_any f ks) (λ i k. any_map_filter (nat_eq q) (λ (e : ℕ × Tree). e.0) (λ (e : ℕ × Tree). has_key keys_of k e.1) all i)
+    ∙ any_swap (λ k (e : ℕ × Tree). has_key keys_of k e.1 && nat_eq q e.0) ks all
+    ∙ ap (λ f. list_any f all) (λ i (e : ℕ × Tree). any_and (λ k. has_key keys_of k e.1) (nat_eq q e.0) ks i)
+    ∙ ap (λ f. list_any f all) (λ i (e : ℕ × Tree). share_swap keys_of ks e.1 i && nat_eq q e.0)
+    ∙ sym (any_map_filter (nat_eq q) (λ (e : ℕ × Tree). e.0) (λ (e : ℕ × Tree). share (keys_of e.1) ks) all)
 
 -- ---- a flag for each query
 

@@ -1,33 +1,37 @@
 //! How an index is built: the terms of queries, the positions under each, and the plans.
 ghost use Rattle.std.specs.Prelude.{◌≡◌, ◌<◌, ◌≤◌, ◌++◌, ◌∷◌, [], ℕ, List, if◌then◌else◌, IfOk, OnOk, IsTrue, Some};
-ghost use Rattle.std.specs.Prelude.{length, map, get_or, set, replicate, vec_items};
+ghost use Rattle.std.specs.Prelude.{length, map, get_or, set, vec_items};
+ghost use Rattle.std.specs.List.{list_any};
 ghost use Rattle.std.specs.List.Sorted.{IsStrictlySortedBy};
 ghost use Rattle.clip_grammar.specs.Tree.{tree_of};
-ghost use Rattle.clip_extract.specs.Keys.{KeyValue, key_of, key_cmp, is_same};
-ghost use Rattle.clip_extract.specs.Extraction.{query_keys};
+ghost use Rattle.clip_extract.specs.Keys.{KeyValue, key_of, key_cmp, in_order, is_same};
+ghost use Rattle.clip_extract.specs.Extraction.{query_keys, second_keys};
 ghost use Rattle.clip_terms.specs.Terms.{number_of};
 ghost use Rattle.clip_plan.specs.Plan.{are_terms, decoded, plan_of};
-ghost use Rattle.clip_segment.specs.Index.{asked_of, has_key, query_positions_with, terms_of};
+ghost use Rattle.clip_segment.specs.Index.{asked_of, terms_of};
+ghost use Rattle.clip_segment.specs.Steps.Parts.{AreListsOf};
 ghost use Rattle.clip_segment.specs.declared.segment.TheConstants.{MOST_POSITIONS};
 
 use crate::kept_terms::add_copy;
-use clip_extract::{Key, keys};
+use crate::term_lists::TermLists;
+use clip_extract::{Key, keys, second_keys};
 use clip_grammar::query::Query;
-use clip_pieces::PackedLists;
 use clip_plan::{Plans, add_word_keys};
 use clip_terms::Terms;
 use clip_words::NoMemory;
 use std::alloc::Global;
 
-/// A query with its keys.
+/// A query with its keys and its second keys.
 #[derive(Drop)]
 pub(crate) struct Keyed<'a> {
     query: &'a Query,
     keys: Vec<Key>,
+    seconds: Vec<Key>,
     ghost own: { map key_of keys.items ≡ query_keys (tree_of query.now) },
+    ghost own_seconds: { map key_of seconds.items ≡ second_keys (tree_of query.now) },
 }
 
-/// Queries with their keys.
+/// Queries with their keys and their second keys.
 pub(crate) fn with_keys<'a>(alloc: Global, queries: &'a [Query]) -> Result<Vec<Keyed<'a>>, NoMemory>
     ensures { IfOk result (λ keyed. map (λ k. tree_of k.query.now) keyed.items ≡ map tree_of queries.now) }
 {
@@ -36,6 +40,7 @@ pub(crate) fn with_keys<'a>(alloc: Global, queries: &'a [Query]) -> Result<Vec<K
         keyed.push(Keyed {
             query,
             keys: keys(alloc, query)?,
+            seconds: second_keys(alloc, query)?,
         })?;
     }
     Ok(keyed)
@@ -51,16 +56,17 @@ fn add_copies(keys: &[Key], all: &mut Vec<Key>) -> Result<(), NoMemory>
     Ok(())
 }
 
-/// Adds the keys of a query, and the words that it asks for. Texts are shared.
+/// Adds the keys of a query, its second keys, and the words that it asks for. Texts are shared.
 fn add_asked(keyed: &Keyed, all: &mut Vec<Key>) -> Result<(), NoMemory>
     ensures { OnOk result (map key_of all.new.items
         ≡ map key_of all.old.items ++ asked_of (tree_of keyed.now.query.now)) }
 {
     add_copies(&keyed.keys, all)?;
+    add_copies(&keyed.seconds, all)?;
     add_word_keys(keyed.query, all)
 }
 
-/// The keys of queries and the words that they ask for, in order, each once.
+/// The keys of queries, their second keys and the words that they ask for, in order, each once.
 pub(crate) fn terms_of(alloc: Global, queries: &[Keyed]) -> Result<Terms, NoMemory>
     ensures { IfOk result (λ terms. terms ≡ terms_of (map (λ k. tree_of k.query.now) queries.now)) }
 {
@@ -69,17 +75,6 @@ pub(crate) fn terms_of(alloc: Global, queries: &[Keyed]) -> Result<Terms, NoMemo
         add_asked(query, &mut all)?;
     }
     Terms::of(all)
-}
-
-/// So many empty lists.
-pub(crate) fn empty_lists(alloc: Global, count: usize) -> Result<Vec<Vec<u32>>, NoMemory>
-    ensures { IfOk result (λ lists. map vec_items lists.items ≡ replicate count []) }
-{
-    let mut lists = Vec::with_capacity(alloc, count)?;
-    for _ in 0..count {
-        lists.push(Vec::new(alloc))?;
-    }
-    Ok(lists)
 }
 
 /// The number of a key that is a term.
@@ -123,67 +118,48 @@ fn add_to_key(
     Ok(())
 }
 
-/// Adds a query's position to the list of each of its keys, which are terms, where each term has its list.
+/// Adds a query's position to the list of each of these keys of it, which are terms in order, each once, where each
+/// term has its list.
 fn add_position(
     terms: &Terms,
-    keyed: &Keyed,
+    keys: &[Key],
     position: u32,
     lists: &mut Vec<Vec<u32>>,
 ) -> Result<(), NoMemory>
     requires rising { IsStrictlySortedBy key_cmp terms.now }
-    requires terms { IsTrue (are_terms terms.now (query_keys (tree_of keyed.now.query.now))) }
+    requires terms { IsTrue (are_terms terms.now (map key_of keys.now)) }
+    requires once { map key_of keys.now ≡ in_order (map key_of keys.now) }
     requires long { length lists.old.items ≡ length terms.now }
     ensures { OnOk result ((under : KeyValue → List ℕ) → map vec_items lists.old.items ≡ map under terms.now
         → map vec_items lists.new.items
-        ≡ map (λ term. under term ++ (if has_key term (tree_of keyed.now.query.now) then position ∷ [] else []))
-        terms.now) }
+        ≡ map (λ term. under term
+        ++ (if list_any (is_same term) (map key_of keys.now) then position ∷ [] else [])) terms.now) }
 {
-    for key in &keyed.keys {
+    for key in keys {
         add_to_key(terms, key, position, lists)?;
     }
     Ok(())
 }
 
-/// For each term the positions of the queries that have it, rising.
-fn lists_of(alloc: Global, terms: &Terms, queries: &[Keyed]) -> Result<Vec<Vec<u32>>, NoMemory>
-    requires short { length queries.now ≤ MOST_POSITIONS }
-    requires terms { terms.now ≡ terms_of (map (λ k. tree_of k.query.now) queries.now) }
-    ensures { IfOk result (λ lists. map vec_items lists.items
-        ≡ map (λ term. query_positions_with term (map (λ k. tree_of k.query.now) queries.now)) terms.now) }
-{
-    let mut lists = empty_lists(alloc, terms.len())?;
-    let mut position = 0;
-    for query in queries {
-        add_position(terms, query, position, &mut lists)?;
-        position += 1;
-    }
-    Ok(lists)
-}
-
-/// These lists in one buffer.
-pub(crate) fn packed(alloc: Global, lists: &[Vec<u32>]) -> Result<PackedLists<u32>, NoMemory>
-    ensures { IfOk result (λ packed. packed ≡ map vec_items lists.now) }
-{
-    let mut packed = PackedLists::new(alloc);
-    for list in lists {
-        packed.push(list)?;
-    }
-    Ok(packed)
-}
-
-/// For each term the positions of the queries that have it, rising, in one buffer.
-pub(crate) fn positions_of(
+/// For each term the positions of the queries that have it as a key, and of those that have it as a second key, both
+/// rising.
+pub(crate) fn lists_of(
     alloc: Global,
     terms: &Terms,
     queries: &[Keyed],
-) -> Result<PackedLists<u32>, NoMemory>
+) -> Result<TermLists, NoMemory>
     requires short { length queries.now ≤ MOST_POSITIONS }
     requires terms { terms.now ≡ terms_of (map (λ k. tree_of k.query.now) queries.now) }
-    ensures { IfOk result (λ positions. positions
-        ≡ map (λ term. query_positions_with term (map (λ k. tree_of k.query.now) queries.now)) terms.now) }
+    ensures { IfOk result (λ lists. AreListsOf terms.now (map (λ k. tree_of k.query.now) queries.now) lists) }
 {
-    let lists = lists_of(alloc, terms, queries)?;
-    packed(alloc, &lists)
+    let mut lists = TermLists::empty(alloc, terms.len())?;
+    let mut position = 0;
+    for query in queries {
+        add_position(terms, &query.keys, position, &mut lists.positions)?;
+        add_position(terms, &query.seconds, position, &mut lists.seconds)?;
+        position += 1;
+    }
+    Ok(lists)
 }
 
 /// The plans of queries, in order.

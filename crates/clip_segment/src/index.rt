@@ -2,28 +2,34 @@
 ghost use Rattle.std.specs.Prelude.{◌≡◌, ◌≤◌, IfOk, List, length, map, vec_items};
 ghost use Rattle.clip_grammar.specs.Tree.{Tree, tree_of};
 ghost use Rattle.clip_extract.specs.Keys.{key_of};
-ghost use Rattle.clip_segment.specs.Index.{IsIndexOf, query_positions_with};
+ghost use Rattle.clip_extract.specs.Extraction.{query_keys};
+ghost use Rattle.clip_segment.specs.Index.{IsIndexOf, query_positions_with, terms_of};
+ghost use Rattle.clip_segment.specs.Steps.Parts.{AreMadeOf};
 ghost use Rattle.clip_segment.specs.Selecting.{AreFlagsOf, AreIndexesOf, count_set, kept_of};
 ghost use Rattle.clip_segment.specs.declared.segment.TheConstants.{MOST_POSITIONS};
 
-use crate::building::{empty_lists, packed, plans_of, positions_of, terms_of, with_keys};
+use crate::building::{lists_of, plans_of, terms_of, with_keys};
 use crate::index_selecting::add_all_kept;
 use crate::kept_terms::kept_terms;
+use crate::term_lists::{TermLists, marks_of, packed};
 use clip_extract::Key;
 use clip_grammar::query::Query;
-use clip_pieces::PackedLists;
+use clip_pieces::{Marks, PackedLists};
 use clip_plan::Plans;
 use clip_terms::Terms;
 use clip_words::NoMemory;
 use std::alloc::Global;
 use std::marker::Model;
 
-/// An index over queries: by their keys, and by what they ask. The queries themselves are not kept. Contracts see its
-/// terms, the positions under each and the plans, and say of which queries it is the index (`IsIndexOf`).
+/// An index over queries: by their keys, by their second keys, and by what they ask. The queries themselves are not
+/// kept. Contracts see its terms, the positions under each as a key and as a second key, for each query whether it has
+/// second keys, and the plans, and say of which queries it is the index (`IsIndexOf`).
 #[derive(Debug, Drop)]
 pub(crate) struct Index {
     pub(crate) terms: Terms,
     pub(crate) positions: PackedLists<u32>,
+    pub(crate) seconds: PackedLists<u32>,
+    pub(crate) needs: Marks,
     pub(crate) plans: Plans,
 }
 
@@ -40,11 +46,32 @@ impl Model for Index {
     ghost view = { index_of };
 }
 
+/// The index of these terms, lists and plans, which are those of some queries.
+fn packed_index(
+    alloc: Global,
+    terms: Terms,
+    lists: &TermLists,
+    plans: Plans,
+) -> Result<Index, NoMemory>
+    ensures { IfOk result (λ index. (trees : List Tree) → length trees ≤ MOST_POSITIONS → terms ≡ terms_of trees
+        → AreMadeOf terms trees lists.now plans → IsIndexOf trees index) }
+{
+    let needs = marks_of(alloc, &lists.seconds, plans.len())?;
+    Ok(Index {
+        terms,
+        positions: packed(alloc, &lists.positions)?,
+        seconds: packed(alloc, &lists.seconds)?,
+        needs,
+        plans,
+    })
+}
+
 impl Index {
     /// The index of these queries, of which there are at most `MOST_POSITIONS`.
     ///
     /// `NoMemory` where an allocation failed, and where the queries have more than 4,294,967,295 terms. Cost: an
-    /// extraction of each query's keys, a sort of the keys and words of all, and a search by halves for each of them.
+    /// extraction of each query's keys and second keys, a sort of these and of the words of all, and a search by halves
+    /// for each of them.
     /// No text is copied but ends of ranges.
     pub(crate) fn of(alloc: Global, queries: &[Query]) -> Result<Index, NoMemory>
         requires { length queries.now ≤ MOST_POSITIONS }
@@ -52,13 +79,9 @@ impl Index {
     {
         let keyed = with_keys(alloc, queries)?;
         let terms = terms_of(alloc, &keyed)?;
-        let positions = positions_of(alloc, &terms, &keyed)?;
+        let lists = lists_of(alloc, &terms, &keyed)?;
         let plans = plans_of(alloc, &terms, &keyed)?;
-        Ok(Index {
-            terms,
-            positions,
-            plans,
-        })
+        packed_index(alloc, terms, &lists, plans)
     }
 
     /// The index of the kept queries of several indexes, in order. `kept` has a list of flags for each index, and in it
@@ -79,22 +102,17 @@ impl Index {
             → IsIndexOf (kept_of trees (map vec_items kept.now)) index) }
     {
         let terms = kept_terms(alloc, indexes, kept)?;
-        let mut lists = empty_lists(alloc, terms.len())?;
+        let mut lists = TermLists::empty(alloc, terms.len())?;
         let mut plans = Plans::new(alloc);
         add_all_kept(alloc, &terms, indexes, kept, &mut lists, &mut plans)?;
-        let positions = packed(alloc, &lists)?;
-        Ok(Index {
-            terms,
-            positions,
-            plans,
-        })
+        packed_index(alloc, terms, &lists, plans)
     }
 
     /// The positions, from 0 and rising, of just the queries that have the key. Takes no memory. Cost: a search by
     /// halves among the terms.
     pub(crate) fn with_key(&self, key: &Key) -> &[u32]
         ensures { (trees : List Tree) → IsIndexOf trees self.now
-            → result.now ≡ query_positions_with (key_of key.now) trees }
+            → result.now ≡ query_positions_with query_keys (key_of key.now) trees }
     {
         match self.terms.number(key) {
             Some(number) => self.positions.get(number as usize),

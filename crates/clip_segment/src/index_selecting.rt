@@ -10,11 +10,13 @@ ghost use Rattle.clip_terms.specs.Terms.{number_of};
 ghost use Rattle.clip_plan.specs.Plan.{are_terms, decoded, renamed};
 ghost use Rattle.clip_segment.specs.Index.{IsIndexOf, asked_of, terms_of};
 ghost use Rattle.clip_segment.specs.Selecting.{AreFlagsOf, AreIndexesOf, count_set, flagged, kept_of};
-ghost use Rattle.clip_segment.specs.Steps.Parts.{AreMadeOf, list_added, moved, new_position, new_positions, with_more};
+ghost use Rattle.clip_segment.specs.Steps.Parts.{AreFor, AreMadeOf, list_added, moved, new_position, new_positions};
+ghost use Rattle.clip_segment.specs.Steps.Parts.{with_more};
 ghost use Rattle.clip_segment.specs.declared.segment.TheConstants.{MOST_POSITIONS};
 
 use crate::index::Index;
 use crate::kept_terms::{flag_at, flags_of};
+use crate::term_lists::TermLists;
 use clip_pieces::PackedLists;
 use clip_plan::Plans;
 use clip_terms::Terms;
@@ -151,22 +153,23 @@ fn add_kept(
     terms: &Terms,
     index: &Index,
     kept: &[bool],
-    lists: &mut Vec<Vec<u32>>,
+    lists: &mut TermLists,
     plans: &mut Plans,
 ) -> Result<(), NoMemory>
     requires rising { IsStrictlySortedBy key_cmp terms.now }
-    requires long { length lists.old.items ≡ length terms.now }
+    requires long { AreFor terms.now lists.old }
     requires few { length plans.old + count_by (λ flag. flag) kept.now ≤ MOST_POSITIONS }
-    ensures long { OnOk result (length lists.new.items ≡ length terms.now) }
+    ensures long { OnOk result (AreFor terms.now lists.new) }
     ensures few { OnOk result (length plans.new ≤ length plans.old + count_by (λ flag. flag) kept.now) }
     ensures made { OnOk result ((before trees : List Tree) → IsIndexOf trees index.now → length kept.now ≡ length trees
         → IsTrue (are_terms terms.now (flat_map asked_of (flagged kept.now trees)))
-        → AreMadeOf terms.now before (map vec_items lists.old.items) plans.old
-        → AreMadeOf terms.now (before ++ flagged kept.now trees) (map vec_items lists.new.items) plans.new) }
+        → AreMadeOf terms.now before lists.old plans.old
+        → AreMadeOf terms.now (before ++ flagged kept.now trees) lists.new plans.new) }
 {
     let numbers = terms.numbers(alloc, index.terms.keys())?;
     let moves = new_positions(alloc, kept, plans.len() as u32)?;
-    add_lists(&index.positions, &numbers, &moves, lists)?;
+    add_lists(&index.positions, &numbers, &moves, &mut lists.positions)?;
+    add_lists(&index.seconds, &numbers, &moves, &mut lists.seconds)?;
     add_plans(alloc, &index.plans, kept, &numbers, plans)
 }
 
@@ -176,17 +179,17 @@ pub(crate) fn add_all_kept(
     terms: &Terms,
     indexes: &[&Index],
     kept: &[Vec<bool>],
-    lists: &mut Vec<Vec<u32>>,
+    lists: &mut TermLists,
     plans: &mut Plans,
 ) -> Result<(), NoMemory>
     requires rising { IsStrictlySortedBy key_cmp terms.now }
-    requires long { length lists.old.items ≡ length terms.now }
+    requires long { AreFor terms.now lists.old }
     requires few { length plans.old + count_set (map vec_items kept.now) ≤ MOST_POSITIONS }
     ensures { OnOk result ((trees : List (List Tree))
         → AreIndexesOf trees (map (λ i. i.now) indexes.now) → AreFlagsOf trees (map vec_items kept.now)
         → terms.now ≡ terms_of (kept_of trees (map vec_items kept.now))
-        → AreMadeOf terms.now [] (map vec_items lists.old.items) plans.old
-        → AreMadeOf terms.now (kept_of trees (map vec_items kept.now)) (map vec_items lists.new.items) plans.new) }
+        → AreMadeOf terms.now [] lists.old plans.old
+        → AreMadeOf terms.now (kept_of trees (map vec_items kept.now)) lists.new plans.new) }
 {
     let mut place = 0;
     for index in indexes {

@@ -50,21 +50,6 @@ fn any_flag(flags: &[bool], positions: &[u32]) -> bool
     false
 }
 
-/// For each list of positions whether one of them is kept.
-fn with_kept_positions(
-    alloc: Global,
-    positions: &PackedLists<u32>,
-    kept: &[bool],
-) -> Result<Vec<bool>, NoMemory>
-    ensures { IfOk result (λ flags. flags.items ≡ map (list_any (flag_at kept.now)) positions.now) }
-{
-    let mut flags = Vec::with_capacity(alloc, positions.len())?;
-    for number in 0..positions.len() {
-        flags.push(any_flag(kept, positions.get(number)))?;
-    }
-    Ok(flags)
-}
-
 /// The numbers that the kept plans name.
 fn kept_numbers(alloc: Global, plans: &Plans, kept: &[bool]) -> Result<Vec<u32>, NoMemory>
     ensures { IfOk result (λ numbers. numbers.items ≡ flat_map names (flagged kept.now plans.now)) }
@@ -97,6 +82,19 @@ fn set_all(flags: &mut Vec<bool>, numbers: &[u32])
 {
     for number in numbers {
         set_flag(flags, *number as usize);
+    }
+}
+
+/// Sets the flag of each list of which a position is kept; a list past the last flag is left out.
+fn set_kept(flags: &mut Vec<bool>, lists: &PackedLists<u32>, kept: &[bool])
+    ensures long { length flags.new.items ≡ length flags.old.items }
+    ensures flags { (n : ℕ) → n < length flags.old.items → flag_at flags.new.items n
+        ≡ (flag_at flags.old.items n || list_any (flag_at kept.now) (unwrap_or (slice_get lists.now n) [])) }
+{
+    for number in 0..flags.len() {
+        if any_flag(kept, lists.get(number)) {
+            set_flag(flags, number);
+        }
     }
 }
 
@@ -133,7 +131,9 @@ fn add_kept_terms(
         ≡ (list_any (is_same key) (map key_of all.old.items)
         || list_any (is_same key) (flat_map asked_of (flagged kept.now trees)))) }
 {
-    let mut used = with_kept_positions(alloc, &index.positions, kept)?;
+    let mut used = vec![in alloc; false; index.terms.len()]?;
+    set_kept(&mut used, &index.positions, kept);
+    set_kept(&mut used, &index.seconds, kept);
     let numbers = kept_numbers(alloc, &index.plans, kept)?;
     set_all(&mut used, &numbers);
     add_flagged(index.terms.keys(), &used, all)

@@ -8,9 +8,11 @@ mod building;
 mod index;
 mod index_selecting;
 mod kept_terms;
+mod marking;
 mod reading;
 mod segment;
 mod selecting;
+mod term_lists;
 
 pub use reading::SegmentReading;
 pub use segment::{MOST_POSITIONS, Segment};

@@ -1,15 +1,16 @@
 //! Articles as a segment asks them.
-ghost use Rattle.std.specs.Prelude.{◌≡◌, ◌<◌, ◌||◌, ◌==◌, ℕ, false, IfOk, OnOk, Some};
-ghost use Rattle.std.specs.Prelude.{length, option_map, slice_index_or};
+ghost use Rattle.std.specs.Prelude.{◌≡◌, false, IfOk, OnOk, Some, option_map};
 ghost use Rattle.std.specs.Arc.{arc_value};
-ghost use Rattle.std.specs.List.{list_any, slice_get};
+ghost use Rattle.std.specs.List.{slice_get};
 ghost use Rattle.std.specs.Option.{option_copied};
 ghost use Rattle.clip_extract.specs.Covering.{article_keys};
 ghost use Rattle.clip_meaning.specs.Meaning.{holds};
 ghost use Rattle.clip_model.specs.History.{Registered};
 ghost use Rattle.clip_segment.specs.Segment.{positions_sharing};
 
+use crate::marking::marks_under;
 use crate::segment::Segment;
+use clip_extract::second_covering_law;
 use clip_pieces::{Marks, PackedLists};
 use clip_plan::{Plans, Tally};
 use clip_standing::Entry;
@@ -24,8 +25,10 @@ use std::sync::Arc;
 pub struct SegmentReading<'a> {
     pub(crate) segment: &'a Segment,
     pub(crate) positions: &'a PackedLists<u32>,
+    pub(crate) needs: &'a Marks,
     pub(crate) plans: &'a Plans,
     pub(crate) reading: Reading<'a>,
+    pub(crate) seconds: Marks,
 }
 
 impl<'a> Model for SegmentReading<'a> {
@@ -44,17 +47,6 @@ impl<'a> Model for SegmentReading<'a> {
     ghost invariant = { IsOfItsIndex };
 }
 
-/// Marks these positions, of which those from the bound of the marks on mark nothing.
-fn mark_positions(positions: &[u32], marks: &mut Marks)
-    ensures long { length marks.new ≡ length marks.old }
-    ensures marked { (position : ℕ) → position < length marks.old → slice_index_or marks.new position false
-        ≡ (slice_index_or marks.old position false || list_any (λ marked. position == marked) positions.now) }
-{
-    for position in positions {
-        marks.mark(*position as usize);
-    }
-}
-
 impl<'a> SegmentReading<'a> {
     /// The positions, from 0 and rising, of just the entries whose queries share a key with the article, in place of
     /// those that were in the list.
@@ -65,10 +57,13 @@ impl<'a> SegmentReading<'a> {
         ensures { OnOk result (positions.new.items
             ≡ positions_sharing (article_keys self.now.article.fields) self.now.entries) }
     {
-        let mut marks = Marks::new(*positions.allocator(), self.plans.len())?;
-        for number in self.reading.numbers() {
-            mark_positions(self.positions.get(*number as usize), &mut marks);
-        }
+        let alloc = *positions.allocator();
+        let marks = marks_under(
+            alloc,
+            self.positions,
+            self.reading.numbers(),
+            self.plans.len(),
+        )?;
         marks.numbers_into(positions)
     }
 
@@ -87,12 +82,17 @@ impl<'a> SegmentReading<'a> {
         self.segment.entry(position)
     }
 
-    /// Whether the query of the entry at a position may hold of the article: `false` rules it out by its first clause,
-    /// and `true` says nothing. Takes no memory. Constant time; the entry is not looked at.
+    /// Whether the query of the entry at a position may hold of the article: `false` rules it out, by its second keys
+    /// or by its first clause, and `true` says nothing. Takes no memory. Constant time; the entry is not looked at, nor
+    /// is the plan where the second keys rule it out.
     pub fn may_hold(&self, position: u32) -> bool
         ensures { (entry : Registered) → slice_get self.now.entries position ≡ Some entry
             → result ≡ false → holds entry.standing.tree self.now.article.fields ≡ false }
     {
+        second_covering_law();
+        if self.needs.is_marked(position as usize) && !self.seconds.is_marked(position as usize) {
+            return false;
+        }
         self.plans.may_hold(position as usize, &self.reading)
     }
 

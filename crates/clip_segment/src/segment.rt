@@ -11,6 +11,7 @@ ghost use Rattle.clip_segment.specs.Segment.{IsRising, positions_with, trees_of,
 ghost use Rattle.clip_segment.specs.declared.segment.TheConstants.{MOST_POSITIONS};
 
 use crate::index::Index;
+use crate::marking::marks_under;
 use crate::reading::SegmentReading;
 use crate::selecting::{kept_entries, kept_index};
 use clip_extract::Key;
@@ -84,8 +85,8 @@ impl Segment {
     /// The segment of these entries, which it shares. Their seqs rise, and there are at most `MOST_POSITIONS`.
     ///
     /// `NoMemory` where an allocation failed, and where their queries have more than 4,294,967,295 terms. Cost: the
-    /// reading of their texts, an extraction of each query's keys, a sort of the keys and words of all, and a search by
-    /// halves for each of them. The queries aren't kept.
+    /// reading of their texts, an extraction of each query's keys and second keys, a sort of these and of the words of
+    /// all, and a search by halves for each of them. The queries aren't kept.
     pub fn build(alloc: Global, entries: Vec<Arc<Entry>>) -> Result<Segment, NoMemory>
         requires short { length entries.items ≤ MOST_POSITIONS }
         requires rising { IsRising (map arc_value entries.items) }
@@ -148,7 +149,8 @@ impl Segment {
 
     /// An article as this segment asks it.
     ///
-    /// `NoMemory` where an allocation failed. Cost: that of `Reading::of` over the terms of its index.
+    /// `NoMemory` where an allocation failed. Cost: that of `Reading::of` over the terms of its index, a step for each
+    /// position under a second key that the article has, and one for each 64 entries of the segment.
     pub fn read<'a>(
         &'a self,
         alloc: Global,
@@ -156,11 +158,16 @@ impl Segment {
     ) -> Result<SegmentReading<'a>, NoMemory>
         ensures { IfOk result (λ reading. reading ≡ record { entries = self.now; article = asking.now }) }
     {
+        let index = self.index();
+        let reading = Reading::of(alloc, &index.terms, asking)?;
+        let seconds = marks_under(alloc, &index.seconds, reading.numbers(), self.len())?;
         Ok(SegmentReading {
             segment: self,
-            positions: &self.index.positions,
-            plans: &self.index.plans,
-            reading: Reading::of(alloc, &self.index.terms, asking)?,
+            positions: &index.positions,
+            needs: &index.needs,
+            plans: &index.plans,
+            reading,
+            seconds,
         })
     }
 

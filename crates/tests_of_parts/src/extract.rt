@@ -1,6 +1,6 @@
 //! The keys and weights of queries, and the keys of articles.
 use crate::showing::show_keys;
-use clip_extract::{keys, weight};
+use clip_extract::{keys, second_keys, weight};
 use clip_grammar::query::Query;
 use clip_presearch::article_keys;
 use clip_samples::article;
@@ -65,6 +65,51 @@ fn keys_and_weight(alloc: Global, text: &str) -> Result<String, Fail> {
 fn a_query_has_the_keys_and_the_weight_of_the_table(rt: HostRuntime) -> Result<(), Fail> {
     for (text, wanted) in &ROWS {
         let told = keys_and_weight(rt.alloc(), text)?;
+        assert!(rt; told.as_str() == *wanted, "{text}: {told}");
+    }
+    Ok(())
+}
+
+/// Each the text of a query, and its second keys.
+#[rattlefmt::skip]
+static SECONDS: [(&str, &str); 20] = [
+    ("+tea +coffee", "text:tea "),
+    ("+coffee +tea", "text:tea "),
+    ("tea AND coffee AND cream", "text:cream "),
+    // ties: the first that is left stands
+    ("+tea +mat +ink", "text:mat "),
+    ("+tea +coffee +mat", "text:tea "),
+    ("+coffee +cream +sugar", "text:cream "),
+    ("+tea +mat +coffee +ink", "text:tea "),
+    // a group, and fronts, which are no second keys
+    ("+coffee +(tea ink)", "text:ink text:tea "),
+    ("+coffee +tea*", ""),
+    ("+coffee +(tea* ink)", ""),
+    ("+tea* +mat", "text:mat "),
+    ("+coffee +\"green tea\"", "text:green "),
+    // one Must child, or none
+    ("+tea coffee", ""),
+    ("+tea -coffee", ""),
+    ("tea coffee", ""),
+    ("\"green tea\"", ""),
+    // a second child that nothing narrows
+    ("+tea +[a TO b]", ""),
+    ("+coffee +([a TO b] tea)", ""),
+    ("+*:* -spam +tea", ""),
+    // what may fail does not count
+    ("+tea +coffee cream -sugar", "text:tea "),
+];
+
+/// The second keys of the query of a text.
+fn seconds(alloc: Global, text: &str) -> Result<String, Fail> {
+    let query = read_query(alloc, text)?;
+    Ok(show_keys(alloc, &second_keys(alloc, &query)?)?)
+}
+
+#[test]
+fn a_query_has_the_second_keys_of_its_other_required_children(rt: HostRuntime) -> Result<(), Fail> {
+    for (text, wanted) in &SECONDS {
+        let told = seconds(rt.alloc(), text)?;
         assert!(rt; told.as_str() == *wanted, "{text}: {told}");
     }
     Ok(())

@@ -3,4 +3,4 @@ use Rattle.clip_segment.specs.Index.{IndexValue}
 use Rattle.clip_segment.specs.declared.index.Index.TheInside.{Inside}
 
 abbrev pub index_of : Inside → IndexValue
-index_of i = record { terms = i.terms; positions = i.positions; plans = i.plans }
+index_of i = record { terms = i.terms; positions = i.positions; seconds = i.seconds; needs = i.needs; plans = i.plans }

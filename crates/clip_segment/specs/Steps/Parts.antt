@@ -1,9 +1,11 @@
 -- How the index of kept queries is made, one index after another.
-use Rattle.std.specs.Prelude.{◌≡◌, ℕ, ◌+◌, Bool, false, List, [], ◌∷◌, ◌++◌, map, flat_map, Option, Some, None, option_to_list, unwrap_or, slice_get, get_or, set, if◌then◌else◌}
+use Rattle.std.specs.Prelude.{◌≡◌, ℕ, ◌+◌, Bool, false, List, [], ◌∷◌, ◌++◌, map, flat_map, Option, Some, None, option_to_list, unwrap_or, slice_get, get_or, set, length, vec_items, if◌then◌else◌}
 use Rattle.clip_grammar.specs.Tree.{Tree}
+use Rattle.clip_extract.specs.Extraction.{query_keys, second_keys}
 use Rattle.clip_extract.specs.Keys.{KeyValue, is_same}
 use Rattle.clip_plan.specs.Plan.{Mark, decoded, plan_of}
-use Rattle.clip_segment.specs.Index.{query_positions_with}
+use Rattle.clip_segment.specs.Index.{positions_by}
+use Rattle.clip_segment.specs.declared.term_lists.TermLists.{TermLists}
 
 -- the flag of a place is set; a missing one is not
 abbrev pub flag_at : List Bool → ℕ → Bool
@@ -31,8 +33,18 @@ list_added (Some number) more lists = set lists number (get_or lists number [] +
 abbrev pub with_more : List KeyValue → (KeyValue → List ℕ) → (KeyValue → List ℕ) → KeyValue → List ℕ
 with_more keys more under term = under term ++ flat_map (λ key. if is_same key term then more key else []) keys
 
--- over these terms the lists are the positions of the queries, and the plans their plans
-pub record AreMadeOf (terms : List KeyValue) (trees : List Tree) (lists : List (List ℕ)) (plans : List (List (Mark ℕ)))
+-- there are two lists for each of these terms
+pub record AreFor (terms : List KeyValue) (lists : TermLists) : Type 0 where
+  pub positions : length lists.positions.items ≡ length terms
+  pub seconds : length lists.seconds.items ≡ length terms
+
+-- over these terms the lists have the positions of the queries, by their keys and by their second keys
+pub record AreListsOf (terms : List KeyValue) (trees : List Tree) (lists : TermLists) : Type 0 where
+  pub positions : map vec_items lists.positions.items ≡ positions_by query_keys terms trees
+  pub seconds : map vec_items lists.seconds.items ≡ positions_by second_keys terms trees
+
+-- and the plans are those of the queries
+pub record AreMadeOf (terms : List KeyValue) (trees : List Tree) (lists : TermLists) (plans : List (List (Mark ℕ)))
     : Type 0 where
-  pub placed : lists ≡ map (λ term. query_positions_with term trees) terms
+  pub placed : AreListsOf terms trees lists
   pub planned : map (decoded terms) plans ≡ map plan_of trees

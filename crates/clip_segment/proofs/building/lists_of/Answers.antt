@@ -1,40 +1,78 @@
-use Rattle.std.proofs.Common.{◌+◌, ◌∙◌, [], replicate, length, ap, sym, subst, vec_items, refl}
+use Rattle.std.proofs.Common.{◌+◌, ◌∙◌, [], map, replicate, length, ap, sym, subst, vec_items, refl, IsTrue}
 use Rattle.std.proofs.lemmas.List.{length-map}
 use Rattle.std.specs.List.Sorted.{IsStrictlySortedBy}
 use Rattle.clip_grammar.specs.Tree.{tree_of}
-use Rattle.clip_extract.specs.Keys.{key_cmp}
-use Rattle.clip_extract.specs.Extraction.{query_keys}
+use Rattle.clip_extract.specs.Extraction.{extract, query_keys, second_extract, second_keys}
+use Rattle.clip_extract.specs.Keys.{key_of, key_cmp}
 use Rattle.clip_terms.proofs.Numbers.{in_order_rises}
-use Rattle.clip_plan.specs.Plan.{word_keys}
-use Rattle.clip_plan.proofs.Numbering.{are_parts}
-use Rattle.clip_segment.proofs.Asked.{asked_terms}
-use Rattle.clip_segment.proofs.Lists.{none_yet}
+use Rattle.clip_plan.specs.Plan.{are_terms}
+use Rattle.clip_segment.proofs.Asked.{asked_parts, asked_terms}
 use Rattle.clip_segment.proofs.IndexPositions.{next_query}
+use Rattle.clip_segment.proofs.Lists.{added_keys, in_order_still, none_yet}
 use Rattle.clip_segment.proofs.building.lists_of.Goals as goal
 
 pub loop-query-init : goal.loop-query-init
-loop-query-init c = record {
-  position = refl;
-  lists = c.in_ok-lists.ensures ∙ ap (λ n. replicate n []) c.len.ensures ∙ none_yet c.args.terms.now;
-}
+loop-query-init c =
+    let terms = c.args.terms.now in
+    record {
+      position = refl;
+      lists = record {
+        positions = c.in_ok-lists.ensures.positions ∙ ap (λ n. replicate n []) c.len.ensures ∙ none_yet query_keys terms;
+        seconds = c.in_ok-lists.ensures.seconds ∙ ap (λ n. replicate n []) c.len.ensures ∙ none_yet second_keys terms;
+      };
+    }
 
 pub add_position-requires-clause-rising : goal.add_position-requires-clause-rising
 add_position-requires-clause-rising c = subst (IsStrictlySortedBy key_cmp) (sym c.requires.terms) (in_order_rises _)
 
 pub add_position-requires-clause-terms : goal.add_position-requires-clause-terms
 add_position-requires-clause-terms c =
-    let tree = tree_of c.query-item.result.query.now in
-    (are_parts c.args.terms.now (query_keys tree) (word_keys tree)
-    (asked_terms (λ k. tree_of k.query.now) c.args.queries.now c.loop-query.query-index c.query-item.result c.args.terms.now c.loop-query-test.true c.query-item.is c.requires.terms)).0
+    let query = c.query-item.result in
+    subst (λ ks. IsTrue (are_terms c.args.terms.now ks)) (sym (ap (map key_of) c.deref.ensures.value ∙ query.own))
+    (asked_parts c.args.terms.now (tree_of query.query.now)
+    (asked_terms (λ k. tree_of k.query.now) c.args.queries.now c.loop-query.query-index query c.args.terms.now c.loop-query-test.true c.query-item.is c.requires.terms)).0
+
+pub add_position-requires-clause-once : goal.add_position-requires-clause-once
+add_position-requires-clause-once c =
+    let query = c.query-item.result in
+    in_order_still _ (extract (tree_of query.query.now)).keys (ap (map key_of) c.deref.ensures.value ∙ query.own)
 
 pub add_position-requires-clause-long : goal.add_position-requires-clause-long
 add_position-requires-clause-long c =
-    sym (length-map c.loop-query.lists.items vec_items) ∙ ap length c.loop-query.invariant.lists ∙ length-map c.args.terms.now _
+    sym (length-map c.loop-query.lists.positions.items vec_items) ∙ ap length c.loop-query.invariant.lists.positions ∙ length-map c.args.terms.now _
+
+pub add_position-requires-in-loop-query-clause-rising : goal.add_position-requires-in-loop-query-clause-rising
+add_position-requires-in-loop-query-clause-rising c = subst (IsStrictlySortedBy key_cmp) (sym c.requires.terms) (in_order_rises _)
+
+pub add_position-requires-in-loop-query-clause-terms : goal.add_position-requires-in-loop-query-clause-terms
+add_position-requires-in-loop-query-clause-terms c =
+    let query = c.query-item.result in
+    subst (λ ks. IsTrue (are_terms c.args.terms.now ks)) (sym (ap (map key_of) c.deref-in-loop-query.ensures.value ∙ query.own_seconds))
+    (asked_parts c.args.terms.now (tree_of query.query.now)
+    (asked_terms (λ k. tree_of k.query.now) c.args.queries.now c.loop-query.query-index query c.args.terms.now c.loop-query-test.true c.query-item.is c.requires.terms)).1
+
+pub add_position-requires-in-loop-query-clause-once : goal.add_position-requires-in-loop-query-clause-once
+add_position-requires-in-loop-query-clause-once c =
+    let query = c.query-item.result in
+    in_order_still _ (second_extract (tree_of query.query.now)) (ap (map key_of) c.deref-in-loop-query.ensures.value ∙ query.own_seconds)
+
+pub add_position-requires-in-loop-query-clause-long : goal.add_position-requires-in-loop-query-clause-long
+add_position-requires-in-loop-query-clause-long c =
+    sym (length-map c.loop-query.lists.seconds.items vec_items) ∙ ap length c.loop-query.invariant.lists.seconds ∙ length-map c.args.terms.now _
 
 pub loop-query-preserved : goal.loop-query-preserved
-loop-query-preserved c = record {
-  position = ap (λ n. n + 1) c.loop-query.invariant.position;
-  lists =
-      next_query (λ k. tree_of k.query.now) c.args.terms.now c.args.queries.now c.loop-query.query-index c.query-item.result c.loop-query.position _ _
-      c.loop-query-test.true c.query-item.is c.loop-query.invariant.position c.loop-query.invariant.lists c.in_ok-add_position.ensures;
-}
+loop-query-preserved c =
+    let terms = c.args.terms.now in
+    let query = c.query-item.result in
+    let before = c.loop-query.invariant in
+    record {
+      position = ap (λ n. n + 1) before.position;
+      lists = record {
+        positions =
+            next_query query_keys (λ k. tree_of k.query.now) terms c.args.queries.now c.loop-query.query-index query c.loop-query.position _ _ c.loop-query-test.true c.query-item.is before.position before.lists.positions
+            (added_keys terms c.loop-query.position _ _ _ _ (ap (map key_of) c.deref.ensures.value ∙ query.own) c.in_ok-add_position.ensures);
+        seconds =
+            next_query second_keys (λ k. tree_of k.query.now) terms c.args.queries.now c.loop-query.query-index query c.loop-query.position _ _ c.loop-query-test.true c.query-item.is before.position before.lists.seconds
+            (added_keys terms c.loop-query.position _ _ _ _ (ap (map key_of) c.deref-in-loop-query.ensures.value ∙ query.own_seconds) c.in_ok-add_position-2.ensures);
+      };
+    }

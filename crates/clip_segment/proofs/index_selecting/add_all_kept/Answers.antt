@@ -31,7 +31,7 @@ loop-index-preserved c = record {
       let i = c.loop-index.index-index in
       let before = kept_of (take i trees) (take i flags) in
       let now : c.flags_of.result.now ≡ at_place flags i = c.flags_of.ensures ∙ ap (at_place flags) c.loop-index.invariant.place in
-      subst (λ (ts : List Tree). AreMadeOf terms ts (map vec_items c.add_kept.new.lists.items) c.add_kept.new.plans)
+      subst (λ (ts : List Tree). AreMadeOf terms ts c.add_kept.new.lists c.add_kept.new.plans)
       (ap (λ fs. before ++ flagged fs (at_place trees i)) now
       ∙ sym (next_kept trees indexes flags i are flagged_all (omega (arith, c.loop-index-test.true, length-map c.args.indexes.now (λ r. r.now)))))
       (c.in_ok-add_kept.ensures.made before (at_place trees i)
@@ -43,6 +43,6 @@ loop-index-preserved c = record {
 
 pub returns : goal.returns
 returns c = λ trees are flagged_all terms_are start.
-    subst (λ (ts : List Tree). AreMadeOf c.args.terms.now ts (map vec_items c.loop-index.lists.items) c.loop-index.plans)
+    subst (λ (ts : List Tree). AreMadeOf c.args.terms.now ts c.loop-index.lists c.loop-index.plans)
     (all_kept trees (map (λ r. r.now) c.args.indexes.now) (map vec_items c.args.kept.now) c.loop-index.index-index are flagged_all (omega (arith, c.loop-index-test.false, length-map c.args.indexes.now (λ r. r.now))))
     (c.loop-index.invariant.made trees are flagged_all terms_are start)

@@ -2,16 +2,16 @@ use Rattle.std.proofs.Common.{◌≡◌, ◌+◌, ◌≤◌, [], List, length, m
 use Rattle.clip_grammar.specs.Tree.{Tree}
 use Rattle.clip_segment.specs.Index.{terms_of}
 use Rattle.clip_segment.specs.Selecting.{AreFlagsOf, AreIndexesOf, count_set, kept_of}
-use Rattle.clip_segment.specs.Steps.Parts.{AreMadeOf}
+use Rattle.clip_segment.specs.Steps.Parts.{AreFor, AreMadeOf}
 use Rattle.clip_segment.specs.declared.segment.TheConstants.{MOST_POSITIONS}
 use Rattle.clip_segment.proofs.index_selecting.add_all_kept.Given as goal
 
 abbrev pub invariant-loop-index : goal.invariant-loop-index
 invariant-loop-index l = record {
   place : l.place ≡ l.index-index;
-  long : length l.lists.items ≡ length l.terms;
+  long : AreFor l.terms l.lists;
   few : length l.plans + count_set (drop l.index-index (map vec_items l.kept)) ≤ MOST_POSITIONS;
   made : (trees : List (List Tree)) → AreIndexesOf trees (map (λ i. i.now) l.indexes) → AreFlagsOf trees (map vec_items l.kept)
-      → l.terms ≡ terms_of (kept_of trees (map vec_items l.kept)) → AreMadeOf l.terms [] (map vec_items l.fn.lists.items) l.fn.plans
-      → AreMadeOf l.terms (kept_of (take l.index-index trees) (take l.index-index (map vec_items l.kept))) (map vec_items l.lists.items) l.plans;
+      → l.terms ≡ terms_of (kept_of trees (map vec_items l.kept)) → AreMadeOf l.terms [] l.fn.lists l.fn.plans
+      → AreMadeOf l.terms (kept_of (take l.index-index trees) (take l.index-index (map vec_items l.kept))) l.lists l.plans;
 }

@@ -1,4 +1,4 @@
-use Rattle.std.proofs.Common.{◌<◌, ℕ, List, [], Option, map, length, vec_items, sym, ap, ◌∙◌, subst}
+use Rattle.std.proofs.Common.{◌<◌, ℕ, List, [], Option, map, length, sym, ap, ◌∙◌, subst}
 use Rattle.std.specs.Prelude.{IfSome}
 use Rattle.std.specs.List.{All}
 use Rattle.std.proofs.lemmas.Result.{on_ok_weaker}
@@ -6,13 +6,19 @@ use Rattle.clip_extract.specs.Keys.{key_of}
 use Rattle.clip_terms.specs.Terms.{number_of}
 use Rattle.clip_segment.specs.Index.{IsIndexOf}
 use Rattle.clip_segment.specs.Steps.IndexView.{index_of}
-use Rattle.clip_segment.proofs.KeptLists.{ListsAdded, PlansAdded, all_within, kept_made, plans_few}
+use Rattle.clip_segment.specs.declared.term_lists.TermLists.{TermLists}
+use Rattle.clip_segment.proofs.KeptLists.{PlansAdded, all_within, kept_made, lists_added, plans_few}
 use Rattle.clip_segment.proofs.index_selecting.add_kept.Goals as goal
 
 pub add_lists-requires : goal.add_lists-requires
 add_lists-requires c =
-    subst (λ (numbers : List (Option ℕ)). All (λ o. IfSome o (λ n. n < length c.args.lists.now.items)) numbers) (sym (c.deref.ensures.value ∙ c.in_ok-numbers.ensures))
-    (all_within c.args.terms.now (map key_of c.keys.result.now) (length c.args.lists.now.items) (sym c.requires.long))
+    subst (λ (numbers : List (Option ℕ)). All (λ o. IfSome o (λ n. n < length c.args.lists.now.positions.items)) numbers) (sym (c.deref.ensures.value ∙ c.in_ok-numbers.ensures))
+    (all_within c.args.terms.now (map key_of c.keys.result.now) (length c.args.lists.now.positions.items) (sym c.requires.long.positions))
+
+pub add_lists-requires-2 : goal.add_lists-requires-2
+add_lists-requires-2 c =
+    subst (λ (numbers : List (Option ℕ)). All (λ o. IfSome o (λ n. n < length c.args.lists.now.seconds.items)) numbers) (sym (c.deref-3.ensures.value ∙ c.in_ok-numbers.ensures))
+    (all_within c.args.terms.now (map key_of c.keys.result.now) (length c.args.lists.now.seconds.items) (sym c.requires.long.seconds))
 
 pub returns-clause-few : goal.returns-clause-few
 returns-clause-few c =
@@ -23,14 +29,14 @@ returns-clause-made c =
     let index = index_of c.index.inside in
     let numbers = c.in_ok-numbers.numbers.items in
     let moves = c.in_ok-moves.moves.items in
-    let old = map vec_items c.args.lists.now.items in
-    let new = map vec_items c.add_lists.new.lists.items in
+    let old = c.args.lists.now in
+    let new : TermLists = record { positions = c.add_lists.new.lists; seconds = c.add_lists-2.new.lists } in
     on_ok_weaker c.add_plans.result (λ added before trees is long among made.
     kept_made trees before index c.args.terms.now c.args.kept.now c.len.result numbers moves old new c.args.plans.now c.add_plans.new.plans
     (subst (IsIndexOf trees) (sym c.index.view_is) is) c.requires.rising long among c.len.ensures
     (c.in_ok-numbers.ensures ∙ ap (map (number_of c.args.terms.now)) c.keys.ensures.terms) c.in_ok-moves.ensures
-    (subst (λ (ns : List (Option ℕ)). ListsAdded ns moves index.positions old new) c.deref.ensures.value
-    (subst (λ (ps : List (Option ℕ)). ListsAdded c.deref.result.now ps index.positions old new) c.deref-2.ensures.value c.in_ok-add_lists.ensures.added))
-    (subst (λ (ns : List (Option ℕ)). PlansAdded ns c.args.kept.now index.plans c.args.plans.now c.add_plans.new.plans) c.deref-3.ensures.value added)
+    (lists_added c.deref.result.now numbers c.deref-2.result.now moves index.positions _ _ c.deref.ensures.value c.deref-2.ensures.value c.in_ok-add_lists.ensures.added)
+    (lists_added c.deref-3.result.now numbers c.deref-4.result.now moves index.seconds _ _ c.deref-3.ensures.value c.deref-4.ensures.value c.in_ok-add_lists-2.ensures.added)
+    (subst (λ (ns : List (Option ℕ)). PlansAdded ns c.args.kept.now index.plans c.args.plans.now c.add_plans.new.plans) c.deref-5.ensures.value added)
     made)
     c.add_plans.ensures

@@ -5,7 +5,8 @@ use Rattle.std.proofs.lemmas.Result.{IfOk-weaker}
 use Rattle.clip_extract.specs.Keys.{key_of, is_same}
 use Rattle.clip_segment.specs.Index.{asked_of}
 use Rattle.clip_segment.specs.Selecting.{flagged}
-use Rattle.clip_segment.proofs.SeveralIndexes.{all_kept, at_place, index_here, next_asked, same_in_order}
+use Rattle.clip_segment.proofs.Keys.{same_in_order}
+use Rattle.clip_segment.proofs.SeveralIndexes.{all_kept, at_place, index_here, next_asked}
 use Rattle.clip_segment.proofs.kept_terms.kept_terms.Goals as goal
 
 pub loop-index-preserved : goal.loop-index-preserved

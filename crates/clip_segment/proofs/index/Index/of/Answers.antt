@@ -1,12 +1,19 @@
-use Rattle.std.proofs.Common.{rules, arith}
+use Rattle.std.proofs.Common.{List, map, ap, ◌∙◌, subst, rules, arith}
 use Rattle.std.proofs.lemmas.List.{length-map}
-use Rattle.clip_grammar.specs.Tree.{tree_of}
+use Rattle.std.proofs.lemmas.Result.{IfOk-weaker}
+use Rattle.clip_grammar.specs.Tree.{Tree, tree_of}
+use Rattle.clip_segment.specs.Steps.Parts.{AreListsOf}
 use Rattle.clip_segment.proofs.index.Index.of.Goals as goal
 
 pub returns : goal.returns
-returns c = record {
-  short = omega (arith, c.requires, length-map c.args.queries.now tree_of);
-  terms = search rules;
-  positions = search rules;
-  plans = search rules;
-}
+returns c =
+    let trees = map tree_of c.args.queries.now in
+    IfOk-weaker c.packed_index.result _ _ (λ index packed.
+    packed trees (omega (arith, c.requires, length-map c.args.queries.now tree_of)) (search rules)
+    (record {
+      placed =
+          subst (λ (ts : List Tree). AreListsOf c.in_ok-terms.terms ts c.in_ok-lists.lists)
+          (ap (map (λ k. tree_of k.query.now)) c.deref-2.ensures.value ∙ c.in_ok-keyed.ensures) c.in_ok-lists.ensures;
+      planned = search rules;
+    }))
+    c.packed_index.ensures

@@ -1,5 +1,7 @@
 use Rattle.std.proofs.Common.{[], length, map, replicate, vec_items, sym, ap, ◌∙◌, arith}
 use Rattle.std.proofs.lemmas.List.{length-map, length-replicate}
+use Rattle.std.proofs.lemmas.Result.{IfOk-weaker}
+use Rattle.clip_extract.specs.Extraction.{query_keys, second_keys}
 use Rattle.clip_plan.specs.Plan.{decoded}
 use Rattle.clip_segment.specs.Steps.Parts.{AreMadeOf}
 use Rattle.clip_segment.proofs.Flagged.{kept_few}
@@ -8,21 +10,24 @@ use Rattle.clip_segment.proofs.index.Index.select.Goals as goal
 
 pub add_all_kept-requires-clause-long : goal.add_all_kept-requires-clause-long
 add_all_kept-requires-clause-long c =
-    sym (length-map c.in_ok-lists.lists.items vec_items) ∙ ap length c.in_ok-lists.ensures ∙ length-replicate c.len.result [] ∙ c.len.ensures
+    let lists = c.in_ok-lists.lists in
+    record {
+      positions = sym (length-map lists.positions.items vec_items) ∙ ap length c.in_ok-lists.ensures.positions ∙ length-replicate c.len.result [] ∙ c.len.ensures;
+      seconds = sym (length-map lists.seconds.items vec_items) ∙ ap length c.in_ok-lists.ensures.seconds ∙ length-replicate c.len.result [] ∙ c.len.ensures;
+    }
 
 pub returns : goal.returns
-returns c = λ trees are flagged_all.
+returns c =
+    IfOk-weaker c.packed_index.result _ _ (λ index packed trees are flagged_all.
     let flags = map vec_items c.args.kept.now in
     let terms = c.in_ok-terms.terms in
     let terms_are = c.in_ok-terms.ensures.terms trees are flagged_all in
-    let start : AreMadeOf terms [] (map vec_items c.in_ok-lists.lists.items) c.new-plans.result = record {
-      placed = c.in_ok-lists.ensures ∙ ap (λ n. replicate n []) c.len.ensures ∙ none_yet terms;
+    let start : AreMadeOf terms [] c.in_ok-lists.lists c.new-plans.result = record {
+      placed = record {
+        positions = c.in_ok-lists.ensures.positions ∙ ap (λ n. replicate n []) c.len.ensures ∙ none_yet query_keys terms;
+        seconds = c.in_ok-lists.ensures.seconds ∙ ap (λ n. replicate n []) c.len.ensures ∙ none_yet second_keys terms;
+      };
       planned = ap (map (decoded terms)) c.new-plans.ensures;
     } in
-    let made = c.in_ok-add_all_kept.ensures trees are flagged_all terms_are start in
-    record {
-      short = omega (arith, kept_few trees flags, c.requires);
-      terms = terms_are;
-      positions = c.in_ok-positions.ensures ∙ ap (map vec_items) c.deref.ensures.value ∙ made.placed;
-      plans = made.planned;
-    }
+    packed _ (omega (arith, kept_few trees flags, c.requires)) terms_are (c.in_ok-add_all_kept.ensures trees are flagged_all terms_are start))
+    c.packed_index.ensures

@@ -1,6 +1,6 @@
 use Rattle.std.proofs.Common.{◌≡◌, ℕ, ◌<◌, ◌||◌, false, nat_eq, length, get_or, take}
 use Rattle.std.specs.List.{list_any}
-use Rattle.clip_segment.proofs.reading.mark_positions.Given as goal
+use Rattle.clip_segment.proofs.marking.mark_positions.Given as goal
 
 abbrev pub invariant-loop-position : goal.invariant-loop-position
 invariant-loop-position l = record {

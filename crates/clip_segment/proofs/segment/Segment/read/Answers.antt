@@ -1,0 +1,25 @@
+use Rattle.std.proofs.Common.{◌≡◌, ap, sym, ◌∙◌, subst, arith}
+use Rattle.clip_extract.specs.Extraction.{second_keys}
+use Rattle.clip_segment.specs.Index.{IsIndexOf}
+use Rattle.clip_segment.specs.Segment.{trees_of}
+use Rattle.clip_segment.specs.Steps.IndexView.{index_of}
+use Rattle.clip_segment.proofs.Answering.{sharing}
+use Rattle.clip_segment.proofs.Asked.{seconds_asked}
+use Rattle.clip_segment.proofs.Seconds.{index_read, index_seconds}
+use Rattle.clip_segment.proofs.segment.Segment.read.Goals as goal
+
+pub invariant_of-result : goal.invariant_of-result
+invariant_of-result c =
+    let trees = trees_of c.args.self.now in
+    let index = index_of c.index.inside in
+    let is : IsIndexOf trees index = subst (IsIndexOf trees) (sym c.index.view_is) c.index-index.ensures in
+    let reading = c.in_ok-reading.reading in
+    let same : index.terms ≡ reading.terms = sym (ap (λ r. r.terms) c.in_ok-reading.ensures) in
+    record {
+      index = index_read trees index reading.terms is same;
+      seconds = λ position lt.
+          c.in_ok-seconds.ensures.marked position (omega (arith, lt, c.len.ensures))
+          ∙ sharing second_keys seconds_asked trees reading.terms (sym same ∙ is.terms) index.seconds
+          (index_seconds trees index reading.terms is same)
+          reading.article.fields c.numbers.result.now c.numbers.ensures.within c.numbers.ensures.had position;
+    }
