@@ -9,7 +9,11 @@ use std::test::Fail;
 
 /// Each an id and a query's text, and the standing query or why it is refused.
 static STANDINGS: [(&str, &str, &str); 6] = [
-    ("q1", "+Tea", "q1 `+Tea` (+text=tea) (+text=tea) (+text=tea) desk"),
+    (
+        "q1",
+        "+Tea",
+        "q1 `+Tea` (+text=tea) (+text=tea) (+text=tea) desk",
+    ),
     ("", "tea", "Id"),
     ("", "", "Id"),
     ("q1", "", "Query(Structure)"),
