@@ -244,9 +244,8 @@ pub field_more : {S H : Type 0} (g : FieldValue → S) (h : FieldValue → List 
     → (f : FieldValue) × (s ≡ g f) × (flat_map h (take (i + 1) fields) ≡ flat_map h (take i fields) ++ h f)
 field_more g h fields spots i s are lt is =
     let inside : i < length fields = omega (arith, lt, ap length are, length-map fields g) in
-    let f : FieldValue = get_or fields i ([], []) in
-    (
+    let f : FieldValue = get_or fields i ([], []) in (
       f,
       is ∙ ap (λ xs. get_or xs i s) are ∙ get_or-map g fields i ([], []) s inside,
-      ap (flat_map h) (take_more fields i ([], []) inside) ∙ flat_map-append h (take i fields) (f ∷ []) ∙ ap (λ xs. flat_map h (take i fields) ++ xs) (append-nil (h f))
+      ap (flat_map h) (take_more fields i ([], []) inside) ∙ flat_map-append h (take i fields) (f ∷ []) ∙ ap (λ xs. flat_map h (take i fields) ++ xs) (append-nil (h f)),
     )

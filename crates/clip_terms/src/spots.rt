@@ -46,11 +46,7 @@ impl<'a> Model for FieldSpots<'a> {
 }
 
 /// Adds the spot of a position, if the word there has a number.
-fn add_spot(
-    number: Option<u32>,
-    position: usize,
-    spots: &mut Vec<Spot>,
-) -> Result<(), NoMemory>
+fn add_spot(number: Option<u32>, position: usize, spots: &mut Vec<Spot>) -> Result<(), NoMemory>
     ensures { OnOk result (spots.new.items ≡ spots.old.items ++ spot_at position number) }
 {
     if let Some(number) = number {
