@@ -9,18 +9,17 @@ use Rattle.std.proofs.lemmas.Slice.Eq.{bytes_eq-Decides}
 use Rattle.clip_grammar.proofs.Booleans.{same_answer}
 use Rattle.clip_grammar.specs.Tree.{Tree, Clauses, none, clause}
 use Rattle.clip_grammar.specs.declared.query.Occur.{Occur}
-use Rattle.clip_grammar.specs.declared.query.Occur.TheVariants.{Must, Should, MustNot}
+use Rattle.clip_grammar.specs.declared.query.Occur.TheVariants.{Must}
 use Rattle.clip_meaning.specs.Hits.{asks, covers, is_named, is_named_by, is_within}
 use Rattle.clip_meaning.specs.Index.{numbered}
 use Rattle.clip_extract.specs.Keys.{KeyValue, Word, is_same}
-use Rattle.clip_extract.specs.Covering.{field_keys}
 use Rattle.clip_extract.proofs.Order.{same_itself, same_key}
-use Rattle.clip_terms.specs.Spots.{FieldValue, is_at, covers_from, is_covered}
+use Rattle.clip_terms.specs.Spots.{FieldValue, covers_from, is_covered}
 use Rattle.clip_terms.proofs.Spotted.{none_covered}
-use Rattle.clip_plan.specs.Plan.{Asks, Has, Run, Is, Mark, Leaf, Open, Close, clause_marks, group_marks, plan_of}
+use Rattle.clip_plan.specs.Plan.{Mark, Leaf, Open, Close, clause_marks, group_marks, plan_of}
 use Rattle.clip_plan.specs.declared.step.Step.{Step}
 use Rattle.clip_plan.specs.Steps.Judging.{meant}
-use Rattle.clip_plan.specs.Steps.Naming.{excluded_before, excluded_at, mark_names, step_names, marks_name}
+use Rattle.clip_plan.specs.Steps.Naming.{excluded_before, excluded_at, step_names, marks_name}
 use Rattle.clip_plan.proofs.AskedKeys.{begins_same}
 
 -- ---- tests

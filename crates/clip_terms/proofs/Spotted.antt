@@ -1,6 +1,5 @@
 -- Spots: where the term of a number stands in a field, and which positions a run of numbers covers.
 use Rattle.std.proofs.Common.{◌≡◌, ℕ, zero, suc, ◌+◌, ◌<◌, ◌≤◌, Bool, true, false, cond, ◌&&◌, ◌||◌, nat_eq, nat_lt, nat_le, List, [], ◌∷◌, ◌++◌, filter, map, length, take, drop, get_or, Option, Some, None, IsPermutation, refl, sym, ap, ◌∙◌, arith, eq-eqb, ne_eqb, append_assoc, append-nil}
-use Rattle.std.specs.Cmp.{eq_by_cmp_equiv}
 use Rattle.std.specs.List.{list_any, starts_with}
 use Rattle.std.specs.List.Sorted.{IsStrictlySortedBy, IsPartitionPoint}
 use Rattle.std.proofs.lemmas.Bool.{ltb-true, leb-true, le-ltb}
@@ -12,7 +11,6 @@ use Rattle.clip_meaning.specs.Index.{numbered}
 use Rattle.clip_meaning.proofs.Numbered.{any_filter}
 use Rattle.clip_extract.specs.Keys.{KeyValue, Any, Word, key_cmp, is_same}
 use Rattle.clip_extract.specs.Covering.{field_keys}
-use Rattle.clip_extract.proofs.Order.{key_cmp_total}
 use Rattle.clip_terms.specs.Terms.{term_at, number_of}
 use Rattle.clip_terms.specs.Spots.{FieldValue, is_at, covers_from, is_covered}
 use Rattle.clip_terms.specs.Steps.Runs.{is_number, begins_with}

@@ -1,5 +1,5 @@
 -- What the numbers of terms say of the positions of a field's words.
-use Rattle.std.specs.Prelude.{ℕ, Bool, ◌&&◌, List, [], map, length, drop, get_or, refl}
+use Rattle.std.specs.Prelude.{ℕ, Bool, ◌&&◌, List, [], length, drop, get_or, refl}
 use Rattle.std.specs.Coded.{Coded, code_by, coded×, coded_list}
 use Rattle.std.specs.List.{list_any, starts_with}
 use Rattle.clip_grammar.specs.TreeCode.{bytes_code}

@@ -1,4 +1,4 @@
-use Rattle.std.proofs.Common.{◌||◌, [], map, get_or, sym, ap, ◌∙◌}
+use Rattle.std.proofs.Common.{◌||◌, map, get_or, sym, ap, ◌∙◌}
 use Rattle.clip_grammar.specs.Tree.{tree_of}
 use Rattle.clip_meaning.specs.Steps.Marks.{is_up}
 use Rattle.clip_plan.specs.Steps.Judging.{meant}

@@ -1,4 +1,4 @@
-use Rattle.std.proofs.Common.{◌≡◌, ◌++◌, ◌≤◌, ap, sym, ◌∙◌, arith, length, map, take}
+use Rattle.std.proofs.Common.{◌++◌, ◌≤◌, ap, sym, ◌∙◌, arith, length, take}
 use Rattle.std.specs.Prelude.{unwrap_or, slice_get, []}
 use Rattle.std.specs.FinMap as finite
 use Rattle.std.specs.List.{flat_map}

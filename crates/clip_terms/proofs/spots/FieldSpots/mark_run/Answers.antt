@@ -1,4 +1,4 @@
-use Rattle.std.proofs.Common.{◌≡◌, ◌∙◌, ◌||◌, [], ap, sym, arith, filter, get_or, length, map}
+use Rattle.std.proofs.Common.{◌≡◌, ◌∙◌, ◌||◌, [], ap, sym, arith, filter, get_or, map}
 use Rattle.std.proofs.lemmas.List.{nil_from_length}
 use Rattle.clip_meaning.specs.Steps.Marks.{is_up}
 use Rattle.clip_terms.specs.Terms.{term_at}
