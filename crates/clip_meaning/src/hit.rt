@@ -94,8 +94,8 @@ fn asks(occur: Occur) -> bool
 
 /// Raises the flags of the words of a field that a leaf of the query names, leaving out MustNot clauses.
 ///
-/// Takes no memory. Cost: one walk through the query; a leaf costs searches among the field's words, and a step for each
-/// word that it names. Recurses as deep as groups nest.
+/// Takes no memory. Cost: one walk through the query; a leaf costs searches among the field's words, and a step for
+/// each word that it names. Recurses as deep as groups nest.
 pub fn mark(query: &Query, field: &Field, flags: &mut Vec<u8>)
     requires { length flags.old.items ≡ length field.now.1 }
     ensures long { length flags.new.items ≡ length flags.old.items }

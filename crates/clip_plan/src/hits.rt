@@ -37,8 +37,8 @@ impl Plans {
     /// those of the terms of the article's fields, which are all there in order. Looks at no query's tree but those of
     /// prefixes and ranges.
     ///
-    /// `NoMemory` where an allocation failed, or where the count of a field's name is at its end. Cost: for each field a
-    /// flag for each of its words, and a walk over the plan's steps, as of `mark_hits`.
+    /// `NoMemory` where an allocation failed, or where the count of a field's name is at its end. Cost: for each field
+    /// a flag for each of its words, and a walk over the plan's steps, as of `mark_hits`.
     pub fn hits(
         &self,
         alloc: Global,

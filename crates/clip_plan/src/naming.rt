@@ -123,7 +123,8 @@ fn mark_by(
 )
     requires { length flags.old.items ≡ length spots.now.field.1 }
     ensures long { length flags.new.items ≡ length flags.old.items }
-    ensures raised { (tree : Tree) → map (meant runs.now (map tree_of queries.now) spots.now.terms) steps.now ≡ plan_of tree
+    ensures raised { (tree : Tree)
+        → map (meant runs.now (map tree_of queries.now) spots.now.terms) steps.now ≡ plan_of tree
         → AreRaised flags.old.items flags.new.items
         (λ k. is_named tree spots.now.field.0 spots.now.field.1 (get_or spots.now.field.1 k [], k)) }
 {

@@ -1,5 +1,5 @@
--- Which words of a field a plan names, from its last mark to its first: what stands in an excluded group names none, and
--- a group says so only where it ends.
+-- Which words of a field a plan names, from its last mark to its first: what stands in an excluded group names none,
+-- and a group says so only where it ends.
 use Rattle.std.specs.Prelude.{ℕ, ◌+◌, ◌-◌, ◌==◌, Bool, false, ◌&&◌, ◌||◌, cond, List, [], ◌∷◌, get_or}
 use Rattle.clip_meaning.specs.Hits.{asks, is_named}
 use Rattle.clip_extract.specs.Keys.{KeyValue}
