@@ -19,15 +19,22 @@ Keeps (Some kept) holds = holds kept
 
 -- a line was answered, or the engine is as it was
 abbrev pub LineTo : List ℕ → ℕ → Kept → Kept → Type 0
-LineTo line code old new = (code ≡ 0 → Replies old.engine new.engine line new.text.items) × ((code ≡ 0 → ⊥) → new.engine ≡ old.engine)
+LineTo line code old new =
+    (code ≡ 0 → Replies old.engine new.engine line new.text.items)
+    × ((code ≡ 0 → ⊥) → new.engine ≡ old.engine)
 
 -- a query was registered, or the engine is as it was
 abbrev pub RegisterTo : List ℕ → List ℕ → Bool → List ℕ → ℕ → Kept → Kept → Type 0
-RegisterTo id query has_listener listener code old new = (code ≡ 0 → Registers old.engine new.engine (listing_at id query has_listener listener) (Ok tt)) × ((code ≡ 0 → ⊥) → new.engine ≡ old.engine)
+RegisterTo id query has_listener listener code old new =
+    (code ≡ 0 → Registers old.engine new.engine (listing_at id query has_listener listener) (Ok tt))
+    × ((code ≡ 0 → ⊥) → new.engine ≡ old.engine)
 
 -- the query of this id was taken out, where there was one, or the engine is as it was
 abbrev pub DeleteTo : List ℕ → ℕ → ℕ → Kept → Kept → Type 0
-DeleteTo id code deleted old new = (code ≡ 0 → (new.engine ≡ commanded old.engine (Delete (id ∷ []))) × (deleted ≡ applied old.engine.history (Delete (id ∷ [])))) × ((code ≡ 0 → ⊥) → new.engine ≡ old.engine)
+DeleteTo id code deleted old new =
+    (code ≡ 0 → (new.engine ≡ commanded old.engine (Delete (id ∷ [])))
+        × (deleted ≡ applied old.engine.history (Delete (id ∷ []))))
+    × ((code ≡ 0 → ⊥) → new.engine ≡ old.engine)
 
 -- so many queries are registered, and the engine is as it was
 abbrev pub CountTo : ℕ → ℕ → Kept → Kept → Type 0

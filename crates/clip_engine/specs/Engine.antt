@@ -23,7 +23,9 @@ pub record EngineIs : Type 0 where
   pub hits : Bool
 
 abbrev pub engine_code : Coded EngineIs
-engine_code = code_by (History × (ℕ × Bool)) (coded× history_code (coded× coded_ℕ coded_bool)) (λ e. (e.history, (e.lines, e.hits))) (λ p. record { history = p.0; lines = p.1.0; hits = p.1.1 }) (λ _. refl)
+engine_code = code_by (History × (ℕ × Bool)) (coded× history_code (coded× coded_ℕ coded_bool))
+    (λ e. (e.history, (e.lines, e.hits)))
+    (λ p. record { history = p.0; lines = p.1.0; hits = p.1.1 }) (λ _. refl)
 
 abbrev pub form_of : Bool → Form
 form_of true = WithHits
@@ -41,10 +43,20 @@ commanded e c = record { history = with_command e.history 1 c; lines = e.lines; 
 
 -- the listeners of the program, which have heard nothing
 abbrev pub mail_hearer : Hearer
-mail_hearer = record { name = codes "mail"; style = record { head = codes "mail: "; middle = codes " in " }; heard = []; keeps = false }
+mail_hearer = record {
+  name = codes "mail";
+  style = record { head = codes "mail: "; middle = codes " in " };
+  heard = [];
+  keeps = false;
+}
 
 abbrev pub feed_hearer : Hearer
-feed_hearer = record { name = codes "feed"; style = record { head = codes "feed "; middle = codes "/" }; heard = []; keeps = false }
+feed_hearer = record {
+  name = codes "feed";
+  style = record { head = codes "feed "; middle = codes "/" };
+  heard = [];
+  keeps = false;
+}
 
 abbrev pub house : List Hearer
 house = mail_hearer ∷ feed_hearer ∷ []
@@ -62,7 +74,8 @@ pub record Answers (form : Form) (old new : History) (n : ℕ) (line text : List
   pub history : new ≡ after old meaning
   pub replies : text ≡ reply form house n old meaning
 
--- By the line of these bytes, the next of the engine, it goes from the first to the second, and this is the text of its reply.
+-- By the line of these bytes, the next of the engine, it goes from the first to the second, and this is the text of its
+-- reply.
 pub record Replies (old new : EngineIs) (line text : List ℕ) : Type 0 where
   pub answers : Answers (form_of old.hits) old.history new.history (suc old.lines) line text
   pub lines : new.lines ≡ suc old.lines
@@ -72,11 +85,16 @@ pub record Replies (old new : EngineIs) (line text : List ℕ) : Type 0 where
 
 -- The listed query is registered, or refused for the first reason that holds.
 abbrev pub Registers : EngineIs → EngineIs → Listing → Result (Unit {0}) Unread → Type 0
-Registers old new l (Ok _) = (s : Standing) × IsTakenAs (names_in house) l s × (has_room old.history (Register (s ∷ [])) ≡ true) × (new ≡ commanded old (Register (s ∷ [])))
+Registers old new l (Ok _) = (s : Standing) × IsTakenAs (names_in house) l s
+    × (has_room old.history (Register (s ∷ [])) ≡ true)
+    × (new ≡ commanded old (Register (s ∷ [])))
 Registers old new l (Err (unread.Refused reason.Limit)) = is_id l.id ≡ false
-Registers old new l (Err (unread.Refused reason.Query)) = (is_id l.id ≡ true) × IsRefusedFor (names_in house) l reason.Query
-Registers old new l (Err (unread.Refused reason.Listener)) = (is_id l.id ≡ true) × IsRefusedFor (names_in house) l reason.Listener
-Registers old new l (Err (unread.Refused reason.Full)) = (s : Standing) × IsTakenAs (names_in house) l s × (has_room old.history (Register (s ∷ [])) ≡ false)
+Registers old new l (Err (unread.Refused reason.Query)) =
+    (is_id l.id ≡ true) × IsRefusedFor (names_in house) l reason.Query
+Registers old new l (Err (unread.Refused reason.Listener)) =
+    (is_id l.id ≡ true) × IsRefusedFor (names_in house) l reason.Listener
+Registers old new l (Err (unread.Refused reason.Full)) = (s : Standing) × IsTakenAs (names_in house) l s
+    × (has_room old.history (Register (s ∷ [])) ≡ false)
 Registers old new l (Err (unread.Refused reason.Long)) = ⊥
 Registers old new l (Err (unread.Refused reason.Json)) = ⊥
 Registers old new l (Err (unread.Refused reason.Shape)) = ⊥

@@ -13,7 +13,8 @@ fields_of fields = map (λ f. (f.name.now, f.text.now)) fields
 
 -- the query of these texts, with a listener where there is one
 abbrev pub listing_at : List ℕ → List ℕ → Bool → List ℕ → Listing
-listing_at id query has_listener listener = record { id = id; query = query; listener = if has_listener then Some listener else None }
+listing_at id query has_listener listener =
+    record { id = id; query = query; listener = if has_listener then Some listener else None }
 
 -- what an engine finds of an article of these texts
 abbrev pub found_at : EngineIs → List ℕ → List (List ℕ × List ℕ) → List ℕ

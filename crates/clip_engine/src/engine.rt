@@ -181,8 +181,8 @@ impl Engine {
     /// Registers a query, which takes the place of the one with its id. The lines and calls after it see it.
     ///
     /// The first refusal that holds, with nothing changed: `Limit` where the id is not 1 to 256 bytes long, `Query`
-    /// where the text is no query, `Listener` where the listener is neither `mail` nor `feed`, `Full` where the registry
-    /// has no room. `NoMemory` where an allocation failed, with nothing changed.
+    /// where the text is no query, `Listener` where the listener is neither `mail` nor `feed`, `Full` where the
+    /// registry has no room. `NoMemory` where an allocation failed, with nothing changed.
     ///
     /// Cost: the reading of the text, and that of `Registrar::apply` and of a merge turn.
     pub fn register(&mut self, listing: Listing) -> Result<(), Unread>

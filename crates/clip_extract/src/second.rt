@@ -108,8 +108,8 @@ fn only_words(mut keys: Vec<Key>) -> Vec<Key>
 /// Each Must child of a group has to hold, so the keys of each would cover the group. `keys` has those of the heaviest
 /// of them, and the second keys are those of the heaviest of the others, the first on a tie, if they are all words: an
 /// article that has a key of a query and none of its second keys is ruled out with no look at the query. There are none
-/// of a query that is no group, of a group with fewer than two Must children, where nothing narrows that child down, and
-/// where a front is among its keys, since each front more costs every article a search.
+/// of a query that is no group, of a group with fewer than two Must children, where nothing narrows that child down,
+/// and where a front is among its keys, since each front more costs every article a search.
 ///
 /// `NoMemory` where an allocation failed. Cost: two walks over the query at most, and a sort of the keys.
 pub fn second_keys(alloc: Global, query: &Query) -> Result<Vec<Key>, NoMemory>

@@ -1,7 +1,7 @@
 pub mod Fields
 mod Groups
 pub mod Leads
-mod Marks
+pub mod Marks
 pub mod Numbered
 mod Pairs
 mod Postings

@@ -93,7 +93,10 @@ fn asks(occur: Occur) -> bool
 }
 
 /// Raises the flags of the words of a field that a leaf of the query names, leaving out MustNot clauses.
-fn mark(query: &Query, field: &Field, flags: &mut Vec<u8>)
+///
+/// Takes no memory. Cost: one walk through the query; a leaf costs searches among the field's words, and a step for
+/// each word that it names. Recurses as deep as groups nest.
+pub fn mark(query: &Query, field: &Field, flags: &mut Vec<u8>)
     requires { length flags.old.items ≡ length field.now.1 }
     ensures long { length flags.new.items ≡ length flags.old.items }
     ensures raised { AreRaised flags.old.items flags.new.items
@@ -131,8 +134,9 @@ fn add_hit(name: &ArcStr, position: usize, found: &mut Vec<Hit>) -> Result<(), N
     Ok(())
 }
 
-/// Adds a hit for each flag that is up.
-fn add_raised(name: &ArcStr, flags: &[u8], found: &mut Vec<Hit>) -> Result<(), NoMemory>
+/// Adds a hit for each flag that is up, in order. `NoMemory` where an allocation failed, or where the count of the name
+/// is at its end; some hits may then have been added.
+pub fn add_raised(name: &ArcStr, flags: &[u8], found: &mut Vec<Hit>) -> Result<(), NoMemory>
     ensures { OnOk result (map hit_value found.new.items
         ≡ map hit_value found.old.items ++ raised (arc_str_bytes name.now) flags.now) }
 {

@@ -7,13 +7,13 @@ ghost use Rattle.clip_meaning.specs.Steps.Marks.{AreRaised};
 use crate::index::Posting;
 
 /// A flag that is up.
-pub(crate) const UP: u8 = 1;
+pub const UP: u8 = 1;
 
 /// A flag that is down.
-pub(crate) const DOWN: u8 = 0;
+pub const DOWN: u8 = 0;
 
-/// Raises the flag of a position, if there is one.
-fn mark(flags: &mut Vec<u8>, position: usize)
+/// Raises the flag of a position, if there is one. Constant time.
+pub fn mark_place(flags: &mut Vec<u8>, position: usize)
     ensures long { length flags.new.items ≡ length flags.old.items }
     ensures raised { AreRaised flags.old.items flags.new.items (λ k. nat_eq k position) }
 {
@@ -22,8 +22,8 @@ fn mark(flags: &mut Vec<u8>, position: usize)
     }
 }
 
-/// Raises the flags of `count` positions from `start` on, as far as there are flags.
-pub(crate) fn mark_run(flags: &mut Vec<u8>, start: usize, count: usize)
+/// Raises the flags of `count` positions from `start` on, as far as there are flags. Takes a step for each.
+pub fn mark_run(flags: &mut Vec<u8>, start: usize, count: usize)
     ensures long { length flags.new.items ≡ length flags.old.items }
     ensures raised { AreRaised flags.old.items flags.new.items (is_within start count) }
 {
@@ -39,6 +39,6 @@ pub(crate) fn mark_all(flags: &mut Vec<u8>, postings: &[Posting])
     ensures raised { AreRaised flags.old.items flags.new.items (λ k. list_any (λ p. nat_eq k p.1) postings.now) }
 {
     for posting in postings {
-        mark(flags, posting.position());
+        mark_place(flags, posting.position());
     }
 }

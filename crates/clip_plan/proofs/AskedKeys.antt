@@ -136,7 +136,7 @@ has_word_key fields f w =
 
 -- ---- a run of words
 
-begins_same : (f : List ℕ) (vs ws : List (List ℕ)) → starts_with is_same (map (Word f) vs) (map (Word f) ws) ≡ starts_with bytes_eq vs ws
+pub begins_same : (f : List ℕ) (vs ws : List (List ℕ)) → starts_with is_same (map (Word f) vs) (map (Word f) ws) ≡ starts_with bytes_eq vs ws
 begins_same f [] [] = refl
 begins_same f [] (w ∷ ws) = refl
 begins_same f (v ∷ vs) [] = refl

@@ -4,6 +4,7 @@ pub mod Copies
 pub mod Judging
 pub mod Leaves
 pub mod Names
+pub mod Named
 pub mod Numbering
 pub mod Renumbering
 pub mod Sent

@@ -4,7 +4,9 @@
 ghost use Rattle.std.specs.Prelude.{◌≡◌};
 
 mod copy;
+mod hits;
 mod judge;
+mod naming;
 mod plans;
 mod renaming;
 mod step;

@@ -160,7 +160,8 @@ fn matched_text(
     notes: &[Note],
 ) -> Result<Vec<u8>, NoMemory>
     ensures { IfOk result (λ text. text.items ≡ printed (reply_value number
-        (reply.matched form (map alerts_by_id (map alerts_value found.now)) (map (λ n. arc_str_bytes n.text) notes.now)))) }
+        (reply.matched form (map alerts_by_id (map alerts_value found.now))
+            (map (λ n. arc_str_bytes n.text) notes.now)))) }
 {
     let mut out = begun(alloc)?;
     out.key("alerts")?;

@@ -15,7 +15,8 @@ pub record RegistryState : Type 0 where
 abbrev pub state_code : Coded RegistryState
 state_code = code_by (List (List Registered) × (History × Bool))
     (coded× (coded_list (coded_list registered_code)) (coded× history_code coded_bool))
-    (λ s. (s.segments, (s.history, s.keeps))) (λ p. record { segments = p.0; history = p.1.0; keeps = p.1.1 }) (λ _. refl)
+    (λ s. (s.segments, (s.history, s.keeps)))
+    (λ p. record { segments = p.0; history = p.1.0; keeps = p.1.1 }) (λ _. refl)
 
 -- no segment and no command yet, of a history that is kept or not
 abbrev pub beginning : Bool → RegistryState

@@ -8,4 +8,5 @@ pub mod Numbers
 pub mod PlacedWords
 pub mod ReadingOf
 pub mod Runs
+pub mod Spotted
 pub mod Strict

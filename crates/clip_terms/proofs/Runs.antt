@@ -23,7 +23,7 @@ abbrev numbers_of : List KeyValue → Entry → List (Option ℕ)
 numbers_of terms field = map (number_of terms) (field_keys field)
 
 module _ (terms : List KeyValue) (strict : IsStrictlySortedBy key_cmp terms) where
-  begins : (name : List ℕ) (run : List ℕ) (words : List (List ℕ)) → begins_with run (map (number_of terms) (map (Word name) words)) ≡ starts_with is_same (map (Word name) words) (map (term_at terms) run)
+  pub begins : (name : List ℕ) (run : List ℕ) (words : List (List ℕ)) → begins_with run (map (number_of terms) (map (Word name) words)) ≡ starts_with is_same (map (Word name) words) (map (term_at terms) run)
   begins name [] words = refl
   begins name (n ∷ run) [] = refl
   begins name (n ∷ run) (w ∷ words) =

@@ -1,4 +1,5 @@
 pub mod FieldTerms
 pub mod Reading
+pub mod Spots
 pub mod Terms
 pub mod Steps

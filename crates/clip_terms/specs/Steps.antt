@@ -9,3 +9,4 @@ pub mod Parts
 pub mod Places
 pub mod Reading
 pub mod Runs
+pub mod Spots

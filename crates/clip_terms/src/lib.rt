@@ -9,9 +9,11 @@ mod leads;
 mod numbering;
 mod parts;
 mod reading;
+mod spots;
 mod terms;
 
 pub use asking::Asking;
 pub use field_terms::FieldTerms;
 pub use reading::Reading;
+pub use spots::FieldSpots;
 pub use terms::Terms;

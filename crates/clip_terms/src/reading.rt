@@ -1,6 +1,8 @@
 //! Articles as they are asked by the numbers of terms.
-ghost use Rattle.std.specs.Prelude.{◌≡◌, ℕ, ◌<◌, IfOk, nat_eq, length, map};
+ghost use Rattle.std.specs.Prelude.{◌≡◌, ℕ, ◌<◌, [], IfOk, nat_eq, length, map, get_or};
+ghost use Rattle.std.specs.FinMap as finite;
 ghost use Rattle.std.specs.List.{All, list_any, list_all};
+ghost use Rattle.clip_terms.specs.Spots.{spots_among};
 ghost use Rattle.clip_terms.specs.Terms.{term_at};
 ghost use Rattle.clip_terms.specs.Reading.{has_key, has_run};
 ghost use Rattle.clip_terms.specs.Steps.Numbers.{number_at, AreFlags};
@@ -8,6 +10,7 @@ ghost use Rattle.clip_terms.specs.Steps.Runs.{is_number, begins_with, stands_amo
 
 use crate::asking::Asking;
 use crate::numbering::{add_front_numbers, key_numbers, known_numbers};
+use crate::spots::FieldSpots;
 use crate::terms::Terms;
 use clip_meaning::Article;
 use clip_pieces::Marks;
@@ -158,6 +161,36 @@ impl<'a> Reading<'a> {
         stands_in_any(&self.fields, run)
     }
 
+    /// For each field, in the byte order of their names, where its words stand, by the numbers of their terms.
+    ///
+    /// `NoMemory` where an allocation failed. Cost: a step for each word of the article, and for each field n log n
+    /// comparisons of the n of its words that are terms.
+    pub fn spots(&self, alloc: Global) -> Result<Vec<FieldSpots<'_>>, NoMemory>
+        ensures { IfOk result (λ spots. spots.items
+            ≡ map (spots_among self.now.terms) (finite.entries self.now.article.fields)) }
+    {
+        let count = self.article.fields().len();
+        let mut spots = Vec::with_capacity(alloc, count)?;
+        for place in 0..count {
+            spots.push(self.spots_at(alloc, place)?)?;
+        }
+        Ok(spots)
+    }
+
+    /// Where the words of the field of a place stand.
+    fn spots_at(&self, alloc: Global, place: usize) -> Result<FieldSpots<'_>, NoMemory>
+        requires { place < length (finite.entries self.now.article.fields) }
+        ensures { IfOk result (λ spots. spots
+            ≡ spots_among self.now.terms (get_or (finite.entries self.now.article.fields) place ([], []))) }
+    {
+        FieldSpots::of(
+            alloc,
+            self.terms,
+            &self.article.fields()[place],
+            &self.fields[place],
+        )
+    }
+
     /// Whether the article has each of the terms of these numbers.
     fn has_all(&self, run: &[u32]) -> bool
         ensures { result ≡ list_all (λ n. has_key self.now.article.fields (term_at self.now.terms n)) run.now }
@@ -182,7 +215,7 @@ fn is_number(found: Option<u32>, number: u32) -> bool
 }
 
 /// Whether the numbers begin with those of a run.
-fn starts_with(numbers: &[Option<u32>], run: &[u32]) -> bool
+pub(crate) fn starts_with(numbers: &[Option<u32>], run: &[u32]) -> bool
     ensures { result ≡ begins_with run.now numbers.now }
 {
     let mut numbers = numbers;

@@ -17,7 +17,8 @@ heavier_of (Some standing) e = heavier standing e
 -- with one more
 abbrev pub next_of : (first second : Option Extracted) → Extracted → Ranked
 next_of None second e = (Some e, None)
-next_of (Some best) second e = if nat_lt best.weight e.weight then (Some e, Some best) else (Some best, Some (heavier_of second e))
+next_of (Some best) second e =
+    if nat_lt best.weight e.weight then (Some e, Some best) else (Some best, Some (heavier_of second e))
 
 abbrev pub next_ranked : Ranked → Extracted → Ranked
 next_ranked ranked e = next_of ranked.0 ranked.1 e

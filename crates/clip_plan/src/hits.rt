@@ -1,0 +1,59 @@
+//! The hits of a plan's query.
+ghost use Rattle.std.specs.Prelude.{◌≡◌, ◌++◌, List, [], IfOk, OnOk, map, unwrap_or, slice_get};
+ghost use Rattle.std.specs.FinMap as finite;
+ghost use Rattle.clip_grammar.specs.Tree.{Tree};
+ghost use Rattle.clip_meaning.specs.Article.{Fields};
+ghost use Rattle.clip_meaning.specs.Hits.{hit_value, hits, hits_in};
+ghost use Rattle.clip_extract.specs.Keys.{KeyValue};
+ghost use Rattle.clip_terms.specs.Spots.{spots_among};
+ghost use Rattle.clip_plan.specs.Plan.{decoded, plan_of};
+
+use crate::plans::Plans;
+use clip_meaning::{DOWN, Hit, add_raised};
+use clip_terms::FieldSpots;
+use clip_words::NoMemory;
+use std::alloc::Global;
+
+/// Adds the hits in one field of the query of the plan at a place.
+fn add_hits(
+    alloc: Global,
+    plans: &Plans,
+    place: usize,
+    spots: &FieldSpots,
+    found: &mut Vec<Hit>,
+) -> Result<(), NoMemory>
+    ensures { OnOk result ((tree : Tree)
+        → decoded spots.now.terms (unwrap_or (slice_get plans.now place) []) ≡ plan_of tree
+        → map hit_value found.new.items ≡ map hit_value found.old.items ++ hits_in tree spots.now.field) }
+{
+    let field = spots.field();
+    let mut flags = vec![in alloc; DOWN; field.words().len()]?;
+    plans.mark_hits(place, spots, &mut flags);
+    add_raised(field.name(), &flags, found)
+}
+
+impl Plans {
+    /// Where in an article the leaves of the query of the plan at a place stand: its hits, where the plan's numbers are
+    /// those of the terms of the article's fields, which are all there in order. Looks at no query's tree but those of
+    /// prefixes and ranges.
+    ///
+    /// `NoMemory` where an allocation failed, or where the count of a field's name is at its end. Cost: for each field
+    /// a flag for each of its words, and a walk over the plan's steps, as of `mark_hits`.
+    pub fn hits(
+        &self,
+        alloc: Global,
+        place: usize,
+        spots: &[FieldSpots],
+    ) -> Result<Vec<Hit>, NoMemory>
+        ensures { IfOk result (λ found. (tree : Tree) (terms : List KeyValue) (fields : Fields)
+            → spots.now ≡ map (spots_among terms) (finite.entries fields)
+            → decoded terms (unwrap_or (slice_get self.now place) []) ≡ plan_of tree
+            → map hit_value found.items ≡ hits tree fields) }
+    {
+        let mut found = Vec::new(alloc);
+        for of_field in spots {
+            add_hits(alloc, self, place, of_field, &mut found)?;
+        }
+        Ok(found)
+    }
+}
