@@ -1,8 +1,8 @@
 -- Terms and their leads, one after another.
-use Rattle.std.proofs.Common.{◌≡◌, ℕ, zero, suc, ◌<◌, ◌≤◌, List, [], ◌∷◌, ◌++◌, length, map, get_or, Less, Greater, is_gt, refl, sym, ap, subst, ◌∙◌, arith, inl, inr}
+use Rattle.std.proofs.Common.{◌≡◌, ℕ, zero, suc, ◌<◌, ◌≤◌, List, [], ◌∷◌, ◌++◌, length, map, get_or, Less, Greater, is_gt, nat_lt, if◌then◌else◌, ◌+◌, ◌-◌, refl, sym, ap, subst, ◌∙◌, arith, inl, inr}
 use Rattle.std.specs.Ordering.{ordering_reverse}
 use Rattle.std.specs.Cmp.Lexicographic.{nat_list_cmp_total}
-use Rattle.std.proofs.lemmas.Bool.{cases_lt, false≢true}
+use Rattle.std.proofs.lemmas.Bool.{cases_lt, lt-ltb, le-ltb, false≢true}
 use Rattle.std.proofs.lemmas.List.{get_or-map}
 use Rattle.clip_words.specs.Order.{bytes_cmp}
 use Rattle.clip_meaning.specs.Leads.{IsLead}
@@ -61,3 +61,27 @@ all_above ts leads start end text lead first are is within fall from high n d a 
     ] in
     nat_list_cmp_total.antisymm (text_of (get_or ts n d)) text
     ∙ ap ordering_reverse (lead_below text (text_of (get_or ts n d)) lead (get_or leads n 0) is (lead_at ts leads are n d (omega arith)) more)
+
+-- where leads never fall, none up to a place of a lesser lead is greater
+pub lesser_up_to : (leads : List ℕ) (start end place lead : ℕ) → NeverFall leads start end → place < end → get_or leads place 0 < lead
+    → (n : ℕ) → start ≤ n → n ≤ place → get_or leads n 0 < lead
+lesser_up_to leads start end place lead fall within less n a b =
+    elim (cases_lt n place) [
+      | inl lt ↦ omega (arith, fall n place a lt within, less)
+      | inr ge ↦ let same : place ≡ n = omega arith in subst (λ j. get_or leads j 0 < lead) same less
+    ]
+
+-- a step of a power of two from a place, taken where the last lead that it passes is lesser
+pub stepped : (leads : List ℕ) (start end low step lead taken : ℕ) → NeverFall leads start end → start ≤ low → 0 < step → low + step ≤ end
+    → taken ≡ (if nat_lt (get_or leads (low + (step - 1)) 0) lead then step else 0)
+    → ((n : ℕ) → start ≤ n → n < low → get_or leads n 0 < lead)
+    → (taken ≤ step) × ((n : ℕ) → start ≤ n → n < low + taken → get_or leads n 0 < lead)
+stepped leads start end low step lead taken fall from some within is before =
+    elim (cases_lt (get_or leads (low + (step - 1)) 0) lead) [
+      | inl less ↦
+          let all : taken ≡ step = is ∙ ap (λ b. if b then step else 0) (lt-ltb _ _ less) in
+          (omega arith, λ n a b. lesser_up_to leads start end (low + (step - 1)) lead fall (omega arith) less n a (omega arith))
+      | inr ge ↦
+          let none : taken ≡ 0 = is ∙ ap (λ b. if b then step else 0) (le-ltb _ _ ge) in
+          (omega arith, λ n a b. before n a (omega arith))
+    ]

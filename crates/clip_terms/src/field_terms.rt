@@ -1,5 +1,5 @@
 //! The terms of one field, found by the first bytes of their texts.
-ghost use Rattle.std.specs.Prelude.{◌≡◌, ℕ, ◌<◌, ◌≤◌, OnOk, map, length, slice_index};
+ghost use Rattle.std.specs.Prelude.{◌≡◌, ℕ, ◌<◌, ◌≤◌, ◌^◌, if◌then◌else◌, OnOk, map, length, slice_index};
 ghost use Rattle.std.specs.Str.{bytes_eq};
 ghost use Rattle.clip_extract.specs.Covering.{front_keys};
 ghost use Rattle.clip_extract.specs.Keys.{Word, Front, key_of};
@@ -43,6 +43,15 @@ impl<'a> Model for FieldTerms<'a> {
     ghost invariant = { AreFieldTerms };
 }
 
+/// Two to this power where a step is taken, else 0. Shifted and neither branched to nor chosen, of which the compiler
+/// makes a branch: which way a search goes can't be foreseen.
+fn step_if(taken: bool, bits: u32) -> usize
+    requires { bits < 64 }
+    ensures { result ≡ (if taken then 2 ^ bits else 0) }
+{
+    usize::from(taken) << bits
+}
+
 /// The first place of a part whose lead is not below this one. In a part no lead is below one before it.
 fn first_of_lead(leads: &[u64], part: &Range<usize>, lead: u64) -> usize
     requires within { part.now.end ≤ length leads.now }
@@ -51,19 +60,21 @@ fn first_of_lead(leads: &[u64], part: &Range<usize>, lead: u64) -> usize
     ensures below { (n : ℕ) → part.now.start ≤ n → n < result → slice_index leads.now n < lead }
 {
     let mut low = part.start;
-    let mut left = part.end.saturating_sub(part.start);
-    while left > 1 {
-        let half = left / 2;
-        let middle = low + half;
-        // Chosen and not branched to: which way it goes can't be foreseen.
-        low = if leads[middle] < lead { middle } else { low };
-        left -= half;
+    let count = part.end.saturating_sub(low);
+    if count == 0 {
+        return low;
     }
-    if left == 1 && leads[low] < lead {
-        low + 1
-    } else {
-        low
+    let mut bits = count.ilog2();
+    let most = 1usize << bits;
+    if leads[low + (most - 1)] < lead {
+        low += count - most + 1;
     }
+    while bits > 0 {
+        bits -= 1;
+        let step = 1usize << bits;
+        low += step_if(leads[low + (step - 1)] < lead, bits);
+    }
+    low
 }
 
 /// Where the key of a text, which has this lead, stands among keys whose texts rise.
