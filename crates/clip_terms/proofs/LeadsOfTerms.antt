@@ -1,15 +1,15 @@
 -- Terms and their leads, one after another.
-use Rattle.std.proofs.Common.{◌≡◌, ℕ, zero, suc, ◌<◌, ◌≤◌, List, [], ◌∷◌, ◌++◌, length, map, get_or, Less, Greater, is_gt, nat_lt, if◌then◌else◌, ◌+◌, ◌-◌, refl, sym, ap, subst, ◌∙◌, arith, inl, inr}
+use Rattle.std.proofs.Common.{◌≡◌, ℕ, zero, suc, ◌<◌, ◌≤◌, List, [], ◌∷◌, ◌++◌, length, map, take, drop, get_or, Less, Equal, Greater, is_gt, nat_lt, if◌then◌else◌, ◌+◌, ◌-◌, refl, sym, ap, subst, ◌∙◌, arith, inl, inr}
 use Rattle.std.specs.Ordering.{ordering_reverse}
 use Rattle.std.specs.Cmp.Lexicographic.{nat_list_cmp_total}
 use Rattle.std.proofs.lemmas.Bool.{cases_lt, lt-ltb, le-ltb, false≢true}
 use Rattle.std.proofs.lemmas.List.{get_or-map}
 use Rattle.clip_words.specs.Order.{bytes_cmp}
 use Rattle.clip_meaning.specs.Leads.{IsLead}
-use Rattle.clip_meaning.proofs.Leads.{lead_below}
+use Rattle.clip_meaning.proofs.Leads.{lead_below, leads_tie}
 use Rattle.clip_extract.specs.Keys.{KeyValue, Any, key_of, text_of}
 use Rattle.clip_extract.specs.declared.key.Key.{Key}
-use Rattle.clip_terms.specs.Steps.Leads.{AreLeads, NeverFall, TextsRise}
+use Rattle.clip_terms.specs.Steps.Leads.{AreLeads, IsShortLength, AreShortLengths, NeverFall, TextsRise}
 
 pub leads_long : (ts : List KeyValue) (leads : List ℕ) → AreLeads ts leads → length leads ≡ length ts
 leads_long [] [] are = refl
@@ -28,6 +28,28 @@ leads_push [] [] t lead are is = (is, tt)
 leads_push [] (l ∷ leads) t lead are is = absurd are
 leads_push (x ∷ ts) [] t lead are is = absurd are
 leads_push (x ∷ ts) (l ∷ leads) t lead are is = (are.0, leads_push ts leads t lead are.1 is)
+
+pub lengths_long : (ts : List KeyValue) (lengths : List ℕ) → AreShortLengths ts lengths → length lengths ≡ length ts
+lengths_long [] [] are = refl
+lengths_long [] (short ∷ lengths) are = absurd are
+lengths_long (t ∷ ts) [] are = absurd are
+lengths_long (t ∷ ts) (short ∷ lengths) are = ap suc (lengths_long ts lengths are.1)
+
+pub length_at : (ts : List KeyValue) (lengths : List ℕ) → AreShortLengths ts lengths → (n : ℕ) (d : KeyValue) → n < length ts → IsShortLength (text_of (get_or ts n d)) (get_or lengths n 0)
+length_at [] lengths are n d inside = absurd (omega arith)
+length_at (t ∷ ts) [] are n d inside = absurd are
+length_at (t ∷ ts) (short ∷ lengths) are zero d inside = are.0
+length_at (t ∷ ts) (short ∷ lengths) are (suc n) d inside = length_at ts lengths are.1 n d (omega arith)
+
+pub lengths_push : (ts : List KeyValue) (lengths : List ℕ) (t : KeyValue) (short : ℕ) → AreShortLengths ts lengths → IsShortLength (text_of t) short → AreShortLengths (ts ++ t ∷ []) (lengths ++ short ∷ [])
+lengths_push [] [] t short are is = (is, tt)
+lengths_push [] (l ∷ lengths) t short are is = absurd are
+lengths_push (x ∷ ts) [] t short are is = absurd are
+lengths_push (x ∷ ts) (l ∷ lengths) t short are is = (are.0, lengths_push ts lengths t short are.1 is)
+
+-- texts of one lead and of one length up to eight are the same
+pub short_texts_tie : (xs ys : List ℕ) (m n short : ℕ) → IsLead xs m → IsLead ys n → m ≡ n → IsShortLength xs short → IsShortLength ys short → short ≤ 8 → Equal ≡ bytes_cmp xs ys
+short_texts_tie xs ys m n short a b same first second few = leads_tie xs ys m n a b same (first few ∙ sym (second few)) (omega (arith, first few, few))
 
 -- the term at a place is the key that was read there
 pub read_at : (keys : List Key) (n : ℕ) (k : Key) → n < length keys → k ≡ get_or keys n k → (d : KeyValue) → get_or (map key_of keys) n d ≡ key_of k
@@ -85,3 +107,17 @@ stepped leads start end low step lead taken fall from some within is before =
           let none : taken ≡ 0 = is ∙ ap (λ b. if b then step else 0) (le-ltb _ _ ge) in
           (omega arith, λ n a b. before n a (omega arith))
     ]
+
+-- ---- what is left from a place on
+
+pub some_left : (k n : ℕ) (xs : List ℕ) → 0 < k → n < length xs → 0 < length (take k (drop n xs))
+some_left k n [] some inside = absurd (omega arith)
+some_left zero n (x ∷ xs) some inside = absurd (omega arith)
+some_left (suc k) zero (x ∷ xs) some inside = omega arith
+some_left (suc k) (suc n) (x ∷ xs) some inside = some_left (suc k) n xs some (omega arith)
+
+pub first_left : (k n : ℕ) (xs : List ℕ) → 0 < k → n < length xs → get_or (take k (drop n xs)) 0 0 ≡ get_or xs n 0
+first_left k n [] some inside = absurd (omega arith)
+first_left zero n (x ∷ xs) some inside = absurd (omega arith)
+first_left (suc k) zero (x ∷ xs) some inside = refl
+first_left (suc k) (suc n) (x ∷ xs) some inside = first_left (suc k) n xs some (omega arith)

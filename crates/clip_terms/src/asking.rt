@@ -8,8 +8,10 @@ ghost use Rattle.clip_extract.specs.Covering.{field_keys};
 ghost use Rattle.clip_terms.specs.Reading.{word_part_keys};
 ghost use Rattle.clip_terms.specs.Terms.{term_at};
 ghost use Rattle.clip_terms.specs.Steps.KeysByField.{differing, ordered_keys, key_added};
+ghost use Rattle.clip_terms.specs.Steps.Leads.{AreLeads, AreShortLengths};
 ghost use Rattle.clip_terms.specs.Steps.Places.{AreOfWords, IsPlaced};
 
+use crate::leads::{leads_of, lengths_of};
 use clip_extract::Key;
 use clip_meaning::{Article, Field, Posting};
 use clip_words::NoMemory;
@@ -17,12 +19,15 @@ use std::alloc::Global;
 use std::marker::Model;
 use std::sync::ArcStr;
 
-/// An article with its keys but for the fronts, in order, each once, and for each field the keys of its words, by their
-/// places in that list and in the order of its text. Contracts see the article.
+/// An article with its keys but for the fronts, in order, each once, with the leads and the short lengths of their
+/// texts, and for each field the keys of its words, by their places in that list and in the order of its text. Contracts
+/// see the article.
 #[derive(Drop)]
 pub struct Asking<'a> {
     article: &'a Article,
     keys: Vec<Key>,
+    leads: Vec<u64>,
+    lengths: Vec<u8>,
     places: Vec<Vec<usize>>,
 }
 
@@ -107,9 +112,13 @@ impl<'a> Asking<'a> {
         for field in article.fields() {
             places.push(add_field(alloc, field, &mut keys)?)?;
         }
+        let leads = leads_of(alloc, &keys)?;
+        let lengths = lengths_of(alloc, &keys)?;
         Ok(Asking {
             article,
             keys,
+            leads,
+            lengths,
             places,
         })
     }
@@ -126,6 +135,20 @@ impl<'a> Asking<'a> {
         ensures { map key_of result.now ≡ word_part_keys self.now.fields }
     {
         &self.keys
+    }
+
+    /// The leads of the keys' texts. Constant time.
+    pub(crate) fn leads(&self) -> &[u64]
+        ensures { AreLeads (word_part_keys self.now.fields) result.now }
+    {
+        &self.leads
+    }
+
+    /// The short lengths of the keys' texts. Constant time.
+    pub(crate) fn lengths(&self) -> &[u8]
+        ensures { AreShortLengths (word_part_keys self.now.fields) result.now }
+    {
+        &self.lengths
     }
 
     /// For each field, in the byte order of their names, and each word in the order of its text, which of the keys is

@@ -5,13 +5,13 @@ ghost use Rattle.clip_extract.specs.Covering.{front_keys};
 ghost use Rattle.clip_extract.specs.Keys.{Word, Front, key_of};
 ghost use Rattle.clip_terms.specs.Terms.{number_of};
 ghost use Rattle.clip_terms.specs.Steps.Fronts.{AddsNumbersOf};
-ghost use Rattle.clip_meaning.specs.Leads.{IsLead};
-ghost use Rattle.clip_terms.specs.Steps.Leads.{AreLeads, NeverFall, TextsRise, IsPlaceOf};
+ghost use Rattle.clip_terms.specs.Steps.Leads.{AreLeads, AreShortLengths, NeverFall, TextsRise, IsPlaceOf};
 
-use crate::leads::text_order;
+use crate::leads::Sought;
+use crate::likely::{SIDE_BY_SIDE, likely_places};
 use crate::terms::Terms;
 use clip_extract::{Key, has_front_key};
-use clip_meaning::{Field, lead_of};
+use clip_meaning::Field;
 use clip_words::NoMemory;
 use std::cmp::Ordering;
 use std::marker::Model;
@@ -20,11 +20,13 @@ use std::ops::Range;
 /// The terms of one field, and where they stand among all terms. Contracts see the terms and the name of the field.
 ///
 /// A word is searched for by its first eight bytes, as a number, among those of the field's words, which lie side by
-/// side; texts are compared only where these bytes are the same. Fronts are found likewise among the field's fronts.
+/// side; texts are compared only where these bytes are the same and the length does not settle it, since one of them is
+/// longer. Fronts are found likewise among the field's fronts.
 #[derive(Drop)]
 pub struct FieldTerms<'a> {
     keys: &'a [Key],
     leads: &'a [u64],
+    lengths: &'a [u8],
     field: &'a str,
     words: Range<usize>,
     fronts: Range<usize>,
@@ -45,7 +47,7 @@ impl<'a> Model for FieldTerms<'a> {
 
 /// Two to this power where a step is taken, else 0. Shifted and neither branched to nor chosen, of which the compiler
 /// makes a branch: which way a search goes can't be foreseen.
-fn step_if(taken: bool, bits: u32) -> usize
+pub(crate) fn step_if(taken: bool, bits: u32) -> usize
     requires { bits < 64 }
     ensures { result ≡ (if taken then 2 ^ bits else 0) }
 {
@@ -77,25 +79,38 @@ fn first_of_lead(leads: &[u64], part: &Range<usize>, lead: u64) -> usize
     low
 }
 
-/// Where the key of a text, which has this lead, stands among keys whose texts rise.
+/// The same, where it is likely this place.
+fn first_near(leads: &[u64], part: &Range<usize>, lead: u64, likely: usize) -> usize
+    requires within { part.now.end ≤ length leads.now }
+    requires rise { NeverFall leads.now part.now.start part.now.end }
+    ensures from { part.now.start ≤ result }
+    ensures below { (n : ℕ) → part.now.start ≤ n → n < result → slice_index leads.now n < lead }
+{
+    if part.start < likely && likely <= part.end && leads[likely - 1] < lead {
+        return likely;
+    }
+    first_of_lead(leads, part, lead)
+}
+
+/// Where the key of a text stands among keys whose texts rise.
 fn place_among(
     keys: &[Key],
     leads: &[u64],
+    lengths: &[u8],
     part: &Range<usize>,
-    text: &str,
-    lead: u64,
+    sought: &Sought<'_>,
 ) -> Option<usize>
     requires within { part.now.end ≤ length keys.now }
     requires leads { AreLeads (map key_of keys.now) leads.now }
+    requires lengths { AreShortLengths (map key_of keys.now) lengths.now }
     requires rise { TextsRise (map key_of keys.now) part.now.start part.now.end }
-    requires lead { IsLead text.now lead }
-    ensures { IsPlaceOf (map key_of keys.now) part.now.start part.now.end text.now result }
+    ensures { IsPlaceOf (map key_of keys.now) part.now.start part.now.end sought.now result }
 {
     let mut low = part.start;
     let mut high = part.end;
     while low < high {
         let middle = low + (high - low) / 2;
-        match text_order(&keys[middle], leads[middle], text, lead) {
+        match sought.order(&keys[middle], leads[middle], lengths[middle]) {
             Ordering::Less => low = middle + 1,
             Ordering::Greater => high = middle,
             Ordering::Equal => return Some(middle),
@@ -105,23 +120,32 @@ fn place_among(
 }
 
 /// Where the key of a text stands among keys whose texts rise. Mostly this is the first key of the text's lead, or no
-/// key has that lead: so the first is looked for by leads alone, and a key is looked at only where it has the lead.
-fn place_of(keys: &[Key], leads: &[u64], part: &Range<usize>, text: &str) -> Option<usize>
+/// key has that lead: so the first is looked for by leads alone, from the place on where it is likely, and a key is
+/// looked at only where it has the lead.
+fn place_of(
+    keys: &[Key],
+    leads: &[u64],
+    lengths: &[u8],
+    part: &Range<usize>,
+    sought: &Sought<'_>,
+    likely: usize,
+) -> Option<usize>
     requires within { part.now.end ≤ length keys.now }
     requires leads { AreLeads (map key_of keys.now) leads.now }
+    requires lengths { AreShortLengths (map key_of keys.now) lengths.now }
     requires rise { TextsRise (map key_of keys.now) part.now.start part.now.end }
-    ensures { IsPlaceOf (map key_of keys.now) part.now.start part.now.end text.now result }
+    ensures { IsPlaceOf (map key_of keys.now) part.now.start part.now.end sought.now result }
 {
-    let lead = lead_of(text);
-    let first = first_of_lead(leads, part, lead);
+    let lead = sought.lead();
+    let first = first_near(leads, part, lead, likely);
     if first >= part.end {
         return None;
     }
     if leads[first] > lead {
         return None;
     }
-    match text_order(&keys[first], leads[first], text, lead) {
-        Ordering::Less => place_among(keys, leads, &(first + 1..part.end), text, lead),
+    match sought.order(&keys[first], leads[first], lengths[first]) {
+        Ordering::Less => place_among(keys, leads, lengths, &(first + 1..part.end), sought),
         Ordering::Greater => None,
         Ordering::Equal => Some(first),
     }
@@ -137,6 +161,7 @@ impl<'a> FieldTerms<'a> {
         FieldTerms {
             keys: terms.keys(),
             leads: terms.leads(),
+            lengths: terms.lengths(),
             field,
             words,
             fronts,
@@ -155,10 +180,30 @@ impl<'a> FieldTerms<'a> {
     pub fn word(&self, word: &str) -> Option<u32>
         ensures { result ≡ number_of self.now.terms (Word self.now.field word.now) }
     {
-        match place_of(self.keys, self.leads, &self.words, word) {
+        self.word_near(&Sought::of(word), self.words.start)
+    }
+
+    /// The number of a word of the field, `None` where it is no term, that likely stands at a place if it is one.
+    pub(crate) fn word_near(&self, word: &Sought<'_>, likely: usize) -> Option<u32>
+        ensures { result ≡ number_of self.now.terms (Word self.now.field word.now) }
+    {
+        match place_of(
+            self.keys,
+            self.leads,
+            self.lengths,
+            &self.words,
+            word,
+            likely,
+        ) {
             Some(place) => Some(place as u32),
             None => None,
         }
+    }
+
+    /// For each of the first of these leads, where a word of that lead likely stands. Cost: as of searches by halves,
+    /// which wait for memory together.
+    pub(crate) fn likely_places(&self, leads: &[u64]) -> [usize; SIDE_BY_SIDE] {
+        likely_places(self.leads, &self.words, leads)
     }
 
     /// The number of a front of the field, `None` where it is no term. Takes no memory. Cost: a search by halves among
@@ -166,7 +211,16 @@ impl<'a> FieldTerms<'a> {
     pub fn front(&self, text: &str) -> Option<u32>
         ensures { result ≡ number_of self.now.terms (Front self.now.field text.now) }
     {
-        match place_of(self.keys, self.leads, &self.fronts, text) {
+        let text = Sought::of(text);
+        let likely = self.fronts.start;
+        match place_of(
+            self.keys,
+            self.leads,
+            self.lengths,
+            &self.fronts,
+            &text,
+            likely,
+        ) {
             Some(place) => Some(place as u32),
             None => None,
         }

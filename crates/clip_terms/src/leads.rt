@@ -1,15 +1,16 @@
-//! Keys by rank, field and text, and the leads of their texts.
+//! Keys by rank, field and text, and the leads and lengths of their texts.
 ghost use Rattle.std.specs.Prelude.{◌≡◌, IfOk, map};
 ghost use Rattle.clip_words.specs.Order.{bytes_cmp};
 ghost use Rattle.clip_meaning.specs.Leads.{IsLead};
 ghost use Rattle.clip_extract.specs.Keys.{key_of, text_of};
-ghost use Rattle.clip_terms.specs.Steps.Leads.{heading, heading_cmp, AreLeads};
+ghost use Rattle.clip_terms.specs.Steps.Leads.{heading, heading_cmp, AreLeads, IsShortLength, AreShortLengths};
 
 use clip_extract::Key;
 use clip_meaning::{compare_by_leads, lead_of};
 use clip_words::NoMemory;
 use std::alloc::Global;
 use std::cmp::Ordering;
+use std::marker::Model;
 
 /// Compares a key with those of a rank and a field.
 pub(crate) fn heading_order(key: &Key, rank: u8, field: &str) -> Ordering
@@ -29,11 +30,81 @@ pub(crate) fn leads_of(alloc: Global, keys: &[Key]) -> Result<Vec<u64>, NoMemory
     Ok(leads)
 }
 
-/// Compares the text of a key with a text. Looks at them only where they have the same lead.
-pub(crate) fn text_order(key: &Key, key_lead: u64, text: &str, lead: u64) -> Ordering
-    requires key { IsLead (text_of (key_of key.now)) key_lead }
-    requires text { IsLead text.now lead }
-    ensures { result ≡ bytes_cmp (text_of (key_of key.now)) text.now }
+/// The length of a text of up to eight bytes, and nine for a longer one.
+fn short_length(text: &str) -> u8
+    ensures { IsShortLength text.now result }
 {
-    compare_by_leads(key.text(), key_lead, text, lead)
+    text.len().min(9) as u8
+}
+
+/// The short lengths of the texts of keys, in order.
+pub(crate) fn lengths_of(alloc: Global, keys: &[Key]) -> Result<Vec<u8>, NoMemory>
+    ensures { IfOk result (λ lengths. AreShortLengths (map key_of keys.now) lengths.items) }
+{
+    let mut lengths = Vec::with_capacity(alloc, keys.len())?;
+    for key in keys {
+        lengths.push(short_length(key.text()))?;
+    }
+    Ok(lengths)
+}
+
+/// A text that is looked for among keys, with its lead and its short length. Contracts see the text.
+#[derive(Drop)]
+pub(crate) struct Sought<'a> {
+    text: &'a str,
+    lead: u64,
+    length: u8,
+}
+
+impl<'a> Model for Sought<'a> {
+    ghost use Rattle.std.specs.Prelude.{ℕ, List};
+    ghost use Rattle.clip_meaning.specs.Leads.{IsLead};
+    ghost use Rattle.clip_terms.specs.Steps.Leads.{IsShortLength};
+
+    ghost Value = { List ℕ };
+
+    ghost view = { λ s. s.text.now };
+
+    ghost invariant = { λ s. IsLead s.text.now s.lead × IsShortLength s.text.now s.length };
+}
+
+impl<'a> Sought<'a> {
+    /// Looks for a text.
+    pub(crate) fn of(text: &'a str) -> Sought<'a>
+        ensures { result ≡ text.now }
+    {
+        Sought::with(text, lead_of(text), short_length(text))
+    }
+
+    /// Looks for a text of this lead and this short length, and does not look at it.
+    pub(crate) fn with(text: &'a str, lead: u64, length: u8) -> Sought<'a>
+        requires lead { IsLead text.now lead }
+        requires length { IsShortLength text.now length }
+        ensures { result ≡ text.now }
+    {
+        Sought { text, lead, length }
+    }
+
+    /// The text's lead.
+    pub(crate) fn lead(&self) -> u64
+        ensures { IsLead self.now result }
+    {
+        self.lead
+    }
+
+    /// Compares the text of a key, of this lead and this short length, with the text. Looks at them only where the
+    /// leads are the same and the texts are longer than these.
+    pub(crate) fn order(&self, key: &Key, lead: u64, length: u8) -> Ordering
+        requires lead { IsLead (text_of (key_of key.now)) lead }
+        requires length { IsShortLength (text_of (key_of key.now)) length }
+        ensures { result ≡ bytes_cmp (text_of (key_of key.now)) self.now }
+    {
+        if lead != self.lead {
+            return lead.cmp(&self.lead);
+        }
+        if length == self.length && length <= 8 {
+            return Ordering::Equal;
+        }
+        compare_by_leads(key.text(), lead, self.text, self.lead)
+    }
 }

@@ -6,6 +6,7 @@ ghost use Rattle.std.specs.Prelude.{◌≡◌};
 mod asking;
 mod field_terms;
 mod leads;
+mod likely;
 mod numbering;
 mod parts;
 mod reading;

@@ -1,48 +1,73 @@
 //! The numbers of an article's keys.
-ghost use Rattle.std.specs.Prelude.{◌≡◌, ◌++◌, [], IfOk, OnOk, map, flat_map, option_map, option_to_list};
-ghost use Rattle.clip_extract.specs.Keys.{Front, key_of};
+ghost use Rattle.std.specs.Prelude.{◌≡◌, ◌++◌, [], ◌<◌, IfOk, OnOk, length, map, slice_index, flat_map, option_map, option_to_list};
+ghost use Rattle.clip_extract.specs.Keys.{Front, key_of, text_of};
 ghost use Rattle.clip_extract.specs.Fronts.{fronts};
 ghost use Rattle.clip_extract.specs.Covering.{front_keys};
 ghost use Rattle.clip_terms.specs.Terms.{number_of};
 ghost use Rattle.clip_terms.specs.Steps.KeysByField.{is_word};
+ghost use Rattle.clip_meaning.specs.Leads.{IsLead};
+ghost use Rattle.clip_terms.specs.Steps.Leads.{AreLeads, IsShortLength, AreShortLengths};
 ghost use Rattle.clip_terms.specs.Steps.Numbers.{known};
 ghost use Rattle.clip_terms.specs.Steps.Fronts.{other_fronts, asked_fronts, AddsNumbersOf};
 
 use crate::field_terms::FieldTerms;
+use crate::leads::Sought;
+use crate::likely::LikelyPlaces;
 use crate::terms::Terms;
 use clip_extract::{Fronts, Key};
 use clip_meaning::{Field, Posting};
 use clip_words::NoMemory;
 use std::alloc::Global;
 
-/// The number of a key; none of a key that is no term. The terms of a field become those of its field.
-fn key_number<'a>(terms: &'a Terms, of_field: &mut FieldTerms<'a>, key: &'a Key) -> Option<u32>
-    requires { of_field.old.terms ≡ terms.now }
+/// The number of a key, none of a key that is no term. The first of these leads is that of the key's text, whose short
+/// length this is, and the others are likely those of the keys after it. The terms of a field become those of its field.
+fn key_number<'a>(
+    terms: &'a Terms,
+    of_field: &mut FieldTerms<'a>,
+    likely: &mut LikelyPlaces,
+    key: &'a Key,
+    leads: &[u64],
+    short: u8,
+) -> Option<u32>
+    requires terms { of_field.old.terms ≡ terms.now }
+    requires some { 0 < length leads.now }
+    requires lead { IsLead (text_of (key_of key.now)) (slice_index leads.now 0) }
+    requires short { IsShortLength (text_of (key_of key.now)) short }
     ensures terms { of_field.new.terms ≡ terms.now }
     ensures number { result ≡ number_of terms.now (key_of key.now) }
 {
     let Key::Word(field, word) = key else {
         return terms.number(key);
     };
-    if of_field.is_of(field) {
-        return of_field.word(word);
+    if !of_field.is_of(field) {
+        *of_field = terms.of_field(field);
+        likely.clear();
     }
-    *of_field = terms.of_field(field);
-    of_field.word(word)
+    let place = likely.next(of_field, leads);
+    of_field.word_near(&Sought::with(word, leads[0], short), place)
 }
 
-/// The numbers of keys, in order; none of a key that is no term. Keys of one field stand side by side.
+/// The numbers of keys, beside which their leads and short lengths are given, in order; none of a key that is no term.
+/// Keys of one field stand side by side.
 pub(crate) fn key_numbers<'a>(
     alloc: Global,
     terms: &'a Terms,
     keys: &'a [Key],
+    leads: &[u64],
+    lengths: &[u8],
 ) -> Result<Vec<Option<u32>>, NoMemory>
+    requires leads { AreLeads (map key_of keys.now) leads.now }
+    requires lengths { AreShortLengths (map key_of keys.now) lengths.now }
     ensures { IfOk result (λ numbers. numbers.items ≡ map (number_of terms.now) (map key_of keys.now)) }
 {
     let mut numbers = Vec::with_capacity(alloc, keys.len())?;
     let mut of_field = terms.of_field("");
-    for key in keys {
-        numbers.push(key_number(terms, &mut of_field, key))?;
+    let mut likely = LikelyPlaces::none();
+    for place in 0..keys.len() {
+        let key = &keys[place];
+        let from = &leads[place..];
+        let short = lengths[place];
+        numbers.push(key_number(terms, &mut of_field, &mut likely, key, from, short))?;
     }
     Ok(numbers)
 }

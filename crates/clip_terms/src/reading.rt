@@ -106,7 +106,13 @@ impl<'a> Reading<'a> {
         ensures { IfOk result (λ reading. reading ≡ record { terms = terms.now; article = asking.now }) }
     {
         terms.order_law();
-        let by_key = key_numbers(alloc, terms, asking.keys())?;
+        let by_key = key_numbers(
+            alloc,
+            terms,
+            asking.keys(),
+            asking.leads(),
+            asking.lengths(),
+        )?;
         let mut numbers = known_numbers(alloc, &by_key)?;
         add_front_numbers(terms, asking.article().fields(), &mut numbers)?;
         let marks = marks_of(alloc, &numbers, terms.len())?;

@@ -3,10 +3,10 @@ ghost use Rattle.std.specs.Prelude.{◌≡◌, ◌≤◌, ◌==◌, [], IfOk, le
 ghost use Rattle.std.specs.List.Sorted.{IsStrictlySortedBy};
 ghost use Rattle.clip_extract.specs.Keys.{Word, Front, key_of, key_cmp, in_order};
 ghost use Rattle.clip_terms.specs.Terms.{number_of};
-ghost use Rattle.clip_terms.specs.Steps.Leads.{heading, AreLeads, IsPart};
+ghost use Rattle.clip_terms.specs.Steps.Leads.{heading, AreLeads, AreShortLengths, IsPart};
 
 use crate::field_terms::FieldTerms;
-use crate::leads::leads_of;
+use crate::leads::{leads_of, lengths_of};
 use crate::numbering::key_numbers;
 use crate::parts::{FieldPart, parts_of, ranges_of};
 use clip_extract::{Key, sorted};
@@ -20,12 +20,13 @@ pub const MOST_TERMS: usize = 4_294_967_295;
 
 /// Keys in order, each once and numbered from 0. Contracts see the list of the keys.
 ///
-/// The leads of their texts stand beside them, by which most are told apart without a look at them, and where the words
-/// and the fronts of each field stand.
+/// The leads and the short lengths of their texts stand beside them, by which most are told apart without a look at
+/// them, and where the words and the fronts of each field stand.
 #[derive(Debug, Drop)]
 pub struct Terms {
     keys: Vec<Key>,
     leads: Vec<u64>,
+    lengths: Vec<u8>,
     parts: Vec<FieldPart>,
 }
 
@@ -34,7 +35,7 @@ impl Model for Terms {
     ghost use Rattle.std.specs.List.{All};
     ghost use Rattle.std.specs.List.Sorted.{IsStrictlySortedBy};
     ghost use Rattle.clip_extract.specs.Keys.{KeyValue, key_of, key_cmp};
-    ghost use Rattle.clip_terms.specs.Steps.Leads.{AreLeads};
+    ghost use Rattle.clip_terms.specs.Steps.Leads.{AreLeads, AreShortLengths};
     ghost use Rattle.clip_terms.specs.Steps.Parts.{IsFieldPart};
     ghost use Rattle.clip_terms.specs.declared.terms.TheConstants.{MOST_TERMS};
 
@@ -44,6 +45,7 @@ impl Model for Terms {
 
     ghost invariant = { λ t. IsStrictlySortedBy key_cmp (map key_of t.keys.items) × (length t.keys.items ≤ MOST_TERMS)
         × AreLeads (map key_of t.keys.items) t.leads.items
+        × AreShortLengths (map key_of t.keys.items) t.lengths.items
         × All (IsFieldPart (map key_of t.keys.items)) t.parts.items };
 }
 
@@ -60,8 +62,14 @@ impl Terms {
             return Err(NoMemory);
         }
         let leads = leads_of(*keys.allocator(), &keys)?;
+        let lengths = lengths_of(*keys.allocator(), &keys)?;
         let parts = parts_of(*keys.allocator(), &keys)?;
-        Ok(Terms { keys, leads, parts })
+        Ok(Terms {
+            keys,
+            leads,
+            lengths,
+            parts,
+        })
     }
 
     /// How many terms there are. Takes no memory. Constant time.
@@ -116,6 +124,13 @@ impl Terms {
         &self.leads
     }
 
+    /// The short lengths of the keys' texts. Constant time.
+    pub(crate) fn lengths(&self) -> &[u8]
+        ensures { AreShortLengths self.now result.now }
+    {
+        &self.lengths
+    }
+
     /// Where the words of a field stand, and its fronts. Takes no memory. Cost: a search by halves among the fields.
     pub(crate) fn ranges_of(&self, field: &str) -> (Range<usize>, Range<usize>)
         ensures words { IsPart self.now (heading (Word field.now [])) result.0.start result.0.end }
@@ -131,7 +146,9 @@ impl Terms {
     pub fn numbers(&self, alloc: Global, keys: &[Key]) -> Result<Vec<Option<u32>>, NoMemory>
         ensures { IfOk result (λ numbers. numbers.items ≡ map (number_of self.now) (map key_of keys.now)) }
     {
-        key_numbers(alloc, self, keys)
+        let leads = leads_of(alloc, keys)?;
+        let lengths = lengths_of(alloc, keys)?;
+        key_numbers(alloc, self, keys, &leads, &lengths)
     }
 
     /// That the terms are in order, each once, for proofs. Takes no memory. Constant time.

@@ -22,6 +22,17 @@ AreLeads [] (lead ∷ leads) = ⊥
 AreLeads (term ∷ terms) [] = ⊥
 AreLeads (term ∷ terms) (lead ∷ leads) = IsLead (text_of term) lead × AreLeads terms leads
 
+-- a number up to eight is the text's length
+abbrev pub IsShortLength : (text : List ℕ) → (short : ℕ) → Type 0
+IsShortLength text short = short ≤ 8 → length text ≡ short
+
+-- beside each term stands such a number for its text
+abbrev pub AreShortLengths : List KeyValue → (lengths : List ℕ) → Type 0
+AreShortLengths [] [] = Unit {0}
+AreShortLengths [] (short ∷ lengths) = ⊥
+AreShortLengths (term ∷ terms) [] = ⊥
+AreShortLengths (term ∷ terms) (short ∷ lengths) = IsShortLength (text_of term) short × AreShortLengths terms lengths
+
 -- from `start` up to `end` stand just the terms under the heading
 pub record IsPart (terms : List KeyValue) (head : ℕ × List ℕ) (start end : ℕ) : Type 0 where
   pub rises : start ≤ end

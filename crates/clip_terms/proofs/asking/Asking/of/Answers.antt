@@ -1,8 +1,10 @@
-use Rattle.std.proofs.Common.{ℕ, List, ◌∷◌, ◌++◌, map, flat_map, Vec, Global, ap, ◌∙◌}
+use Rattle.std.proofs.Common.{ℕ, List, ◌∷◌, ◌++◌, map, flat_map, Vec, Global, ap, subst, ◌∙◌}
 use Rattle.std.proofs.lemmas.List.{take_all}
 use Rattle.clip_extract.specs.Keys.{Any, key_of}
 use Rattle.clip_extract.specs.Covering.{field_keys}
+use Rattle.clip_extract.specs.declared.key.Key.{Key}
 use Rattle.clip_terms.specs.Terms.{term_at}
+use Rattle.clip_terms.specs.Steps.Leads.{AreLeads, AreShortLengths}
 use Rattle.clip_terms.specs.Steps.KeysByField.{ordered_keys}
 use Rattle.clip_terms.proofs.KeysByField.{keys_by_field}
 use Rattle.clip_terms.proofs.PlacedWords.{fields_more, keys_of_more}
@@ -28,5 +30,7 @@ invariant_of-result c =
     let all = take_all c.loop-field.field-index c.fields-field-items.result.now c.loop-field-test.false ∙ c.fields-field-items.ensures in
     record {
       keys = c.loop-field.invariant.keys ∙ ap (λ fs. Any ∷ flat_map ordered_keys fs) all ∙ keys_by_field c.args.article.now.fields;
+      leads = subst (λ (keys : List Key). AreLeads (map key_of keys) c.in_ok-leads.leads.items) c.deref.ensures.value c.in_ok-leads.ensures;
+      lengths = subst (λ (keys : List Key). AreShortLengths (map key_of keys) c.in_ok-lengths.lengths.items) c.deref-2.ensures.value c.in_ok-lengths.ensures;
       places = c.loop-field.invariant.places ∙ ap (map field_keys) all;
     }

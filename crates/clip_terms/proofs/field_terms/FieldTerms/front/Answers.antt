@@ -1,8 +1,8 @@
-use Rattle.std.proofs.Common.{◌∙◌, ap, sym, map, []}
+use Rattle.std.proofs.Common.{ℕ, List, [], Some, None, ◌∙◌, ap, sym, subst, map}
 use Rattle.clip_extract.specs.Keys.{Front, key_of}
 use Rattle.clip_terms.specs.Terms.{number_of}
 use Rattle.clip_terms.specs.FieldTerms.{FieldTermsValue}
-use Rattle.clip_terms.specs.Steps.Leads.{heading}
+use Rattle.clip_terms.specs.Steps.Leads.{heading, IsPlaceOf}
 use Rattle.clip_terms.proofs.Headings.{texts_rise, placed_number, no_number}
 use Rattle.clip_terms.proofs.field_terms.FieldTerms.front.Goals as goal
 
@@ -14,11 +14,13 @@ place_of-requires-clause-rise c =
 pub returns-in-Some : goal.returns-in-Some
 returns-in-Some c =
     let t = c.self.inside in
-    sym (placed_number (map key_of t.keys.now) (Front t.field.now c.args.text.now) t.fronts.start t.fronts.end c.self.invariant.strict c.self.invariant.fronts c.in-Some.place c.in-Some.ensures)
+    sym (placed_number (map key_of t.keys.now) (Front t.field.now c.args.text.now) t.fronts.start t.fronts.end c.self.invariant.strict c.self.invariant.fronts c.in-Some.place
+    (subst (λ (text : List ℕ). IsPlaceOf (map key_of t.keys.now) t.fronts.start t.fronts.end text (Some c.in-Some.place)) c.of-text.ensures c.in-Some.ensures))
     ∙ ap (λ (v : FieldTermsValue). number_of v.terms (Front v.field c.args.text.now)) c.self.view_is
 
 pub returns-in-None : goal.returns-in-None
 returns-in-None c =
     let t = c.self.inside in
-    sym (no_number (map key_of t.keys.now) (Front t.field.now c.args.text.now) t.fronts.start t.fronts.end c.self.invariant.strict c.self.invariant.fronts c.in-None.ensures)
+    sym (no_number (map key_of t.keys.now) (Front t.field.now c.args.text.now) t.fronts.start t.fronts.end c.self.invariant.strict c.self.invariant.fronts
+    (subst (λ (text : List ℕ). IsPlaceOf (map key_of t.keys.now) t.fronts.start t.fronts.end text None) c.of-text.ensures c.in-None.ensures))
     ∙ ap (λ (v : FieldTermsValue). number_of v.terms (Front v.field c.args.text.now)) c.self.view_is

@@ -4,7 +4,7 @@ use Rattle.clip_terms.specs.Terms.{number_of}
 use Rattle.clip_terms.specs.FieldTerms.{FieldTermsValue}
 use Rattle.clip_terms.specs.Steps.Leads.{heading}
 use Rattle.clip_terms.proofs.Headings.{texts_rise, placed_number, no_number}
-use Rattle.clip_terms.proofs.field_terms.FieldTerms.word.Goals as goal
+use Rattle.clip_terms.proofs.field_terms.FieldTerms.word_near.Goals as goal
 
 pub place_of-requires-clause-rise : goal.place_of-requires-clause-rise
 place_of-requires-clause-rise c =
