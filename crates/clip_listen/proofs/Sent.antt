@@ -1,16 +1,13 @@
--- Threads may hand over alerts, and folders of a wording that they may hand over.
+-- Threads may hand over folders of a wording that they may hand over.
 use denote.RattleType.{RattleType}
 use denote.Struct.Field.{row_field}
 use denote.Param.Send.{IsSend, sendable}
 use denote.Param.SendFields.{declared_send, as_row_send}
 use Rattle.std.proofs.alloc.Global.TheSendSync as global_sent
 use Rattle.std.below.std_heap.proofs.GlobalAllocator.TheSendSync as allocator_sent
-use Rattle.std.proofs.sync.Arc.TheSendSync as arc_sent
 use Rattle.std.proofs.sync.ArcStr.TheSendSync as arc_str_sent
 use Rattle.std.proofs.vec.Vec.TheSendSync as vec_sent
-use Rattle.clip_standing.below.clip_meaning.proofs.article.Article.TheSendSync as article_sent
-use Rattle.clip_standing.proofs.Sent.{standing_send, standing_sync}
-use Rattle.clip_standing.specs.contracts.alert.Alert as alert
+use Rattle.clip_standing.proofs.Sent.{alert_send}
 use Rattle.clip_listen.specs.declared.render.Wording.{Ghosts}
 use Rattle.clip_listen.specs.contracts.style.Style as style
 use Rattle.clip_listen.specs.contracts.render.StyleWording.TheImpl as style_wording
@@ -18,9 +15,6 @@ use Rattle.clip_listen.specs.contracts.render.Render as render
 use Rattle.clip_listen.specs.contracts.listener.Folder as folder
 
 ruleset global = (sendable, global_sent.the_send, global_sent.the_sync, allocator_sent.the_frees)
-
-pub alert_send : IsSend alert.the_row
-alert_send = declared_send alert.the_type (search (global, arc_sent.the_send, standing_send, standing_sync), (search (global, article_sent.the_send), tt))
 
 style_send : IsSend style.the_row
 style_send = declared_send style.the_type (search (global, arc_str_sent.the_send), (search (global, arc_str_sent.the_send), tt))

@@ -14,12 +14,12 @@ use clip_terms::FieldSpots;
 use clip_words::NoMemory;
 use std::alloc::Global;
 
-/// Adds the hits in one field of the query of the plan at a place.
+/// Adds the hits in one field of the query of the plan at a place. `flags` is room for a flag of each of its words.
 fn add_hits(
-    alloc: Global,
     plans: &Plans,
     place: usize,
     spots: &FieldSpots,
+    flags: &mut Vec<u8>,
     found: &mut Vec<Hit>,
 ) -> Result<(), NoMemory>
     ensures { OnOk result ((tree : Tree)
@@ -27,9 +27,10 @@ fn add_hits(
         → map hit_value found.new.items ≡ map hit_value found.old.items ++ hits_in tree spots.now.field) }
 {
     let field = spots.field();
-    let mut flags = vec![in alloc; DOWN; field.words().len()]?;
-    plans.mark_hits(place, spots, &mut flags);
-    add_raised(field.name(), &flags, found)
+    flags.clear();
+    flags.resize(field.words().len(), DOWN)?;
+    plans.mark_hits(place, spots, flags);
+    add_raised(field.name(), flags, found)
 }
 
 impl Plans {
@@ -50,9 +51,10 @@ impl Plans {
             → decoded terms (unwrap_or (slice_get self.now place) []) ≡ plan_of tree
             → map hit_value found.items ≡ hits tree fields) }
     {
+        let mut flags = Vec::new(alloc);
         let mut found = Vec::new(alloc);
         for of_field in spots {
-            add_hits(alloc, self, place, of_field, &mut found)?;
+            add_hits(self, place, of_field, &mut flags, &mut found)?;
         }
         Ok(found)
     }

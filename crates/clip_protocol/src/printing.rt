@@ -12,7 +12,7 @@ ghost use Rattle.clip_protocol.specs.Steps.Views.{alerts_by_id};
 use crate::form::Form;
 use clip_listen::Note;
 use clip_meaning::Hit;
-use clip_standing::{Alert, Alerts, bring_near};
+use clip_standing::{Alert, Alerts};
 use clip_words::NoMemory;
 use json::Writer;
 use std::alloc::Global;
@@ -70,15 +70,24 @@ fn write_hits(out: &mut Writer, hits: &[Hit]) -> Result<(), NoMemory>
     Ok(())
 }
 
+/// Writes where the query of an alert holds: what was found when the alert was made, or what is found now.
+fn write_hits_of(out: &mut Writer, alloc: Global, alert: &Alert) -> Result<(), NoMemory>
+    ensures { Appends result out.old out.new
+        (data_tokens (array_of (map hit_data (alert_value alert.now).hits))) }
+{
+    match alert.found_hits() {
+        Some(hits) => write_hits(out, hits),
+        None => write_hits(out, &alert.hits(alloc)?),
+    }
+}
+
 /// Writes for each alert where its query holds.
 fn write_hits_of_all(out: &mut Writer, alloc: Global, alerts: &[Alert]) -> Result<(), NoMemory>
     ensures { Appends result out.old out.new (data_tokens (hits_data (map alert_value alerts.now))) }
 {
-    bring_near(alloc, alerts);
     out.begin_array()?;
     for alert in alerts {
-        let hits = alert.hits(alloc)?;
-        write_hits(out, &hits)?;
+        write_hits_of(out, alloc, alert)?;
     }
     out.end_array()?;
     Ok(())

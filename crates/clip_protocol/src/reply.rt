@@ -161,7 +161,7 @@ fn matched_text(
 ) -> Result<Vec<u8>, NoMemory>
     ensures { IfOk result (λ text. text.items ≡ printed (reply_value number
         (reply.matched form (map alerts_by_id (map alerts_value found.now))
-            (map (λ n. arc_str_bytes n.text) notes.now)))) }
+        (map (λ n. arc_str_bytes n.text) notes.now)))) }
 {
     let mut out = begun(alloc)?;
     out.key("alerts")?;
@@ -206,7 +206,7 @@ impl Reply {
     /// The text of the reply to the line of this number: compact JSON and a line feed, or nothing.
     ///
     /// `NoMemory` where an allocation failed. Its cost is linear in the text, which is written token by token and
-    /// allocates only as it grows; with hits there is that of `Alert::hits` for each alert beside it.
+    /// allocates only as it grows; with hits that of `Alert::hits` comes to it for each alert that carries none.
     #[tactic(auto, unfolding(crate::specs::Reply::reply_value))]
     pub fn text(self, alloc: Global, number: u64) -> Result<Vec<u8>, NoMemory>
         ensures { IfOk result (λ text. text.items ≡ reply_text number (reply_view self)) }

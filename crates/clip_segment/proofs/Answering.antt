@@ -17,7 +17,7 @@ use Rattle.clip_terms.specs.Reading.{has_key as article_has}
 use Rattle.clip_terms.specs.Steps.Numbers.{known}
 use Rattle.clip_terms.proofs.Numbers.{in_order_rises}
 use Rattle.clip_terms.proofs.ReadingOf.{has_number, known_within, known_terms, known_is}
-use Rattle.clip_plan.specs.Plan.{decoded, plan_of}
+use Rattle.clip_plan.specs.Plan.{Mark, decoded, plan_of}
 use Rattle.clip_segment.specs.Index.{IndexValue, IsIndexOf, asked_of, has_key, positions_by, query_positions_with, query_positions_sharing, terms_of}
 use Rattle.clip_segment.proofs.Asked.{AreAsked, had_asked}
 use Rattle.clip_segment.proofs.AnyOf.{any_flat_map}
@@ -119,9 +119,14 @@ mapped_at f (x ∷ xs) (suc n) d = mapped_at f xs n d
 pub plan_each : (trees : List Tree) (index : IndexValue) → IsIndexOf trees index → length index.plans ≡ length trees
 plan_each trees index is = sym (length-map index.plans (decoded index.terms)) ∙ ap length is.plans ∙ length-map trees plan_of
 
+-- of plans that are those of queries, the one at a position is that of the query there
+pub decoded_at : (trees : List Tree) (terms : List KeyValue) (plans : List (List (Mark ℕ))) → map (decoded terms) plans ≡ map plan_of trees → (position : ℕ) (tree : Tree) → slice_get trees position ≡ Some tree
+    → decoded terms (unwrap_or (slice_get plans position) []) ≡ plan_of tree
+decoded_at trees terms plans are position tree there =
+    sym (mapped_at (decoded terms) plans position [])
+    ∙ ap (λ decoded_plans. unwrap_or (slice_get decoded_plans position) []) are
+    ∙ ap (λ o. unwrap_or o []) (slice_get-map plan_of trees position ∙ ap (option_map plan_of) there)
+
 -- the plan at a position is that of the query there
 pub plan_at : (trees : List Tree) (index : IndexValue) → IsIndexOf trees index → (position : ℕ) (tree : Tree) → slice_get trees position ≡ Some tree → decoded index.terms (unwrap_or (slice_get index.plans position) []) ≡ plan_of tree
-plan_at trees index is position tree there =
-    sym (mapped_at (decoded index.terms) index.plans position [])
-    ∙ ap (λ plans. unwrap_or (slice_get plans position) []) is.plans
-    ∙ ap (λ o. unwrap_or o []) (slice_get-map plan_of trees position ∙ ap (option_map plan_of) there)
+plan_at trees index is position tree there = decoded_at trees index.terms index.plans is.plans position tree there

@@ -5,9 +5,9 @@ use Rattle.std.specs.List.{enumerate_from}
 use Rattle.clip_grammar.specs.Tree.{Tree}
 use Rattle.clip_extract.specs.Extraction.{query_keys}
 use Rattle.clip_extract.specs.Keys.{KeyValue, share}
-use Rattle.clip_plan.specs.Plan.{decoded, plan_of}
+use Rattle.clip_plan.specs.Plan.{Mark, decoded, plan_of}
 use Rattle.clip_segment.specs.Index.{IndexValue, IsIndexOf, has_key, query_positions_with, query_positions_sharing}
-use Rattle.clip_segment.proofs.Answering.{plan_at}
+use Rattle.clip_segment.proofs.Answering.{decoded_at, plan_at}
 use Rattle.clip_model.specs.History.{Registered}
 use Rattle.clip_segment.specs.Segment.{positions_with, positions_sharing, trees_of}
 
@@ -36,3 +36,10 @@ pub plan_of_entry : (es : List Registered) (index : IndexValue) → IsIndexOf (t
 plan_of_entry es index is position entry there =
     let tree : Registered → Tree = λ e. e.standing.tree in
     plan_at (trees_of es) index is position entry.standing.tree (slice_get-map tree es position ∙ ap (option_map tree) there)
+
+-- the same of plans alone
+pub decoded_of_entry : (es : List Registered) (terms : List KeyValue) (plans : List (List (Mark ℕ))) → map (decoded terms) plans ≡ map plan_of (trees_of es) → (position : ℕ) (entry : Registered) → slice_get es position ≡ Some entry
+    → decoded terms (unwrap_or (slice_get plans position) []) ≡ plan_of entry.standing.tree
+decoded_of_entry es terms plans are position entry there =
+    let tree : Registered → Tree = λ e. e.standing.tree in
+    decoded_at (trees_of es) terms plans are position entry.standing.tree (slice_get-map tree es position ∙ ap (option_map tree) there)

@@ -3,3 +3,4 @@ pub mod IndexView
 pub mod Parts
 pub mod ReadingView
 pub mod SegmentView
+pub mod SpotsView

@@ -1,5 +1,5 @@
 //! Segments: entries in the order of their seqs, with an index over their queries: which of them share a key with an
-//! article, and which of them hold of it.
+//! article, which of them hold of it, and where.
 #![tactic(auto)]
 
 ghost use Rattle.std.specs.Prelude.{◌≡◌};
@@ -12,7 +12,9 @@ mod marking;
 mod reading;
 mod segment;
 mod selecting;
+mod spots;
 mod term_lists;
 
 pub use reading::SegmentReading;
 pub use segment::{MOST_POSITIONS, Segment};
+pub use spots::SegmentSpots;

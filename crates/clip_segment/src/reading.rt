@@ -10,12 +10,14 @@ ghost use Rattle.clip_segment.specs.Segment.{positions_sharing};
 
 use crate::marking::marks_under;
 use crate::segment::Segment;
+use crate::spots::SegmentSpots;
 use clip_extract::second_covering_law;
 use clip_pieces::{Marks, PackedLists};
 use clip_plan::{Plans, Tally};
 use clip_standing::Entry;
 use clip_terms::Reading;
 use clip_words::NoMemory;
+use std::alloc::Global;
 use std::marker::Model;
 use std::sync::Arc;
 
@@ -105,5 +107,15 @@ impl<'a> SegmentReading<'a> {
             → held ≡ holds entry.standing.tree self.now.article.fields) }
     {
         self.plans.judge(position as usize, &self.reading, stack)
+    }
+
+    /// Where the words of the article stand by the numbers of the terms of the segment's index, to find the hits of the
+    /// segment's queries by.
+    ///
+    /// `NoMemory` where an allocation failed. Cost: that of `Reading::spots`, a step for each word of the article.
+    pub fn spots(&self, alloc: Global) -> Result<SegmentSpots<'_>, NoMemory>
+        ensures { IfOk result (λ spots. spots ≡ self.now) }
+    {
+        SegmentSpots::of(alloc, self.segment, self.plans, &self.reading)
     }
 }

@@ -1,4 +1,4 @@
--- Threads may hand over and share standing queries, entries, commands and entries of the history.
+-- Threads may hand over and share standing queries, entries, commands and entries of the history, and hand over alerts.
 use denote.Param.Send.{IsSend, IsSync, view_send, view_sync, sendable}
 use denote.Param.SendFields.{declared_send, declared_sync, variants_send, variants_sync}
 use Rattle.std.proofs.alloc.Global.TheSendSync as global_sent
@@ -12,11 +12,14 @@ use Rattle.counted_slot.proofs.Counted.TheSendSync as slot_sent
 use Rattle.std.proofs.boxed.Box.TheSendSync as box_sent
 use Rattle.once_cell.proofs.race.once_box.OnceBox.TheSendSync as once_sent
 use Rattle.clip_grammar.proofs.Sent.{query_send, query_sync}
+use Rattle.clip_meaning.proofs.article.Article.TheSendSync as article_sent
+use Rattle.clip_meaning.specs.contracts.hit.Hit as hit
 use Rattle.clip_standing.specs.contracts.reading.Reading as reading
 use Rattle.clip_standing.specs.contracts.reading.Reading.TheInside as reading_inside
 use Rattle.clip_standing.specs.contracts.fresh.Fresh as fresh
 use Rattle.clip_standing.specs.contracts.standing.Standing as standing
 use Rattle.clip_standing.specs.contracts.standing.Standing.TheInside as standing_inside
+use Rattle.clip_standing.specs.contracts.alert.Alert as alert
 use Rattle.clip_standing.specs.contracts.entry.Entry as entry
 use Rattle.clip_standing.specs.contracts.entry.Entry.TheInside as entry_inside
 use Rattle.clip_standing.specs.contracts.command.Command as command
@@ -61,3 +64,9 @@ history_entry_send = declared_send history_entry.the_type (search global, (searc
 
 pub history_entry_sync : IsSync history_entry.the_row
 history_entry_sync = declared_sync history_entry.the_type (search global, (search global, (command_sync, tt)))
+
+hit_send : IsSend hit.the_row
+hit_send = declared_send hit.the_type (search (global, arc_str_sent.the_send), (search global, tt))
+
+pub alert_send : IsSend alert.the_row
+alert_send = declared_send alert.the_type (search (global, arc_sent.the_send, standing_send, standing_sync), (search (global, article_sent.the_send), (search (global, vec_sent.the_send, option_sent.the_send, hit_send), tt)))

@@ -1,5 +1,5 @@
 -- The alerts of an article as contracts see them.
-use Rattle.std.specs.Prelude.{ℕ, List, map}
+use Rattle.std.specs.Prelude.{ℕ, Bool, List, map, is_some}
 use Rattle.std.specs.Arc.{arc_str_bytes}
 use Rattle.clip_model.specs.Alerts as model
 use Rattle.clip_standing.specs.declared.alert.Alert.{Alert}
@@ -14,6 +14,10 @@ pub record AlertsValue : Type 0 where
 
 abbrev pub alert_value : Alert → model.Alert
 alert_value a = model.alert_for a.standing.value a.article
+
+-- the alert carries its hits, which were found when it was made
+abbrev pub has_hits : Alert → Bool
+has_hits a = is_some a.found
 
 abbrev pub alerts_value : Alerts → AlertsValue
 alerts_value found = record {

@@ -1,12 +1,11 @@
 //! Alerts: what is told of an article.
-ghost use Rattle.std.specs.Prelude.{◌≡◌, map, IfOk, option_map};
+ghost use Rattle.std.specs.Prelude.{◌≡◌, map, true, IfOk, IfSome, is_some, option_map};
 ghost use Rattle.std.specs.Arc.{arc_str_bytes};
 ghost use Rattle.std.specs.Option.{option_copied};
 ghost use Rattle.clip_meaning.specs.Hits.{hit_value};
 ghost use Rattle.clip_model.specs.Alerts.{alert_for};
-ghost use Rattle.clip_standing.specs.Alerts.{alert_value};
+ghost use Rattle.clip_standing.specs.Steps.FoundHits.{AreFound, one_way_found};
 
-use crate::reading::Reading;
 use crate::standing::Standing;
 use clip_meaning::{Article, Hit};
 use clip_words::NoMemory;
@@ -14,14 +13,18 @@ use std::alloc::Global;
 use std::sync::{Arc, ArcStr};
 
 /// A query holds of an article. It shares both, so that to make one copies no text, and what it is of stays in memory
-/// as long as it does.
+/// as long as it does. Where its hits were found when it was made, it keeps them.
 #[derive(Debug, Drop)]
 pub struct Alert {
     standing: Arc<Standing>,
     article: Article,
+    found: Option<Vec<Hit>>,
+    ghost found_are: { AreFound standing.value article found } by { one_way_found standing.value article found },
 }
 
 impl Alert {
+    ghost use Rattle.clip_standing.specs.Alerts.{alert_value, has_hits};
+
     /// The alert of a standing query that holds of an article. Takes constant time.
     ///
     /// `NoMemory` where the count of holders of one of the two is at its end.
@@ -32,6 +35,28 @@ impl Alert {
         Ok(Alert {
             standing: standing.clone()?,
             article: article.copy()?,
+            found: None,
+        })
+    }
+
+    /// The alert of a standing query that holds of the article, with its hits, which were found already. Takes constant
+    /// time.
+    ///
+    /// `NoMemory` where the count of holders of one of the two is at its end.
+    pub fn with_hits(
+        standing: &Arc<Standing>,
+        article: &Article,
+        hits: Vec<Hit>,
+    ) -> Result<Alert, NoMemory>
+        requires { map hit_value hits.items ≡ (alert_for standing.now.value article.now).hits }
+        ensures value { IfOk result (λ alert. alert_value alert ≡ alert_for standing.now.value article.now) }
+        ensures article { IfOk result (λ alert. alert.article ≡ article.now) }
+        ensures found { IfOk result (λ alert. has_hits alert ≡ true) }
+    {
+        Ok(Alert {
+            standing: standing.clone()?,
+            article: article.copy()?,
+            found: Some(hits),
         })
     }
 
@@ -57,22 +82,34 @@ impl Alert {
         self.standing.shared_listener()
     }
 
+    /// The hits, where they were found when the alert was made: those that `hits` gives. Takes constant time.
+    pub fn found_hits(&self) -> Option<&[Hit]>
+        ensures found { is_some result ≡ has_hits self.now }
+        ensures hits { IfSome result (λ hits. map hit_value hits.now ≡ (alert_value self.now).hits) }
+    {
+        match &self.found {
+            Some(hits) => Some(hits),
+            None => None,
+        }
+    }
+
     /// Where in the article the query holds: the positions of the words that its leaves name, by the bytes of their
-    /// fields' names and then by position. They are found at each call.
+    /// fields' names and then by position. They are copied where they were found when the alert was made, and else
+    /// found at each call.
     ///
-    /// `NoMemory` where an allocation failed. Cost: that of `Standing::hits_in`.
+    /// `NoMemory` where an allocation failed. Cost: a step for each hit where they were found, else that of
+    /// `Standing::hits_in`.
     pub fn hits(&self, alloc: Global) -> Result<Vec<Hit>, NoMemory>
         ensures { IfOk result (λ hits. map hit_value hits.items ≡ (alert_value self.now).hits) }
     {
-        self.standing.hits_in(alloc, &self.article)
+        match &self.found {
+            Some(hits) => Ok(hits.clone()?),
+            None => self.standing.hits_in(alloc, &self.article),
+        }
     }
 
-    /// The reading of the query's text, if it is kept.
-    pub(crate) fn kept(&self) -> Option<&Reading> {
-        self.standing.kept()
-    }
-
-    /// The same alert once more. It shares the query and the article. Takes constant time.
+    /// The same alert once more. It shares the query and the article; hits that were found are not copied, so `hits`
+    /// finds those of the copy anew. Takes constant time.
     ///
     /// `NoMemory` where the count of holders of one of the two is at its end.
     pub fn copy(&self) -> Result<Alert, NoMemory>

@@ -6,12 +6,10 @@ mod alert;
 mod command;
 mod entry;
 mod fresh;
-mod nearing;
 mod reading;
 mod standing;
 
 pub use alert::{Alert, Alerts};
 pub use command::{Applied, Command, HistoryEntry, Refused};
 pub use entry::Entry;
-pub use nearing::bring_near;
 pub use standing::{Standing, StandingFault};

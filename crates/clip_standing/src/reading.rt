@@ -49,13 +49,6 @@ impl Reading {
         self.text.as_str() == text
     }
 
-    /// The text.
-    pub(crate) fn text(&self) -> &ArcStr
-        ensures { arc_str_bytes result.now ≡ self.now.0 }
-    {
-        &self.text
-    }
-
     /// The query.
     pub(crate) fn query(&self) -> &Query
         ensures query { tree_of result.now ≡ self.now.1 }

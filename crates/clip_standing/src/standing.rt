@@ -230,11 +230,6 @@ impl Standing {
         self.query(alloc)
     }
 
-    /// The reading of the text, if it is kept.
-    pub(crate) fn kept(&self) -> Option<&Reading> {
-        self.kept.get()
-    }
-
     /// The reading of the text, which is made at the first call and kept.
     fn reading(&self, alloc: Global) -> Result<&Reading, NoMemory> {
         if let Some(reading) = self.kept.get() {

@@ -1,20 +1,23 @@
 -- Spots: where the term of a number stands in a field, and which positions a run of numbers covers.
-use Rattle.std.proofs.Common.{◌≡◌, ℕ, zero, suc, ◌+◌, ◌<◌, ◌≤◌, Bool, true, false, cond, ◌&&◌, ◌||◌, nat_eq, nat_lt, nat_le, List, [], ◌∷◌, ◌++◌, filter, map, length, take, drop, get_or, Option, Some, None, IsPermutation, refl, sym, ap, ◌∙◌, arith, eq-eqb, ne_eqb, append_assoc, append-nil}
+use Rattle.std.proofs.Common.{◌≡◌, ℕ, zero, suc, ◌+◌, ◌<◌, ◌≤◌, Bool, true, false, cond, ◌&&◌, ◌||◌, nat_eq, nat_lt, nat_le, List, [], ◌∷◌, ◌++◌, filter, map, flat_map, length, take, drop, get_or, Option, Some, None, IsPermutation, refl, sym, ap, ◌∙◌, arith, eq-eqb, ne_eqb, append_assoc}
 use Rattle.std.specs.List.{list_any, starts_with}
 use Rattle.std.specs.List.Sorted.{IsStrictlySortedBy, IsPartitionPoint}
 use Rattle.std.proofs.lemmas.Bool.{ltb-true, leb-true, le-ltb}
 use Rattle.std.proofs.lemmas.Bool.Decides.{nat_tests}
-use Rattle.std.proofs.lemmas.List.{length-map, length-drop, drop-drop, drop_more, drop_all, get_or-map, get_or-drop, drop-map}
+use Rattle.std.proofs.lemmas.List.{length-append, length-map, length-drop, drop-drop, get_or-map, get_or-drop, drop-map}
+use Rattle.std.proofs.lemmas.List.Folds.{list_any-append}
 use Rattle.std.proofs.lemmas.List.Sorted.{list_any-IsPermutation}
 use Rattle.clip_meaning.specs.Hits.{is_within}
 use Rattle.clip_meaning.specs.Index.{numbered}
 use Rattle.clip_meaning.proofs.Numbered.{any_filter}
 use Rattle.clip_extract.specs.Keys.{KeyValue, Any, Word, key_cmp, is_same}
 use Rattle.clip_extract.specs.Covering.{field_keys}
+use Rattle.clip_extract.proofs.Members.{any_flat_map}
 use Rattle.clip_terms.specs.Terms.{term_at, number_of}
 use Rattle.clip_terms.specs.Spots.{FieldValue, is_at, covers_from, is_covered}
 use Rattle.clip_terms.specs.Steps.Runs.{is_number, begins_with}
-use Rattle.clip_terms.specs.Steps.Spots.{spot_at, spots_from, is_of, covers_at}
+use Rattle.clip_terms.specs.Steps.Numbers.{number_at}
+use Rattle.clip_terms.specs.Steps.Spots.{HaveSame, spot_at, spot_of, spots_from, is_of, covers_at}
 use Rattle.clip_terms.specs.declared.spots.Spot.{Spot}
 use Rattle.clip_terms.proofs.NumberedKeys.{word_numbered}
 use Rattle.clip_terms.proofs.Runs.{begins}
@@ -25,17 +28,33 @@ and-none false = refl
 
 -- ---- the spots of all positions
 
--- one position more
-pub spots_more : (numbers : List (Option ℕ)) (i : ℕ) (old new : List Spot) (o : Option ℕ) → i < length numbers → o ≡ get_or numbers i None → new ≡ old ++ spot_at i o
-    → new ++ spots_from (i + 1) (drop (i + 1) numbers) ≡ old ++ spots_from i (drop i numbers)
-spots_more numbers i old new o lt is made =
-    let rest : List Spot = spots_from (i + 1) (drop (i + 1) numbers) in
-    ap (λ xs. xs ++ rest) made ∙ append_assoc old (spot_at i o) rest ∙ ap (λ x. old ++ (spot_at i x ++ rest)) is
-    ∙ ap (λ os. old ++ spots_from i os) (sym (drop_more numbers i None lt))
+any_spots : (test : Spot → Bool) (all front numbers : List (Option ℕ)) (words : List (List ℕ)) → all ≡ front ++ numbers → length numbers ≡ length words
+    → list_any (λ (p : List ℕ × ℕ). list_any test (spot_of all p)) (numbered (length front) words) ≡ list_any test (spots_from (length front) numbers)
+any_spots test all front [] [] is long = refl
+any_spots test all front [] (w ∷ words) is long = absurd (omega arith)
+any_spots test all front (o ∷ numbers) [] is long = absurd (omega arith)
+any_spots test all front (o ∷ numbers) (w ∷ words) is long =
+    let on : length front + 1 ≡ length (front ++ o ∷ []) = omega (arith, length-append front (o ∷ [])) in
+    let here : number_at all (length front) ≡ o = ap (λ os. number_at os (length front)) is ∙ there front o numbers in
+    let later = any_spots test all (front ++ o ∷ []) numbers words (is ∙ sym (append_assoc front (o ∷ []) numbers)) (omega arith) in
+    (λ i. list_any test (spot_at (length front) (here i)) || list_any (λ (p : List ℕ × ℕ). list_any test (spot_of all p)) (numbered (on i) words))
+    ∙ ap (λ b. list_any test (spot_at (length front) o) || b) later
+    ∙ ap (λ n. list_any test (spot_at (length front) o) || list_any test (spots_from n numbers)) (sym on)
+    ∙ sym (list_any-append test (spot_at (length front) o) (spots_from (length front + 1) numbers))
+  where
+    there : (front : List (Option ℕ)) (o : Option ℕ) (os : List (Option ℕ)) → number_at (front ++ o ∷ os) (length front) ≡ o
+    there [] o os = refl
+    there (x ∷ front) o os = there front o os
 
--- no position is left
-pub spots_all : (numbers : List (Option ℕ)) (i : ℕ) (spots : List Spot) → length numbers ≤ i → spots ++ spots_from i (drop i numbers) ≡ spots_from 0 numbers → spots ≡ spots_from 0 numbers
-spots_all numbers i spots le all = sym (append-nil spots) ∙ ap (λ os. spots ++ spots_from i os) (sym (drop_all i numbers le)) ∙ all
+-- the spots of a field's postings, in any order, are those of all its positions
+pub posting_spots : (numbers : List (Option ℕ)) (words : List (List ℕ)) (postings : List (List ℕ × ℕ)) (spots sorted : List Spot) → length numbers ≡ length words → IsPermutation (numbered 0 words) postings
+    → spots ≡ flat_map (spot_of numbers) postings → IsPermutation spots sorted → HaveSame sorted (spots_from 0 numbers)
+posting_spots numbers words postings spots sorted long same made moved test =
+    sym (list_any-IsPermutation test spots sorted moved)
+    ∙ ap (list_any test) made
+    ∙ any_flat_map test (spot_of numbers) postings
+    ∙ sym (list_any-IsPermutation (λ (p : List ℕ × ℕ). list_any test (spot_of numbers p)) (numbered 0 words) postings same)
+    ∙ any_spots test numbers [] numbers words refl long
 
 -- ---- the spots of a number among spots by their numbers
 
@@ -118,12 +137,12 @@ module _ (terms : List KeyValue) (strict : IsStrictlySortedBy key_cmp terms) whe
   numbers_of name words = map (number_of terms) (map (Word name) words)
 
   -- the spots of a number are the places of its term
-  pub number_spots : (field : FieldValue) (numbers : List (Option ℕ)) (spots found : List Spot) (n k : ℕ) → numbers ≡ map (number_of terms) (field_keys field) → IsPermutation (spots_from 0 numbers) spots
+  pub number_spots : (field : FieldValue) (numbers : List (Option ℕ)) (spots found : List Spot) (n k : ℕ) → numbers ≡ map (number_of terms) (field_keys field) → HaveSame spots (spots_from 0 numbers)
       → found ≡ filter (is_of n) spots → k < length field.1 → list_any (λ (s : Spot). nat_eq k s.position) found ≡ is_at field k (term_at terms n)
   number_spots field numbers spots found n k are same kept lt =
       let long : length (numbers_of field.0 field.1) ≡ length field.1 = length-map (map (Word field.0) field.1) (number_of terms) ∙ length-map field.1 (Word field.0) in
       ap (list_any (λ (s : Spot). nat_eq k s.position)) kept ∙ any_filter (is_of n) (λ (s : Spot). nat_eq k s.position) spots
-      ∙ sym (list_any-IsPermutation (λ (s : Spot). is_of n s && nat_eq k s.position) (spots_from 0 numbers) spots same)
+      ∙ same (λ (s : Spot). is_of n s && nat_eq k s.position)
       ∙ ap (λ os. list_any (λ (s : Spot). is_of n s && nat_eq k s.position) (spots_from 0 os)) are
       ∙ at_spot n (numbers_of field.0 field.1) k 0 k (omega arith) (omega (arith, long, lt))
       ∙ ap (λ o. is_number o n) (get_or-map (number_of terms) (map (Word field.0) field.1) k Any None (omega (arith, length-map field.1 (Word field.0), lt)))
@@ -165,13 +184,13 @@ module _ (terms : List KeyValue) (strict : IsStrictlySortedBy key_cmp terms) whe
 
   -- the spots of a run's first number settle which positions it covers
   pub run_spots : (field : FieldValue) (numbers : List (Option ℕ)) (spots found : List Spot) (run : List ℕ) (x k : ℕ) → 0 < length run → x ≡ get_or run 0 x → numbers ≡ map (number_of terms) (field_keys field)
-      → IsPermutation (spots_from 0 numbers) spots → found ≡ filter (is_of x) spots → list_any (covers_at run numbers k) found ≡ is_covered field (map (term_at terms) run) k
+      → HaveSame spots (spots_from 0 numbers) → found ≡ filter (is_of x) spots → list_any (covers_at run numbers k) found ≡ is_covered field (map (term_at terms) run) k
   run_spots field numbers spots found [] x k some is are same kept = absurd (omega arith)
   run_spots field numbers spots found (n ∷ run) x k some is are same kept =
       let all = numbers_of field.0 field.1 in
       ap (list_any (covers_at (n ∷ run) numbers k)) (kept ∙ ap (λ m. filter (is_of m) spots) is)
       ∙ any_filter (is_of n) (covers_at (n ∷ run) numbers k) spots
-      ∙ sym (list_any-IsPermutation (λ (s : Spot). is_of n s && covers_at (n ∷ run) numbers k s) (spots_from 0 numbers) spots same)
+      ∙ same (λ (s : Spot). is_of n s && covers_at (n ∷ run) numbers k s)
       ∙ ap (λ os. list_any (λ (s : Spot). is_of n s && covers_at (n ∷ run) os k s) (spots_from 0 os)) are
       ∙ run_from field.0 all n run k 0 field.1 refl
       ∙ (λ i. list_any (λ (p : List ℕ × ℕ). run_at field (n ∷ run) k p.1 i) (numbered 0 field.1))

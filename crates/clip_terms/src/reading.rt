@@ -55,7 +55,7 @@ fn marks_of(alloc: Global, numbers: &[u32], bound: usize) -> Result<Marks, NoMem
 }
 
 /// The number of the key at a place, if there is one.
-fn number_at(by_key: &[Option<u32>], place: usize) -> Option<u32>
+pub(crate) fn number_at(by_key: &[Option<u32>], place: usize) -> Option<u32>
     ensures { result ≡ number_at by_key.now place }
 {
     match by_key.get(place) {
@@ -169,8 +169,8 @@ impl<'a> Reading<'a> {
 
     /// For each field, in the byte order of their names, where its words stand, by the numbers of their terms.
     ///
-    /// `NoMemory` where an allocation failed. Cost: a step for each word of the article, and for each field n log n
-    /// comparisons of the n of its words that are terms.
+    /// `NoMemory` where an allocation failed. Cost: a step for each word of the article; nothing is sorted anew, since
+    /// the numbers of a field's words rise with the words, and an article has these in order.
     pub fn spots(&self, alloc: Global) -> Result<Vec<FieldSpots<'_>>, NoMemory>
         ensures { IfOk result (λ spots. spots.items
             ≡ map (spots_among self.now.terms) (finite.entries self.now.article.fields)) }

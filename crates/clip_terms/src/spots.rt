@@ -1,16 +1,16 @@
 //! Where the words of a field stand, by the numbers of their terms.
-ghost use Rattle.std.specs.Prelude.{◌≡◌, ◌++◌, IfOk, OnOk, IsPermutation, map, filter, length, drop, nat_eq, nat_lt, nat_le};
+ghost use Rattle.std.specs.Prelude.{◌≡◌, ◌++◌, IfOk, OnOk, map, flat_map, filter, length, drop, nat_eq, nat_lt, nat_le};
 ghost use Rattle.std.specs.List.{list_any};
 ghost use Rattle.std.specs.List.Sorted.{IsNonDecreasingBy};
 ghost use Rattle.clip_meaning.specs.Steps.Marks.{AreRaised};
 ghost use Rattle.clip_extract.specs.Covering.{field_keys};
 ghost use Rattle.clip_terms.specs.Spots.{is_at, is_covered, spots_among};
 ghost use Rattle.clip_terms.specs.Terms.{number_of, term_at};
-ghost use Rattle.clip_terms.specs.Steps.Spots.{spot_at, spots_from, is_of, covers_at};
+ghost use Rattle.clip_terms.specs.Steps.Spots.{HaveSame, spot_at, spot_of, spots_from, is_of, covers_at};
 
-use crate::reading::starts_with;
+use crate::reading::{number_at, starts_with};
 use crate::terms::Terms;
-use clip_meaning::{Field, mark_place, mark_run};
+use clip_meaning::{Field, Posting, mark_place, mark_run};
 use clip_words::NoMemory;
 use std::alloc::Global;
 use std::marker::Model;
@@ -55,23 +55,34 @@ fn add_spot(number: Option<u32>, position: usize, spots: &mut Vec<Spot>) -> Resu
     Ok(())
 }
 
-/// The spots of all positions, in order.
-fn spots_in(alloc: Global, numbers: &[Option<u32>]) -> Result<Vec<Spot>, NoMemory>
-    ensures { IfOk result (λ spots. spots.items ≡ spots_from 0 numbers.now) }
+/// The spots of postings, in their order, where `numbers` are those of the words at all positions.
+fn spots_in(
+    alloc: Global,
+    postings: &[Posting],
+    numbers: &[Option<u32>],
+) -> Result<Vec<Spot>, NoMemory>
+    ensures { IfOk result (λ spots. spots.items ≡ flat_map (spot_of numbers.now) postings.now) }
 {
     let mut spots = Vec::with_capacity(alloc, numbers.len())?;
-    for position in 0..numbers.len() {
-        add_spot(numbers[position], position, &mut spots)?;
+    for posting in postings {
+        let position = posting.position();
+        add_spot(number_at(numbers, position), position, &mut spots)?;
     }
     Ok(spots)
 }
 
-/// The spots of all positions, by their numbers.
-fn sorted_spots(alloc: Global, numbers: &[Option<u32>]) -> Result<Vec<Spot>, NoMemory>
-    ensures all { IfOk result (λ spots. IsPermutation (spots_from 0 numbers.now) spots.items) }
+/// The spots of all positions of a field, by their numbers. Those of its postings are so already, so the sort only goes
+/// over them.
+fn sorted_spots(
+    alloc: Global,
+    field: &Field,
+    numbers: &[Option<u32>],
+) -> Result<Vec<Spot>, NoMemory>
+    requires { length numbers.now ≡ length field.now.1 }
+    ensures all { IfOk result (λ spots. HaveSame spots.items (spots_from 0 numbers.now)) }
     ensures rise { IfOk result (λ spots. IsNonDecreasingBy (λ spot. spot.number) spots.items) }
 {
-    let mut spots = spots_in(alloc, numbers)?;
+    let mut spots = spots_in(alloc, field.postings(), numbers)?;
     spots.sort_unstable_by_key(
         |spot: &Spot| -> u32
             ensures { result ≡ spot.now.number }
@@ -149,7 +160,7 @@ impl<'a> FieldSpots<'a> {
             terms,
             field,
             numbers,
-            spots: sorted_spots(alloc, numbers)?,
+            spots: sorted_spots(alloc, field, numbers)?,
         })
     }
 

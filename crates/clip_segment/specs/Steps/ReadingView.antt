@@ -25,4 +25,4 @@ pub record IsOfItsIndex (r : Inside) : Type 0 where
   pub index : IsIndexOf (trees_of r.segment.now) (index_asked r)
   pub seconds : (position : ℕ) → position < length r.segment.now
       → slice_index_or r.seconds position false ≡ list_any (nat_eq position)
-          (query_positions_sharing second_keys (article_keys r.reading.article.fields) (trees_of r.segment.now))
+      (query_positions_sharing second_keys (article_keys r.reading.article.fields) (trees_of r.segment.now))

@@ -1,6 +1,7 @@
-use Rattle.std.proofs.Common.{◌≡◌, ◌∙◌, ◌||◌, ◌<◌, ℕ, [], List, ap, sym, arith, false, get_or, length, map, replicate}
+use Rattle.std.proofs.Common.{◌≡◌, ◌∙◌, ◌||◌, ◌++◌, ◌-◌, ◌<◌, ℕ, [], List, ap, sym, arith, false, get_or, length, map, replicate, take}
 use Rattle.std.specs.Prelude.{unwrap_or, slice_get}
 use Rattle.std.specs.Arc.{arc_str_bytes}
+use Rattle.std.proofs.Math.Seq.{take-nil}
 use Rattle.std.proofs.lemmas.List.{get_or-replicate, length-map, length-replicate}
 use Rattle.clip_grammar.specs.Tree.{Tree}
 use Rattle.clip_meaning.specs.Hits.{hit_value, hits_in, is_named}
@@ -16,9 +17,14 @@ returns c =
     let field = c.args.spots.now.field in
     let count = length c.words.result.now in
     let words : count ≡ length field.1 = sym (length-map c.words.result.now arc_str_bytes) ∙ ap length c.words.ensures ∙ ap (λ (f : List ℕ × List (List ℕ)). length f.1) c.field-field.ensures in
-    let start : c.in_ok-flags.flags.items ≡ replicate count 0 = c.in_ok-flags.ensures.items_if_clones_equal (λ y e. e) in
-    let started : length c.in_ok-flags.flags.items ≡ count = ap length start ∙ length-replicate count 0 in
-    let down : (k : ℕ) → k < count → is_up (get_or c.in_ok-flags.flags.items k 0) ≡ false = λ k lt. ap (λ xs. is_up (get_or xs k 0)) start ∙ ap is_up (get_or-replicate count k 0 0 lt) in
+    let none : count - 0 ≡ count = omega arith in
+    let start : c.resize.new.self.items ≡ replicate count 0 =
+    c.in_ok-resize.ensures.items
+    ∙ (λ i. take count (c.clear.ensures.items i) ++ replicate (count - c.clear.ensures.len i) 0)
+    ∙ ap (λ (xs : List ℕ). xs ++ replicate (count - 0) 0) (take-nil count)
+    ∙ ap (λ m. replicate m 0) none in
+    let started : length c.resize.new.self.items ≡ count = ap length start ∙ length-replicate count 0 in
+    let down : (k : ℕ) → k < count → is_up (get_or c.resize.new.self.items k 0) ≡ false = λ k lt. ap (λ xs. is_up (get_or xs k 0)) start ∙ ap is_up (get_or-replicate count k 0 0 lt) in
     let long : length c.mark_hits.new.flags.items ≡ length field.1 = c.mark_hits.ensures.long ∙ started ∙ words in
     let up : (tree : Tree) → decoded c.args.spots.now.terms (unwrap_or (slice_get c.args.plans.now c.args.place) []) ≡ plan_of tree → (k : ℕ) → k < length field.1 → is_up (get_or c.mark_hits.new.flags.items k 0) ≡ is_named tree field.0 field.1 (get_or field.1 k [], k) =
     λ tree plan k lt.

@@ -1,10 +1,6 @@
-use Rattle.std.proofs.Common.{◌≡◌, ◌≤◌, ◌++◌, length, drop}
-use Rattle.clip_terms.specs.Steps.Spots.{spots_from}
+use Rattle.std.proofs.Common.{◌≡◌, flat_map, take}
+use Rattle.clip_terms.specs.Steps.Spots.{spot_of}
 use Rattle.clip_terms.proofs.spots.spots_in.Given as goal
 
--- the spots so far and those of the positions that are left are all
-abbrev pub invariant-loop-position : goal.invariant-loop-position
-invariant-loop-position l = record {
-  inside : l.position ≤ length l.numbers;
-  all : l.spots.items ++ spots_from l.position (drop l.position l.numbers) ≡ spots_from 0 l.numbers;
-}
+abbrev pub invariant-loop-posting : goal.invariant-loop-posting
+invariant-loop-posting l = l.spots.items ≡ flat_map (spot_of l.numbers) (take l.posting-index l.postings)

@@ -5,7 +5,8 @@ use denote.Param.Sent.{Sends}
 use Rattle.std.proofs.alloc.Global.TheSendSync as global_sent
 use Rattle.std.below.std_heap.proofs.GlobalAllocator.TheSendSync as allocator_sent
 use Rattle.std.proofs.vec.Vec.TheSendSync as vec_sent
-use Rattle.clip_listen.proofs.Sent.{alert_send, style_render_send, style_folder_send}
+use Rattle.clip_standing.proofs.Sent.{alert_send}
+use Rattle.clip_listen.proofs.Sent.{style_render_send, style_folder_send}
 use Rattle.embedding.specs.contracts.desk.Desk as desk
 use Rattle.embedding.proofs.open.OwnLists as own
 
