@@ -24,7 +24,12 @@ fn sort_by_id(held: &mut Vec<Held>)
     held.sort_unstable_by(
         |a: &Held, b: &Held| -> Ordering
             ensures { result ≡ bytes_cmp a.now.registered.now.standing.id b.now.registered.now.standing.id }
-        { a.registered.standing().id().cmp(b.registered.standing().id()) },
+        {
+            a.registered
+                .standing()
+                .id()
+                .cmp(b.registered.standing().id())
+        },
     );
 }
 
