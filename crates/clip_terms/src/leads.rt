@@ -123,7 +123,7 @@ impl<'a> Sought<'a> {
     }
 
     /// Compares the text of a key, of this lead and this short length, with the text. Looks at them only where the
-    /// leads are the same and the texts are longer than these.
+    /// leads are the same and the lengths don't settle it.
     pub(crate) fn order(&self, key: &Key, lead: u64, length: u8) -> Ordering
         requires lead { IsLead (text_of (key_of key.now)) lead }
         requires length { IsShortLength (text_of (key_of key.now)) length }
