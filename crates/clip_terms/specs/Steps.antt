@@ -9,4 +9,5 @@ pub mod Parts
 pub mod Places
 pub mod Reading
 pub mod Runs
+pub mod Sought
 pub mod Spots

@@ -1,5 +1,6 @@
 //! Keys by rank, field and text, and the leads and lengths of their texts.
 ghost use Rattle.std.specs.Prelude.{◌≡◌, IfOk, map};
+ghost use Rattle.std.specs.Arc.{arc_str_bytes};
 ghost use Rattle.clip_words.specs.Order.{bytes_cmp};
 ghost use Rattle.clip_meaning.specs.Leads.{IsLead};
 ghost use Rattle.clip_extract.specs.Keys.{key_of, text_of};
@@ -11,6 +12,7 @@ use clip_words::NoMemory;
 use std::alloc::Global;
 use std::cmp::Ordering;
 use std::marker::Model;
+use std::sync::ArcStr;
 
 /// Compares a key with those of a rank and a field.
 pub(crate) fn heading_order(key: &Key, rank: u8, field: &str) -> Ordering
@@ -48,10 +50,19 @@ pub(crate) fn lengths_of(alloc: Global, keys: &[Key]) -> Result<Vec<u8>, NoMemor
     Ok(lengths)
 }
 
+/// A text, or a word whose text is not looked at before it has to be.
+#[derive(Drop)]
+pub(crate) enum SoughtText<'a> {
+    /// A text.
+    Text(&'a str),
+    /// A word.
+    Word(&'a ArcStr),
+}
+
 /// A text that is looked for among keys, with its lead and its short length. Contracts see the text.
 #[derive(Drop)]
 pub(crate) struct Sought<'a> {
-    text: &'a str,
+    text: SoughtText<'a>,
     lead: u64,
     length: u8,
 }
@@ -60,12 +71,13 @@ impl<'a> Model for Sought<'a> {
     ghost use Rattle.std.specs.Prelude.{ℕ, List};
     ghost use Rattle.clip_meaning.specs.Leads.{IsLead};
     ghost use Rattle.clip_terms.specs.Steps.Leads.{IsShortLength};
+    ghost use Rattle.clip_terms.specs.Steps.Sought.{text_sought};
 
     ghost Value = { List ℕ };
 
-    ghost view = { λ s. s.text.now };
+    ghost view = { λ s. text_sought s.text };
 
-    ghost invariant = { λ s. IsLead s.text.now s.lead × IsShortLength s.text.now s.length };
+    ghost invariant = { λ s. IsLead (text_sought s.text) s.lead × IsShortLength (text_sought s.text) s.length };
 }
 
 impl<'a> Sought<'a> {
@@ -73,16 +85,34 @@ impl<'a> Sought<'a> {
     pub(crate) fn of(text: &'a str) -> Sought<'a>
         ensures { result ≡ text.now }
     {
-        Sought::with(text, lead_of(text), short_length(text))
+        Sought {
+            text: SoughtText::Text(text),
+            lead: lead_of(text),
+            length: short_length(text),
+        }
     }
 
-    /// Looks for a text of this lead and this short length, and does not look at it.
-    pub(crate) fn with(text: &'a str, lead: u64, length: u8) -> Sought<'a>
-        requires lead { IsLead text.now lead }
-        requires length { IsShortLength text.now length }
-        ensures { result ≡ text.now }
+    /// Looks for a word of this lead and this short length, and does not look at its text.
+    pub(crate) fn with(word: &'a ArcStr, lead: u64, length: u8) -> Sought<'a>
+        requires lead { IsLead (arc_str_bytes word.now) lead }
+        requires length { IsShortLength (arc_str_bytes word.now) length }
+        ensures { result ≡ arc_str_bytes word.now }
     {
-        Sought { text, lead, length }
+        Sought {
+            text: SoughtText::Word(word),
+            lead,
+            length,
+        }
+    }
+
+    /// The text.
+    fn text(&self) -> &str
+        ensures { result.now ≡ self.now }
+    {
+        match &self.text {
+            SoughtText::Text(text) => text,
+            SoughtText::Word(word) => word.as_str(),
+        }
     }
 
     /// The text's lead.
@@ -93,7 +123,7 @@ impl<'a> Sought<'a> {
     }
 
     /// Compares the text of a key, of this lead and this short length, with the text. Looks at them only where the
-    /// leads are the same and the texts are longer than these.
+    /// leads are the same and the lengths don't settle it.
     pub(crate) fn order(&self, key: &Key, lead: u64, length: u8) -> Ordering
         requires lead { IsLead (text_of (key_of key.now)) lead }
         requires length { IsShortLength (text_of (key_of key.now)) length }
@@ -105,6 +135,6 @@ impl<'a> Sought<'a> {
         if length == self.length && length <= 8 {
             return Ordering::Equal;
         }
-        compare_by_leads(key.text(), lead, self.text, self.lead)
+        compare_by_leads(key.text(), lead, self.text(), self.lead)
     }
 }

@@ -1,5 +1,6 @@
 //! The numbers of an article's keys.
-ghost use Rattle.std.specs.Prelude.{◌≡◌, ◌++◌, [], ◌<◌, IfOk, OnOk, length, map, slice_index, flat_map, option_map, option_to_list};
+ghost use Rattle.std.specs.Prelude.{◌≡◌, ◌++◌, [], ◌<◌, IfOk, OnOk, length, map, slice_index, flat_map};
+ghost use Rattle.std.specs.Prelude.{option_map, option_to_list};
 ghost use Rattle.clip_extract.specs.Keys.{Front, key_of, text_of};
 ghost use Rattle.clip_extract.specs.Fronts.{fronts};
 ghost use Rattle.clip_extract.specs.Covering.{front_keys};
@@ -20,7 +21,8 @@ use clip_words::NoMemory;
 use std::alloc::Global;
 
 /// The number of a key, none of a key that is no term. The first of these leads is that of the key's text, whose short
-/// length this is, and the others are likely those of the keys after it. The terms of a field become those of its field.
+/// length this is, and the others are likely those of the keys after it. The terms of a field become those of its
+/// field.
 fn key_number<'a>(
     terms: &'a Terms,
     of_field: &mut FieldTerms<'a>,
@@ -86,7 +88,7 @@ fn add_known(number: Option<u32>, numbers: &mut Vec<u32>) -> Result<(), NoMemory
 pub(crate) fn known_numbers(alloc: Global, by_key: &[Option<u32>]) -> Result<Vec<u32>, NoMemory>
     ensures { IfOk result (λ numbers. numbers.items ≡ known by_key.now) }
 {
-    let mut numbers = Vec::new(alloc);
+    let mut numbers = Vec::with_capacity(alloc, by_key.len())?;
     for number in by_key {
         add_known(*number, &mut numbers)?;
     }

@@ -8,8 +8,8 @@ use Rattle.clip_terms.specs.Terms.{term_at}
 use Rattle.clip_terms.specs.Steps.Leads.{AreLeads, AreShortLengths}
 use Rattle.clip_terms.specs.declared.asking.Asking.TheInside.{Inside}
 
--- The keys are the article's but for the fronts, in order, with their leads and short lengths, and the places of each field name the keys of its words, in
--- the order of its text.
+-- The keys are the article's but for the fronts, in order, with their leads and short lengths, and the places of each
+-- field name the keys of its words, in the order of its text.
 pub record IsAsking (asking : Inside) : Type 0 where
   pub keys : map key_of asking.keys.items ≡ word_part_keys asking.article.now.fields
   pub leads : AreLeads (map key_of asking.keys.items) asking.leads.items
