@@ -166,7 +166,7 @@ fn add_kept(
         → AreMadeOf terms.now before lists.old plans.old
         → AreMadeOf terms.now (before ++ flagged kept.now trees) lists.new plans.new) }
 {
-    let numbers = terms.numbers(alloc, index.terms.keys())?;
+    let numbers = terms.numbers(alloc, &index.terms)?;
     let moves = new_positions(alloc, kept, plans.len() as u32)?;
     add_lists(&index.positions, &numbers, &moves, &mut lists.positions)?;
     add_lists(&index.seconds, &numbers, &moves, &mut lists.seconds)?;

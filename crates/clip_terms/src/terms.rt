@@ -139,16 +139,14 @@ impl Terms {
         ranges_of(&self.keys, &self.parts, field)
     }
 
-    /// The numbers of keys, in their order; none of a key that is no term.
+    /// The numbers of other terms, in their order; none of one that is no term here.
     ///
-    /// `NoMemory` where an allocation failed. Cost: a search by halves for each key, by the first bytes of its text;
-    /// keys of one field are best side by side.
-    pub fn numbers(&self, alloc: Global, keys: &[Key]) -> Result<Vec<Option<u32>>, NoMemory>
-        ensures { IfOk result (λ numbers. numbers.items ≡ map (number_of self.now) (map key_of keys.now)) }
+    /// `NoMemory` where an allocation failed. Cost: a search by halves for each of them, by the first bytes of its text,
+    /// which is known; a text is looked at where it is longer than these.
+    pub fn numbers(&self, alloc: Global, others: &Terms) -> Result<Vec<Option<u32>>, NoMemory>
+        ensures { IfOk result (λ numbers. numbers.items ≡ map (number_of self.now) others.now) }
     {
-        let leads = leads_of(alloc, keys)?;
-        let lengths = lengths_of(alloc, keys)?;
-        key_numbers(alloc, self, keys, &leads, &lengths)
+        key_numbers(alloc, self, others.keys(), others.leads(), others.lengths())
     }
 
     /// That the terms are in order, each once, for proofs. Takes no memory. Constant time.

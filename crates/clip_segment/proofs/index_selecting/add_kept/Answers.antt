@@ -2,8 +2,6 @@ use Rattle.std.proofs.Common.{◌<◌, ℕ, List, [], Option, map, length, sym, 
 use Rattle.std.specs.Prelude.{IfSome}
 use Rattle.std.specs.List.{All}
 use Rattle.std.proofs.lemmas.Result.{on_ok_weaker}
-use Rattle.clip_extract.specs.Keys.{key_of}
-use Rattle.clip_terms.specs.Terms.{number_of}
 use Rattle.clip_segment.specs.Index.{IsIndexOf}
 use Rattle.clip_segment.specs.Steps.IndexView.{index_of}
 use Rattle.clip_segment.specs.declared.term_lists.TermLists.{TermLists}
@@ -13,12 +11,12 @@ use Rattle.clip_segment.proofs.index_selecting.add_kept.Goals as goal
 pub add_lists-requires : goal.add_lists-requires
 add_lists-requires c =
     subst (λ (numbers : List (Option ℕ)). All (λ o. IfSome o (λ n. n < length c.args.lists.now.positions.items)) numbers) (sym (c.deref.ensures.value ∙ c.in_ok-numbers.ensures))
-    (all_within c.args.terms.now (map key_of c.keys.result.now) (length c.args.lists.now.positions.items) (sym c.requires.long.positions))
+    (all_within c.args.terms.now c.index.inside.terms (length c.args.lists.now.positions.items) (sym c.requires.long.positions))
 
 pub add_lists-requires-2 : goal.add_lists-requires-2
 add_lists-requires-2 c =
     subst (λ (numbers : List (Option ℕ)). All (λ o. IfSome o (λ n. n < length c.args.lists.now.seconds.items)) numbers) (sym (c.deref-3.ensures.value ∙ c.in_ok-numbers.ensures))
-    (all_within c.args.terms.now (map key_of c.keys.result.now) (length c.args.lists.now.seconds.items) (sym c.requires.long.seconds))
+    (all_within c.args.terms.now c.index.inside.terms (length c.args.lists.now.seconds.items) (sym c.requires.long.seconds))
 
 pub returns-clause-few : goal.returns-clause-few
 returns-clause-few c =
@@ -34,7 +32,7 @@ returns-clause-made c =
     on_ok_weaker c.add_plans.result (λ added before trees is long among made.
     kept_made trees before index c.args.terms.now c.args.kept.now c.len.result numbers moves old new c.args.plans.now c.add_plans.new.plans
     (subst (IsIndexOf trees) (sym c.index.view_is) is) c.requires.rising long among c.len.ensures
-    (c.in_ok-numbers.ensures ∙ ap (map (number_of c.args.terms.now)) c.keys.ensures.terms) c.in_ok-moves.ensures
+    c.in_ok-numbers.ensures c.in_ok-moves.ensures
     (lists_added c.deref.result.now numbers c.deref-2.result.now moves index.positions _ _ c.deref.ensures.value c.deref-2.ensures.value c.in_ok-add_lists.ensures.added)
     (lists_added c.deref-3.result.now numbers c.deref-4.result.now moves index.seconds _ _ c.deref-3.ensures.value c.deref-4.ensures.value c.in_ok-add_lists-2.ensures.added)
     (subst (λ (ns : List (Option ℕ)). PlansAdded ns c.args.kept.now index.plans c.args.plans.now c.add_plans.new.plans) c.deref-5.ensures.value added)
