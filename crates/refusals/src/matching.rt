@@ -1,6 +1,6 @@
 //! Three queries and three articles.
 use crate::telling::{answered, call, refused};
-use clip_match::{OpenGate, match_article, match_pieces};
+use clip_match::{HitsFound, OpenGate, match_article, match_article_finding, match_pieces};
 use clip_meaning::Article;
 use clip_registry::{Registrar, View};
 use clip_samples::article;
@@ -14,6 +14,15 @@ use std::thread::Threads;
 fn of_match_article<R: Print + AllocGlobal>(rt: &R, view: &View, article: &Article) -> bool {
     call(rt, "match_article");
     match match_article(rt.alloc(), view, article) {
+        Ok(found) => answered(rt, found.alerts.len() as u64),
+        Err(NoMemory) => refused(rt),
+    }
+}
+
+/// The alerts of an article with their hits.
+fn of_finding_hits<R: Print + AllocGlobal>(rt: &R, view: &View, article: &Article) -> bool {
+    call(rt, "match_article_finding");
+    match match_article_finding(rt.alloc(), view, article, HitsFound::AtOnce) {
         Ok(found) => answered(rt, found.alerts.len() as u64),
         Err(NoMemory) => refused(rt),
     }
@@ -91,6 +100,7 @@ pub fn play<R: Print + Threads + Sync + AllocGlobal>(rt: &R) -> Option<()> {
     let articles = three_articles(rt.alloc())?;
     for article in &articles {
         let _ = of_match_article(rt, &view, article) || of_match_article(rt, &view, article);
+        let _ = of_finding_hits(rt, &view, article) || of_finding_hits(rt, &view, article);
     }
     let _ = of_match_pieces(rt, &view, &articles) || of_match_pieces(rt, &view, &articles);
     Some(())
