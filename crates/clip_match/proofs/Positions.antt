@@ -1,5 +1,5 @@
 -- The positions of entries that share a key.
-use Rattle.std.proofs.Common.{◌≡◌, ℕ, suc, ◌+◌, ◌<◌, Bool, true, false, cond, ◌&&◌, List, [], ◌∷◌, ◌++◌, map, length, get_or, filter, flat_map, take, Option, Some, None, unwrap_or, option_map, option_to_list, refl, sym, ap, ◌∙◌, subst, arith}
+use Rattle.std.proofs.Common.{◌≡◌, ℕ, suc, ◌+◌, ◌<◌, Bool, true, false, cond, ◌&&◌, List, [], ◌∷◌, ◌++◌, map, length, get_or, filter, take, Option, Some, None, unwrap_or, option_map, option_to_list, refl, sym, ap, ◌∙◌, subst, arith}
 use Rattle.std.specs.List.{enumerate_from, slice_get, All}
 use Rattle.std.proofs.lemmas.Option.{none-some}
 use Rattle.std.proofs.lemmas.List.{length-append, append_assoc, append-nil, length-map, get_or-map, take_more, map-append, flat_map_more}
@@ -139,6 +139,27 @@ live_entries h ks es =
 -- one position more
 pub entries_more : (es : List Registered) (positions : List ℕ) (p : ℕ) → entries_at es (positions ++ p ∷ []) ≡ entries_at es positions ++ option_to_list (slice_get es p)
 entries_more es positions p = sym (flat_map_more (λ (n : ℕ). option_to_list (slice_get es n)) [] positions p)
+
+-- the same of those that pass a test, where `b` says whether the entry at the position does
+pub kept_more : (p : Registered → Bool) (es : List Registered) (positions kept : List ℕ) (i x : ℕ) (b : Bool) → i < length positions → x ≡ get_or positions i x
+    → ((e : Registered) → slice_get es x ≡ Some e → b ≡ p e) → entries_at es kept ≡ filter p (entries_at es (take i positions))
+    → entries_at es (cond b (kept ++ x ∷ []) kept) ≡ filter p (entries_at es (take (i + 1) positions))
+kept_more p es positions kept i x b lt is says before =
+    by_entry (slice_get es x) b refl says
+    ∙ ap (λ xs. xs ++ filter p (option_to_list (slice_get es x))) before
+    ∙ sym (filter-append p (entries_at es (take i positions)) (option_to_list (slice_get es x)))
+    ∙ ap (filter p) (sym (entries_more es (take i positions) x))
+    ∙ ap (λ ps. filter p (entries_at es ps)) (sym (take_more positions i x lt ∙ ap (λ q. take i positions ++ q ∷ []) (sym is)))
+  where
+    by_entry : (o : Option Registered) (b : Bool) → slice_get es x ≡ o → ((e : Registered) → o ≡ Some e → b ≡ p e)
+        → entries_at es (cond b (kept ++ x ∷ []) kept) ≡ entries_at es kept ++ filter p (option_to_list o)
+    by_entry None true there says = entries_more es kept x ∙ ap (λ o. entries_at es kept ++ option_to_list o) there
+    by_entry None false there says = sym (append-nil (entries_at es kept))
+    by_entry (Some e) true there says =
+        entries_more es kept x ∙ ap (λ o. entries_at es kept ++ option_to_list o) there
+        ∙ ap (λ c. entries_at es kept ++ cond c (e ∷ []) []) (says e refl)
+    by_entry (Some e) false there says =
+        sym (append-nil (entries_at es kept)) ∙ ap (λ c. entries_at es kept ++ cond c (e ∷ []) []) (says e refl)
 
 pub live_more_at : (h : History) (es : List Registered) (positions : List ℕ) (i p : ℕ) → i < length positions → p ≡ get_or positions i p
     → live_among h es (take (i + 1) positions) ≡ live_among h es (take i positions) ++ cond (unwrap_or (option_map (λ (r : Registered). is_live h r.seq) (slice_get es p)) false) (p ∷ []) []

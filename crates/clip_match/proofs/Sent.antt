@@ -3,18 +3,12 @@ use denote.Param.Send.{IsSend, sendable}
 use denote.Param.SendFields.{declared_send}
 use Rattle.std.proofs.alloc.Global.TheSendSync as global_sent
 use Rattle.std.below.std_heap.proofs.GlobalAllocator.TheSendSync as allocator_sent
-use Rattle.std.proofs.sync.Arc.TheSendSync as arc_sent
 use Rattle.std.proofs.sync.ArcStr.TheSendSync as arc_str_sent
 use Rattle.std.proofs.vec.Vec.TheSendSync as vec_sent
-use Rattle.clip_meaning.proofs.article.Article.TheSendSync as article_sent
-use Rattle.clip_standing.proofs.Sent.{standing_send, standing_sync}
-use Rattle.clip_standing.specs.contracts.alert.Alert as alert
+use Rattle.clip_standing.proofs.Sent.{alert_send}
 use Rattle.clip_standing.specs.contracts.alert.Alerts as alerts
 
 ruleset global = (sendable, global_sent.the_send, global_sent.the_sync, allocator_sent.the_frees)
-
-alert_send : IsSend alert.the_row
-alert_send = declared_send alert.the_type (search (global, arc_sent.the_send, standing_send, standing_sync), (search (global, article_sent.the_send), tt))
 
 pub alerts_send : IsSend alerts.the_row
 alerts_send = declared_send alerts.the_type (search (global, arc_str_sent.the_send), (search global, (search global, (search (global, vec_sent.the_send, alert_send), tt))))

@@ -1,2 +1,3 @@
 -- Stepping stones of the proofs.
+pub mod Held
 pub mod Positions

@@ -5,11 +5,13 @@
 ghost use Rattle.std.specs.Prelude.{◌≡◌};
 
 mod gate;
+mod held;
 mod matching;
 mod pieces;
 mod trying;
 
 pub use gate::{Gate, OpenGate};
-pub use matching::{match_article, match_batch};
-pub use pieces::{match_piece, match_pieces};
+pub use held::HitsFound;
+pub use matching::{match_article, match_article_finding, match_batch, match_batch_finding};
+pub use pieces::{match_piece, match_piece_finding, match_pieces, match_pieces_finding};
 pub use trying::{Tried, holding};

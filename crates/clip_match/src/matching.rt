@@ -1,38 +1,49 @@
 //! The alerts of an article, and of a batch of articles.
-ghost use Rattle.std.specs.Prelude.{◌≡◌, map, IfOk, IsPermutation};
+ghost use Rattle.std.specs.Prelude.{◌≡◌, true, map, is_some, IfOk, IsPermutation};
+ghost use Rattle.std.specs.List.{All};
 ghost use Rattle.std.specs.List.Sorted.{IsSortedByKey};
 ghost use Rattle.clip_words.specs.Order.{bytes_cmp};
-ghost use Rattle.clip_standing.specs.Alerts.{alert_value, alerts_value};
-ghost use Rattle.clip_match.specs.Alerts.{alert_due, alerts_due};
+ghost use Rattle.clip_standing.specs.Alerts.{alert_value, alerts_value, has_hits};
+ghost use Rattle.clip_match.specs.Alerts.{HaveHits, alert_due, alerts_due};
+ghost use Rattle.clip_match.specs.Steps.Held.{AreItsHits};
 
-use crate::trying::holding;
+use crate::held::{Held, HitsFound, alert_of};
+use crate::trying::judge_candidates;
 use clip_meaning::Article;
 use clip_registry::View;
-use clip_standing::{Alert, Alerts, Entry};
+use clip_standing::{Alert, Alerts};
 use clip_words::NoMemory;
 use std::alloc::Global;
 use std::cmp::Ordering;
 
 /// Sorts entries by the ids of their queries.
-fn sort_by_id(entries: &mut Vec<&Entry>)
-    ensures moved { IsPermutation (map (λ e. e.now) entries.old.items) (map (λ e. e.now) entries.new.items) }
-    ensures sorted { IsSortedByKey (λ r. r.standing.id) bytes_cmp (map (λ e. e.now) entries.new.items) }
+fn sort_by_id(held: &mut Vec<Held>)
+    ensures moved { IsPermutation held.old.items held.new.items }
+    ensures sorted { IsSortedByKey (λ r. r.standing.id) bytes_cmp (map (λ h. h.registered.now) held.new.items) }
 {
-    entries.sort_unstable_by(
-        |a: &&Entry, b: &&Entry| -> Ordering
-            ensures { result ≡ bytes_cmp a.now.now.standing.id b.now.now.standing.id }
-        { a.standing().id().cmp(b.standing().id()) },
+    held.sort_unstable_by(
+        |a: &Held, b: &Held| -> Ordering
+            ensures { result ≡ bytes_cmp a.now.registered.now.standing.id b.now.registered.now.standing.id }
+        {
+            a.registered
+                .standing()
+                .id()
+                .cmp(b.registered.standing().id())
+        },
     );
 }
 
-/// The alerts of queries that hold of the article, in their order.
-fn alerts(alloc: Global, entries: &[&Entry], article: &Article) -> Result<Vec<Alert>, NoMemory>
-    ensures { IfOk result (λ alerts. map alert_value alerts.items
-        ≡ map (alert_due article.now) (map (λ e. e.now) entries.now)) }
+/// The alerts of queries that hold of the article, in their order, with their hits where these were found.
+fn alerts(alloc: Global, held: Vec<Held<'_>>, article: &Article) -> Result<Vec<Alert>, NoMemory>
+    requires { All (AreItsHits article.now) held.items }
+    ensures value { IfOk result (λ alerts. map alert_value alerts.items
+        ≡ map (alert_due article.now) (map (λ h. h.registered.now) held.entry.items)) }
+    ensures found { IfOk result (λ alerts. All (λ h. is_some h.hits ≡ true) held.entry.items
+        → All (λ alert. has_hits alert ≡ true) alerts.items) }
 {
-    let mut alerts = Vec::new(alloc);
-    for entry in entries {
-        alerts.push(Alert::of(entry.standing(), article)?)?;
+    let mut alerts = Vec::with_capacity(alloc, held.len())?;
+    for one in held {
+        alerts.push(alert_of(one, article)?)?;
     }
     Ok(alerts)
 }
@@ -48,13 +59,30 @@ fn alerts(alloc: Global, entries: &[&Entry], article: &Article) -> Result<Vec<Al
 pub fn match_article(alloc: Global, view: &View, article: &Article) -> Result<Alerts, NoMemory>
     ensures { IfOk result (λ found. alerts_value found ≡ alerts_due view.now article.now) }
 {
-    let mut found = holding(alloc, view, article)?;
-    sort_by_id(&mut found.entries);
+    match_article_finding(alloc, view, article, HitsFound::WhenAsked)
+}
+
+/// As `match_article`; where the hits are found at once, each alert carries its own.
+///
+/// `NoMemory` where an allocation failed, or, where hits are found at once, where the count of a field's name is at its
+/// end. Cost: that of `match_article`; where hits are found at once, in each segment of which a query holds that of
+/// `SegmentReading::spots`, and for each query that holds that of `SegmentSpots::hits`.
+pub fn match_article_finding(
+    alloc: Global,
+    view: &View,
+    article: &Article,
+    hits: HitsFound,
+) -> Result<Alerts, NoMemory>
+    ensures due { IfOk result (λ found. alerts_value found ≡ alerts_due view.now article.now) }
+    ensures hits { IfOk result (λ found. HaveHits hits found) }
+{
+    let mut found = judge_candidates(alloc, view, article, hits)?;
+    sort_by_id(&mut found.held);
     Ok(Alerts {
         article: article.shared_id().clone()?,
         place: view.place(),
         asked: found.asked,
-        alerts: alerts(alloc, &found.entries, article)?,
+        alerts: alerts(alloc, found.held, article)?,
     })
 }
 
@@ -68,9 +96,24 @@ pub fn match_batch(
 ) -> Result<Vec<Alerts>, NoMemory>
     ensures { IfOk result (λ found. map alerts_value found.items ≡ map (alerts_due view.now) articles.now) }
 {
+    match_batch_finding(alloc, view, articles, HitsFound::WhenAsked)
+}
+
+/// As `match_batch`; where the hits are found at once, each alert carries its own.
+///
+/// `NoMemory` as of `match_article_finding`. Cost: that of `match_article_finding` for each article.
+pub fn match_batch_finding(
+    alloc: Global,
+    view: &View,
+    articles: &[Article],
+    hits: HitsFound,
+) -> Result<Vec<Alerts>, NoMemory>
+    ensures due { IfOk result (λ found. map alerts_value found.items ≡ map (alerts_due view.now) articles.now) }
+    ensures hits { IfOk result (λ found. All (HaveHits hits) found.items) }
+{
     let mut found = Vec::new(alloc);
     for article in articles {
-        found.push(match_article(alloc, view, article)?)?;
+        found.push(match_article_finding(alloc, view, article, hits)?)?;
     }
     Ok(found)
 }

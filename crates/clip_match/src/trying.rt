@@ -1,16 +1,19 @@
 //! The candidates of an article whose queries hold of it.
 ghost use Rattle.std.specs.Prelude.{◌≡◌, ◌++◌, map, filter, length, IfOk, OnOk};
+ghost use Rattle.std.specs.List.{All};
 ghost use Rattle.clip_extract.specs.Covering.{article_keys};
 ghost use Rattle.clip_meaning.specs.Meaning.{holds};
 ghost use Rattle.clip_segment.specs.Segment.{IsRising, seqs_of};
 ghost use Rattle.clip_match.specs.Candidates.{candidates_of, MissesNone, AreRegistered};
+ghost use Rattle.clip_match.specs.Steps.Held.{HasItsHits};
 ghost use Rattle.clip_match.specs.Steps.Positions.{entries_at, live_among};
 
+use crate::held::{Held, HitsFound, entries_of};
 use clip_extract::covering_law;
 use clip_meaning::Article;
 use clip_plan::Tally;
 use clip_registry::View;
-use clip_segment::SegmentReading;
+use clip_segment::{SegmentReading, SegmentSpots};
 use clip_standing::Entry;
 use clip_terms::Asking;
 use clip_words::NoMemory;
@@ -76,28 +79,147 @@ fn keep_possible(
     Ok(())
 }
 
-/// Tries the entries of a segment at these positions, and adds those whose queries hold of the article. `stack` is room
-/// for the groups that are open.
-fn try_each<'a>(
-    reading: &SegmentReading<'a>,
+/// Those of the positions at which the query of the segment's entry holds of the article, in place of those that were
+/// in `holding`. `stack` is room for the groups that are open. No entry is looked at.
+fn keep_holding(
+    reading: &SegmentReading<'_>,
     positions: &[u32],
     stack: &mut Vec<Tally>,
-    held: &mut Vec<&'a Entry>,
+    holding: &mut Vec<u32>,
 ) -> Result<(), NoMemory>
-    ensures { OnOk result (map (λ e. e.now) held.new.items ≡ map (λ e. e.now) held.old.items
-        ++ filter (λ r. holds r.standing.tree reading.now.article.fields)
+    ensures { OnOk result (entries_at reading.now.entries holding.new.items
+        ≡ filter (λ r. holds r.standing.tree reading.now.article.fields)
         (entries_at reading.now.entries positions.now)) }
 {
+    holding.clear();
     for position in positions {
         if !reading.holds(*position, stack)? {
             continue;
         }
-        let Some(entry) = reading.entry(*position) else {
-            continue;
-        };
-        held.push(entry)?;
+        holding.push(*position)?;
     }
     Ok(())
+}
+
+/// Adds the entries of a segment at these positions, without their hits.
+fn add_entries<'a>(
+    reading: &SegmentReading<'a>,
+    positions: &[u32],
+    held: &mut Vec<Held<'a>>,
+) -> Result<(), NoMemory>
+    ensures entries { OnOk result (map (λ h. h.registered.now) held.new.items
+        ≡ map (λ h. h.registered.now) held.old.items ++ entries_at reading.now.entries positions.now) }
+    ensures hits { OnOk result (All (HasItsHits HitsFound.WhenAsked reading.now.article) held.old.items
+        → All (HasItsHits HitsFound.WhenAsked reading.now.article) held.new.items) }
+{
+    for position in positions {
+        let Some(registered) = reading.entry(*position) else {
+            continue;
+        };
+        held.push(Held {
+            registered,
+            hits: None,
+        })?;
+    }
+    Ok(())
+}
+
+/// Adds the entries of a segment at these positions, with their hits.
+fn add_with_hits<'a>(
+    alloc: Global,
+    reading: &SegmentReading<'a>,
+    spots: &SegmentSpots<'_>,
+    positions: &[u32],
+    held: &mut Vec<Held<'a>>,
+) -> Result<(), NoMemory>
+    requires { spots.now ≡ reading.now }
+    ensures entries { OnOk result (map (λ h. h.registered.now) held.new.items
+        ≡ map (λ h. h.registered.now) held.old.items ++ entries_at reading.now.entries positions.now) }
+    ensures hits { OnOk result (All (HasItsHits HitsFound.AtOnce reading.now.article) held.old.items
+        → All (HasItsHits HitsFound.AtOnce reading.now.article) held.new.items) }
+{
+    for position in positions {
+        let Some(registered) = reading.entry(*position) else {
+            continue;
+        };
+        let hits = spots.hits(alloc, *position)?;
+        held.push(Held {
+            registered,
+            hits: Some(hits),
+        })?;
+    }
+    Ok(())
+}
+
+/// Adds the entries of a segment at these positions, with their hits where these are found at once. Where the words of
+/// the article stand is only found out where there is a position and hits are wanted.
+fn add_held<'a>(
+    alloc: Global,
+    reading: &SegmentReading<'a>,
+    positions: &[u32],
+    hits: HitsFound,
+    held: &mut Vec<Held<'a>>,
+) -> Result<(), NoMemory>
+    ensures entries { OnOk result (map (λ h. h.registered.now) held.new.items
+        ≡ map (λ h. h.registered.now) held.old.items ++ entries_at reading.now.entries positions.now) }
+    ensures hits { OnOk result (All (HasItsHits hits reading.now.article) held.old.items
+        → All (HasItsHits hits reading.now.article) held.new.items) }
+{
+    if positions.is_empty() {
+        return Ok(());
+    }
+    match hits {
+        HitsFound::WhenAsked => add_entries(reading, positions, held),
+        HitsFound::AtOnce => {
+            let spots = reading.spots(alloc)?;
+            add_with_hits(alloc, reading, &spots, positions, held)
+        }
+    }
+}
+
+/// What came of judging the candidates of an article.
+#[derive(Drop)]
+pub(crate) struct Judged<'a> {
+    pub(crate) asked: u64,
+    pub(crate) held: Vec<Held<'a>>,
+}
+
+/// As `holding`, with the hits of those that hold where these are found at once.
+pub(crate) fn judge_candidates<'a>(
+    alloc: Global,
+    view: &'a View,
+    article: &'a Article,
+    hits: HitsFound,
+) -> Result<Judged<'a>, NoMemory>
+    ensures asked { IfOk result (λ found. found.asked ≡ length (candidates_of view.now article.now)) }
+    ensures held { IfOk result (λ found. map (λ h. h.registered.now) found.held.items
+        ≡ filter (λ r. holds r.standing.tree article.now.fields) (candidates_of view.now article.now)) }
+    ensures hits { IfOk result (λ found. All (HasItsHits hits article.now) found.held.items) }
+    ensures misses_none { IfOk result (λ _. MissesNone view.now article.now (candidates_of view.now article.now)) }
+    ensures registered { IfOk result (λ _. AreRegistered view.now (candidates_of view.now article.now)) }
+    ensures rising { IfOk result (λ _. IsRising (candidates_of view.now article.now)) }
+{
+    covering_law();
+    let asking = Asking::of(alloc, article)?;
+    let mut positions = Vec::new(alloc);
+    let mut live = Vec::new(alloc);
+    let mut possible = Vec::new(alloc);
+    let mut holding = Vec::new(alloc);
+    let mut stack = Vec::new(alloc);
+    let mut asked = Vec::new(alloc);
+    let mut held = Vec::new(alloc);
+    for segment in view.segments() {
+        let reading = segment.read(alloc, &asking)?;
+        reading.sharers(&mut positions)?;
+        keep_live(view, &reading, &positions, &mut live, &mut asked)?;
+        keep_possible(&reading, &live, &mut possible)?;
+        keep_holding(&reading, &possible, &mut stack, &mut holding)?;
+        add_held(alloc, &reading, &holding, hits, &mut held)?;
+    }
+    Ok(Judged {
+        asked: asked.len() as u64,
+        held,
+    })
 }
 
 /// Of the candidates of an article, which are the live entries whose query has a key in common with it, how many there
@@ -119,23 +241,9 @@ pub fn holding<'a>(
     ensures registered { IfOk result (λ _. AreRegistered view.now (candidates_of view.now article.now)) }
     ensures rising { IfOk result (λ _. IsRising (candidates_of view.now article.now)) }
 {
-    covering_law();
-    let asking = Asking::of(alloc, article)?;
-    let mut positions = Vec::new(alloc);
-    let mut live = Vec::new(alloc);
-    let mut possible = Vec::new(alloc);
-    let mut stack = Vec::new(alloc);
-    let mut asked = Vec::new(alloc);
-    let mut held = Vec::new(alloc);
-    for segment in view.segments() {
-        let reading = segment.read(alloc, &asking)?;
-        reading.sharers(&mut positions)?;
-        keep_live(view, &reading, &positions, &mut live, &mut asked)?;
-        keep_possible(&reading, &live, &mut possible)?;
-        try_each(&reading, &possible, &mut stack, &mut held)?;
-    }
+    let found = judge_candidates(alloc, view, article, HitsFound::WhenAsked)?;
     Ok(Tried {
-        asked: asked.len() as u64,
-        entries: held,
+        asked: found.asked,
+        entries: entries_of(alloc, &found.held)?,
     })
 }

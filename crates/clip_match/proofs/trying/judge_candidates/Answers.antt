@@ -1,4 +1,4 @@
-use Rattle.std.proofs.Common.{◌≡◌, ℕ, ◌+◌, ◌<◌, Bool, List, [], ◌∷◌, ◌++◌, map, filter, length, drop, sym, ap, subst, ◌∙◌, arith, Bor}
+use Rattle.std.proofs.Common.{◌≡◌, ◌+◌, ◌<◌, Bool, List, [], ◌∷◌, ◌++◌, All, map, filter, length, drop, sym, ap, subst, ◌∙◌, arith}
 use Rattle.std.specs.Arc.{arc_value}
 use Rattle.std.proofs.lemmas.List.{append_assoc, append-nil, drop_all, drop_more, length-map}
 use Rattle.clip_extract.specs.Covering.{article_keys}
@@ -7,10 +7,12 @@ use Rattle.clip_meaning.specs.Meaning.{holds}
 use Rattle.clip_model.specs.History.{Registered}
 use Rattle.clip_segment.specs.Segment.{AskedValue, all_entries, positions_sharing, seqs_of}
 use Rattle.clip_match.specs.Candidates.{candidates_of}
+use Rattle.clip_match.specs.declared.held.Held.{Held}
+use Rattle.clip_match.specs.Steps.Held.{HasItsHits}
 use Rattle.clip_match.specs.Steps.Positions.{entries_at, live_among, live_with}
 use Rattle.clip_match.proofs.Positions.{live_entries, seqs_split, held_split}
 use Rattle.clip_match.proofs.Whole.{misses_none, candidates_registered, candidates_rise}
-use Rattle.clip_match.proofs.trying.holding.Goals as goal
+use Rattle.clip_match.proofs.trying.judge_candidates.Goals as goal
 
 pub loop-segment-preserved : goal.loop-segment-preserved
 loop-segment-preserved c =
@@ -41,8 +43,10 @@ loop-segment-preserved c =
     ∙ c.in_ok-keep_possible.ensures
     ∙ ap (λ (r : AskedValue). filter (λ x. holds x.standing.tree r.article.fields) (entries_at r.entries c.deref-in-loop-segment-2.result.now)) value
     ∙ ap (filter held) tried_live in
+    let holding : entries_at c.in_ok-reading.reading.entries c.deref-in-loop-segment-4.result.now ≡ filter held (live_with h ks segment) =
+    ap (entries_at c.in_ok-reading.reading.entries) c.deref-in-loop-segment-4.ensures.value ∙ c.in_ok-keep_holding.ensures ∙ kept in
     let seqs = c.loop-segment.asked.items in
-    let found = map (λ (e : Bor Registered). e.now) c.loop-segment.held.items in
+    let found = map (λ (h : Held). h.registered.now) c.loop-segment.held.items in
     record {
       asked =
           ap (λ xs. xs ++ seqs_of (live_with h ks others)) (c.in_ok-keep_live.ensures.asked ∙ ap (λ es. seqs ++ seqs_of es) found_live)
@@ -51,11 +55,14 @@ loop-segment-preserved c =
           ∙ ap (λ es. seqs ++ seqs_of (live_with h ks es)) parts
           ∙ c.loop-segment.invariant.asked;
       held =
-          ap (λ xs. xs ++ filter held (live_with h ks others)) (c.in_ok-try_each.ensures ∙ ap (λ es. found ++ es) kept)
+          ap (λ xs. xs ++ filter held (live_with h ks others)) (c.in_ok-add_held.ensures.entries ∙ ap (λ es. found ++ es) holding)
           ∙ append_assoc found (filter held (live_with h ks segment)) (filter held (live_with h ks others))
           ∙ ap (λ xs. found ++ xs) (held_split held h ks segment others)
           ∙ ap (λ es. found ++ filter held (live_with h ks es)) parts
           ∙ c.loop-segment.invariant.held;
+      hits =
+          subst (λ (r : AskedValue). All (HasItsHits c.args.hits r.article) c.loop-segment.held.items → All (HasItsHits c.args.hits r.article) c.add_held.new.held.items) value c.in_ok-add_held.ensures.hits
+          c.loop-segment.invariant.hits;
     }
 
 pub returns : goal.returns
@@ -75,10 +82,11 @@ returns c =
     ∙ ap (λ es. c.loop-segment.asked.items ++ seqs_of (live_with state.history ks es)) (sym none)
     ∙ c.loop-segment.invariant.asked
     ∙ ap seqs_of all in
-    let found = map (λ (e : Bor Registered). e.now) c.loop-segment.held.items in
+    let found = map (λ (h : Held). h.registered.now) c.loop-segment.held.items in
     record {
       asked = omega (arith, c.len.ensures, ap length tried, length-map (candidates_of state c.args.article.now) (λ (e : Registered). e.seq));
       held = sym (append-nil found) ∙ ap (λ es. found ++ filter held (live_with state.history ks es)) (sym none) ∙ c.loop-segment.invariant.held ∙ ap (filter held) all;
+      hits = c.loop-segment.invariant.hits;
       misses_none = misses_none c.covering_law.ensures state c.args.article.now whole;
       registered = candidates_registered state c.args.article.now whole;
       rising = candidates_rise state c.args.article.now whole;

@@ -1,0 +1,10 @@
+use Rattle.std.proofs.Common.{◌≡◌, All, map, take}
+use Rattle.clip_match.specs.Alerts.{HaveHits, alerts_due}
+use Rattle.clip_standing.specs.Alerts.{alerts_value}
+use Rattle.clip_match.proofs.matching.match_batch_finding.Given as goal
+
+abbrev pub invariant-loop-article : goal.invariant-loop-article
+invariant-loop-article l = record {
+  due : map alerts_value l.found.items ≡ map (alerts_due l.view) (take l.article-index l.articles);
+  hits : All (HaveHits l.hits) l.found.items;
+}

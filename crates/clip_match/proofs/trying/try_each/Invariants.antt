@@ -1,9 +1,0 @@
-use Rattle.std.proofs.Common.{◌≡◌, ◌++◌, map, filter, take}
-use Rattle.clip_meaning.specs.Meaning.{holds}
-use Rattle.clip_match.specs.Steps.Positions.{entries_at}
-use Rattle.clip_match.proofs.trying.try_each.Given as goal
-
-abbrev pub invariant-loop-position : goal.invariant-loop-position
-invariant-loop-position l =
-    map (λ e. e.now) l.held.items ≡ map (λ e. e.now) l.fn.held.items
-    ++ filter (λ r. holds r.standing.tree l.reading.article.fields) (entries_at l.reading.entries (take l.position-index l.positions))
