@@ -8,11 +8,12 @@ ghost use Rattle.clip_protocol.specs.Reply.{alerts_of_all};
 ghost use Rattle.clip_front.specs.Outcome.{GivesAll, GivesFront};
 ghost use Rattle.clip_front.specs.Steps.Answers.{GoesOn, held};
 
+use crate::finding::hits_found;
 use clip_front::{
     Books, Ended, Registry, Server, Settings, Taken, deliver_found, serve, take_line,
 };
 use clip_listen::Audience;
-use clip_match::match_batch;
+use clip_match::match_batch_finding;
 use clip_meaning::Article;
 use clip_registry::{Registrar, View, merge_turn};
 use clip_standing::{Applied, Command, Refused};
@@ -86,7 +87,8 @@ fn answer_match<A: Audience>(
     ensures err { OnErr result (HearsFront (alerts_of_all view.now.history articles.now)
         (A.hearers audience.old) (A.hearers audience.new)) }
 {
-    let found = match_batch(alloc, view, articles)?;
+    let hits = hits_found(books.settings);
+    let found = match_batch_finding(alloc, view, articles, hits)?;
     deliver_found(alloc, audience, books, number, found)
 }
 

@@ -6,7 +6,7 @@ ghost use Rattle.clip_run.specs.Owed.{matched};
 ghost use Rattle.clip_run.specs.Pending.{owed_by};
 
 use crate::due::{Due, Matched};
-use clip_match::{Gate, match_piece, match_pieces};
+use clip_match::{Gate, HitsFound, match_piece_finding, match_pieces_finding};
 use clip_meaning::Article;
 use clip_registry::View;
 use clip_standing::Alerts;
@@ -45,6 +45,7 @@ pub fn start_batch<R: Threads, G: Gate + Clone + Send + 'static>(
     number: u64,
     view: View,
     articles: Vec<Article>,
+    hits: HitsFound,
     batch: u64,
     gate: &G,
 ) -> Result<Pending, NoMemory>
@@ -53,7 +54,7 @@ pub fn start_batch<R: Threads, G: Gate + Clone + Send + 'static>(
     let gate = gate.clone()?;
     let due = Due::to(&view, &articles);
     let promise = Due::to(&view, &articles);
-    let work = move || match_piece(alloc, &view, &articles, batch, 0, &gate);
+    let work = move || match_piece_finding(alloc, &view, &articles, hits, batch, 0, &gate);
     match thread::spawn_with(rt, promise, work) {
         Ok(thread) => Ok(Pending::InFlight(Flight { number, thread })),
         Err(refused) => {
@@ -74,6 +75,7 @@ pub fn match_here<R: Threads + Sync, G: Gate>(
     number: u64,
     view: View,
     articles: Vec<Article>,
+    hits: HitsFound,
     batch: u64,
     pieces: u32,
     gate: &G,
@@ -81,7 +83,7 @@ pub fn match_here<R: Threads + Sync, G: Gate>(
     ensures { IfOk result (λ p. owed_by p ≡ matched number view.history articles.items) }
 {
     let due = Due::to(&view, &articles);
-    let alerts = match_pieces(rt, alloc, &view, &articles, batch, pieces, gate)?;
+    let alerts = match_pieces_finding(rt, alloc, &view, &articles, hits, batch, pieces, gate)?;
     Ok(Pending::Matched(Matched {
         number,
         due,

@@ -9,6 +9,7 @@ ghost use Rattle.clip_run.specs.Pending.{owed_by};
 use crate::batch::{Pending, match_here, pieces_that_pay, start_batch};
 use crate::caller::Caller;
 use crate::due::Matched;
+use crate::finding::hits_found;
 use clip_desk::DeskName;
 use clip_front::{Books, Settings, Taken, deliver_found, take_line};
 use clip_ledger::Ledger;
@@ -196,6 +197,7 @@ impl<'r, 'd, 'g, R: Threads + Wait + Sync, N: DeskName, G: Gate + Clone + Send +
         let view = self.caller.look()?;
         self.batches = self.batches.wrapping_add(1);
         let pieces = pieces_that_pay(articles.len(), self.workers);
+        let hits = hits_found(self.books.settings);
         let item = if has_more && pieces < self.workers {
             start_batch(
                 self.rt,
@@ -203,6 +205,7 @@ impl<'r, 'd, 'g, R: Threads + Wait + Sync, N: DeskName, G: Gate + Clone + Send +
                 number,
                 view,
                 articles,
+                hits,
                 self.batches,
                 self.gate,
             )?
@@ -213,6 +216,7 @@ impl<'r, 'd, 'g, R: Threads + Wait + Sync, N: DeskName, G: Gate + Clone + Send +
                 number,
                 view,
                 articles,
+                hits,
                 self.batches,
                 pieces,
                 self.gate,

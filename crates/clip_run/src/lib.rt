@@ -7,6 +7,7 @@ mod batch;
 mod caller;
 mod crew;
 mod due;
+mod finding;
 mod serving;
 mod session;
 

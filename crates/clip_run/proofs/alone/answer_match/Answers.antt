@@ -22,10 +22,10 @@ returns-clause-ok g c =
     let delivered = c.deliver_found.ensures in
     by_all c.deliver_found.result _ _
     (λ text printed heard rows.
-    goes_on_matched c.args.view.now (hearers c.args.audience.now) (hearers c.deliver_found.new.audience) c.args.books.now c.deliver_found.new.books c.args.number c.args.articles.now _ text.items c.in_ok-found.ensures printed heard rows delivered.settings) delivered.text delivered.heard delivered.rows
+    goes_on_matched c.args.view.now (hearers c.args.audience.now) (hearers c.deliver_found.new.audience) c.args.books.now c.deliver_found.new.books c.args.number c.args.articles.now _ text.items c.in_ok-found.ensures.due printed heard rows delivered.settings) delivered.text delivered.heard delivered.rows
 
 pub returns-clause-err : goal.returns-clause-err
 returns-clause-err g c =
     let hearers = g.A.Audience.hearers in
-    let all = ap told_in c.in_ok-found.ensures ∙ told-alerts_due c.args.view.now c.args.articles.now in
+    let all = ap told_in c.in_ok-found.ensures.due ∙ told-alerts_due c.args.view.now c.args.articles.now in
     IfErr-weaker c.deliver_found.result _ _ (λ _ front. subst (λ alerts. HearsFront alerts (hearers c.args.audience.now) (hearers c.deliver_found.new.audience)) all front) c.deliver_found.ensures.err

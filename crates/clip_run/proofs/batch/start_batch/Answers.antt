@@ -21,19 +21,21 @@ use Rattle.std.specs.contracts.impls.GlobalAllocator.TheImpl as global_allocator
 use Rattle.std.specs.contracts.vec.Vec as vec
 use Rattle.clip_standing.specs.contracts.alert.Alerts as alerts
 use Rattle.clip_match.proofs.Sent.{alerts_send}
+use Rattle.clip_match.proofs.held.HitsFound.TheSendSync as hits_found_sent
+use Rattle.clip_match.specs.contracts.held.HitsFound as hits_found
 use Rattle.clip_run.proofs.batch.start_batch.Goals as goal
 
 ruleset lists = (sendable, global_sent.the_send, global_sent.the_sync, allocator_sent.the_frees, vec_sent.the_send, article_sent.the_send)
 
--- a closure of five captures
-captures_send : (name : Sym) (A B C D E : RattleType) → IsSend A → IsSend B → IsSend C → IsSend D → IsSend E → IsSend (TupleAt name (A ∷ B ∷ C ∷ D ∷ E ∷ []))
-captures_send name A B C D E a b c d e =
-    declared_send (type_at name (A ∷ B ∷ C ∷ D ∷ E ∷ [])) (as_row_send (row_field A) a, (as_row_send (row_field B) b, (as_row_send (row_field C) c, (as_row_send (row_field D) d, (as_row_send (row_field E) e, tt)))))
+-- a closure of six captures
+captures_send : (name : Sym) (A B C D E F : RattleType) → IsSend A → IsSend B → IsSend C → IsSend D → IsSend E → IsSend F → IsSend (TupleAt name (A ∷ B ∷ C ∷ D ∷ E ∷ F ∷ []))
+captures_send name A B C D E F a b c d e f =
+    declared_send (type_at name (A ∷ B ∷ C ∷ D ∷ E ∷ F ∷ [])) (as_row_send (row_field A) a, (as_row_send (row_field B) b, (as_row_send (row_field C) c, (as_row_send (row_field D) d, (as_row_send (row_field E) e, (as_row_send (row_field F) f, tt))))))
 
 pub spawn_with-requires-send-F : goal.spawn_with-requires-send-F
 spawn_with-requires-send-F g c κs within =
     let articles = vec.the_row article.the_row global.the_row global_allocator.ghosts in
-    param_send 2 _ (arg_send _ no _ (captures_send _ global.the_row view.the_row articles (u64-field).row (param 1 g.row.G) (search lists) view_is_send (search lists) (search sendable) (search (sendable, c.type_bounds.send-G))))
+    param_send 2 _ (arg_send _ no _ (captures_send _ global.the_row view.the_row articles hits_found.the_row (u64-field).row (param 1 g.row.G) (search lists) view_is_send (search lists) hits_found_sent.the_send (search sendable) (search (sendable, c.type_bounds.send-G))))
 
 pub spawn_with-requires-send-T : goal.spawn_with-requires-send-T
 spawn_with-requires-send-T g c κs within =
