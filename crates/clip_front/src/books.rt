@@ -38,7 +38,7 @@ impl Books {
     pub fn post(&mut self, line: u64, alerts: &Alerts, notes: &[Note]) -> Result<(), NoMemory>
         ensures rows { OnOk result (self.new.ledger ≡ self.old.ledger
             ++ kept_rows self.old.settings.keeps_rows
-                (rows_of line (alerts_of alerts.now) (map note_value notes.now))) }
+            (rows_of line (alerts_of alerts.now) (map note_value notes.now))) }
         ensures settings { self.new.settings ≡ self.old.settings }
     {
         if self.settings.keeps_rows {
