@@ -33,7 +33,7 @@ RegisterTo id query has_listener listener code old new =
 abbrev pub DeleteTo : List ℕ → ℕ → ℕ → Kept → Kept → Type 0
 DeleteTo id code deleted old new =
     (code ≡ 0 → (new.engine ≡ commanded old.engine (Delete (id ∷ [])))
-        × (deleted ≡ applied old.engine.history (Delete (id ∷ []))))
+    × (deleted ≡ applied old.engine.history (Delete (id ∷ []))))
     × ((code ≡ 0 → ⊥) → new.engine ≡ old.engine)
 
 -- so many queries are registered, and the engine is as it was

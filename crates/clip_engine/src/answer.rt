@@ -8,12 +8,20 @@ use crate::house::House;
 use crate::owned::Owned;
 use clip_front::{Books, Settings, Taken, deliver_found, take_line};
 use clip_listen::Audience;
-use clip_match::match_batch;
+use clip_match::{HitsFound, match_batch_finding};
 use clip_meaning::Article;
 use clip_protocol::Form;
 use clip_registry::View;
 use clip_words::NoMemory;
 use std::alloc::Global;
+
+/// When hits are found: at once where replies show them, and else when they are asked for.
+fn hits_found(form: Form) -> HitsFound {
+    match form {
+        Form::WithHits => HitsFound::AtOnce,
+        Form::Plain => HitsFound::WhenAsked,
+    }
+}
 
 /// The text of the reply to the line of this number, which matches these articles.
 fn matched(
@@ -27,7 +35,7 @@ fn matched(
     requires { ⟦<House as Audience>⟧.hearers listeners.old ≡ house }
     ensures { IfOk result (λ text. text.items ≡ reply form house number view.now.history (matching articles.now)) }
 {
-    let found = match_batch(alloc, view, articles)?;
+    let found = match_batch_finding(alloc, view, articles, hits_found(form))?;
     let settings = Settings {
         form,
         keeps_rows: false,

@@ -17,7 +17,7 @@ ghost use Rattle.clip_engine.specs.Engine.{Registers, Replies, commanded, fresh,
 
 use crate::answer::answer;
 use crate::owned::Owned;
-use clip_match::match_article;
+use clip_match::{HitsFound, match_article_finding};
 use clip_meaning::{Article, ArticleFault};
 use clip_protocol::{Form, Listing, Refusal, Unread, read_listing};
 use clip_registry::Registrar;
@@ -124,7 +124,7 @@ impl Engine {
     /// `Feed` where the bytes have a line feed, `TooMany` where the count of lines is at its end, and `NoMemory` where
     /// an allocation failed. After a fault the engine is as it was, and the line is not counted.
     ///
-    /// Cost: that of `take_line`, and for a match that of `match_batch` and of the reply.
+    /// Cost: that of `take_line`, and for a match that of `match_batch_finding` and of the reply.
     pub fn line(&mut self, line: &[u8]) -> Result<Vec<u8>, LineFault>
         ensures replies { IfOk result (λ text. Replies self.old self.new line.now text.items) }
         ensures one { OnOk result (has_feed line.now ≡ false) }
@@ -223,12 +223,13 @@ impl Engine {
     }
 
     /// The alerts of an article: of each registered query that holds of it one, in the byte order of their ids, and of
-    /// no other. No listener hears them, and the count of lines stays.
+    /// no other. No listener hears them, and the count of lines stays. They carry their hits where the replies show
+    /// hits.
     ///
     /// `Limit` where the id or a field is beyond its limits, the first that `Article::read` refuses; `NoMemory` where
     /// an allocation failed.
     ///
-    /// Cost: that of `Article::read` and of `clip_match::match_article`.
+    /// Cost: that of `Article::read` and of `clip_match::match_article_finding`.
     pub fn match_article(&self, id: &str, fields: &[(String, String)]) -> Result<Alerts, Unread>
         ensures alerts { IfOk result (λ found. alerts_of found
             ≡ alerts self.now.history (article_value id.now (pairs_of fields.now))) }
@@ -238,7 +239,12 @@ impl Engine {
     {
         let article = read_article(self.alloc, id, fields)?;
         let view = self.owned.registrar.view()?;
-        Ok(match_article(self.alloc, &view, &article)?)
+        let hits = if self.hits {
+            HitsFound::AtOnce
+        } else {
+            HitsFound::WhenAsked
+        };
+        Ok(match_article_finding(self.alloc, &view, &article, hits)?)
     }
 
     /// How many queries are registered. `NoMemory` where the count of the registry's holders is at its end. Constant

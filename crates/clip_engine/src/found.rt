@@ -39,15 +39,22 @@ fn add_hits(bytes: &mut Vec<u8>, hits: &[Hit]) -> Result<(), NoMemory>
     Ok(())
 }
 
-/// The hits of an alert, where they are shown.
-fn shown_hits(alloc: Global, alert: &Alert, shows_hits: bool) -> Result<Vec<Hit>, NoMemory>
-    ensures { IfOk result (λ hits. map hit_value hits.items
-        ≡ (if shows_hits then (alert_value alert.now).hits else [])) }
+/// Adds the hits of an alert, or none where they are not shown.
+fn add_shown_hits(
+    alloc: Global,
+    bytes: &mut Vec<u8>,
+    alert: &Alert,
+    shows_hits: bool,
+) -> Result<(), NoMemory>
+    ensures { OnOk result (bytes.new.items ≡ bytes.old.items
+        ++ hits_bytes (if shows_hits then (alert_value alert.now).hits else [])) }
 {
-    if shows_hits {
-        alert.hits(alloc)
-    } else {
-        Ok(Vec::new(alloc))
+    if !shows_hits {
+        return add_hits(bytes, &[]);
+    }
+    match alert.found_hits() {
+        Some(hits) => add_hits(bytes, hits),
+        None => add_hits(bytes, &alert.hits(alloc)?),
     }
 }
 
@@ -61,15 +68,15 @@ fn add_alert(
     ensures { OnOk result (bytes.new.items ≡ bytes.old.items ++ alert_bytes shows_hits (alert_value alert.now)) }
 {
     add_text(bytes, alert.query().as_str())?;
-    let hits = shown_hits(alloc, alert, shows_hits)?;
-    add_hits(bytes, &hits)
+    add_shown_hits(alloc, bytes, alert, shows_hits)
 }
 
 /// The alerts of an article as bytes: their count, and then for each the id of the query and its hits, of which there
 /// are none where they are not shown. A text stands after its length, hits after their count, and a hit is a field's
 /// name and a position; numbers are eight bytes, the lowest first.
 ///
-/// `NoMemory` where an allocation failed. Cost: a copy of the texts, and that of `Alert::hits` where hits are shown.
+/// `NoMemory` where an allocation failed. Cost: a copy of the texts, and where hits are shown that of `Alert::hits` for
+/// each alert that doesn't carry them.
 pub fn bytes_of_found(alloc: Global, found: &Alerts, shows_hits: bool) -> Result<Vec<u8>, NoMemory>
     ensures { IfOk result (λ bytes. bytes.items ≡ found_bytes shows_hits (alerts_of found.now)) }
 {

@@ -14,5 +14,5 @@ returns c =
     IfOk-weaker c.deliver_found.result _ _
     (λ text printed.
     printed ∙ ap (λ s. found_text s.form (both (style_value l.mail.render.style) l.mail.told.alerts (style_value l.feed.render.style) l.feed.told.alerts) n found) c.new-books.ensures.settings ∙ ap (λ hearers. found_text form hearers n found) c.requires
-    ∙ ap (found_text form house n) c.in_ok-found.ensures ∙ text_due form house n c.args.view.now c.args.articles.now)
+    ∙ ap (found_text form house n) c.in_ok-found.ensures.due ∙ text_due form house n c.args.view.now c.args.articles.now)
     c.deliver_found.ensures.text
