@@ -1,7 +1,10 @@
 //! Hits: where in an article a query holds.
+use crate::script::answer;
+use clip_match::{HitsFound, match_article_finding};
 use clip_meaning::Hit;
+use clip_registry::Registrar;
 use clip_samples::{article, standing};
-use clip_standing::Alert;
+use clip_standing::{Alert, Command};
 use std::alloc::{AllocError, Global};
 use std::test::Fail;
 
@@ -58,5 +61,55 @@ fn hits_are_the_words_that_leaves_below_no_exclusion_name(rt: HostRuntime) -> Re
         let hits = hits_of(rt.alloc(), query, fields)?;
         assert!(rt; hits.as_str() == *wanted, "{query}: {hits}");
     }
+    Ok(())
+}
+
+/// What the alert of a query and an article carries when its hits are found then: the hits, or `none` where it carries
+/// none. Nothing where the query does not hold.
+fn carried(
+    alloc: Global,
+    query: &str,
+    fields: &[(&str, &str)],
+    hits: HitsFound,
+) -> Result<String, Fail> {
+    let mut registrar = Registrar::new(alloc);
+    let list = vec![in alloc; standing(alloc, "q1", query)?]?;
+    answer(alloc, &mut registrar, 1, Command::Register(list))?;
+    let (view, article) = (registrar.view()?, article(alloc, "a1", fields)?);
+    let mut text = String::new(alloc);
+    for alert in &match_article_finding(alloc, &view, &article, hits)?.alerts {
+        match alert.found_hits() {
+            Some(hits) => add_hits(&mut text, hits)?,
+            None => text.push_str("none")?,
+        }
+    }
+    Ok(text)
+}
+
+#[test]
+fn hits_that_are_found_at_once_are_those_that_are_found_when_asked(
+    rt: HostRuntime,
+) -> Result<(), Fail> {
+    for (query, fields, wanted) in &ROWS {
+        let hits = carried(rt.alloc(), query, fields, HitsFound::AtOnce)?;
+        assert!(rt; hits.as_str() == *wanted, "{query}: {hits}");
+    }
+    let none = carried(rt.alloc(), "tea", &[("text", "tea")], HitsFound::WhenAsked)?;
+    assert!(rt; none.as_str() == "none", "{none}");
+    Ok(())
+}
+
+#[test]
+fn an_alert_carries_its_hits_and_its_copy_finds_them_anew(rt: HostRuntime) -> Result<(), Fail> {
+    let alloc = rt.alloc();
+    let standing = standing(alloc, "q1", "te*")?;
+    let article = article(alloc, "a1", &[("text", "tea and ten")])?;
+    let hits = Alert::of(&standing, &article)?.hits(alloc)?;
+    let alert = Alert::with_hits(&standing, &article, hits)?;
+    assert!(rt; alert.found_hits().is_some_and(|hits| hits.len() == 2));
+    assert!(rt; alert.hits(alloc)?.len() == 2);
+    let copy = alert.copy()?;
+    assert!(rt; copy.found_hits().is_none());
+    assert!(rt; copy.hits(alloc)?.len() == 2);
     Ok(())
 }
