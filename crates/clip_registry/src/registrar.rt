@@ -100,10 +100,10 @@ impl Registrar {
     ///
     /// A command is done to a copy of the registry, which shares all that the command leaves as it is. The copy costs
     /// a step for each segment, one for each 16,384 history entries that are kept, one for each 1,048,576 queries
-    /// listed since the last clear, and one for each piece of the map by id, which holds up to 512 entries; then, for the
-    /// entry of the history and for each query listed, replaced or deleted, at most two pieces of 128 are copied, and
-    /// for each id that is listed one piece of the map, of each piece just once. No text of a query and no id of one is
-    /// copied; the ids of a delete are, into its history entry.
+    /// listed since the last clear, and one for each piece of the map by id, which holds up to 512 entries; then, for
+    /// the entry of the history and for each query listed, replaced or deleted, at most two pieces of 128 are copied,
+    /// and for each id that is listed one piece of the map, of each piece just once. No text of a query and no id of
+    /// one is copied; the ids of a delete are, into its history entry.
     pub fn apply(&mut self, caller: u32, command: Command) -> Result<Applied, (Command, Refused)>
         requires fits { IsTrue (fits (command_of command)) }
         requires caller_from { 0 < caller }

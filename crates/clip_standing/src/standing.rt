@@ -74,8 +74,8 @@ impl From<QueryFault> for StandingFault {
 ///
 /// Its query is the reading of its text. The tree that was made when it was read goes to the first who takes it, which
 /// is the segment that it is listed in; after that none is kept until hits are asked for, since a query's tree takes
-/// far more memory than its text. Its texts are shared by clones. No reader but `query`, `take_query` and `hits_in` takes
-/// memory, and each other takes constant time.
+/// far more memory than its text. Its texts are shared by clones. No reader but `query`, `take_query` and `hits_in`
+/// takes memory, and each other takes constant time.
 #[derive(Drop)]
 pub struct Standing {
     id: ArcStr,

@@ -141,8 +141,8 @@ impl Terms {
 
     /// The numbers of other terms, in their order; none of one that is no term here.
     ///
-    /// `NoMemory` where an allocation failed. Cost: a search by halves for each of them, by the first bytes of its text,
-    /// which is known; a text is looked at where it is longer than these.
+    /// `NoMemory` where an allocation failed. Cost: a search by halves for each of them, by the first bytes of its
+    /// text, which are known; a text is looked at where it is longer than these.
     pub fn numbers(&self, alloc: Global, others: &Terms) -> Result<Vec<Option<u32>>, NoMemory>
         ensures { IfOk result (λ numbers. numbers.items ≡ map (number_of self.now) others.now) }
     {

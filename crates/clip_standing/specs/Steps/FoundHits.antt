@@ -14,6 +14,7 @@ abbrev pub AreFound : Standing → ArticleValue → Option (Vec Hit Global) → 
 AreFound standing article found = IfSome found (λ list. map hit_value list.items ≡ hits standing.tree article.fields)
 
 -- any two proofs of it are one
-pub one_way_found : (standing : Standing) (article : ArticleValue) (found : Option (Vec Hit Global)) → IsProp (AreFound standing article found)
+pub one_way_found : (standing : Standing) (article : ArticleValue) (found : Option (Vec Hit Global))
+    → IsProp (AreFound standing article found)
 one_way_found standing article None x y = refl
 one_way_found standing article (Some list) x y = Coded-set (coded_list (coded× (coded_list coded_ℕ) coded_ℕ)) _ _ x y
