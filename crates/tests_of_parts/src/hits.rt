@@ -98,18 +98,3 @@ fn hits_that_are_found_at_once_are_those_that_are_found_when_asked(
     assert!(rt; none.as_str() == "none", "{none}");
     Ok(())
 }
-
-#[test]
-fn an_alert_carries_its_hits_and_its_copy_finds_them_anew(rt: HostRuntime) -> Result<(), Fail> {
-    let alloc = rt.alloc();
-    let standing = standing(alloc, "q1", "te*")?;
-    let article = article(alloc, "a1", &[("text", "tea and ten")])?;
-    let hits = Alert::of(&standing, &article)?.hits(alloc)?;
-    let alert = Alert::with_hits(&standing, &article, hits)?;
-    assert!(rt; alert.found_hits().is_some_and(|hits| hits.len() == 2));
-    assert!(rt; alert.hits(alloc)?.len() == 2);
-    let copy = alert.copy()?;
-    assert!(rt; copy.found_hits().is_none());
-    assert!(rt; copy.hits(alloc)?.len() == 2);
-    Ok(())
-}
