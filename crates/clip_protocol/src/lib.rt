@@ -2,6 +2,7 @@
 #![tactic(auto)]
 
 mod form;
+mod judged;
 mod line;
 mod listing;
 mod members;
@@ -11,7 +12,8 @@ mod reply;
 mod request;
 
 pub use form::Form;
-pub use line::{Line, articles_of, have_ids, is_blank, json_of};
+pub use judged::{JudgedDraft, articles_of, judge_drafts};
+pub use line::{Line, have_ids, is_blank, json_of};
 pub use listing::{ListFault, read_listing};
 pub use members::{
     has_members, items_of, members_of, take_member, three_members, two_members, two_of,

@@ -1,16 +1,15 @@
 //! Lines: what each says by itself.
 ghost use Rattle.std.specs.Prelude.{◌≡◌, IfOk, map, string_bytes, cond, Some, None};
 ghost use Rattle.std.specs.List.{list_all};
-ghost use Rattle.clip_meaning.specs.Article.{may_be};
 ghost use Rattle.clip_words.specs.Ids.{is_id};
 ghost use Rattle.serde_json.specs.View.{view};
-ghost use Rattle.clip_protocol.specs.LineMeaning.{article_of, is_blank, is_blank_byte as blank_byte, json_of};
-ghost use Rattle.clip_protocol.specs.Steps.Outline.{ReadsAs, articles_in};
-ghost use Rattle.clip_protocol.specs.Steps.Views.{listing_view, draft_view};
+ghost use Rattle.clip_protocol.specs.LineMeaning.{is_blank, is_blank_byte as blank_byte, json_of};
+ghost use Rattle.clip_protocol.specs.Steps.Outline.{ReadsAs};
+ghost use Rattle.clip_protocol.specs.Steps.Views.{listing_view};
 
+use crate::judged::{JudgedDraft, judge_drafts};
 use crate::refusal::{Refusal, Unread};
-use crate::request::{Draft, Listing, Request};
-use clip_meaning::{Article, ArticleFault};
+use crate::request::{Listing, Request};
 use clip_model::{MOST_ARTICLES, MOST_LISTED};
 use clip_stream::MOST_LINE_BYTES;
 use clip_words::{NoMemory, are_ids, is_id};
@@ -36,8 +35,8 @@ pub enum Line {
     Count,
     /// Show the text of the query under this id.
     Show(String),
-    /// Match these articles.
-    Match(Vec<Article>),
+    /// Match the articles that these drafts are.
+    Match(Vec<JudgedDraft>),
 }
 
 /// Whether a byte is a space, a tab or a carriage return.
@@ -83,21 +82,6 @@ pub fn have_ids(listings: &[Listing]) -> bool
     true
 }
 
-/// The articles, where each is within the limits of one.
-pub fn articles_of(alloc: Global, drafts: &[Draft]) -> Result<Vec<Article>, Unread>
-    ensures { ReadsAs Refusal.Limit (λ all. all.items) (articles_in (map draft_view drafts.now)) result }
-{
-    let mut all = Vec::with_capacity(alloc, drafts.len())?;
-    for draft in drafts {
-        match Article::read(alloc, draft.id.as_str(), &draft.fields) {
-            Ok(article) => all.push(article)?,
-            Err(ArticleFault::NoMemory) => return Err(Unread::NoMemory),
-            Err(_) => return Err(Unread::Refused(Refusal::Limit)),
-        }
-    }
-    Ok(all)
-}
-
 impl Line {
     ghost use Rattle.std.specs.Prelude.{◌≡◌, IfOk, true};
     ghost use Rattle.clip_protocol.specs.Steps.Outline.{Outlines, outline, outline_of_request, is_within};
@@ -134,7 +118,7 @@ impl Line {
                 if drafts.len() > MOST_ARTICLES {
                     return Err(Unread::Refused(Refusal::Limit));
                 }
-                Ok(Line::Match(articles_of(alloc, &drafts)?))
+                Ok(Line::Match(judge_drafts(alloc, drafts)?))
             }
         }
     }
@@ -157,7 +141,7 @@ impl Line {
     }
 
     /// What a line says, its line feed left out. `NoMemory` where an allocation failed. Its cost is the reading of its
-    /// JSON value, and of each article that it lists.
+    /// JSON value; the articles that it lists are judged and not read.
     pub fn of_bytes(alloc: Global, bytes: &[u8]) -> Result<Line, NoMemory>
         ensures outline { IfOk result (λ line. outline bytes.now ≡ line_view line) }
         ensures within { IfOk result (λ line. is_within (line_view line) ≡ true) }

@@ -50,7 +50,7 @@ line_view line.Clear = outline.clears
 line_view line.Purge = outline.purges
 line_view line.Count = outline.counts
 line_view (line.Show id) = outline.shows (string_bytes id)
-line_view (line.Match articles) = outline.matches articles.items
+line_view (line.Match drafts) = outline.matches drafts.items
 
 -- ---- replies
 
