@@ -10,13 +10,16 @@ ghost use Rattle.clip_front.specs.Outcome.{names_in};
 ghost use Rattle.clip_protocol.specs.Reply.{answer_to};
 ghost use Rattle.clip_front.specs.Steps.Answers.{TakesListing, TakesList, Replies, Settles, Comes};
 ghost use Rattle.clip_protocol.specs.Steps.Outline.{is_within, purges, registers};
-ghost use Rattle.clip_front.specs.Steps.Taking.{PurgesIf, Takes, Unpurged};
+ghost use Rattle.clip_front.specs.Steps.Taking.{PurgesIf, Takes, TakesUnread, Unpurged};
 ghost use Rattle.clip_protocol.specs.Steps.Views.{line_view, listing_view, reply_view};
 
 use crate::registry::Registry;
 use clip_listen::Audience;
 use clip_meaning::Article;
-use clip_protocol::{Line, ListFault, Listing, Refusal, Reply, Unread, accepted, read_listing};
+use clip_protocol::{
+    JudgedDraft, Line, ListFault, Listing, Refusal, Reply, Unread, accepted, articles_of,
+    read_listing,
+};
 use clip_standing::{Command, Standing};
 use clip_words::NoMemory;
 use std::alloc::Global;
@@ -108,8 +111,8 @@ fn register<A: Audience, H: Registry>(
 enum Response {
     /// It is answered by this reply.
     Reply(Reply),
-    /// These articles are to be matched.
-    Match(Vec<Article>),
+    /// The articles that these drafts are, to be matched.
+    Match(Vec<JudgedDraft>),
 }
 
 /// Does what a line says, but for the matching: changes apply to the registry, and all else is answered by it.
@@ -138,7 +141,7 @@ fn respond<A: Audience, H: Registry>(
         }
         Line::Count => Ok(Response::Reply(Reply::Counted(registry.count()?))),
         Line::Show(id) => Ok(Response::Reply(Reply::Shown(registry.show(alloc, id.as_str())?))),
-        Line::Match(articles) => Ok(Response::Match(articles)),
+        Line::Match(drafts) => Ok(Response::Match(drafts)),
     }
 }
 
@@ -151,12 +154,45 @@ pub enum Taken {
     Articles(Vec<Article>),
 }
 
+/// What a line comes to, whose articles are not read yet.
+#[derive(Drop)]
+pub enum TakenUnread {
+    /// The text of its reply, with its line feed, or nothing for a blank line.
+    Text(Vec<u8>),
+    /// Drafts whose articles are to be matched at the registry as it stands.
+    Drafts(Vec<JudgedDraft>),
+}
+
 /// Takes the line of this number: a change applies to the registry, a purge purges it, and all else but a match is
-/// answered by it. No alert is told.
+/// answered by it. No alert is told. The articles of a match are judged and not read: any thread may do that.
 ///
 /// `NoMemory` where an allocation failed. A change costs that of `Registry::accept` after the reading of its queries; a
 /// purge costs that of `Registry::purge_dead`; a count takes that of `Registry::count`, and a show that of
-/// `Registry::show`; a match costs the reading of its articles.
+/// `Registry::show`; a match costs the reading of its JSON value.
+pub fn take_line_unread<A: Audience, H: Registry>(
+    alloc: Global,
+    registry: &mut H,
+    audience: &A,
+    number: u64,
+    bytes: &[u8],
+) -> Result<TakenUnread, NoMemory>
+    ensures taken { IfOk result (λ taken. TakesUnread (names_in (A.hearers audience.now)) (H.history_in registry.old)
+        (H.history_in registry.new) number bytes.now taken) }
+
+    // A line that means a purge purges the registry, once, and no other line does.
+    ensures purged { OnOk result (PurgesIf (Means (names_in (A.hearers audience.now)) (H.history_in registry.old)
+        bytes.now purging) H.purges H.goes_on registry.old registry.new) }
+{
+    let line = Line::of_bytes(alloc, bytes)?;
+    match respond(alloc, registry, audience, line)? {
+        Response::Reply(reply) => Ok(TakenUnread::Text(reply.text(alloc, number)?)),
+        Response::Match(drafts) => Ok(TakenUnread::Drafts(drafts)),
+    }
+}
+
+/// As `take_line_unread`, and reads the articles of a match.
+///
+/// `NoMemory` where an allocation failed. Cost: that of `take_line_unread`, and of `articles_of` for a match.
 pub fn take_line<A: Audience, H: Registry>(
     alloc: Global,
     registry: &mut H,
@@ -171,9 +207,8 @@ pub fn take_line<A: Audience, H: Registry>(
     ensures purged { OnOk result (PurgesIf (Means (names_in (A.hearers audience.now)) (H.history_in registry.old)
         bytes.now purging) H.purges H.goes_on registry.old registry.new) }
 {
-    let line = Line::of_bytes(alloc, bytes)?;
-    match respond(alloc, registry, audience, line)? {
-        Response::Reply(reply) => Ok(Taken::Text(reply.text(alloc, number)?)),
-        Response::Match(articles) => Ok(Taken::Articles(articles)),
+    match take_line_unread(alloc, registry, audience, number, bytes)? {
+        TakenUnread::Text(text) => Ok(Taken::Text(text)),
+        TakenUnread::Drafts(drafts) => Ok(Taken::Articles(articles_of(alloc, &drafts)?)),
     }
 }

@@ -9,7 +9,7 @@ mod server;
 mod session;
 mod settings;
 
-pub use answer::{Taken, take_line};
+pub use answer::{Taken, TakenUnread, take_line, take_line_unread};
 pub use books::Books;
 pub use deliver::deliver_found;
 pub use registry::Registry;

@@ -53,10 +53,10 @@ pub record Replies (old new : History) (m : Meaning) (r : Reply) : Type 0 where
 abbrev pub Settles : List (List ℕ) → History → History → Outline → Reply → Type 0
 Settles names old new o r = (m : Meaning) × MeansOutline names old o m × Replies old new m r
 
--- The line is answered so, or it lists these articles.
+-- The line is answered so, or it lists the articles that these drafts are.
 abbrev pub Comes : List (List ℕ) → History → History → Outline → Response → Type 0
 Comes names old new o (response.Reply r) = Settles names old new o (reply_view r)
-Comes names old new o (response.Match articles) = (o ≡ matches articles.items) × (new ≡ old)
+Comes names old new o (response.Match drafts) = (o ≡ matches drafts.items) × (new ≡ old)
 
 -- ---- any line
 

@@ -7,6 +7,8 @@ use Rattle.clip_protocol.specs.Reply.{reply}
 use Rattle.clip_protocol.specs.declared.form.Form.{Form}
 use Rattle.clip_front.specs.declared.answer.Taken.{Taken}
 use Rattle.clip_front.specs.declared.answer.Taken.TheVariants as taken
+use Rattle.clip_front.specs.declared.answer.TakenUnread.{TakenUnread}
+use Rattle.clip_front.specs.declared.answer.TakenUnread.TheVariants as unread
 
 -- A line that tells no alert means this.
 abbrev pub IsQuiet : Meaning → Type 0
@@ -33,6 +35,11 @@ pub record TakesQuietly (names : List (List ℕ)) (old new : History) (n : ℕ) 
 abbrev pub Takes : List (List ℕ) → History → History → ℕ → List ℕ → Taken → Type 0
 Takes names old new n line (taken.Text text) = TakesQuietly names old new n line text.items
 Takes names old new n line (taken.Articles articles) = Means names old line (matching articles.items) × (new ≡ old)
+
+-- The same, where drafts stand for their articles.
+abbrev pub TakesUnread : List (List ℕ) → History → History → ℕ → List ℕ → TakenUnread → Type 0
+TakesUnread names old new n line (unread.Text text) = TakesQuietly names old new n line text.items
+TakesUnread names old new n line (unread.Drafts drafts) = Means names old line (matching drafts.items) × (new ≡ old)
 
 -- No purge was made of the registry: it stayed, or went on without one.
 abbrev pub Unpurged : {H : Type 0} → (H → H → Type 0) → H → H → Type 0

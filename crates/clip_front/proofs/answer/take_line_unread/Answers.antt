@@ -1,6 +1,6 @@
 use Rattle.clip_front.proofs.Purging.{purges_meant}
 use Rattle.clip_front.proofs.Responses.{takes_settled, takes_matched}
-use Rattle.clip_front.proofs.answer.take_line.Goals as goal
+use Rattle.clip_front.proofs.answer.take_line_unread.Goals as goal
 
 pub returns-in_ok-text-in-Reply-clause-taken : goal.returns-in_ok-text-in-Reply-clause-taken
 returns-in_ok-text-in-Reply-clause-taken g c =
