@@ -1,5 +1,5 @@
 //! The alerts of a batch, matched in pieces by threads.
-ghost use Rattle.std.specs.Prelude.{◌≡◌, ◌+◌, ◌^◌, ◌<◌, ◌≤◌, map, min, max, length, IfOk};
+ghost use Rattle.std.specs.Prelude.{◌≡◌, ◌+◌, ◌*◌, ◌/◌, ◌%◌, ◌^◌, ◌<◌, ◌≤◌, map, min, max, length, IfOk};
 ghost use Rattle.std.specs.List.{All};
 ghost use Rattle.std.specs.Thread.{IsSync};
 ghost use Rattle.clip_standing.specs.Alerts.{alerts_value};
@@ -114,10 +114,12 @@ fn pieces_of(articles: usize, workers: u32) -> u32
     }
 }
 
-/// How many of the articles are in the first of the pieces, where the first pieces have one more than the others.
-fn articles_in(first: u32, pieces: u32, articles: usize) -> usize
+/// How many of so many articles are in the first ones of their pieces, whose sizes differ by at most one: the first
+/// pieces have one more than the others. Constant time.
+pub fn articles_in(first: u32, pieces: u32, articles: usize) -> usize
     requires { (0 < pieces) × (first ≤ pieces) }
-    ensures { result ≤ articles }
+    ensures cut { result ≡ articles / pieces * first + min (articles % pieces) first }
+    ensures within { result ≤ articles }
 {
     let each = articles / pieces as usize;
     let over = articles % pieces as usize;
