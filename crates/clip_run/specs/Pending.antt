@@ -5,6 +5,6 @@ use Rattle.clip_run.specs.declared.batch.Pending.TheVariants as pending
 
 abbrev pub owed_by : Pending → Owed
 owed_by (pending.Ready text) = ready text.items
-owed_by (pending.Matched f) = matched f.number f.due.view.value.history f.due.articles.value.items
+owed_by (pending.Matched f) = matched f.number f.due.view.value.history f.due.drafts.value.items
 owed_by (pending.InFlight f) =
-    matched f.number f.thread.promise.view.value.history f.thread.promise.articles.value.items
+    matched f.number f.thread.promise.view.value.history f.thread.promise.drafts.value.items

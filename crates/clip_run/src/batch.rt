@@ -6,8 +6,9 @@ ghost use Rattle.clip_run.specs.Owed.{matched};
 ghost use Rattle.clip_run.specs.Pending.{owed_by};
 
 use crate::due::{Due, Matched};
-use clip_match::{Gate, HitsFound, match_piece_finding, match_pieces_finding};
-use clip_meaning::Article;
+use crate::pieces::{match_drafts, match_drafts_in_pieces};
+use clip_match::{Gate, HitsFound};
+use clip_protocol::JudgedDraft;
 use clip_registry::View;
 use clip_standing::Alerts;
 use clip_words::NoMemory;
@@ -38,23 +39,23 @@ pub enum Pending {
     InFlight(Flight),
 }
 
-/// Starts the matching of a batch in a thread, or matches it here where none can be made.
+/// Starts the reading and the matching of a batch in a thread, or does both here where none can be made.
 pub fn start_batch<R: Threads, G: Gate + Clone + Send + 'static>(
     rt: &R,
     alloc: Global,
     number: u64,
     view: View,
-    articles: Vec<Article>,
+    drafts: Vec<JudgedDraft>,
     hits: HitsFound,
     batch: u64,
     gate: &G,
 ) -> Result<Pending, NoMemory>
-    ensures { IfOk result (λ p. owed_by p ≡ matched number view.history articles.items) }
+    ensures { IfOk result (λ p. owed_by p ≡ matched number view.history drafts.items) }
 {
     let gate = gate.clone()?;
-    let due = Due::to(&view, &articles);
-    let promise = Due::to(&view, &articles);
-    let work = move || match_piece_finding(alloc, &view, &articles, hits, batch, 0, &gate);
+    let due = Due::to(&view, &drafts);
+    let promise = Due::to(&view, &drafts);
+    let work = move || match_drafts(alloc, &view, &drafts, hits, batch, 0, &gate);
     match thread::spawn_with(rt, promise, work) {
         Ok(thread) => Ok(Pending::InFlight(Flight { number, thread })),
         Err(refused) => {
@@ -68,22 +69,22 @@ pub fn start_batch<R: Threads, G: Gate + Clone + Send + 'static>(
     }
 }
 
-/// Matches a batch in so many pieces, while the caller waits.
+/// Reads and matches a batch in so many pieces, while the caller waits.
 pub fn match_here<R: Threads + Sync, G: Gate>(
     rt: &R,
     alloc: Global,
     number: u64,
     view: View,
-    articles: Vec<Article>,
+    drafts: Vec<JudgedDraft>,
     hits: HitsFound,
     batch: u64,
     pieces: u32,
     gate: &G,
 ) -> Result<Pending, NoMemory>
-    ensures { IfOk result (λ p. owed_by p ≡ matched number view.history articles.items) }
+    ensures { IfOk result (λ p. owed_by p ≡ matched number view.history drafts.items) }
 {
-    let due = Due::to(&view, &articles);
-    let alerts = match_pieces_finding(rt, alloc, &view, &articles, hits, batch, pieces, gate)?;
+    let due = Due::to(&view, &drafts);
+    let alerts = match_drafts_in_pieces(rt, alloc, &view, &drafts, hits, batch, pieces, gate)?;
     Ok(Pending::Matched(Matched {
         number,
         due,
@@ -110,7 +111,7 @@ impl Flight {
     /// The alerts that its thread found. It waits for the thread.
     pub fn join<R: Threads>(self, rt: &R) -> Result<Vec<Alerts>, NoMemory>
         ensures { IfOk result (λ found. map alerts_value found.items
-            ≡ map (alerts_due self.thread.promise.view.value) self.thread.promise.articles.value.items) }
+            ≡ map (alerts_due self.thread.promise.view.value) self.thread.promise.drafts.value.items) }
     {
         self.thread.join(rt)
     }

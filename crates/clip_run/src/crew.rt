@@ -11,11 +11,11 @@ use crate::caller::Caller;
 use crate::due::Matched;
 use crate::finding::hits_found;
 use clip_desk::DeskName;
-use clip_front::{Books, Settings, Taken, deliver_found, take_line};
+use clip_front::{Books, Settings, TakenUnread, deliver_found, take_line_unread};
 use clip_ledger::Ledger;
 use clip_listen::Audience;
 use clip_match::Gate;
-use clip_meaning::Article;
+use clip_protocol::JudgedDraft;
 use clip_words::NoMemory;
 use std::alloc::Global;
 use std::collections::VecDeque;
@@ -180,23 +180,24 @@ impl<'r, 'd, 'g, R: Threads + Wait + Sync, N: DeskName, G: Gate + Clone + Send +
         Ok(())
     }
 
-    /// Begins the matching of a batch. One that has articles enough for all workers is matched here in pieces, and so
-    /// is one behind which no other line stands read; any other in a thread of its own.
+    /// Begins the matching of a batch, whose articles are read by the threads that match them. One that has articles
+    /// enough for all workers is matched here in pieces, and so is one behind which no other line stands read; any
+    /// other in a thread of its own.
     fn begin(
         &mut self,
         alloc: Global,
         number: u64,
-        articles: Vec<Article>,
+        drafts: Vec<JudgedDraft>,
         has_more: bool,
     ) -> Result<(), NoMemory>
         ensures { OnOk result (self.new ≡ record self.old {
-          owed = self.old.owed ++ matched number self.old.history articles.items ∷ [];
+          owed = self.old.owed ++ matched number self.old.history drafts.items ∷ [];
         }) }
     {
         self.pending.reserve(1)?;
         let view = self.caller.look()?;
         self.batches = self.batches.wrapping_add(1);
-        let pieces = pieces_that_pay(articles.len(), self.workers);
+        let pieces = pieces_that_pay(drafts.len(), self.workers);
         let hits = hits_found(self.books.settings);
         let item = if has_more && pieces < self.workers {
             start_batch(
@@ -204,7 +205,7 @@ impl<'r, 'd, 'g, R: Threads + Wait + Sync, N: DeskName, G: Gate + Clone + Send +
                 alloc,
                 number,
                 view,
-                articles,
+                drafts,
                 hits,
                 self.batches,
                 self.gate,
@@ -215,7 +216,7 @@ impl<'r, 'd, 'g, R: Threads + Wait + Sync, N: DeskName, G: Gate + Clone + Send +
                 alloc,
                 number,
                 view,
-                articles,
+                drafts,
                 hits,
                 self.batches,
                 pieces,
@@ -235,18 +236,18 @@ impl<'r, 'd, 'g, R: Threads + Wait + Sync, N: DeskName, G: Gate + Clone + Send +
         alloc: Global,
         audience: &mut A,
         number: u64,
-        articles: Vec<Article>,
+        drafts: Vec<JudgedDraft>,
         has_more: bool,
         out: &mut Vec<u8>,
     ) -> Result<(), NoMemory>
         ensures ok { OnOk result (TakesBatch (course self.old (A.hearers audience.old))
-            (course self.new (A.hearers audience.new)) number articles.items out.old.items out.new.items) }
+            (course self.new (A.hearers audience.new)) number drafts.items out.old.items out.new.items) }
         ensures err { OnErr result (HearsOwed (course self.old (A.hearers audience.old))
             (course self.new (A.hearers audience.new))) }
     {
         let most = self.most.saturating_sub(1);
         self.pay(alloc, audience, out, most)?;
-        self.begin(alloc, number, articles, has_more)
+        self.begin(alloc, number, drafts, has_more)
     }
 
     /// Takes a line, and owes what it gives.
@@ -264,13 +265,13 @@ impl<'r, 'd, 'g, R: Threads + Wait + Sync, N: DeskName, G: Gate + Clone + Send +
         ensures err { OnErr result (BreaksOff (course self.old (A.hearers audience.old))
             (course self.new (A.hearers audience.new)) number bytes.now) }
     {
-        match take_line(alloc, &mut self.caller, audience, number, bytes)? {
-            Taken::Text(text) => {
+        match take_line_unread(alloc, &mut self.caller, audience, number, bytes)? {
+            TakenUnread::Text(text) => {
                 self.pending.push_back(Pending::Ready(text))?;
                 Ok(())
             }
-            Taken::Articles(articles) => {
-                self.take_batch(alloc, audience, number, articles, has_more, out)
+            TakenUnread::Drafts(drafts) => {
+                self.take_batch(alloc, audience, number, drafts, has_more, out)
             }
         }
     }
@@ -279,8 +280,9 @@ impl<'r, 'd, 'g, R: Threads + Wait + Sync, N: DeskName, G: Gate + Clone + Send +
     /// line stands read already, nothing is owed after it.
     ///
     /// `NoMemory` where an allocation failed or a listener answers it; the listeners have heard a front of the alerts
-    /// of what was owed and of the line then. Cost: that of `take_line`; for a batch that of a thread's start, or of
-    /// `match_pieces`; and that of `deliver_found` for what is given. It waits for threads whose batch is given.
+    /// of what was owed and of the line then. Cost: that of `take_line_unread`; for a batch that of a thread's start, or
+    /// of `match_drafts_in_pieces`; and that of `deliver_found` for what is given. It waits for threads whose batch is
+    /// given.
     pub fn answer<A: Audience>(
         &mut self,
         alloc: Global,

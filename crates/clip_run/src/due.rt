@@ -3,20 +3,20 @@ ghost use Rattle.std.specs.Prelude.{◌≡◌, map};
 ghost use Rattle.clip_match.specs.Alerts.{alerts_due};
 ghost use Rattle.clip_standing.specs.Alerts.{alerts_value};
 
-use clip_meaning::Article;
+use clip_protocol::JudgedDraft;
 use clip_registry::View;
 use clip_standing::Alerts;
 use clip_words::NoMemory;
 use std::snapshot::Snapshot;
 use std::thread::Promise;
 
-/// What is due to a batch: the alerts of these articles at this view. It takes no bytes.
+/// What is due to a batch: the alerts of the articles that these drafts are, at this view. It takes no bytes.
 #[derive(Drop)]
 pub struct Due {
     /// The view.
     pub view: Snapshot<View>,
-    /// The articles.
-    pub articles: Snapshot<Vec<Article>>,
+    /// The drafts.
+    pub drafts: Snapshot<Vec<JudgedDraft>>,
 }
 
 impl Promise<Result<Vec<Alerts>, NoMemory>> for Due {
@@ -25,7 +25,7 @@ impl Promise<Result<Vec<Alerts>, NoMemory>> for Due {
     ghost use Rattle.clip_standing.specs.Alerts.{alerts_value};
 
     ghost kept_by = { λ due result. IfOk result (λ found. map alerts_value found.items
-        ≡ map (alerts_due due.view.value) due.articles.value.items) };
+        ≡ map (alerts_due due.view.value) due.drafts.value.items) };
 }
 
 /// A batch that was matched.
@@ -37,17 +37,17 @@ pub struct Matched {
     pub due: Due,
     /// The alerts of each article.
     pub alerts: Vec<Alerts>,
-    pub ghost right: { map alerts_value alerts.items ≡ map (alerts_due due.view.value) due.articles.value.items },
+    pub ghost right: { map alerts_value alerts.items ≡ map (alerts_due due.view.value) due.drafts.value.items },
 }
 
 impl Due {
-    /// What is due to the articles at the view. Constant time.
-    pub fn to(view: &View, articles: &Vec<Article>) -> Due
-        ensures { (result.view.value ≡ view.now) × (result.articles.value ≡ articles.now) }
+    /// What is due to the drafts' articles at the view. Constant time.
+    pub fn to(view: &View, drafts: &Vec<JudgedDraft>) -> Due
+        ensures { (result.view.value ≡ view.now) × (result.drafts.value ≡ drafts.now) }
     {
         Due {
             view: Snapshot::of(view),
-            articles: Snapshot::of(articles),
+            drafts: Snapshot::of(drafts),
         }
     }
 }

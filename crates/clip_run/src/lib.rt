@@ -1,5 +1,5 @@
-//! Runs: lines in, replies out, on one thread or with workers. With workers batches are matched in threads and segments
-//! merged in another, and the replies are those of a run alone.
+//! Runs: lines in, replies out, on one thread or with workers. With workers batches are read and matched in threads and
+//! segments merged in another, and the replies are those of a run alone.
 #![tactic(auto)]
 
 mod alone;
@@ -8,6 +8,7 @@ mod caller;
 mod crew;
 mod due;
 mod finding;
+mod pieces;
 mod serving;
 mod session;
 

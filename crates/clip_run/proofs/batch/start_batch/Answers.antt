@@ -12,8 +12,8 @@ use Rattle.std.below.std_heap.proofs.GlobalAllocator.TheSendSync as allocator_se
 use Rattle.std.proofs.result.Result.TheSendSync as result_sent
 use Rattle.std.proofs.vec.Vec.TheSendSync as vec_sent
 use Rattle.clip_words.proofs.NoMemory.TheSendSync as no_memory_sent
-use Rattle.clip_meaning.proofs.article.Article.TheSendSync as article_sent
-use Rattle.clip_meaning.specs.contracts.article.Article as article
+use Rattle.clip_protocol.proofs.judged.JudgedDraft.TheSendSync as judged_sent
+use Rattle.clip_protocol.specs.contracts.judged.JudgedDraft as judged
 use Rattle.clip_registry.proofs.Sent.{view_is_send}
 use Rattle.clip_registry.specs.contracts.view.View as view
 use Rattle.std.specs.contracts.alloc.Global as global
@@ -25,7 +25,7 @@ use Rattle.clip_match.proofs.held.HitsFound.TheSendSync as hits_found_sent
 use Rattle.clip_match.specs.contracts.held.HitsFound as hits_found
 use Rattle.clip_run.proofs.batch.start_batch.Goals as goal
 
-ruleset lists = (sendable, global_sent.the_send, global_sent.the_sync, allocator_sent.the_frees, vec_sent.the_send, article_sent.the_send)
+ruleset lists = (sendable, global_sent.the_send, global_sent.the_sync, allocator_sent.the_frees, vec_sent.the_send, judged_sent.the_send)
 
 -- a closure of six captures
 captures_send : (name : Sym) (A B C D E F : RattleType) → IsSend A → IsSend B → IsSend C → IsSend D → IsSend E → IsSend F → IsSend (TupleAt name (A ∷ B ∷ C ∷ D ∷ E ∷ F ∷ []))
@@ -34,8 +34,8 @@ captures_send name A B C D E F a b c d e f =
 
 pub spawn_with-requires-send-F : goal.spawn_with-requires-send-F
 spawn_with-requires-send-F g c κs within =
-    let articles = vec.the_row article.the_row global.the_row global_allocator.ghosts in
-    param_send 2 _ (arg_send _ no _ (captures_send _ global.the_row view.the_row articles hits_found.the_row (u64-field).row (param 1 g.row.G) (search lists) view_is_send (search lists) hits_found_sent.the_send (search sendable) (search (sendable, c.type_bounds.send-G))))
+    let drafts = vec.the_row judged.the_row global.the_row global_allocator.ghosts in
+    param_send 2 _ (arg_send _ no _ (captures_send _ global.the_row view.the_row drafts hits_found.the_row (u64-field).row (param 1 g.row.G) (search lists) view_is_send (search lists) hits_found_sent.the_send (search sendable) (search (sendable, c.type_bounds.send-G))))
 
 pub spawn_with-requires-send-T : goal.spawn_with-requires-send-T
 spawn_with-requires-send-T g c κs within =

@@ -24,54 +24,54 @@ pub returns-in-Matched-clause-text : goal.returns-in-Matched-clause-text
 returns-in-Matched-clause-text g c =
     let hearers = g.A.Audience.hearers c.args.audience.now in
     let f = c.in-Matched.batch in
-    let same = found_owed hearers c.args.item f.number f.due.view.value f.due.articles.value.items (map alerts_value f.alerts.items) (ap owed_by c.in-Matched.is) f.right in
+    let same = found_owed hearers c.args.item f.number f.due.view.value f.due.drafts.value.items (map alerts_value f.alerts.items) (ap owed_by c.in-Matched.is) f.right in
     subst (λ o. IfOk c.deliver_found.result (λ text. text.items ≡ o.text c.args.books.now.settings.form)) same c.deliver_found.ensures.text
 
 pub returns-in-Matched-clause-heard : goal.returns-in-Matched-clause-heard
 returns-in-Matched-clause-heard g c =
     let hearers = g.A.Audience.hearers c.args.audience.now in
     let f = c.in-Matched.batch in
-    let same = found_owed hearers c.args.item f.number f.due.view.value f.due.articles.value.items (map alerts_value f.alerts.items) (ap owed_by c.in-Matched.is) f.right in
+    let same = found_owed hearers c.args.item f.number f.due.view.value f.due.drafts.value.items (map alerts_value f.alerts.items) (ap owed_by c.in-Matched.is) f.right in
     subst (λ o. OnOk c.deliver_found.result (g.A.Audience.hearers c.deliver_found.new.audience ≡ told_all o.alerts hearers)) same c.deliver_found.ensures.heard
 
 pub returns-in-Matched-clause-rows : goal.returns-in-Matched-clause-rows
 returns-in-Matched-clause-rows g c =
     let hearers = g.A.Audience.hearers c.args.audience.now in
     let f = c.in-Matched.batch in
-    let same = found_owed hearers c.args.item f.number f.due.view.value f.due.articles.value.items (map alerts_value f.alerts.items) (ap owed_by c.in-Matched.is) f.right in
+    let same = found_owed hearers c.args.item f.number f.due.view.value f.due.drafts.value.items (map alerts_value f.alerts.items) (ap owed_by c.in-Matched.is) f.right in
     subst (λ o. OnOk c.deliver_found.result (c.deliver_found.new.books.ledger ≡ c.args.books.now.ledger ++ kept_rows c.args.books.now.settings.keeps_rows o.rows)) same c.deliver_found.ensures.rows
 
 pub returns-in-Matched-clause-err : goal.returns-in-Matched-clause-err
 returns-in-Matched-clause-err g c =
     let hearers = g.A.Audience.hearers c.args.audience.now in
     let f = c.in-Matched.batch in
-    let same = found_owed hearers c.args.item f.number f.due.view.value f.due.articles.value.items (map alerts_value f.alerts.items) (ap owed_by c.in-Matched.is) f.right in
+    let same = found_owed hearers c.args.item f.number f.due.view.value f.due.drafts.value.items (map alerts_value f.alerts.items) (ap owed_by c.in-Matched.is) f.right in
     subst (λ o. OnErr c.deliver_found.result (HearsFront o.alerts hearers (g.A.Audience.hearers c.deliver_found.new.audience))) same c.deliver_found.ensures.err
 
 pub returns-in_ok-alerts-in-InFlight-clause-text : goal.returns-in_ok-alerts-in-InFlight-clause-text
 returns-in_ok-alerts-in-InFlight-clause-text g c =
     let hearers = g.A.Audience.hearers c.args.audience.now in
     let f = c.in-InFlight.flight in
-    let same = found_owed hearers c.args.item f.number f.thread.promise.view.value f.thread.promise.articles.value.items (map alerts_value c.in_ok-alerts-in-InFlight.alerts.items) (ap owed_by c.in-InFlight.is) c.in_ok-alerts-in-InFlight.ensures in
+    let same = found_owed hearers c.args.item f.number f.thread.promise.view.value f.thread.promise.drafts.value.items (map alerts_value c.in_ok-alerts-in-InFlight.alerts.items) (ap owed_by c.in-InFlight.is) c.in_ok-alerts-in-InFlight.ensures in
     subst (λ o. IfOk c.deliver_found-in-InFlight.result (λ text. text.items ≡ o.text c.args.books.now.settings.form)) same c.deliver_found-in-InFlight.ensures.text
 
 pub returns-in_ok-alerts-in-InFlight-clause-heard : goal.returns-in_ok-alerts-in-InFlight-clause-heard
 returns-in_ok-alerts-in-InFlight-clause-heard g c =
     let hearers = g.A.Audience.hearers c.args.audience.now in
     let f = c.in-InFlight.flight in
-    let same = found_owed hearers c.args.item f.number f.thread.promise.view.value f.thread.promise.articles.value.items (map alerts_value c.in_ok-alerts-in-InFlight.alerts.items) (ap owed_by c.in-InFlight.is) c.in_ok-alerts-in-InFlight.ensures in
+    let same = found_owed hearers c.args.item f.number f.thread.promise.view.value f.thread.promise.drafts.value.items (map alerts_value c.in_ok-alerts-in-InFlight.alerts.items) (ap owed_by c.in-InFlight.is) c.in_ok-alerts-in-InFlight.ensures in
     subst (λ o. OnOk c.deliver_found-in-InFlight.result (g.A.Audience.hearers c.deliver_found-in-InFlight.new.audience ≡ told_all o.alerts hearers)) same c.deliver_found-in-InFlight.ensures.heard
 
 pub returns-in_ok-alerts-in-InFlight-clause-rows : goal.returns-in_ok-alerts-in-InFlight-clause-rows
 returns-in_ok-alerts-in-InFlight-clause-rows g c =
     let hearers = g.A.Audience.hearers c.args.audience.now in
     let f = c.in-InFlight.flight in
-    let same = found_owed hearers c.args.item f.number f.thread.promise.view.value f.thread.promise.articles.value.items (map alerts_value c.in_ok-alerts-in-InFlight.alerts.items) (ap owed_by c.in-InFlight.is) c.in_ok-alerts-in-InFlight.ensures in
+    let same = found_owed hearers c.args.item f.number f.thread.promise.view.value f.thread.promise.drafts.value.items (map alerts_value c.in_ok-alerts-in-InFlight.alerts.items) (ap owed_by c.in-InFlight.is) c.in_ok-alerts-in-InFlight.ensures in
     subst (λ o. OnOk c.deliver_found-in-InFlight.result (c.deliver_found-in-InFlight.new.books.ledger ≡ c.args.books.now.ledger ++ kept_rows c.args.books.now.settings.keeps_rows o.rows)) same c.deliver_found-in-InFlight.ensures.rows
 
 pub returns-in_ok-alerts-in-InFlight-clause-err : goal.returns-in_ok-alerts-in-InFlight-clause-err
 returns-in_ok-alerts-in-InFlight-clause-err g c =
     let hearers = g.A.Audience.hearers c.args.audience.now in
     let f = c.in-InFlight.flight in
-    let same = found_owed hearers c.args.item f.number f.thread.promise.view.value f.thread.promise.articles.value.items (map alerts_value c.in_ok-alerts-in-InFlight.alerts.items) (ap owed_by c.in-InFlight.is) c.in_ok-alerts-in-InFlight.ensures in
+    let same = found_owed hearers c.args.item f.number f.thread.promise.view.value f.thread.promise.drafts.value.items (map alerts_value c.in_ok-alerts-in-InFlight.alerts.items) (ap owed_by c.in-InFlight.is) c.in_ok-alerts-in-InFlight.ensures in
     subst (λ o. OnErr c.deliver_found-in-InFlight.result (HearsFront o.alerts hearers (g.A.Audience.hearers c.deliver_found-in-InFlight.new.audience))) same c.deliver_found-in-InFlight.ensures.err

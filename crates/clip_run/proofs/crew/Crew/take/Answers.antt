@@ -1,7 +1,7 @@
 use Rattle.std.proofs.Common.{refl, subst}
 use Rattle.clip_stream.proofs.Faults.{on_err}
 use Rattle.clip_front.specs.Outcome.{names_in}
-use Rattle.clip_front.specs.Steps.Taking.{Takes}
+use Rattle.clip_front.specs.Steps.Taking.{TakesUnread}
 use Rattle.clip_run.specs.Crews.{course}
 use Rattle.clip_run.specs.declared.batch.Pending.TheVariants as pending
 use Rattle.clip_run.proofs.Owing.{breaks_owed, hears_none, turns_ready, turns_begun, on_ok_more, on_err_more}
@@ -18,18 +18,18 @@ pub returns-in_ok-push_back-in-Text-clause-ok : goal.returns-in_ok-push_back-in-
 returns-in_ok-push_back-in-Text-clause-ok g c =
     let i = c.self.inside in
     let hearers = g.A.Audience.hearers c.args.audience.now in
-    let takes = subst (Takes (names_in hearers) i.caller c.take_line.new.registry c.args.number c.args.bytes.now) c.in-Text.is c.in_ok-text.ensures.taken in
+    let takes = subst (TakesUnread (names_in hearers) i.caller c.take_line_unread.new.registry c.args.number c.args.bytes.now) c.in-Text.is c.in_ok-text.ensures.taken in
     rw (← c.self.view_is)
-    (turns_ready i.caller c.take_line.new.registry hearers i.books.ledger i.books.settings i.pending.items c.push_back.new.self.items (pending.Ready c.in-Text.text) c.args.number c.args.bytes.now c.in-Text.text.items c.args.out.now.items takes c.in_ok-push_back-in-Text.ensures.items refl)
+    (turns_ready i.caller c.take_line_unread.new.registry hearers i.books.ledger i.books.settings i.pending.items c.push_back.new.self.items (pending.Ready c.in-Text.text) c.args.number c.args.bytes.now c.in-Text.text.items c.args.out.now.items takes c.in_ok-push_back-in-Text.ensures.items refl)
 
-pub returns-in-Articles-clause-ok : goal.returns-in-Articles-clause-ok
-returns-in-Articles-clause-ok g c =
+pub returns-in-Drafts-clause-ok : goal.returns-in-Drafts-clause-ok
+returns-in-Drafts-clause-ok g c =
     let i = c.self.inside in
     let hearers = g.A.Audience.hearers c.args.audience.now in
-    let takes = subst (Takes (names_in hearers) i.caller c.take_line.new.registry c.args.number c.args.bytes.now) c.in-Articles.is c.in_ok-text.ensures.taken in
+    let takes = subst (TakesUnread (names_in hearers) i.caller c.take_line_unread.new.registry c.args.number c.args.bytes.now) c.in-Drafts.is c.in_ok-text.ensures.taken in
     rw (← c.self.view_is)
     (on_ok_more c.take_batch.result c.take_batch.ensures.ok
-    (turns_begun i.caller c.take_line.new.registry hearers i.books.ledger i.books.settings _ (course c.take_batch.new.self (g.A.Audience.hearers c.take_batch.new.audience)) c.args.number c.args.bytes.now c.in-Articles.articles.items c.args.out.now.items c.take_batch.new.out.items takes.0 takes.1))
+    (turns_begun i.caller c.take_line_unread.new.registry hearers i.books.ledger i.books.settings _ (course c.take_batch.new.self (g.A.Audience.hearers c.take_batch.new.audience)) c.args.number c.args.bytes.now c.in-Drafts.drafts.items c.args.out.now.items c.take_batch.new.out.items takes.0 takes.1))
 
-pub returns-in-Articles-clause-err : goal.returns-in-Articles-clause-err
-returns-in-Articles-clause-err g c = rw (← c.self.view_is) (on_err_more c.take_batch.result c.take_batch.ensures.err (breaks_owed _ _ c.args.number c.args.bytes.now))
+pub returns-in-Drafts-clause-err : goal.returns-in-Drafts-clause-err
+returns-in-Drafts-clause-err g c = rw (← c.self.view_is) (on_err_more c.take_batch.result c.take_batch.ensures.err (breaks_owed _ _ c.args.number c.args.bytes.now))
