@@ -1,13 +1,13 @@
 //! Entries whose queries hold of an article, and when their hits are found.
-ghost use Rattle.std.specs.Prelude.{◌≡◌, true, map, is_some, IfOk};
-ghost use Rattle.clip_standing.specs.Alerts.{alert_value, has_hits};
-ghost use Rattle.clip_match.specs.Alerts.{alert_due};
-ghost use Rattle.clip_match.specs.Steps.Held.{AreItsHits};
+ghost use Rattle.std.specs.Prelude.{◌≡◌, map, IfOk};
+ghost use Rattle.clip_words.specs.Order.{bytes_cmp};
 
-use clip_meaning::{Article, Hit};
-use clip_standing::{Alert, Entry};
+use clip_meaning::{Hit, compare_by_leads, lead_of};
+use clip_standing::Entry;
 use clip_words::NoMemory;
 use std::alloc::Global;
+use std::cmp::Ordering;
+use std::marker::Model;
 
 /// When the hits of an alert are found.
 #[derive(Clone, Copy, Debug, PartialEq, Eq)]
@@ -18,23 +18,71 @@ pub enum HitsFound {
     AtOnce,
 }
 
-/// An entry whose query holds of an article, with its hits where they were found at once.
+/// The id of a query beside its lead, by which most ids are told apart without a look at their texts. Contracts see the
+/// id.
+#[derive(Drop)]
+struct LedId<'a> {
+    id: &'a str,
+    lead: u64,
+}
+
+impl<'a> Model for LedId<'a> {
+    ghost use Rattle.std.specs.Prelude.{ℕ, List};
+    ghost use Rattle.clip_meaning.specs.Leads.{IsLead};
+
+    ghost Value = { List ℕ };
+
+    ghost view = { λ i. i.id.now };
+
+    ghost invariant = { λ i. IsLead i.id.now i.lead };
+}
+
+impl<'a> LedId<'a> {
+    /// An id with its lead.
+    fn of(id: &'a str) -> LedId<'a>
+        ensures { result ≡ id.now }
+    {
+        LedId {
+            id,
+            lead: lead_of(id),
+        }
+    }
+
+    /// The order of two ids, by their bytes.
+    fn order(&self, other: &LedId<'a>) -> Ordering
+        ensures { result ≡ bytes_cmp self.now other.now }
+    {
+        compare_by_leads(self.id, self.lead, other.id, other.lead)
+    }
+}
+
+/// An entry whose query holds of an article, with its id, and with its hits where they were found at once.
 #[derive(Drop)]
 pub(crate) struct Held<'a> {
     pub(crate) registered: &'a Entry,
+    id: LedId<'a>,
     pub(crate) hits: Option<Vec<Hit>>,
+    ghost own: { id ≡ registered.now.standing.id },
 }
 
-/// The alert of an entry whose query holds of the article, with its hits where they were found.
-pub(crate) fn alert_of(held: Held<'_>, article: &Article) -> Result<Alert, NoMemory>
-    requires { AreItsHits article.now held }
-    ensures value { IfOk result (λ alert. alert_value alert ≡ alert_due article.now held.entry.registered.now) }
-    ensures found { IfOk result (λ alert. is_some held.entry.hits ≡ true → has_hits alert ≡ true) }
-{
-    let Held { registered, hits } = held;
-    match hits {
-        Some(hits) => Alert::with_hits(registered.standing(), article, hits),
-        None => Alert::of(registered.standing(), article),
+impl<'a> Held<'a> {
+    /// An entry with its hits, where they were found.
+    pub(crate) fn of(registered: &'a Entry, hits: Option<Vec<Hit>>) -> Held<'a>
+        ensures registered { result.registered.now ≡ registered.now }
+        ensures hits { result.hits ≡ hits }
+    {
+        Held {
+            registered,
+            id: LedId::of(registered.standing().id()),
+            hits,
+        }
+    }
+
+    /// The order of the ids of two entries. A text is looked at only where both have the same lead.
+    pub(crate) fn order(&self, other: &Held<'a>) -> Ordering
+        ensures { result ≡ bytes_cmp self.now.registered.now.standing.id other.now.registered.now.standing.id }
+    {
+        self.id.order(&other.id)
     }
 }
 

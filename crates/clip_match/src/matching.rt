@@ -7,7 +7,7 @@ ghost use Rattle.clip_standing.specs.Alerts.{alert_value, alerts_value, has_hits
 ghost use Rattle.clip_match.specs.Alerts.{HaveHits, alert_due, alerts_due};
 ghost use Rattle.clip_match.specs.Steps.Held.{AreItsHits};
 
-use crate::held::{Held, HitsFound, alert_of};
+use crate::held::{Held, HitsFound};
 use crate::trying::judge_candidates;
 use clip_meaning::Article;
 use clip_registry::View;
@@ -24,13 +24,25 @@ fn sort_by_id(held: &mut Vec<Held>)
     held.sort_unstable_by(
         |a: &Held, b: &Held| -> Ordering
             ensures { result ≡ bytes_cmp a.now.registered.now.standing.id b.now.registered.now.standing.id }
-        {
-            a.registered
-                .standing()
-                .id()
-                .cmp(b.registered.standing().id())
-        },
+        { a.order(b) },
     );
+}
+
+/// The alert of an entry whose query holds of the article, with its hits where they were found.
+fn alert_of(held: Held<'_>, article: &Article) -> Result<Alert, NoMemory>
+    requires { AreItsHits article.now held }
+    ensures value { IfOk result (λ alert. alert_value alert ≡ alert_due article.now held.entry.registered.now) }
+    ensures found { IfOk result (λ alert. is_some held.entry.hits ≡ true → has_hits alert ≡ true) }
+{
+    let Held {
+        registered,
+        hits,
+        ..
+    } = held;
+    match hits {
+        Some(hits) => Alert::with_hits(registered.standing(), article, hits),
+        None => Alert::of(registered.standing(), article),
+    }
 }
 
 /// The alerts of queries that hold of the article, in their order, with their hits where these were found.

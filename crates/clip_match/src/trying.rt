@@ -116,10 +116,7 @@ fn add_entries<'a>(
         let Some(registered) = reading.entry(*position) else {
             continue;
         };
-        held.push(Held {
-            registered,
-            hits: None,
-        })?;
+        held.push(Held::of(registered, None))?;
     }
     Ok(())
 }
@@ -143,10 +140,7 @@ fn add_with_hits<'a>(
             continue;
         };
         let hits = spots.hits(alloc, *position)?;
-        held.push(Held {
-            registered,
-            hits: Some(hits),
-        })?;
+        held.push(Held::of(registered, Some(hits)))?;
     }
     Ok(())
 }
