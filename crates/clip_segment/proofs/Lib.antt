@@ -10,6 +10,7 @@ pub mod KeptTerms
 pub mod Keys
 pub mod Lists
 pub mod Numbers
+pub mod OldNumbers
 pub mod Seconds
 pub mod Selected
 pub mod Sent

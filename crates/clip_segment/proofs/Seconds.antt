@@ -1,5 +1,5 @@
 -- Queries that need a second key, and articles that have none of theirs.
-use Rattle.std.proofs.Common.{◌≡◌, ℕ, ◌<◌, Bool, true, false, ◌||◌, nat_eq, List, [], ◌∷◌, map, flat_map, length, get_or, Some, slice_get, option_map, Vec, Global, vec_items, IsTrue, refl, sym, ap, ◌∙◌, subst}
+use Rattle.std.proofs.Common.{◌≡◌, ℕ, ◌<◌, Bool, true, false, ◌||◌, nat_eq, List, [], ◌∷◌, map, flat_map, length, get_or, Some, slice_get, option_map, IsTrue, refl, sym, ap, ◌∙◌, subst}
 use Rattle.std.specs.List.{list_any}
 use Rattle.std.proofs.lemmas.Bool.{false_from_ne_true, false≢true, and_parts}
 use Rattle.std.proofs.lemmas.List.{ext_get_or, length-map}
@@ -36,13 +36,12 @@ terms_needed terms (t ∷ ts) among =
     λ i. any_term terms (second_keys t) (asked_parts terms t parts.0).1 i ∷ terms_needed terms ts parts.1 i
 
 -- the positions in the lists by second keys are those of the queries that have some
-pub needs_are : (trees : List Tree) (terms : List KeyValue) → terms ≡ terms_of trees → (lists : List (Vec ℕ Global)) → map vec_items lists ≡ positions_by second_keys terms trees → (needs : List Bool) → length needs ≡ length trees
-    → ((position : ℕ) → position < length needs → get_or needs position false ≡ list_any (nat_eq position) (flat_map vec_items lists)) → needs ≡ map needs_second trees
+pub needs_are : (trees : List Tree) (terms : List KeyValue) → terms ≡ terms_of trees → (lists : List (List ℕ)) → lists ≡ positions_by second_keys terms trees → (needs : List Bool) → length needs ≡ length trees
+    → ((position : ℕ) → position < length needs → get_or needs position false ≡ list_any (nat_eq position) (flat_map (λ list. list) lists)) → needs ≡ map needs_second trees
 needs_are trees terms are lists placed needs long marked =
     let has_term = λ (tree : Tree). share (second_keys tree) terms in
     let under = λ (term : KeyValue). query_positions_with second_keys term trees in
-    let all : flat_map vec_items lists ≡ flat_map under terms =
-    sym (flat_map-map (λ (l : List ℕ). l) vec_items lists) ∙ ap (flat_map (λ l. l)) placed ∙ flat_map-map (λ (l : List ℕ). l) under terms in
+    let all : flat_map (λ list. list) lists ≡ flat_map under terms = ap (flat_map (λ l. l)) placed ∙ flat_map-map (λ (l : List ℕ). l) under terms in
     ext_get_or false needs (map has_term trees) (long ∙ sym (length-map trees has_term))
     (λ position lt. marked position lt ∙ ap (list_any (nat_eq position)) all ∙ any_position second_keys terms trees position ∙ position_passes has_term trees position)
     ∙ terms_needed terms trees

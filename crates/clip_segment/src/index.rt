@@ -9,9 +9,9 @@ ghost use Rattle.clip_segment.specs.Selecting.{AreFlagsOf, AreIndexesOf, count_s
 ghost use Rattle.clip_segment.specs.declared.segment.TheConstants.{MOST_POSITIONS};
 
 use crate::building::{lists_of, plans_of, terms_of, with_keys};
-use crate::index_selecting::add_all_kept;
+use crate::index_selecting::{sources_of, taken_lists};
 use crate::kept_terms::kept_terms;
-use crate::term_lists::{TermLists, marks_of, packed};
+use crate::term_lists::{marks_of, packed};
 use clip_extract::Key;
 use clip_grammar::query::Query;
 use clip_pieces::{Marks, PackedLists};
@@ -46,21 +46,22 @@ impl Model for Index {
     ghost view = { index_of };
 }
 
-/// The index of these terms, lists and plans, which are those of some queries.
-fn packed_index(
+/// The index of these terms, positions and plans, which are those of some queries.
+fn made_index(
     alloc: Global,
     terms: Terms,
-    lists: &TermLists,
+    positions: PackedLists<u32>,
+    seconds: PackedLists<u32>,
     plans: Plans,
 ) -> Result<Index, NoMemory>
     ensures { IfOk result (λ index. (trees : List Tree) → length trees ≤ MOST_POSITIONS → terms ≡ terms_of trees
-        → AreMadeOf terms trees lists.now plans → IsIndexOf trees index) }
+        → AreMadeOf terms trees positions seconds plans → IsIndexOf trees index) }
 {
-    let needs = marks_of(alloc, &lists.seconds, plans.len())?;
+    let needs = marks_of(alloc, &seconds, plans.len())?;
     Ok(Index {
         terms,
-        positions: packed(alloc, &lists.positions)?,
-        seconds: packed(alloc, &lists.seconds)?,
+        positions,
+        seconds,
         needs,
         plans,
     })
@@ -81,7 +82,9 @@ impl Index {
         let terms = terms_of(alloc, &keyed)?;
         let lists = lists_of(alloc, &terms, &keyed)?;
         let plans = plans_of(alloc, &terms, &keyed)?;
-        packed_index(alloc, terms, &lists, plans)
+        let positions = packed(alloc, &lists.positions)?;
+        let seconds = packed(alloc, &lists.seconds)?;
+        made_index(alloc, terms, positions, seconds, plans)
     }
 
     /// The index of the kept queries of several indexes, in order. `kept` has a list of flags for each index, and in it
@@ -102,10 +105,11 @@ impl Index {
             → IsIndexOf (kept_of trees (map vec_items kept.now)) index) }
     {
         let terms = kept_terms(alloc, indexes, kept)?;
-        let mut lists = TermLists::empty(alloc, terms.len())?;
         let mut plans = Plans::new(alloc);
-        add_all_kept(alloc, &terms, indexes, kept, &mut lists, &mut plans)?;
-        packed_index(alloc, terms, &lists, plans)
+        let sources = sources_of(alloc, &terms, indexes, kept, &mut plans)?;
+        let positions = taken_lists(alloc, &terms, &sources, false)?;
+        let seconds = taken_lists(alloc, &terms, &sources, true)?;
+        made_index(alloc, terms, positions, seconds, plans)
     }
 
     /// The positions, from 0 and rising, of just the queries that have the key. Takes no memory. Cost: a search by

@@ -1,27 +1,35 @@
 //! How the index of kept queries is made of the indexes that have them: the same terms, positions and plans,
 //! renumbered.
-ghost use Rattle.std.specs.Prelude.{◌≡◌, ◌+◌, ◌≤◌, ◌<◌, ◌++◌, ◌∷◌, [], ℕ, Option, List, IfOk, IfSome, OnOk, IsTrue};
-ghost use Rattle.std.specs.Prelude.{All, length, map, flat_map, set, get_or, vec_items};
+ghost use Rattle.std.specs.Prelude.{◌≡◌, ◌+◌, ◌≤◌, ◌<◌, ◌++◌, ◌∷◌, [], ℕ, Bool, Option, Some, None, List};
+ghost use Rattle.std.specs.Prelude.{IfOk, OnOk, IsTrue, length, map, flat_map, set, unwrap_or, slice_get, vec_items};
 ghost use Rattle.std.specs.List.{count_by};
 ghost use Rattle.std.specs.List.Sorted.{IsStrictlySortedBy};
 ghost use Rattle.clip_grammar.specs.Tree.{Tree};
 ghost use Rattle.clip_extract.specs.Keys.{KeyValue, key_cmp};
-ghost use Rattle.clip_terms.specs.Terms.{number_of};
+ghost use Rattle.clip_terms.specs.Terms.{number_of, term_at};
 ghost use Rattle.clip_plan.specs.Plan.{are_terms, decoded, renamed};
 ghost use Rattle.clip_segment.specs.Index.{IsIndexOf, asked_of, terms_of};
 ghost use Rattle.clip_segment.specs.Selecting.{AreFlagsOf, AreIndexesOf, count_set, flagged, kept_of};
-ghost use Rattle.clip_segment.specs.Steps.Parts.{AreFor, AreMadeOf, list_added, moved, new_position, new_positions};
-ghost use Rattle.clip_segment.specs.Steps.Parts.{with_more};
+ghost use Rattle.clip_segment.specs.Steps.Parts.{AreFrom, listed, lists_by, moved, new_position, new_positions, taken};
+ghost use Rattle.clip_segment.specs.declared.index_selecting.Source.{Source};
 ghost use Rattle.clip_segment.specs.declared.segment.TheConstants.{MOST_POSITIONS};
 
 use crate::index::Index;
 use crate::kept_terms::{flag_at, flags_of};
-use crate::term_lists::TermLists;
 use clip_pieces::PackedLists;
 use clip_plan::Plans;
 use clip_terms::Terms;
 use clip_words::NoMemory;
 use std::alloc::Global;
+
+/// An index of which queries are kept, as an index of kept queries takes them over: for each term there its number
+/// here, and for each position here the new one.
+#[derive(Drop)]
+pub(crate) struct Source<'a> {
+    index: &'a Index,
+    numbers: Vec<Option<u32>>,
+    moves: Vec<Option<u32>>,
+}
 
 /// For each flag that is set the next position, from `first` on.
 fn new_positions(alloc: Global, kept: &[bool], first: u32) -> Result<Vec<Option<u32>>, NoMemory>
@@ -71,60 +79,33 @@ fn add_all_moved(moves: &[Option<u32>], old: &[u32], list: &mut Vec<u32>) -> Res
     Ok(())
 }
 
-/// Adds the new positions of old ones to the list of a number.
-fn add_to_list(
-    number: usize,
-    old: &[u32],
-    moves: &[Option<u32>],
-    lists: &mut Vec<Vec<u32>>,
-) -> Result<(), NoMemory>
-    requires { number < length lists.old.items }
-    ensures { OnOk result (map vec_items lists.new.items
-        ≡ set (map vec_items lists.old.items) number
-        (get_or (map vec_items lists.old.items) number [] ++ moved moves.now old.now)) }
+/// Sets the number at a place, if there is one.
+fn set_number(numbers: &mut Vec<Option<u32>>, place: usize, number: u32)
+    ensures { numbers.new.items ≡ set numbers.old.items place (Some number) }
 {
-    add_all_moved(moves, old, &mut lists[number])?;
-    Ok(())
-}
-
-/// Adds the new positions of old ones to the list of a number, if there is one.
-fn add_list(
-    number: Option<u32>,
-    old: &[u32],
-    moves: &[Option<u32>],
-    lists: &mut Vec<Vec<u32>>,
-) -> Result<(), NoMemory>
-    requires { IfSome number (λ n. n < length lists.old.items) }
-    ensures { OnOk result (map vec_items lists.new.items
-        ≡ list_added number (moved moves.now old.now) (map vec_items lists.old.items)) }
-{
-    match number {
-        Some(number) => add_to_list(number as usize, old, moves, lists),
-        None => Ok(()),
+    if place < numbers.len() {
+        numbers[place] = Some(number);
     }
 }
 
-/// Adds the new positions under each term of an index to the list of the term's new number.
-fn add_lists(
-    positions: &PackedLists<u32>,
+/// The numbers of terms among old terms, by the numbers of the old ones among them.
+fn old_numbers(
+    alloc: Global,
+    terms: &Terms,
+    olds: &Terms,
     numbers: &[Option<u32>],
-    moves: &[Option<u32>],
-    lists: &mut Vec<Vec<u32>>,
-) -> Result<(), NoMemory>
-    requires { All (λ number. IfSome number (λ n. n < length lists.old.items)) numbers.now }
-    ensures long { OnOk result (length lists.new.items ≡ length lists.old.items) }
-    ensures added { OnOk result ((terms keys : List KeyValue) (under old : KeyValue → List ℕ)
-        → IsStrictlySortedBy key_cmp terms
-        → numbers.now ≡ map (number_of terms) keys → positions.now ≡ map old keys
-        → map vec_items lists.old.items ≡ map under terms
-        → map vec_items lists.new.items ≡ map (with_more keys (λ key. moved moves.now (old key)) under) terms) }
+) -> Result<Vec<Option<u32>>, NoMemory>
+    requires rising { IsStrictlySortedBy key_cmp terms.now }
+    requires numbers { numbers.now ≡ map (number_of terms.now) olds.now }
+    ensures { IfOk result (λ old. IsStrictlySortedBy key_cmp olds.now → old.items ≡ map (number_of olds.now) terms.now) }
 {
-    let mut place = 0;
-    for number in numbers {
-        add_list(*number, positions.get(place), moves, lists)?;
-        place += 1;
+    let mut old = vec![in alloc; None; terms.len()]?;
+    for place in 0..olds.keys().len() {
+        if let Some(number) = numbers[place] {
+            set_number(&mut old, number as usize, place as u32);
+        }
     }
-    Ok(())
+    Ok(old)
 }
 
 /// Adds the kept plans of an index with new numbers.
@@ -147,54 +128,138 @@ fn add_plans(
     Ok(())
 }
 
-/// Adds the positions and the plans of the kept queries of an index.
-fn add_kept(
+/// What an index of kept queries takes over from an index of which these are kept. Adds their plans.
+fn source_of<'a>(
     alloc: Global,
     terms: &Terms,
-    index: &Index,
+    index: &'a Index,
     kept: &[bool],
-    lists: &mut TermLists,
     plans: &mut Plans,
-) -> Result<(), NoMemory>
+) -> Result<Source<'a>, NoMemory>
     requires rising { IsStrictlySortedBy key_cmp terms.now }
-    requires long { AreFor terms.now lists.old }
     requires few { length plans.old + count_by (λ flag. flag) kept.now ≤ MOST_POSITIONS }
-    ensures long { OnOk result (AreFor terms.now lists.new) }
     ensures few { OnOk result (length plans.new ≤ length plans.old + count_by (λ flag. flag) kept.now) }
-    ensures made { OnOk result ((before trees : List Tree) → IsIndexOf trees index.now → length kept.now ≡ length trees
-        → IsTrue (are_terms terms.now (flat_map asked_of (flagged kept.now trees)))
-        → AreMadeOf terms.now before lists.old plans.old
-        → AreMadeOf terms.now (before ++ flagged kept.now trees) lists.new plans.new) }
+    ensures taken { IfOk result (λ source. (before trees : List Tree) (sources : List Source) → IsIndexOf trees index.now
+        → length kept.now ≡ length trees → IsTrue (are_terms terms.now (flat_map asked_of (flagged kept.now trees)))
+        → AreFrom terms.now before sources plans.old
+        → AreFrom terms.now (before ++ flagged kept.now trees) (sources ++ source ∷ []) plans.new) }
 {
     let numbers = terms.numbers(alloc, &index.terms)?;
     let moves = new_positions(alloc, kept, plans.len() as u32)?;
-    add_lists(&index.positions, &numbers, &moves, &mut lists.positions)?;
-    add_lists(&index.seconds, &numbers, &moves, &mut lists.seconds)?;
-    add_plans(alloc, &index.plans, kept, &numbers, plans)
+    add_plans(alloc, &index.plans, kept, &numbers, plans)?;
+    let numbers = old_numbers(alloc, terms, &index.terms, &numbers)?;
+    Ok(Source {
+        index,
+        numbers,
+        moves,
+    })
 }
 
-/// Adds the positions and the plans of the kept queries of several indexes.
-pub(crate) fn add_all_kept(
+/// What an index of kept queries takes over from the indexes that have them, in order. Adds their plans.
+pub(crate) fn sources_of<'a>(
     alloc: Global,
     terms: &Terms,
-    indexes: &[&Index],
+    indexes: &[&'a Index],
     kept: &[Vec<bool>],
-    lists: &mut TermLists,
     plans: &mut Plans,
-) -> Result<(), NoMemory>
+) -> Result<Vec<Source<'a>>, NoMemory>
     requires rising { IsStrictlySortedBy key_cmp terms.now }
-    requires long { AreFor terms.now lists.old }
     requires few { length plans.old + count_set (map vec_items kept.now) ≤ MOST_POSITIONS }
-    ensures { OnOk result ((trees : List (List Tree))
+    ensures { IfOk result (λ sources. (trees : List (List Tree))
         → AreIndexesOf trees (map (λ i. i.now) indexes.now) → AreFlagsOf trees (map vec_items kept.now)
         → terms.now ≡ terms_of (kept_of trees (map vec_items kept.now))
-        → AreMadeOf terms.now [] lists.old plans.old
-        → AreMadeOf terms.now (kept_of trees (map vec_items kept.now)) lists.new plans.new) }
+        → AreFrom terms.now [] [] plans.old
+        → AreFrom terms.now (kept_of trees (map vec_items kept.now)) sources.items plans.new) }
 {
+    let mut sources = Vec::with_capacity(alloc, indexes.len())?;
     let mut place = 0;
     for index in indexes {
-        add_kept(alloc, terms, index, flags_of(kept, place), lists, plans)?;
+        sources.push(source_of(alloc, terms, index, flags_of(kept, place), plans)?)?;
         place += 1;
     }
+    Ok(sources)
+}
+
+/// The lists of an index by second keys, or those by keys.
+fn lists_by(index: &Index, second: bool) -> &PackedLists<u32>
+    ensures { result.now ≡ lists_by second index.now }
+{
+    if second {
+        &index.seconds
+    } else {
+        &index.positions
+    }
+}
+
+/// The list of a number, an empty one without a number.
+fn listed(lists: &PackedLists<u32>, number: Option<u32>) -> &[u32]
+    ensures { result.now ≡ listed lists.now number }
+{
+    match number {
+        Some(number) => lists.get(number as usize),
+        None => &[],
+    }
+}
+
+/// The number at a place, if there is one.
+fn number_at(numbers: &[Option<u32>], place: usize) -> Option<u32>
+    ensures { result ≡ unwrap_or (slice_get numbers.now place) None }
+{
+    match numbers.get(place) {
+        Some(number) => *number,
+        None => None,
+    }
+}
+
+/// Adds the new positions that a source has under the term of a new number.
+fn add_taken(
+    source: &Source,
+    second: bool,
+    number: usize,
+    list: &mut Vec<u32>,
+) -> Result<(), NoMemory>
+    ensures { OnOk result (list.new.items ≡ list.old.items ++ taken second number source.now) }
+{
+    let old = listed(
+        lists_by(source.index, second),
+        number_at(&source.numbers, number),
+    );
+    add_all_moved(&source.moves, old, list)
+}
+
+/// Adds the new positions that sources have under the term of a new number, those of one behind those of another.
+fn add_all_taken(
+    sources: &[Source],
+    second: bool,
+    number: usize,
+    list: &mut Vec<u32>,
+) -> Result<(), NoMemory>
+    ensures { OnOk result (list.new.items ≡ list.old.items ++ flat_map (taken second number) sources.now) }
+{
+    for source in sources {
+        add_taken(source, second, number, list)?;
+    }
     Ok(())
+}
+
+/// For each term the new positions that sources have under it by second keys, or those by keys.
+pub(crate) fn taken_lists(
+    alloc: Global,
+    terms: &Terms,
+    sources: &[Source],
+    second: bool,
+) -> Result<PackedLists<u32>, NoMemory>
+    ensures { IfOk result (λ lists. (under : KeyValue → List ℕ)
+        → ((number : ℕ) → number < length terms.now
+        → flat_map (taken second number) sources.now ≡ under (term_at terms.now number))
+        → lists ≡ map under terms.now) }
+{
+    let mut lists = PackedLists::new(alloc);
+    let mut list = Vec::new(alloc);
+    for number in 0..terms.len() {
+        list.clear();
+        add_all_taken(sources, second, number, &mut list)?;
+        lists.push(&list)?;
+    }
+    Ok(lists)
 }

@@ -52,14 +52,18 @@ pub(crate) fn packed(alloc: Global, lists: &[Vec<u32>]) -> Result<PackedLists<u3
 }
 
 /// The positions below a bound that stand in one of these lists.
-pub(crate) fn marks_of(alloc: Global, lists: &[Vec<u32>], bound: usize) -> Result<Marks, NoMemory>
+pub(crate) fn marks_of(
+    alloc: Global,
+    lists: &PackedLists<u32>,
+    bound: usize,
+) -> Result<Marks, NoMemory>
     ensures long { IfOk result (λ marks. length marks ≡ bound) }
     ensures marked { IfOk result (λ marks. (position : ℕ) → position < bound → slice_index_or marks position false
-        ≡ list_any (nat_eq position) (flat_map vec_items lists.now)) }
+        ≡ list_any (nat_eq position) (flat_map (λ list. list) lists.now)) }
 {
     let mut marks = Marks::new(alloc, bound)?;
-    for list in lists {
-        mark_positions(list, &mut marks);
+    for number in 0..lists.len() {
+        mark_positions(lists.get(number), &mut marks);
     }
     Ok(marks)
 }

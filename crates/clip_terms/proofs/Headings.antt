@@ -41,7 +41,7 @@ then_equal Equal Equal = refl
 then_equal Equal Greater = refl
 then_equal Greater w = refl
 
-split : (x y : KeyValue) → key_cmp x y ≡ ordering_then (heading_cmp (heading x) (heading y)) (bytes_cmp (text_of x) (text_of y))
+pub split : (x y : KeyValue) → key_cmp x y ≡ ordering_then (heading_cmp (heading x) (heading y)) (bytes_cmp (text_of x) (text_of y))
 split Any Any = refl
 split Any (Word g v) = refl
 split Any (Front g v) = refl

@@ -3,7 +3,7 @@ use Rattle.std.proofs.Common.{◌≡◌, ℕ, zero, suc, ◌<◌, ◌≤◌, Lis
 use Rattle.std.specs.Ordering.{ordering_reverse}
 use Rattle.std.specs.Cmp.Lexicographic.{nat_list_cmp_total}
 use Rattle.std.proofs.lemmas.Bool.{cases_lt, lt-ltb, le-ltb, false≢true}
-use Rattle.std.proofs.lemmas.List.{get_or-map}
+use Rattle.std.proofs.lemmas.List.{get_or-map, get_or_default}
 use Rattle.clip_words.specs.Order.{bytes_cmp}
 use Rattle.clip_meaning.specs.Leads.{IsLead}
 use Rattle.clip_meaning.proofs.Leads.{lead_below, leads_tie}
@@ -54,6 +54,10 @@ short_texts_tie xs ys m n short a b same first second few = leads_tie xs ys m n 
 -- the term at a place is the key that was read there
 pub read_at : (keys : List Key) (n : ℕ) (k : Key) → n < length keys → k ≡ get_or keys n k → (d : KeyValue) → get_or (map key_of keys) n d ≡ key_of k
 read_at keys n k inside is d = get_or-map key_of keys n k d inside ∙ ap key_of (sym is)
+
+-- the number at a place is the one that was read there
+pub at_any : (ns : List ℕ) (i x : ℕ) → i < length ns → x ≡ get_or ns i x → get_or ns i 0 ≡ x
+at_any ns i x inside is = get_or_default ns i 0 x inside ∙ sym is
 
 -- where texts rise, leads never fall
 pub never_fall : (ts : List KeyValue) (leads : List ℕ) (start end : ℕ) → AreLeads ts leads → end ≤ length ts → TextsRise ts start end → NeverFall leads start end

@@ -3,6 +3,7 @@ pub mod FrontsOfTerms
 pub mod Headings
 pub mod KeysByField
 pub mod LeadsOfTerms
+pub mod Merging
 pub mod NumberedKeys
 pub mod Numbers
 pub mod PlacedWords

@@ -4,6 +4,7 @@ pub mod FieldTerms
 pub mod Fronts
 pub mod KeysByField
 pub mod Leads
+pub mod Merging
 pub mod Numbers
 pub mod Parts
 pub mod Places

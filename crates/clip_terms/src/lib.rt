@@ -5,6 +5,7 @@ ghost use Rattle.std.specs.Prelude.{◌≡◌};
 
 mod asking;
 mod field_terms;
+mod heads;
 mod leads;
 mod likely;
 mod numbering;
@@ -15,6 +16,7 @@ mod terms;
 
 pub use asking::Asking;
 pub use field_terms::FieldTerms;
+pub use heads::{Head, merged};
 pub use reading::Reading;
 pub use spots::FieldSpots;
 pub use terms::Terms;

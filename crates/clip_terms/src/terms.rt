@@ -1,11 +1,12 @@
 //! Keys in order, by their numbers.
-ghost use Rattle.std.specs.Prelude.{◌≡◌, ◌≤◌, ◌==◌, [], IfOk, length, map};
+ghost use Rattle.std.specs.Prelude.{◌≡◌, ◌<◌, ◌≤◌, ◌==◌, [], IfOk, length, map};
 ghost use Rattle.std.specs.List.Sorted.{IsStrictlySortedBy};
 ghost use Rattle.clip_extract.specs.Keys.{Word, Front, key_of, key_cmp, in_order};
-ghost use Rattle.clip_terms.specs.Terms.{number_of};
+ghost use Rattle.clip_terms.specs.Terms.{number_of, term_at};
 ghost use Rattle.clip_terms.specs.Steps.Leads.{heading, AreLeads, AreShortLengths, IsPart};
 
 use crate::field_terms::FieldTerms;
+use crate::heads::{Head, head_leads, head_lengths, keys_of};
 use crate::leads::{leads_of, lengths_of};
 use crate::numbering::key_numbers;
 use crate::parts::{FieldPart, parts_of, ranges_of};
@@ -72,6 +73,29 @@ impl Terms {
         })
     }
 
+    /// These keys, which are in order, each once.
+    ///
+    /// `NoMemory` where an allocation failed, and where there are more than `MOST_TERMS`. Cost: a step for each key; for
+    /// each field some searches by halves. Texts are shared.
+    pub fn of_heads(alloc: Global, heads: &[Head]) -> Result<Terms, NoMemory>
+        requires { IsStrictlySortedBy key_cmp heads.now }
+        ensures { IfOk result (λ terms. terms ≡ heads.now) }
+    {
+        if heads.len() > MOST_TERMS {
+            return Err(NoMemory);
+        }
+        let keys = keys_of(alloc, heads)?;
+        let leads = head_leads(alloc, heads)?;
+        let lengths = head_lengths(alloc, heads)?;
+        let parts = parts_of(alloc, &keys)?;
+        Ok(Terms {
+            keys,
+            leads,
+            lengths,
+            parts,
+        })
+    }
+
     /// How many terms there are. Takes no memory. Constant time.
     pub fn len(&self) -> usize
         ensures { result ≡ length self.now }
@@ -117,6 +141,14 @@ impl Terms {
         &self.keys
     }
 
+    /// The term of a number. Takes no memory. Constant time.
+    pub fn head(&self, number: usize) -> Head<'_>
+        requires { number < length self.now }
+        ensures { result ≡ term_at self.now number }
+    {
+        Head::with(&self.keys[number], self.leads[number], self.lengths[number])
+    }
+
     /// The leads of the keys. Constant time.
     pub(crate) fn leads(&self) -> &[u64]
         ensures { AreLeads self.now result.now }
@@ -150,7 +182,7 @@ impl Terms {
     }
 
     /// That the terms are in order, each once, for proofs. Takes no memory. Constant time.
-    pub(crate) fn order_law(&self)
+    pub fn order_law(&self)
         ensures { IsStrictlySortedBy key_cmp self.now }
     {
         let _keys = &self.keys;

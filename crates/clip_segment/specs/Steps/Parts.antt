@@ -1,10 +1,12 @@
 -- How the index of kept queries is made, one index after another.
-use Rattle.std.specs.Prelude.{◌≡◌, ℕ, ◌+◌, Bool, false, List, [], ◌∷◌, ◌++◌, map, flat_map, Option, Some, None, option_to_list, unwrap_or, slice_get, get_or, set, length, vec_items, if◌then◌else◌}
+use Rattle.std.specs.Prelude.{◌≡◌, ℕ, ◌+◌, ◌<◌, Bool, true, false, List, [], ◌∷◌, map, flat_map, Option, Some, None, option_to_list, unwrap_or, slice_get, length, vec_items, if◌then◌else◌}
 use Rattle.clip_grammar.specs.Tree.{Tree}
 use Rattle.clip_extract.specs.Extraction.{query_keys, second_keys}
-use Rattle.clip_extract.specs.Keys.{KeyValue, is_same}
+use Rattle.clip_extract.specs.Keys.{KeyValue}
+use Rattle.clip_terms.specs.Terms.{term_at}
 use Rattle.clip_plan.specs.Plan.{Mark, decoded, plan_of}
-use Rattle.clip_segment.specs.Index.{positions_by}
+use Rattle.clip_segment.specs.Index.{IndexValue, positions_by, query_positions_with}
+use Rattle.clip_segment.specs.declared.index_selecting.Source.{Source}
 use Rattle.clip_segment.specs.declared.term_lists.TermLists.{TermLists}
 
 -- the flag of a place is set; a missing one is not
@@ -24,27 +26,43 @@ new_position moves position = unwrap_or (slice_get moves position) None
 abbrev pub moved : List (Option ℕ) → List ℕ → List ℕ
 moved moves old = flat_map (λ position. option_to_list (new_position moves position)) old
 
--- the lists with more behind that of a number
-abbrev pub list_added : Option ℕ → List ℕ → List (List ℕ) → List (List ℕ)
-list_added None more lists = lists
-list_added (Some number) more lists = set lists number (get_or lists number [] ++ more)
+-- by which keys of a query lists are: by its second keys, or by its keys
+abbrev pub keys_by : (second : Bool) → Tree → List KeyValue
+keys_by true = second_keys
+keys_by false = query_keys
 
--- what stands under a term, with more where it is one of these keys
-abbrev pub with_more : List KeyValue → (KeyValue → List ℕ) → (KeyValue → List ℕ) → KeyValue → List ℕ
-with_more keys more under term = under term ++ flat_map (λ key. if is_same key term then more key else []) keys
+-- the lists of an index by these
+abbrev pub lists_by : (second : Bool) → IndexValue → List (List ℕ)
+lists_by true index = index.seconds
+lists_by false index = index.positions
 
--- there are two lists for each of these terms
-pub record AreFor (terms : List KeyValue) (lists : TermLists) : Type 0 where
-  pub positions : length lists.positions.items ≡ length terms
-  pub seconds : length lists.seconds.items ≡ length terms
+-- the list of a number, an empty one without a number
+abbrev pub listed : List (List ℕ) → Option ℕ → List ℕ
+listed lists None = []
+listed lists (Some number) = unwrap_or (slice_get lists number) []
+
+-- the new positions that a source has under the term of a new number
+abbrev pub taken : (second : Bool) → (number : ℕ) → Source → List ℕ
+taken second number source =
+    moved source.moves.items
+    (listed (lists_by second source.index.now) (unwrap_or (slice_get source.numbers.items number) None))
+
+-- over these terms the sources have the new positions of the queries, one behind another, and the plans are those of
+-- the queries
+pub record AreFrom (terms : List KeyValue) (trees : List Tree) (sources : List Source) (plans : List (List (Mark ℕ)))
+    : Type 0 where
+  pub placed : (second : Bool) (number : ℕ) → number < length terms → flat_map (taken second number) sources
+      ≡ query_positions_with (keys_by second) (term_at terms number) trees
+  pub planned : map (decoded terms) plans ≡ map plan_of trees
 
 -- over these terms the lists have the positions of the queries, by their keys and by their second keys
 pub record AreListsOf (terms : List KeyValue) (trees : List Tree) (lists : TermLists) : Type 0 where
   pub positions : map vec_items lists.positions.items ≡ positions_by query_keys terms trees
   pub seconds : map vec_items lists.seconds.items ≡ positions_by second_keys terms trees
 
--- and the plans are those of the queries
-pub record AreMadeOf (terms : List KeyValue) (trees : List Tree) (lists : TermLists) (plans : List (List (Mark ℕ)))
-    : Type 0 where
-  pub placed : AreListsOf terms trees lists
+-- so have these lists, and the plans are those of the queries
+pub record AreMadeOf (terms : List KeyValue) (trees : List Tree) (by_key by_second : List (List ℕ))
+    (plans : List (List (Mark ℕ))) : Type 0 where
+  pub positions : by_key ≡ positions_by query_keys terms trees
+  pub seconds : by_second ≡ positions_by second_keys terms trees
   pub planned : map (decoded terms) plans ≡ map plan_of trees

@@ -1,9 +1,9 @@
-use Rattle.std.proofs.Common.{◌≡◌, ℕ, ◌<◌, false, nat_eq, length, get_or, flat_map, take, vec_items}
+use Rattle.std.proofs.Common.{◌≡◌, ℕ, ◌<◌, false, nat_eq, length, get_or, flat_map, take}
 use Rattle.std.specs.List.{list_any}
 use Rattle.clip_segment.proofs.term_lists.marks_of.Given as goal
 
-abbrev pub invariant-loop-list : goal.invariant-loop-list
-invariant-loop-list l = record {
+abbrev pub invariant-loop-number : goal.invariant-loop-number
+invariant-loop-number l = record {
   long : length l.marks ≡ l.bound;
-  marked : (n : ℕ) → n < l.bound → get_or l.marks n false ≡ list_any (nat_eq n) (flat_map vec_items (take l.list-index l.lists));
+  marked : (n : ℕ) → n < l.bound → get_or l.marks n false ≡ list_any (nat_eq n) (flat_map (λ list. list) (take l.number l.lists));
 }
