@@ -10,7 +10,7 @@ use crate::trace_request::TraceRequest;
 use clip_model::{MOST_ARTICLES, MOST_CALLERS, MOST_LISTED};
 use clip_protocol::{
     Draft, ListFault, Listing, Refusal, Unread, articles_of, have_ids, is_blank, json_of,
-    read_listing,
+    judge_drafts, read_listing,
 };
 use clip_standing::{Command, Standing};
 use clip_stream::MOST_LINE_BYTES;
@@ -135,6 +135,7 @@ impl TraceLine {
         if drafts.len() > MOST_ARTICLES {
             return Err(LIMITED);
         }
+        let drafts = judge_drafts(alloc, drafts)?;
         Ok(TraceLine::Event(Event::Look(batch, articles_of(alloc, &drafts)?)))
     }
 
