@@ -1,7 +1,9 @@
 -- Items whose flags are set.
 use Rattle.std.proofs.Common.{◌≡◌, ℕ, zero, suc, ◌+◌, ◌<◌, ◌≤◌, Bool, true, false, cond, ◌||◌, ◌&&◌, nat_eq, ltb, List, [], ◌∷◌, ◌++◌, length, map, flat_map, filter, take, drop, set, replicate, get_or, unwrap_or, slice_get, Option, Some, None, refl, sym, ap, ap₂, ◌∙◌, arith, add-one, append-nil, append_assoc, length-append, eq-eqb, ne_eqb, get_or-set_same, get_or-set_other, inl, inr}
 use Rattle.std.specs.Prelude.{option_to_list}
-use Rattle.std.specs.List.{list_any, enumerate_from, count_by}
+use Rattle.std.specs.List.{AllByRecursion, list_any, enumerate_from, count_by}
+use Rattle.std.specs.List.Sorted.{IsStrictlySortedBy}
+use Rattle.std.specs.declared.cmp.Ordering.TheVariants.{Less}
 use Rattle.std.proofs.Math.Bool.{or-true, or-false}
 use Rattle.std.proofs.lemmas.Bool.{cases_eq, false≢true}
 use Rattle.std.proofs.lemmas.Bool.Decides.{nat_tests}
@@ -11,6 +13,7 @@ use Rattle.std.proofs.lemmas.List.Sums.{sum_by-cons}
 use Rattle.std.proofs.lemmas.Option.{unwrap_or-slice_get}
 use Rattle.clip_grammar.specs.Tree.{Tree}
 use Rattle.clip_grammar.proofs.Booleans.{either}
+use Rattle.clip_extract.specs.Keys.{KeyValue, key_cmp}
 use Rattle.clip_segment.specs.Index.{query_positions}
 use Rattle.clip_segment.specs.Selecting.{AreFlagsOf, flagged, kept_of, count_set}
 use Rattle.clip_segment.specs.Steps.Parts.{flag_at, moved, new_position, new_positions}
@@ -68,6 +71,24 @@ flagged_map f [] xs = refl
 flagged_map f (flag ∷ flags) [] = refl
 flagged_map f (true ∷ flags) (x ∷ xs) = ap (λ l. f x ∷ l) (flagged_map f flags xs)
 flagged_map f (false ∷ flags) (x ∷ xs) = flagged_map f flags xs
+
+-- what is kept of keys in order is in order
+all_flagged : (P : KeyValue → Type 0) (flags : List Bool) (ks : List KeyValue) → AllByRecursion P ks → AllByRecursion P (flagged flags ks)
+all_flagged P [] ks all = tt
+all_flagged P (flag ∷ flags) [] all = tt
+all_flagged P (true ∷ flags) (k ∷ ks) all = (all.0, all_flagged P flags ks all.1)
+all_flagged P (false ∷ flags) (k ∷ ks) all = all_flagged P flags ks all.1
+
+pub flagged_rises : (flags : List Bool) (ks : List KeyValue) → IsStrictlySortedBy key_cmp ks → IsStrictlySortedBy key_cmp (flagged flags ks)
+unfolding IsStrictlySortedBy
+flagged_rises [] ks rising = tt
+flagged_rises (flag ∷ flags) [] rising = tt
+flagged_rises (true ∷ flags) (k ∷ ks) rising = (all_flagged (λ l. key_cmp k l ≡ Less) flags ks rising.0, flagged_rises flags ks rising.1)
+flagged_rises (false ∷ flags) (k ∷ ks) rising = flagged_rises flags ks rising.1
+
+pub none_rise : IsStrictlySortedBy key_cmp []
+unfolding IsStrictlySortedBy
+none_rise = tt
 
 -- how many flags are set, the first and those behind it
 pub count_first : (flag : Bool) (flags : List Bool) → count_by (λ flag. flag) (flag ∷ flags) ≡ cond flag 1 0 + count_by (λ flag. flag) flags

@@ -12,7 +12,6 @@ ghost use Rattle.clip_segment.specs.Index.{asked_of, terms_of};
 ghost use Rattle.clip_segment.specs.Steps.Parts.{AreListsOf};
 ghost use Rattle.clip_segment.specs.declared.segment.TheConstants.{MOST_POSITIONS};
 
-use crate::kept_terms::add_copy;
 use crate::term_lists::TermLists;
 use clip_extract::{Key, keys, second_keys};
 use clip_grammar::query::Query;
@@ -44,6 +43,14 @@ pub(crate) fn with_keys<'a>(alloc: Global, queries: &'a [Query]) -> Result<Vec<K
         })?;
     }
     Ok(keyed)
+}
+
+/// Adds a copy of a key. Texts are shared.
+fn add_copy(key: &Key, all: &mut Vec<Key>) -> Result<(), NoMemory>
+    ensures { OnOk result (map key_of all.new.items ≡ map key_of all.old.items ++ key_of key.now ∷ []) }
+{
+    all.push(key.clone()?)?;
+    Ok(())
 }
 
 /// Adds copies of keys. Texts are shared.

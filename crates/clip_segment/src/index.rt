@@ -90,10 +90,10 @@ impl Index {
     /// The index of the kept queries of several indexes, in order. `kept` has a list of flags for each index, and in it
     /// a flag for each of its queries; at most `MOST_POSITIONS` flags are set.
     ///
-    /// `NoMemory` where an allocation failed, and where the queries have more than 4,294,967,295 terms. Cost: a sort of
-    /// the terms that kept queries ask for, each once for each index; a search by halves for each term; a step for each
-    /// flag and each position; and for each kept query a step for each word and each leaf. No key is extracted, and no
-    /// text is copied but ends of ranges.
+    /// `NoMemory` where an allocation failed, and where the queries have more than 4,294,967,295 terms. Cost: for each
+    /// index a comparison for each term that kept queries of it and of those before it ask for; a search by halves for
+    /// each term; a step for each flag and each position; and for each kept query a step for each word and each leaf.
+    /// No key is extracted, and no text is copied but ends of ranges.
     pub(crate) fn select(
         alloc: Global,
         indexes: &[&Index],

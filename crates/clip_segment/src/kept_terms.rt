@@ -11,10 +11,9 @@ ghost use Rattle.clip_segment.specs.Selecting.{AreFlagsOf, AreIndexesOf, flagged
 ghost use Rattle.clip_segment.specs.Steps.Parts.{flag_at};
 
 use crate::index::Index;
-use clip_extract::Key;
 use clip_pieces::PackedLists;
 use clip_plan::Plans;
-use clip_terms::Terms;
+use clip_terms::{Head, Terms, merged};
 use clip_words::NoMemory;
 use std::alloc::Global;
 
@@ -98,45 +97,38 @@ fn set_kept(flags: &mut Vec<bool>, lists: &PackedLists<u32>, kept: &[bool])
     }
 }
 
-/// Adds a copy of a key. Texts are shared.
-pub(crate) fn add_copy(key: &Key, all: &mut Vec<Key>) -> Result<(), NoMemory>
-    ensures { OnOk result (map key_of all.new.items ≡ map key_of all.old.items ++ key_of key.now ∷ []) }
+/// The terms whose flags are set.
+fn flagged_heads<'a>(
+    alloc: Global,
+    terms: &'a Terms,
+    flags: &[bool],
+) -> Result<Vec<Head<'a>>, NoMemory>
+    ensures rising { IfOk result (λ heads. IsStrictlySortedBy key_cmp heads.items) }
+    ensures flagged { IfOk result (λ heads. heads.items ≡ flagged flags.now terms.now) }
 {
-    all.push(key.clone()?)?;
-    Ok(())
-}
-
-/// Adds the keys whose flags are set.
-fn add_flagged(keys: &[Key], flags: &[bool], all: &mut Vec<Key>) -> Result<(), NoMemory>
-    ensures { OnOk result (map key_of all.new.items
-        ≡ map key_of all.old.items ++ flagged flags.now (map key_of keys.now)) }
-{
-    for number in 0..keys.len() {
+    terms.order_law();
+    let mut heads = Vec::new(alloc);
+    for number in 0..terms.len() {
         if flag_at(flags, number) {
-            add_copy(&keys[number], all)?;
+            heads.push(terms.head(number))?;
         }
     }
-    Ok(())
+    Ok(heads)
 }
 
-/// Adds the terms of an index that its kept queries ask for.
-fn add_kept_terms(
-    alloc: Global,
-    index: &Index,
-    kept: &[bool],
-    all: &mut Vec<Key>,
-) -> Result<(), NoMemory>
-    ensures { OnOk result ((trees : List Tree) → IsIndexOf trees index.now → (key : KeyValue)
-        → list_any (is_same key) (map key_of all.new.items)
-        ≡ (list_any (is_same key) (map key_of all.old.items)
-        || list_any (is_same key) (flat_map asked_of (flagged kept.now trees)))) }
+/// The terms of an index that its kept queries ask for.
+fn kept_heads<'a>(alloc: Global, index: &'a Index, kept: &[bool]) -> Result<Vec<Head<'a>>, NoMemory>
+    ensures rising { IfOk result (λ heads. IsStrictlySortedBy key_cmp heads.items) }
+    ensures asked { IfOk result (λ heads. (trees : List Tree) → IsIndexOf trees index.now → (key : KeyValue)
+        → list_any (is_same key) heads.items
+        ≡ list_any (is_same key) (flat_map asked_of (flagged kept.now trees))) }
 {
     let mut used = vec![in alloc; false; index.terms.len()]?;
     set_kept(&mut used, &index.positions, kept);
     set_kept(&mut used, &index.seconds, kept);
     let numbers = kept_numbers(alloc, &index.plans, kept)?;
     set_all(&mut used, &numbers);
-    add_flagged(index.terms.keys(), &used, all)
+    flagged_heads(alloc, &index.terms, &used)
 }
 
 /// The terms of the kept queries of several indexes.
@@ -149,11 +141,12 @@ pub(crate) fn kept_terms(
     ensures terms { IfOk result (λ terms. (trees : List (List Tree)) → AreIndexesOf trees (map (λ i. i.now) indexes.now)
         → AreFlagsOf trees (map vec_items kept.now) → terms ≡ terms_of (kept_of trees (map vec_items kept.now))) }
 {
-    let mut all = Vec::new(alloc);
+    let mut heads = Vec::new(alloc);
     let mut place = 0;
     for index in indexes {
-        add_kept_terms(alloc, index, flags_of(kept, place), &mut all)?;
+        let more = kept_heads(alloc, index, flags_of(kept, place))?;
+        heads = merged(alloc, &heads, &more)?;
         place += 1;
     }
-    Terms::of(all)
+    Terms::of_heads(alloc, &heads)
 }

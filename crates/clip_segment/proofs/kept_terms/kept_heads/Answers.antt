@@ -1,9 +1,8 @@
-use Rattle.std.proofs.Common.{◌≡◌, ◌<◌, ℕ, map, length, nat_eq, ◌++◌, ◌||◌, ap, sym, ◌∙◌, subst, arith}
+use Rattle.std.proofs.Common.{◌≡◌, ◌<◌, ℕ, length, nat_eq, ◌||◌, ap, sym, ◌∙◌, subst, arith}
 use Rattle.std.specs.List.{list_any}
 use Rattle.std.proofs.lemmas.List.{length-replicate}
-use Rattle.std.proofs.lemmas.List.Folds.{list_any-append}
-use Rattle.std.proofs.lemmas.Result.{on_ok_weaker}
-use Rattle.clip_extract.specs.Keys.{key_of, is_same}
+use Rattle.std.proofs.lemmas.Result.{IfOk-weaker}
+use Rattle.clip_extract.specs.Keys.{is_same}
 use Rattle.clip_segment.specs.Index.{IsIndexOf}
 use Rattle.clip_segment.specs.Selecting.{flagged}
 use Rattle.clip_segment.specs.Steps.IndexView.{index_of}
@@ -11,11 +10,10 @@ use Rattle.clip_segment.specs.Steps.Parts.{flag_at}
 use Rattle.clip_segment.proofs.Answering.{list_at}
 use Rattle.clip_segment.proofs.Flagged.{none_set}
 use Rattle.clip_segment.proofs.KeptTerms.{used_terms}
-use Rattle.clip_segment.proofs.kept_terms.add_kept_terms.Goals as goal
+use Rattle.clip_segment.proofs.kept_terms.kept_heads.Goals as goal
 
-pub returns : goal.returns
-returns c =
-    let old = map key_of c.args.all.now.items in
+pub returns-clause-asked : goal.returns-clause-asked
+returns-clause-asked c =
     let used = c.set_all.new.flags.items in
     let index = index_of c.index.inside in
     let unset = c.in_ok-used.ensures.items_if_clones_equal (λ y h. h) in
@@ -30,11 +28,8 @@ returns c =
     (c.set_kept.ensures.flags n (omega (arith, lt, long))
     ∙ ap (λ b. b || list_any (flag_at c.args.kept.now) (list_at index.positions n))
     (ap (λ l. flag_at l n) unset ∙ none_set c.len.result n))) in
-    on_ok_weaker c.add_flagged.result (λ added trees is key.
+    IfOk-weaker c.flagged_heads.result _ _ (λ heads are trees is key.
     let inside : IsIndexOf trees index = subst (IsIndexOf trees) (sym c.index.view_is) is in
-    ap (list_any (is_same key))
-    (added ∙ ap (λ flags. old ++ flagged flags (map key_of c.keys.result.now)) c.deref-2.ensures.value ∙ ap (λ keys. old ++ flagged used keys) c.keys.ensures.terms)
-    ∙ list_any-append (is_same key) old (flagged used index.terms)
-    ∙ ap (λ b. list_any (is_same key) old || b)
-    (used_terms trees index inside c.args.kept.now used c.deref.result.now (c.deref.ensures.value ∙ c.in_ok-numbers.ensures) all key))
-    c.add_flagged.ensures
+    ap (list_any (is_same key)) (are ∙ ap (λ flags. flagged flags index.terms) c.deref-2.ensures.value)
+    ∙ used_terms trees index inside c.args.kept.now used c.deref.result.now (c.deref.ensures.value ∙ c.in_ok-numbers.ensures) all key)
+    c.flagged_heads.ensures.flagged
