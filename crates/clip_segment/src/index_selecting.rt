@@ -97,7 +97,8 @@ fn old_numbers(
 ) -> Result<Vec<Option<u32>>, NoMemory>
     requires rising { IsStrictlySortedBy key_cmp terms.now }
     requires numbers { numbers.now ≡ map (number_of terms.now) olds.now }
-    ensures { IfOk result (λ old. IsStrictlySortedBy key_cmp olds.now → old.items ≡ map (number_of olds.now) terms.now) }
+    ensures { IfOk result (λ old. IsStrictlySortedBy key_cmp olds.now
+        → old.items ≡ map (number_of olds.now) terms.now) }
 {
     let mut old = vec![in alloc; None; terms.len()]?;
     for place in 0..olds.keys().len() {
@@ -139,8 +140,9 @@ fn source_of<'a>(
     requires rising { IsStrictlySortedBy key_cmp terms.now }
     requires few { length plans.old + count_by (λ flag. flag) kept.now ≤ MOST_POSITIONS }
     ensures few { OnOk result (length plans.new ≤ length plans.old + count_by (λ flag. flag) kept.now) }
-    ensures taken { IfOk result (λ source. (before trees : List Tree) (sources : List Source) → IsIndexOf trees index.now
-        → length kept.now ≡ length trees → IsTrue (are_terms terms.now (flat_map asked_of (flagged kept.now trees)))
+    ensures taken { IfOk result (λ source. (before trees : List Tree) (sources : List Source)
+        → IsIndexOf trees index.now → length kept.now ≡ length trees
+        → IsTrue (are_terms terms.now (flat_map asked_of (flagged kept.now trees)))
         → AreFrom terms.now before sources plans.old
         → AreFrom terms.now (before ++ flagged kept.now trees) (sources ++ source ∷ []) plans.new) }
 {

@@ -107,7 +107,7 @@ fn flagged_heads<'a>(
     ensures flagged { IfOk result (λ heads. heads.items ≡ flagged flags.now terms.now) }
 {
     terms.order_law();
-    let mut heads = Vec::new(alloc);
+    let mut heads = Vec::with_capacity(alloc, terms.len())?;
     for number in 0..terms.len() {
         if flag_at(flags, number) {
             heads.push(terms.head(number))?;

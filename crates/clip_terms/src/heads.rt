@@ -133,7 +133,7 @@ pub fn merged<'a, 'b>(
     requires b { IsStrictlySortedBy key_cmp b.now }
     ensures { IfOk result (λ heads. heads.items ≡ in_order (a.now ++ b.now)) }
 {
-    let mut heads = Vec::with_capacity(alloc, a.len().max(b.len()))?;
+    let mut heads = Vec::with_capacity(alloc, a.len().saturating_add(b.len()))?;
     let mut at_a = 0;
     let mut at_b = 0;
     while let Some((first, behind_a, behind_b)) = lesser(a, at_a, b, at_b) {

@@ -1,4 +1,4 @@
-use Rattle.std.proofs.Common.{ap, sym, arith, rules, of_calls}
+use Rattle.std.proofs.Common.{rules, of_calls}
 use Rattle.std.proofs.lemmas.List.Sorted.{IsNonDecreasingBy-from_sort_by_key}
 use Rattle.clip_terms.specs.declared.spots.Spot.{Spot}
 use Rattle.clip_terms.proofs.Spotted.{posting_spots}
