@@ -1,5 +1,5 @@
 -- A plan is judged as its query holds.
-use Rattle.std.proofs.Common.{◌≡◌, ℕ, zero, suc, ◌+◌, ◌<◌, ◌≤◌, ◌==◌, arith, Bool, true, false, not, ◌&&◌, ◌||◌, List, [], ◌∷◌, ◌++◌, map, length, drop, get_or, reverse, unwrap_or, refl, sym, ap, ◌∙◌, append_assoc, append-nil}
+use Rattle.std.proofs.Common.{◌≡◌, ℕ, zero, suc, ◌+◌, ◌<◌, ◌≤◌, ◌==◌, arith, Bool, true, false, not, ◌&&◌, ◌||◌, List, [], ◌∷◌, ◌++◌, map, length, drop, get_or, reverse, unwrap_or, refl, sym, ap, ◌∙◌, subst, append_assoc, append-nil}
 use Rattle.std.specs.Prelude.{slice_get, Result, Ok, Err, IfOk}
 use Rattle.std.proofs.lemmas.Bool.Decides.{nat_tests}
 use Rattle.std.specs.List.{list_all, list_any}
@@ -11,7 +11,9 @@ use Rattle.clip_meaning.specs.Article.{Fields}
 use Rattle.clip_meaning.specs.Meaning.{holds, verdicts, group_holds, meets_must, meets_must_not, meets_should, is_must}
 use Rattle.clip_extract.specs.Keys.{KeyValue}
 use Rattle.clip_plan.specs.Plan.{Asks, Has, Run, Mark, Leaf, Open, Close, clause_marks, group_marks, plan_of, decoded}
-use Rattle.clip_plan.specs.Steps.Plans.{mark_of}
+use Rattle.clip_plan.specs.Steps.Plans.{mark_of, first_words}
+use Rattle.clip_plan.specs.declared.first_words.FirstWords.{FirstWords}
+use Rattle.clip_plan.specs.declared.first_words.TheConstants.{NO_TERM}
 use Rattle.clip_plan.specs.declared.step.Step.{Step}
 use Rattle.clip_plan.specs.declared.step.Step.TheVariants as step
 use Rattle.clip_plan.specs.Steps.Judging.{no_clauses, counted, tally_holds, leaf_holds, mark_holds, meant, Groups, marked, stepped_all}
@@ -180,7 +182,17 @@ and_true false = refl
 pair_fails : (fields : Fields) (first second : KeyValue) → (has_key fields first && has_key fields second) ≡ false → has_run fields (first ∷ second ∷ []) ≡ false
 pair_fails fields first second fails = lacks fields (first ∷ second ∷ []) (ap (λ b. has_key fields first && b) (and_true (has_key fields second)) ∙ fails)
 
+twice : (b : Bool) → (b && b) ≡ false → b ≡ false
+twice true fails = fails
+twice false fails = refl
+
 -- ---- steps
+
+-- the words that are kept of a plan
+words_at : (plans : List (List Step)) (place : ℕ) (w : FirstWords) → place < length (map first_words plans) → get_or (map first_words plans) place w ≡ first_words (unwrap_or (slice_get plans place) [])
+words_at [] place w inside = absurd (omega arith)
+words_at (steps ∷ plans) zero w inside = refl
+words_at (steps ∷ plans) (suc place) w inside = words_at plans place w (omega arith)
 
 module _ (runs : List (List ℕ)) (queries : List Tree) (terms : List KeyValue) where
   pub decoded_step : (steps : List Step) → decoded terms (map (mark_of runs queries) steps) ≡ map (meant runs queries terms) steps
@@ -206,23 +218,35 @@ module _ (runs : List (List ℕ)) (queries : List Tree) (terms : List KeyValue) 
   judged_at fields marks plans place steps (Ok held) seen at h =
       λ tree plan. h tree (plan_of_steps marks plans place steps tree seen at plan)
 
-  first_ruled_out : (fields : Fields) (tree : Tree) (steps : List Step) (s : Step) (asks : Asks KeyValue) → 0 < length steps → s ≡ get_or steps 0 s → meant runs queries terms s ≡ Leaf Must asks → leaf_holds fields asks ≡ false
+  -- a word that the first clause asks for is not there
+  pub ruled_out : (fields : Fields) (tree : Tree) (steps : List Step) → ((first_words steps).first ≡ NO_TERM → ⊥)
+      → (has_key fields (term_at terms (first_words steps).first) && has_key fields (term_at terms (first_words steps).second)) ≡ false
       → map (meant runs queries terms) steps ≡ plan_of tree → holds tree fields ≡ false
-  first_ruled_out fields tree [] s asks inside is mark fails plan = absurd (omega arith)
-  first_ruled_out fields tree (x ∷ steps) s asks inside is mark fails plan =
-      first_fails fields tree asks (map (meant runs queries terms) steps) fails (ap (λ m. m ∷ map (meant runs queries terms) steps) (sym mark ∙ ap (meant runs queries terms) is) ∙ plan)
+  ruled_out fields tree [] some fails plan = absurd (some refl)
+  ruled_out fields tree (step.Term Must n ∷ steps) some fails plan =
+      first_fails fields tree (Has (term_at terms n)) (map (meant runs queries terms) steps) (twice (has_key fields (term_at terms n)) fails) plan
+  ruled_out fields tree (step.Term Should n ∷ steps) some fails plan = absurd (some refl)
+  ruled_out fields tree (step.Term MustNot n ∷ steps) some fails plan = absurd (some refl)
+  ruled_out fields tree (step.Pair Must m n ∷ steps) some fails plan =
+      first_fails fields tree (Run (term_at terms m ∷ term_at terms n ∷ [])) (map (meant runs queries terms) steps) (pair_fails fields (term_at terms m) (term_at terms n) fails) plan
+  ruled_out fields tree (step.Pair Should m n ∷ steps) some fails plan = absurd (some refl)
+  ruled_out fields tree (step.Pair MustNot m n ∷ steps) some fails plan = absurd (some refl)
+  ruled_out fields tree (step.Phrase occur place ∷ steps) some fails plan = absurd (some refl)
+  ruled_out fields tree (step.Query occur place ∷ steps) some fails plan = absurd (some refl)
+  ruled_out fields tree (step.Open ∷ steps) some fails plan = absurd (some refl)
+  ruled_out fields tree (step.Close occur ∷ steps) some fails plan = absurd (some refl)
 
-  -- the first step is a word that must be there and is not
-  pub term_ruled_out : (fields : Fields) (tree : Tree) (steps : List Step) (s : Step) (occur : Occur) (n : ℕ) → 0 < length steps → s ≡ get_or steps 0 s → s ≡ step.Term occur n → occur ≡ Must
-      → has_key fields (term_at terms n) ≡ false → map (meant runs queries terms) steps ≡ plan_of tree → holds tree fields ≡ false
-  term_ruled_out fields tree steps s occur n inside is term must =
-      first_ruled_out fields tree steps s (Has (term_at terms n)) inside is (ap (meant runs queries terms) (term ∙ ap (λ o. step.Term o n) must))
-
-  -- it is a pair that must be there, of which a word is not
-  pub pair_ruled_out : (fields : Fields) (tree : Tree) (steps : List Step) (s : Step) (occur : Occur) (m n : ℕ) → 0 < length steps → s ≡ get_or steps 0 s → s ≡ step.Pair occur m n → occur ≡ Must
-      → (has_key fields (term_at terms m) && has_key fields (term_at terms n)) ≡ false → map (meant runs queries terms) steps ≡ plan_of tree → holds tree fields ≡ false
-  pair_ruled_out fields tree steps s occur m n inside is pair must fails =
-      first_ruled_out fields tree steps s (Run (term_at terms m ∷ term_at terms n ∷ [])) inside is (ap (meant runs queries terms) (pair ∙ ap (λ o. step.Pair o m n) must)) (pair_fails fields (term_at terms m) (term_at terms n) fails)
+  -- the same of a plan among plans, by the words that are kept of it
+  pub ruled_out_at : (fields : Fields) (tree : Tree) (marks : List (List (Mark ℕ))) (plans : List (List Step)) (firsts : List FirstWords) (place : ℕ) (w : FirstWords) → map (map (mark_of runs queries)) plans ≡ marks
+      → firsts ≡ map first_words plans → place < length firsts → w ≡ get_or firsts place w → (w.first ≡ NO_TERM → ⊥)
+      → (has_key fields (term_at terms w.first) && has_key fields (term_at terms w.second)) ≡ false
+      → decoded terms (unwrap_or (slice_get marks place) []) ≡ plan_of tree → holds tree fields ≡ false
+  ruled_out_at fields tree marks plans firsts place w seen kept inside is some fails plan =
+      let steps = unwrap_or (slice_get plans place) [] in
+      let same : w ≡ first_words steps = is ∙ ap (λ ws. get_or ws place w) kept ∙ words_at plans place w (subst (λ (ws : List FirstWords). place < length ws) kept inside) in
+      ruled_out fields tree steps (λ none. some (ap (λ (v : FirstWords). v.first) same ∙ none))
+      (ap (λ (v : FirstWords). has_key fields (term_at terms v.first) && has_key fields (term_at terms v.second)) (sym same) ∙ fails)
+      (plan_of_steps marks plans place steps tree seen refl plan)
 
   -- one step of those that are left
   pub one_step : (fields : Fields) (steps : List Step) (i : ℕ) (d : Step) (top next : Tally) (around left : List Tally) (held : Bool) → i < length steps

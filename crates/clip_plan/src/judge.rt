@@ -6,6 +6,7 @@ ghost use Rattle.clip_extract.specs.Keys.{KeyValue};
 ghost use Rattle.clip_plan.specs.Plan.{decoded, plan_of};
 ghost use Rattle.clip_plan.specs.Steps.Judging.{no_clauses, counted, tally_holds, mark_holds, meant, marked};
 
+use crate::first_words::NO_TERM;
 use crate::plans::Plans;
 use crate::step::Step;
 use clip_grammar::query::{Occur, Query};
@@ -141,20 +142,6 @@ fn holds_by(
     Ok(top.holds())
 }
 
-/// Whether the query of these steps may hold of the article that is read, by the words of its first clause, if that is
-/// one that must hold.
-fn may_hold_by(steps: &[Step], reading: &Reading) -> bool
-    ensures { (runs : List (List ℕ)) (queries : List Tree) (tree : Tree)
-        → map (meant runs queries reading.now.terms) steps.now ≡ plan_of tree
-        → result ≡ false → holds tree reading.now.article.fields ≡ false }
-{
-    match steps.first() {
-        Some(Step::Term(Occur::Must, number)) => reading.has(*number),
-        Some(Step::Pair(Occur::Must, first, second)) => reading.has(*first) && reading.has(*second),
-        _ => true,
-    }
-}
-
 impl Plans {
     /// Whether the query of the plan at a place may hold of the article that is read, where the plan's numbers are
     /// those of the reading's terms. `false` rules it out: its first clause must hold, and the article lacks a word of
@@ -163,7 +150,12 @@ impl Plans {
         ensures { (tree : Tree) → decoded reading.now.terms (unwrap_or (slice_get self.now place) []) ≡ plan_of tree
             → result ≡ false → holds tree reading.now.article.fields ≡ false }
     {
-        may_hold_by(self.steps.get(place), reading)
+        match self.firsts.get(place) {
+            Some(words) => {
+                words.first == NO_TERM || (reading.has(words.first) && reading.has(words.second))
+            }
+            None => true,
+        }
     }
 
     /// Whether the query of the plan at a place holds of the article that is read, where the plan's numbers are those

@@ -1,14 +1,15 @@
 //! Plans, and how a query becomes one.
-ghost use Rattle.std.specs.Prelude.{◌≡◌, ℕ, ◌<◌, ◌≤◌, ◌++◌, ◌∷◌, [], List, OnOk, IfOk, length, map, unwrap_or, slice_get, IsTrue};
+ghost use Rattle.std.specs.Prelude.{◌≡◌, ℕ, ◌<◌, ◌≤◌, ◌++◌, ◌∷◌, [], List, OnOk, OnErr, IfOk, length, map, unwrap_or, slice_get, IsTrue};
 ghost use Rattle.std.specs.Arc.{arc_str_bytes};
 ghost use Rattle.clip_grammar.specs.Tree.{Tree, tree_of};
 ghost use Rattle.clip_grammar.specs.declared.query.Query.{Query};
 ghost use Rattle.clip_extract.specs.Keys.{KeyValue, Word};
 ghost use Rattle.clip_terms.specs.Terms.{term_at};
 ghost use Rattle.clip_plan.specs.Plan.{Mark, Leaf, Is, Run, decoded, plan_of, clause_marks, are_terms, word_keys};
-ghost use Rattle.clip_plan.specs.Steps.Plans.{Grows, Adds, IsNoGroup};
+ghost use Rattle.clip_plan.specs.Steps.Plans.{first_words, Grows, Adds, IsNoGroup};
 
 use crate::copy::copied;
+use crate::first_words::FirstWords;
 use crate::step::Step;
 use clip_grammar::query::{Occur, Query};
 use clip_pieces::PackedLists;
@@ -28,6 +29,7 @@ pub struct Plans {
     pub(crate) steps: PackedLists<Step>,
     pub(crate) runs: PackedLists<u32>,
     pub(crate) queries: Vec<Query>,
+    pub(crate) firsts: Vec<FirstWords>,
 }
 
 impl Model for Plans {
@@ -40,11 +42,11 @@ impl Model for Plans {
 
     ghost coded = { Prim.hlevel (codes, tree_code) };
 
-    ghost use Rattle.clip_plan.specs.Steps.Plans.{marks_of, HavePlaces};
+    ghost use Rattle.clip_plan.specs.Steps.Plans.{marks_of, AreWhole};
 
     ghost view = { marks_of };
 
-    ghost invariant = { HavePlaces };
+    ghost invariant = { AreWhole };
 }
 
 /// The number of a word, which is a term.
@@ -246,6 +248,28 @@ fn add_plan(
     }
 }
 
+/// Adds the steps of a plan behind those of other plans, and what its first clause asks for; `NoMemory` where an
+/// allocation failed, with both as they were.
+pub(crate) fn push_steps(
+    steps: &[Step],
+    plans: &mut PackedLists<Step>,
+    firsts: &mut Vec<FirstWords>,
+) -> Result<(), NoMemory>
+    ensures ok { OnOk result (plans.new ≡ plans.old ++ steps.now ∷ []) }
+    ensures err { OnErr result (plans.new ≡ plans.old) }
+    ensures firsts { firsts.old.items ≡ map first_words plans.old → firsts.new.items ≡ map first_words plans.new }
+{
+    let count = firsts.len();
+    firsts.push(FirstWords::of_plan(steps))?;
+    match plans.push(steps) {
+        Ok(()) => Ok(()),
+        Err(_) => {
+            firsts.truncate(count);
+            Err(NoMemory)
+        }
+    }
+}
+
 impl Plans {
     /// No plans. Takes no memory.
     pub fn new(alloc: Global) -> Plans
@@ -255,6 +279,7 @@ impl Plans {
             steps: PackedLists::new(alloc),
             runs: PackedLists::new(alloc),
             queries: Vec::new(alloc),
+            firsts: Vec::new(alloc),
         }
     }
 
@@ -284,7 +309,7 @@ impl Plans {
             &mut self.queries,
             &mut steps,
         )?;
-        self.steps.push(&steps)?;
+        push_steps(&steps, &mut self.steps, &mut self.firsts)?;
         Ok(())
     }
 }

@@ -6,7 +6,7 @@ ghost use Rattle.clip_plan.specs.Plan.{decoded, mark_names, names, renumbered, r
 ghost use Rattle.clip_plan.specs.Steps.Plans.{Adds, mark_of};
 
 use crate::copy::copied;
-use crate::plans::{Plans, add_query, kept_place};
+use crate::plans::{Plans, add_query, kept_place, push_steps};
 use crate::step::Step;
 use clip_grammar::query::Query;
 use clip_pieces::PackedLists;
@@ -199,7 +199,7 @@ impl Plans {
         let mut steps = Vec::new(alloc);
         let from = other.steps.get(place);
         source.add_steps(alloc, from, &mut self.runs, &mut self.queries, &mut steps)?;
-        self.steps.push(&steps)?;
+        push_steps(&steps, &mut self.steps, &mut self.firsts)?;
         Ok(())
     }
 }

@@ -5,10 +5,13 @@ use Rattle.std.specs.declared.vec.Vec.{Vec}
 use Rattle.std.specs.declared.alloc.Global.{Global}
 use Rattle.clip_grammar.specs.Tree.{Tree, tree_of}
 use Rattle.clip_grammar.specs.declared.query.Occur.{Occur}
+use Rattle.clip_grammar.specs.declared.query.Occur.TheVariants.{Must, Should, MustNot}
 use Rattle.clip_grammar.specs.declared.query.Query.{Query}
 use Rattle.clip_grammar.specs.declared.query.Query.TheVariants.{Group}
 use Rattle.clip_extract.specs.Keys.{KeyValue}
 use Rattle.clip_plan.specs.Plan.{Has, Run, Is, Mark, Leaf, Open, Close, decoded}
+use Rattle.clip_plan.specs.declared.first_words.FirstWords.{FirstWords}
+use Rattle.clip_plan.specs.declared.first_words.TheConstants.{NO_TERM}
 use Rattle.clip_plan.specs.declared.step.Step.{Step}
 use Rattle.clip_plan.specs.declared.step.Step.TheVariants as step
 use Rattle.clip_plan.specs.declared.plans.Plans.TheInside.{Inside}
@@ -37,6 +40,36 @@ HasPlace runs queries (step.Close occur) = Unit {0}
 -- each step of each plan has its run or query
 abbrev pub HavePlaces : Inside → Type 0
 HavePlaces plans = All (All (HasPlace (length plans.runs) (length plans.queries.items))) plans.steps
+
+-- ---- what a first clause asks for
+
+abbrev pub no_words : FirstWords
+no_words = record { first = NO_TERM; second = NO_TERM }
+
+-- of a clause, its own if it must hold
+abbrev pub clause_words : Occur → (first second : ℕ) → FirstWords
+clause_words Must first second = record { first = first; second = second }
+clause_words Should first second = no_words
+clause_words MustNot first second = no_words
+
+abbrev pub step_words : Step → FirstWords
+step_words (step.Term occur n) = clause_words occur n n
+step_words (step.Pair occur m n) = clause_words occur m n
+step_words (step.Phrase occur place) = no_words
+step_words (step.Query occur place) = no_words
+step_words step.Open = no_words
+step_words (step.Close occur) = no_words
+
+-- of a plan, those of its first step
+abbrev pub first_words : List Step → FirstWords
+first_words [] = no_words
+first_words (s ∷ steps) = step_words s
+
+-- ---- plans
+
+-- each step has its run or query, and of each plan it is kept what its first clause asks for
+abbrev pub AreWhole : Inside → Type 0
+AreWhole plans = HavePlaces plans × (plans.firsts.items ≡ map first_words plans.steps)
 
 -- ---- adding
 
