@@ -1,5 +1,6 @@
 pub mod Due
 pub mod Positions
+pub mod Marks
 pub mod Sent
 pub mod Sorted
 pub mod Whole
