@@ -84,7 +84,7 @@ set_tests t (e ∷ es) = by_test (t e) (set_tests t es)
     by_test false same = same
 
 module _ (h : History) (ks : List KeyValue) (es : List Registered) where
-  abbrev candidate : Registered → Bool
+  abbrev pub candidate : Registered → Bool
   candidate r = is_live h r.seq && has_one ks r
 
   pub live_sharers : both (map (has_one ks) es) (map (λ r. is_live h r.seq) es) ≡ map candidate es

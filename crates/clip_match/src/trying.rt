@@ -210,7 +210,8 @@ pub(crate) fn judge_candidates<'a>(
     let mut stack = Vec::new(alloc);
     let mut asked = 0;
     let mut held = Vec::new(alloc);
-    for (place, segment) in view.segments().iter().enumerate() {
+    let segments = view.segments();
+    for (place, segment) in segments.iter().enumerate() {
         let reading = segment.read(alloc, &asking)?;
         asked += candidates_in(alloc, view, place, &reading, &mut positions)?;
         keep_possible(&reading, &positions, &mut possible)?;
