@@ -15,7 +15,7 @@ use Rattle.clip_match.proofs.Few.{counted_next, few_candidates}
 use Rattle.clip_match.proofs.Positions.{held_split}
 use Rattle.clip_match.proofs.Whole.{misses_none, candidates_registered, candidates_rise}
 use Rattle.clip_match.proofs.trying.judge_candidates.Goals as goal
-use Rattle.clip_match.proofs.trying.judge_candidates.Goals.{In_ok-candidates_in}
+use Rattle.clip_match.proofs.trying.judge_candidates.Goals.{In_ok-asked}
 
 pub candidates_in-requires : goal.candidates_in-requires
 candidates_in-requires c =
@@ -29,14 +29,14 @@ candidates_in-requires c =
     ∙ ap Some (sym entries)
 
 -- the reading is of the segment's entries and the article
-value : (c : In_ok-candidates_in) → c.in_ok-reading.reading ≡ record { entries = arc_value c.index-segments-place.result; article = c.args.article.now }
+value : (c : In_ok-asked) → c.in_ok-reading.reading ≡ record { entries = arc_value c.index-segments-place.result; article = c.args.article.now }
 value c =
     c.in_ok-reading.ensures
     ∙ ap (λ (es : List Registered). record { entries = es; article = c.in_ok-asking.asking }) c.deref.ensures
     ∙ ap (λ (article : ArticleValue). record { entries = arc_value c.index-segments-place.result; article = article }) c.in_ok-asking.ensures
 
 -- the segment, and those behind it
-parts : (c : In_ok-candidates_in) → arc_value c.index-segments-place.result ++ all_entries (map arc_value (drop (c.loop-place.place + 1) c.segments-segments.result.now))
+parts : (c : In_ok-asked) → arc_value c.index-segments-place.result ++ all_entries (map arc_value (drop (c.loop-place.place + 1) c.segments-segments.result.now))
     ≡ all_entries (map arc_value (drop c.loop-place.place c.segments-segments.result.now))
 parts c =
     let segments = c.segments-segments.result.now in
@@ -45,7 +45,7 @@ parts c =
     ap (λ ss. all_entries (map arc_value ss)) (sym (drop_more segments i c.index-segments-place.result within ∙ ap (λ x. x ∷ drop (i + 1) segments) (sym c.index-segments-place.is)))
 
 -- the candidates of the segment are counted
-asked : (c : In_ok-candidates_in) → c.loop-place.asked + c.in_ok-candidates_in.field-0
+asked : (c : In_ok-asked) → c.loop-place.asked + c.in_ok-asked.field-0
     + length (live_with c.args.view.now.history (article_keys c.args.article.now.fields) (all_entries (map arc_value (drop (c.loop-place.place + 1) c.segments-segments.result.now))))
     ≡ length (live_with c.args.view.now.history (article_keys c.args.article.now.fields) (all_entries (map arc_value c.segments-segments.result.now)))
 asked c =
@@ -53,8 +53,8 @@ asked c =
     let ks = article_keys c.args.article.now.fields in
     let segment : List Registered = arc_value c.index-segments-place.result in
     counted_next h ks segment (all_entries (map arc_value (drop (c.loop-place.place + 1) c.segments-segments.result.now))) (all_entries (map arc_value (drop c.loop-place.place c.segments-segments.result.now)))
-    c.loop-place.asked c.in_ok-candidates_in.field-0 _ (parts c) c.loop-place.invariant.asked
-    (c.in_ok-candidates_in.ensures.asked ∙ ap (λ (r : AskedValue). length (live_with h (article_keys r.article.fields) r.entries)) (value c))
+    c.loop-place.asked c.in_ok-asked.field-0 _ (parts c) c.loop-place.invariant.asked
+    (c.in_ok-asked.ensures.asked ∙ ap (λ (r : AskedValue). length (live_with h (article_keys r.article.fields) r.entries)) (value c))
 
 pub overflow_add-asked : goal.overflow_add-asked
 overflow_add-asked c =
@@ -63,12 +63,12 @@ overflow_add-asked c =
     let few = few_candidates state c.args.article.now c.segments-segments.ensures.whole c.segments-segments.ensures.legal in
     let all : length (live_with state.history ks (all_entries (map arc_value c.segments-segments.result.now))) ≡ length (candidates_of state c.args.article.now) =
     ap (λ ss. length (live_with state.history ks (all_entries ss))) c.segments-segments.ensures.segments in
-    let sum = asked (goal.at.overflow_add-asked c).In_ok-candidates_in in
+    let sum = asked (goal.at.overflow_add-asked c).In_ok-asked in
     omega (arith, few, all, sum)
 
 pub loop-place-preserved : goal.loop-place-preserved
 loop-place-preserved c =
-    let at = (goal.at.loop-place-preserved c).In_ok-candidates_in in
+    let at = (goal.at.loop-place-preserved c).In_ok-asked in
     let fields = c.args.article.now.fields in
     let ks = article_keys fields in
     let h = c.args.view.now.history in
@@ -77,7 +77,7 @@ loop-place-preserved c =
     let others : List Registered = all_entries (map arc_value (drop (c.loop-place.place + 1) c.segments-segments.result.now)) in
     let here : filter held (entries_at segment c.candidates_in.new.positions.items) ≡ filter held (live_with h ks segment) =
     subst (λ (r : AskedValue). filter (λ x. holds x.standing.tree r.article.fields) (entries_at r.entries c.candidates_in.new.positions.items) ≡ filter (λ x. holds x.standing.tree r.article.fields) (live_with h (article_keys r.article.fields) r.entries))
-    (value at) c.in_ok-candidates_in.ensures.positions in
+    (value at) c.in_ok-asked.ensures.positions in
     let kept : filter (λ x. holds x.standing.tree c.in_ok-reading.reading.article.fields) (entries_at c.in_ok-reading.reading.entries c.deref-in-loop-place-2.result.now) ≡ filter held (live_with h ks segment) =
     ap (λ ps. filter (λ x. holds x.standing.tree c.in_ok-reading.reading.article.fields) (entries_at c.in_ok-reading.reading.entries ps)) c.deref-in-loop-place-2.ensures.value
     ∙ c.in_ok-keep_possible.ensures
