@@ -1,5 +1,7 @@
 pub mod Due
 pub mod Positions
+pub mod Marks
+pub mod Few
 pub mod Sent
 pub mod Sorted
 pub mod Whole

@@ -11,7 +11,7 @@ use Rattle.clip_match.specs.Steps.Positions.{has_one, placed_with, live_with, en
 
 -- ---- the entry at a position
 
-got : (front : List Registered) (e : Registered) (es : List Registered) → slice_get (front ++ e ∷ es) (length front) ≡ Some e
+pub got : (front : List Registered) (e : Registered) (es : List Registered) → slice_get (front ++ e ∷ es) (length front) ≡ Some e
 got [] e es = refl
 got (x ∷ front) e es = got front e es
 

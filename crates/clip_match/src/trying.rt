@@ -1,12 +1,12 @@
 //! The candidates of an article whose queries hold of it.
-ghost use Rattle.std.specs.Prelude.{◌≡◌, ◌++◌, map, filter, length, IfOk, OnOk};
-ghost use Rattle.std.specs.List.{All};
+ghost use Rattle.std.specs.Prelude.{◌≡◌, ◌++◌, Some, map, filter, length, IfOk, OnOk};
+ghost use Rattle.std.specs.List.{All, slice_get};
 ghost use Rattle.clip_extract.specs.Covering.{article_keys};
 ghost use Rattle.clip_meaning.specs.Meaning.{holds};
-ghost use Rattle.clip_segment.specs.Segment.{IsRising, seqs_of};
+ghost use Rattle.clip_segment.specs.Segment.{IsRising};
 ghost use Rattle.clip_match.specs.Candidates.{candidates_of, MissesNone, AreRegistered};
 ghost use Rattle.clip_match.specs.Steps.Held.{HasItsHits};
-ghost use Rattle.clip_match.specs.Steps.Positions.{entries_at, live_among};
+ghost use Rattle.clip_match.specs.Steps.Positions.{entries_at, live_with};
 
 use crate::held::{Held, HitsFound, entries_of};
 use clip_extract::covering_law;
@@ -28,31 +28,34 @@ pub struct Tried<'a> {
     pub entries: Vec<&'a Entry>,
 }
 
-/// Those of the positions at which a live entry of the segment stands, in place of those that were in `live`. Adds the
-/// seqs of these entries. No entry is looked at, so the positions wait for memory side by side.
-fn keep_live(
+/// The positions of those candidates of a segment that no second key rules out, in place of those that were in the list,
+/// and how many candidates it has: the live entries whose query has a key in common with the article. They are counted
+/// and ruled out by words of 64 positions, and no entry is looked at.
+fn candidates_in(
+    alloc: Global,
     view: &View,
+    place: usize,
     reading: &SegmentReading<'_>,
-    positions: &[u32],
-    live: &mut Vec<u32>,
-    asked: &mut Vec<u64>,
-) -> Result<(), NoMemory>
-    ensures live { OnOk result (live.new.items ≡ live_among view.now.history reading.now.entries positions.now) }
-    ensures asked { OnOk result (asked.new.items ≡ asked.old.items
-        ++ seqs_of (entries_at reading.now.entries (live_among view.now.history reading.now.entries positions.now))) }
+    positions: &mut Vec<u32>,
+) -> Result<u64, NoMemory>
+    requires { slice_get view.now.segments place ≡ Some reading.now.entries }
+    ensures asked { IfOk result (λ asked. asked ≡ length
+        (live_with view.now.history (article_keys reading.now.article.fields) reading.now.entries)) }
+    ensures positions { OnOk result (
+        filter (λ r. holds r.standing.tree reading.now.article.fields)
+        (entries_at reading.now.entries positions.new.items)
+        ≡ filter (λ r. holds r.standing.tree reading.now.article.fields)
+        (live_with view.now.history (article_keys reading.now.article.fields) reading.now.entries)) }
 {
-    live.clear();
-    for position in positions {
-        let Some(seq) = reading.seq(*position) else {
-            continue;
-        };
-        if !view.is_live_seq(seq) {
-            continue;
-        }
-        live.push(*position)?;
-        asked.push(seq)?;
-    }
-    Ok(())
+    let Some(live) = view.live_at(place) else {
+        unreachable!()
+    };
+    let mut marks = reading.sharer_marks(alloc)?;
+    marks.keep(live);
+    let asked = marks.count() as u64;
+    reading.keep_met(&mut marks);
+    marks.numbers_into(positions)?;
+    Ok(asked)
 }
 
 /// Those of the positions at which the query of the segment's entry may hold of the article, in place of those that
@@ -196,24 +199,20 @@ pub(crate) fn judge_candidates<'a>(
     covering_law();
     let asking = Asking::of(alloc, article)?;
     let mut positions = Vec::new(alloc);
-    let mut live = Vec::new(alloc);
     let mut possible = Vec::new(alloc);
     let mut holding = Vec::new(alloc);
     let mut stack = Vec::new(alloc);
-    let mut asked = Vec::new(alloc);
+    let mut asked = 0;
     let mut held = Vec::new(alloc);
-    for segment in view.segments() {
+    let segments = view.segments();
+    for (place, segment) in segments.iter().enumerate() {
         let reading = segment.read(alloc, &asking)?;
-        reading.sharers(&mut positions)?;
-        keep_live(view, &reading, &positions, &mut live, &mut asked)?;
-        keep_possible(&reading, &live, &mut possible)?;
+        asked += candidates_in(alloc, view, place, &reading, &mut positions)?;
+        keep_possible(&reading, &positions, &mut possible)?;
         keep_holding(&reading, &possible, &mut stack, &mut holding)?;
         add_held(alloc, &reading, &holding, hits, &mut held)?;
     }
-    Ok(Judged {
-        asked: asked.len() as u64,
-        held,
-    })
+    Ok(Judged { asked, held })
 }
 
 /// Of the candidates of an article, which are the live entries whose query has a key in common with it, how many there
@@ -221,8 +220,9 @@ pub(crate) fn judge_candidates<'a>(
 /// among them.
 ///
 /// `NoMemory` where an allocation failed. Cost: a step for each word of the article; in each segment that of
-/// `SegmentReading::sharers`, a step for each candidate, and for each that its first clause does not rule out that of
-/// `SegmentReading::holds`. An entry is looked at only where its query holds.
+/// `SegmentReading::sharer_marks`, a step for each 64 entries, one for each candidate that its second keys do not rule
+/// out, and for each that its first clause does not either that of `SegmentReading::holds`. An entry is looked at only
+/// where its query holds.
 pub fn holding<'a>(
     alloc: Global,
     view: &'a View,

@@ -3,3 +3,4 @@ pub mod Cuts
 pub mod Flags
 pub mod Words
 pub mod Held
+pub mod Both

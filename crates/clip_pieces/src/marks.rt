@@ -1,9 +1,11 @@
 //! Sets of numbers.
-ghost use Rattle.std.specs.Prelude.{◌≡◌, ◌+◌, ◌≤◌, ◌++◌, false, true, IfOk, OnOk, replicate, slice_index_or, slice_set};
-ghost use Rattle.clip_pieces.specs.Marked.{marked, marked_from};
-ghost use Rattle.clip_pieces.specs.Steps.Bits.{bits_of};
+ghost use Rattle.std.specs.Prelude.{◌≡◌, ℕ, ◌+◌, ◌≤◌, ◌++◌, ◌<◌, ◌&&◌, ◌||◌, not, false, true, IfOk, OnOk, bit_and, count_by, length, replicate, slice_index_or, slice_set};
+ghost use Rattle.clip_pieces.specs.Marked.{both, marked, marked_from};
+ghost use Rattle.clip_pieces.specs.Steps.Bits.{bits_of, is_set};
 ghost use Rattle.clip_pieces.specs.declared.marks.TheConstants.{MOST_NUMBERS};
 
+use crate::list::SharedList;
+use crate::shared_flags::SharedFlags;
 use clip_words::NoMemory;
 use std::alloc::Global;
 use std::marker::Model;
@@ -41,6 +43,45 @@ fn add_numbers(word: u64, first: usize, numbers: &mut Vec<u32>) -> Result<(), No
         left &= left - 1;
     }
     Ok(())
+}
+
+/// Leaves in each word just the bits that the other word of its place has, or none where there is no other word.
+fn keep_bits(words: &mut Vec<u64>, others: &SharedList<u64>)
+    ensures length { length words.new.items ≡ length words.old.items }
+    ensures bits { (place : ℕ) → slice_index_or words.new.items place 0
+        ≡ bit_and (slice_index_or words.old.items place 0) (slice_index_or others.now place 0) }
+{
+    for place in 0..words.len() {
+        if words[place] == 0 {
+            continue;
+        }
+        words[place] &= others.get(place).copied().unwrap_or(0);
+    }
+}
+
+/// The word with just those of its bits that are met: those of `has`, and those that `needs` has not.
+fn met(word: u64, needs: u64, has: u64) -> u64
+    ensures { (bit : ℕ) → bit < 64 → is_set result bit ≡ (is_set word bit && (is_set has bit || not (is_set needs bit))) }
+{
+    word & (has | !needs)
+}
+
+/// Leaves in each word just the bits that `met` leaves, by the other words of its place.
+fn keep_met_bits(words: &mut Vec<u64>, needs: &Vec<u64>, has: &Vec<u64>)
+    ensures length { length words.new.items ≡ length words.old.items }
+    ensures bits { (place bit : ℕ) → bit < 64 → is_set (slice_index_or words.new.items place 0) bit
+        ≡ (is_set (slice_index_or words.old.items place 0) bit
+        && (is_set (slice_index_or has.now.items place 0) bit
+        || not (is_set (slice_index_or needs.now.items place 0) bit))) }
+{
+    for place in 0..words.len() {
+        if words[place] == 0 {
+            continue;
+        }
+        let needs = needs.get(place).copied().unwrap_or(0);
+        let has = has.get(place).copied().unwrap_or(0);
+        words[place] = met(words[place], needs, has);
+    }
 }
 
 impl Marks {
@@ -87,5 +128,34 @@ impl Marks {
             first += 64;
         }
         Ok(())
+    }
+
+    /// How many numbers are marked. Takes no memory. Cost: a step for each 64 numbers.
+    pub fn count(&self) -> usize
+        ensures { result ≡ count_by (λ flag. flag) self.now }
+    {
+        let mut count = 0;
+        for word in &self.words {
+            count += word.count_ones() as usize;
+        }
+        count
+    }
+
+    /// Leaves marked just those numbers whose flag is set. Takes no memory. Cost: a step for each 64 numbers.
+    pub fn keep(&mut self, flags: &SharedFlags)
+        ensures { self.new ≡ both self.old flags.now }
+    {
+        keep_bits(&mut self.words, flags.words());
+    }
+
+    /// Leaves marked just those numbers that `has` has marked or `needs` has not. Takes no memory. Cost: a step for
+    /// each 64 numbers.
+    pub fn keep_met(&mut self, needs: &Marks, has: &Marks)
+        ensures length { length self.new ≡ length self.old }
+        ensures each { (number : ℕ) → slice_index_or self.new number false
+            ≡ (slice_index_or self.old number false
+            && (slice_index_or has.now number false || not (slice_index_or needs.now number false))) }
+    {
+        keep_met_bits(&mut self.words, &needs.words, &has.words);
     }
 }

@@ -1,11 +1,13 @@
 //! `SharedFlags` and its methods.
-ghost use Rattle.std.specs.Prelude.{◌≡◌, ◌<◌, ◌*◌, ◌/◌, false, [], ◌∷◌, ◌++◌, length, OnOk, OnErr, slice_get, slice_index_or, slice_set};
+ghost use Rattle.std.specs.Prelude.{◌≡◌, ℕ, ◌<◌, ◌*◌, ◌/◌, false, [], ◌∷◌, ◌++◌, length, OnOk, OnErr, slice_get, slice_index_or, slice_set};
 ghost use Rattle.clip_pieces.specs.Steps.Bits.{bits_of, flags_of};
 
 use crate::list::SharedList;
+use crate::shared::Shared;
 use clip_words::NoMemory;
 use std::alloc::{AllocError, Global};
 use std::marker::Model;
+use std::sync::Arc;
 
 /// A list of flags whose bits lie in words of 64 bits, and the words in shared pieces: 8,192 flags to a piece of a
 /// kilobyte, and 128 pieces to a block. Contracts see the list of the flags.
@@ -106,6 +108,14 @@ impl SharedFlags {
         Some(word_at(&self.words, place) >> (place % 64) & 1 == 1)
     }
 
+    /// The words in which the bits lie.
+    pub(crate) fn words(&self) -> &SharedList<u64>
+        ensures { (place : ℕ) → slice_index_or (flags_of result.now) place false
+            ≡ slice_index_or self.now place false }
+    {
+        &self.words
+    }
+
     /// Puts a flag behind the last one, or gives `NoMemory` where an allocation failed, with the list as it was.
     ///
     /// Cost: constant time on average where no other list shares the last piece, and else a copy of at most a kilobyte
@@ -136,5 +146,19 @@ impl SharedFlags {
         ensures err { OnErr result (self.new ≡ self.old) }
     {
         set_bit(&mut self.words, place, flag)
+    }
+}
+
+impl Shared<SharedFlags> {
+    /// Puts a flag in the place of another, in a list of its own where others share this one, or gives `NoMemory` where
+    /// an allocation failed, with the list as it was.
+    ///
+    /// Cost: that of `SharedFlags::set`, and that of a clone where others share the list.
+    pub fn set(&mut self, place: usize, flag: bool) -> Result<(), NoMemory>
+        requires { place < length self.old }
+        ensures ok { OnOk result (self.new ≡ slice_set self.old place flag) }
+        ensures err { OnErr result (self.new ≡ self.old) }
+    {
+        Arc::make_mut(&mut self.arc)?.set(place, flag)
     }
 }

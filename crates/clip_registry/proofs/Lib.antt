@@ -8,6 +8,7 @@ pub mod Entries
 pub mod Entered
 pub mod Keeping
 pub mod Kept
+pub mod LiveFlags
 pub mod Equal
 pub mod Missing
 pub mod Naming

@@ -59,10 +59,10 @@ log_sync : IsSync log.the_row
 log_sync = view_sync log_inside.the_row _ _ _ _ (declared_sync log_inside.the_type (trail_sent.the_sync, (search global, (search (lists, history_entry_send, history_entry_sync), (search (lists, history_entry_send, history_entry_sync), tt)))))
 
 state_send : IsSend state.the_row
-state_send = view_send state_inside.the_row _ _ _ _ (declared_send state_inside.the_type (search (parts, segment_send, segment_sync), (log_send, (roster_send, (search parts, tt)))))
+state_send = view_send state_inside.the_row _ _ _ _ (declared_send state_inside.the_type (search (parts, segment_send, segment_sync), (log_send, (roster_send, (search parts, (search (lists, flags_sent.the_send, flags_sent.the_sync), tt))))))
 
 state_sync : IsSync state.the_row
-state_sync = view_sync state_inside.the_row _ _ _ _ (declared_sync state_inside.the_type (search (parts, segment_send, segment_sync), (log_sync, (roster_sync, (search parts, tt)))))
+state_sync = view_sync state_inside.the_row _ _ _ _ (declared_sync state_inside.the_type (search (parts, segment_send, segment_sync), (log_sync, (roster_sync, (search parts, (search (lists, flags_sent.the_send, flags_sent.the_sync), tt))))))
 
 pub registrar_send : IsSend registrar.the_row
 registrar_send = view_send registrar_inside.the_row _ _ _ _ (declared_send registrar_inside.the_type (search global, (search global, (search (parts, state_send, state_sync), tt))))

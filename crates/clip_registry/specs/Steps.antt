@@ -1,6 +1,7 @@
 pub mod Change
 pub mod Flags
 pub mod History
+pub mod LiveFlags
 pub mod Log
 pub mod LogInside
 pub mod Merging

@@ -7,6 +7,7 @@ mod by_id;
 mod change;
 mod held;
 mod history;
+mod live_flags;
 mod log;
 mod merging;
 mod purging;

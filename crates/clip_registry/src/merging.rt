@@ -3,17 +3,21 @@ ghost use Rattle.std.specs.Prelude.{◌≡◌, ◌+◌, ◌≤◌, None, map, le
 ghost use Rattle.std.specs.Arc.{arc_value};
 ghost use Rattle.std.specs.List.{list_all};
 ghost use Rattle.clip_segment.specs.Segment.{IsRising, all_entries};
+ghost use Rattle.clip_model.specs.History.{replay};
 ghost use Rattle.clip_model.specs.declared.limits.TheConstants.{MOST_LIVE};
 ghost use Rattle.clip_registry.specs.Merging.{IsStale, LateMergesMissNothing, Misses, StandsAt, merge_of};
+ghost use Rattle.clip_registry.specs.Steps.LiveFlags.{flags_in};
 ghost use Rattle.clip_registry.specs.Steps.Merging.{AreKept, has_seq_if_live, job_over, replaced};
 ghost use Rattle.clip_registry.specs.Steps.Roster.{live_in};
 
+use crate::live_flags::flags_of;
 use crate::purging::add_live_seqs;
 use crate::roster::Roster;
 use crate::same::place_of;
 use crate::state::State;
 use clip_merge::{Live, merge};
 use clip_model::RUN_LENGTH;
+use clip_pieces::{Shared, SharedFlags};
 use clip_segment::Segment;
 use clip_standing::Entry;
 use clip_words::NoMemory;
@@ -174,6 +178,30 @@ impl Merged {
         } else {
             None
         }
+    }
+
+    /// The live flags of the segments of a state, with those of the merge in the place of those of the four from
+    /// `first` on, or with none there where it has no entries. `NoMemory` where an allocation failed. It costs a step
+    /// for each segment, whose flags it shares, and for each entry of the merge.
+    pub(crate) fn put_flags(
+        &self,
+        alloc: Global,
+        state: &State,
+        first: usize,
+    ) -> Result<Vec<Shared<SharedFlags>>, NoMemory>
+        requires { first + RUN_LENGTH ≤ length state.now.segments }
+        ensures { IfOk result (λ live. live.items
+            ≡ flags_in (replay state.now.history) (replaced state.now.segments first self.now.entries)) }
+    {
+        let (before, rest) = state.live.split_at(first);
+        let (_, after) = rest.split_at(RUN_LENGTH);
+        let mut live = Vec::with_capacity(alloc, state.live.len())?;
+        live.extend_with_clones(before)?;
+        if !self.segment.is_empty() {
+            live.push(flags_of(alloc, &state.roster, &self.segment)?)?;
+        }
+        live.extend_with_clones(after)?;
+        Ok(live)
     }
 
     /// The segments, with that of the merge in the place of the four from `first` on, or with none there where it has

@@ -10,6 +10,7 @@ ghost use Rattle.clip_standing.specs.declared.command.Refused.TheVariants as ref
 
 use crate::held::{copy_of, history_of, last_of, number_of, own_copy};
 use crate::history::History;
+use crate::live_flags::all_flags;
 use crate::merging::{Installed, MergeJob, Merged};
 use crate::purging::live_segments;
 use crate::state::State;
@@ -102,8 +103,10 @@ impl Registrar {
     /// a step for each segment, one for each 16,384 history entries that are kept, one for each 1,048,576 queries
     /// listed since the last clear, and one for each piece of the map by id, which holds up to 512 entries; then, for
     /// the entry of the history and for each query listed, replaced or deleted, at most two pieces of 128 are copied,
-    /// and for each id that is listed one piece of the map, of each piece just once. No text of a query and no id of
-    /// one is copied; the ids of a delete are, into its history entry.
+    /// and for each id that is listed one piece of the map, of each piece just once. For each query that is replaced or
+    /// deleted at most two such pieces of the live flags of its segment are copied too; the segment is found by a step
+    /// for each segment, and a search by halves in those that have a seq that is not below it. No text of a query and
+    /// no id of one is copied; the ids of a delete are, into its history entry.
     pub fn apply(&mut self, caller: u32, command: Command) -> Result<Applied, (Command, Refused)>
         requires fits { IsTrue (fits (command_of command)) }
         requires caller_from { 0 < caller }
@@ -168,8 +171,9 @@ impl Registrar {
         let Some(first) = merged.place_in(shared) else {
             return Ok(Installed::Stale);
         };
+        let live = merged.put_flags(self.alloc, shared, first)?;
         let segments = merged.put_in(self.alloc, &shared.segments, first)?;
-        self.state = Some(shared.with_segments(self.alloc, segments)?);
+        self.state = Some(shared.with_segments(self.alloc, segments, live)?);
         Ok(Installed::Done)
     }
 
@@ -186,7 +190,8 @@ impl Registrar {
             return Ok(());
         };
         let segments = live_segments(self.alloc, &shared.roster, &shared.segments)?;
-        self.state = Some(shared.with_segments(self.alloc, segments)?);
+        let live = all_flags(self.alloc, &shared.roster, &segments)?;
+        self.state = Some(shared.with_segments(self.alloc, segments, live)?);
         Ok(())
     }
 

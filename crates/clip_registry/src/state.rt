@@ -1,9 +1,10 @@
 //! What a registrar and its views share: the segments, the history and the roster.
 ghost use Rattle.std.specs.Prelude.{◌≡◌, ◌<◌, ◌≤◌, length, map, IfOk, IfErr, IsTrue, IsFalse};
 ghost use Rattle.std.specs.Arc.{arc_value};
-ghost use Rattle.clip_model.specs.History.{IsLegal, fits, has_room, next_entry, own};
+ghost use Rattle.clip_model.specs.History.{IsLegal, fits, has_room, next_entry, own, replay};
 ghost use Rattle.clip_standing.specs.Command.{command_of, entry_of};
 ghost use Rattle.clip_registry.specs.Steps.Change.{IsAccepted};
+ghost use Rattle.clip_registry.specs.Steps.LiveFlags.{flags_in};
 ghost use Rattle.clip_registry.specs.Steps.Merging.{AreKept};
 ghost use Rattle.clip_registry.specs.RegistryState.{beginning};
 ghost use Rattle.clip_standing.specs.declared.command.Refused.TheVariants as refused;
@@ -12,7 +13,7 @@ use crate::change::change;
 use crate::log::Log;
 use crate::roster::Roster;
 use clip_model::{MOST_CALLERS, MOST_ENTRIES};
-use clip_pieces::Shared;
+use clip_pieces::{Shared, SharedFlags};
 use clip_segment::Segment;
 use clip_standing::{Applied, Command, HistoryEntry, Refused};
 use clip_words::NoMemory;
@@ -20,14 +21,15 @@ use std::alloc::{AllocError, Global};
 use std::marker::Model;
 use std::sync::Arc;
 
-/// The segments, the history, the registered queries and how many commands each caller gave. A clone shares all but
-/// the list of segments and the counts of commands.
+/// The segments with the live flags of their entries, the history, the registered queries and how many commands each
+/// caller gave. A clone shares all but the lists of segments and of their flags and the counts of commands.
 #[derive(Drop)]
 pub struct State {
     pub(crate) segments: Vec<Arc<Segment>>,
     pub(crate) log: Log,
     pub(crate) roster: Roster,
     counts: Vec<u64>,
+    pub(crate) live: Vec<Shared<SharedFlags>>,
 }
 
 impl Model for State {
@@ -53,6 +55,7 @@ impl Clone for State {
             log: self.log.clone()?,
             roster: self.roster.clone()?,
             counts: self.counts.clone()?,
+            live: self.live.clone()?,
         })
     }
 }
@@ -67,6 +70,7 @@ impl State {
             log: Log::new(alloc, keeps),
             roster: Roster::new(alloc, 0),
             counts: vec![in alloc; 0; MOST_CALLERS as usize]?,
+            live: Vec::new(alloc),
         })
     }
 
@@ -129,27 +133,31 @@ impl State {
             log,
             roster,
             mut counts,
+            live,
         } = self;
         let log = log.with(entry)?;
         counts[caller as usize - 1] += 1;
-        let changed = change(alloc, segments, roster, command)?;
+        let changed = change(alloc, segments, live, roster, command)?;
         let next = State {
             segments: changed.segments,
             log,
             roster: changed.roster,
             counts,
+            live: changed.live,
         };
         Ok((next, changed.applied))
     }
 
-    /// The state with other segments in the place of all segments: they have each live entry, and no entry that was not
-    /// there. `NoMemory` where an allocation failed.
+    /// The state with other segments in the place of all segments, and with their live flags: they have each live
+    /// entry, and no entry that was not there. `NoMemory` where an allocation failed.
     pub fn with_segments(
         &self,
         alloc: Global,
         segments: Vec<Arc<Segment>>,
+        live: Vec<Shared<SharedFlags>>,
     ) -> Result<Arc<State>, NoMemory>
-        requires { AreKept self.now (map arc_value segments.items) }
+        requires kept { AreKept self.now (map arc_value segments.items) }
+        requires flags { live.items ≡ flags_in (replay self.now.history) (map arc_value segments.items) }
         ensures { IfOk result (λ state. state.value
             ≡ record self.now { segments = map arc_value segments.items }) }
     {
@@ -158,6 +166,7 @@ impl State {
             log: self.log.clone()?,
             roster: self.roster.clone()?,
             counts: self.counts.clone()?,
+            live,
         };
         Ok(Arc::new(alloc, next)?)
     }

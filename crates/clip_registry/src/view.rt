@@ -1,5 +1,5 @@
 //! Views: the registry as it was at one place of its history.
-ghost use Rattle.std.specs.Prelude.{◌≡◌, IfOk, map, length, option_map, option_copied, string_bytes};
+ghost use Rattle.std.specs.Prelude.{◌≡◌, IfOk, map, length, option_map, option_copied, slice_get, string_bytes};
 ghost use Rattle.std.specs.Arc.{arc_value};
 ghost use Rattle.std.specs.FinMap as finite;
 ghost use Rattle.clip_model.specs.History.{IsLegal, own, replay, is_live};
@@ -8,6 +8,7 @@ ghost use Rattle.clip_registry.specs.RegistryState.{IsWhole, kept_history};
 use crate::held::{copy_of, history_of, number_of};
 use crate::history::History;
 use crate::state::State;
+use clip_pieces::SharedFlags;
 use clip_segment::Segment;
 use clip_standing::Entry;
 use clip_words::NoMemory;
@@ -120,6 +121,21 @@ impl View {
         match &self.state {
             Some(state) => &state.segments,
             None => &[],
+        }
+    }
+
+    /// For each entry of the segment at a place of `segments`, by position, whether a registered query has its seq, or
+    /// `None` past the last segment. Constant time.
+    pub fn live_at(&self, place: usize) -> Option<&SharedFlags>
+        ensures { option_copied result
+            ≡ option_map (map (λ r. is_live self.now.history r.seq)) (slice_get self.now.segments place) }
+    {
+        match &self.state {
+            Some(state) => match state.live.get(place) {
+                Some(flags) => Some(flags.value()),
+                None => None,
+            },
+            None => None,
         }
     }
 

@@ -4,12 +4,12 @@ use Rattle.std.proofs.lemmas.Option.{slice_get-map}
 use Rattle.std.specs.List.{enumerate_from}
 use Rattle.clip_grammar.specs.Tree.{Tree}
 use Rattle.clip_extract.specs.Extraction.{query_keys}
-use Rattle.clip_extract.specs.Keys.{KeyValue, share}
+use Rattle.clip_extract.specs.Keys.{KeyValue}
 use Rattle.clip_plan.specs.Plan.{Mark, decoded, plan_of}
-use Rattle.clip_segment.specs.Index.{IndexValue, IsIndexOf, has_key, query_positions_with, query_positions_sharing}
+use Rattle.clip_segment.specs.Index.{IndexValue, IsIndexOf, has_key, query_positions_with}
 use Rattle.clip_segment.proofs.Answering.{decoded_at, plan_at}
 use Rattle.clip_model.specs.History.{Registered}
-use Rattle.clip_segment.specs.Segment.{positions_with, positions_sharing, trees_of}
+use Rattle.clip_segment.specs.Segment.{positions_with, trees_of}
 
 positions_from : (test : Tree → Bool) (n : ℕ) (es : List Registered)
     → map (λ (p : ℕ × Tree). p.0) (filter (λ (p : ℕ × Tree). test p.1) (enumerate_from n (trees_of es)))
@@ -27,8 +27,10 @@ positions_from test n (e ∷ es) =
 pub positions_of_key : (key : KeyValue) (es : List Registered) → query_positions_with query_keys key (trees_of es) ≡ positions_with key es
 positions_of_key key es = positions_from (has_key query_keys key) 0 es
 
-pub sharing_positions : (keys : List KeyValue) (es : List Registered) → query_positions_sharing query_keys keys (trees_of es) ≡ positions_sharing keys es
-sharing_positions keys es = positions_from (λ tree. share (query_keys tree) keys) 0 es
+-- a test of the queries is one of their entries
+pub tests_of_trees : (test : Tree → Bool) (es : List Registered) → map test (trees_of es) ≡ map (λ (e : Registered). test e.standing.tree) es
+tests_of_trees test [] = refl
+tests_of_trees test (e ∷ es) = ap (λ bs. test e.standing.tree ∷ bs) (tests_of_trees test es)
 
 -- the plan at the position of an entry is that of its query
 pub plan_of_entry : (es : List Registered) (index : IndexValue) → IsIndexOf (trees_of es) index → (position : ℕ) (entry : Registered) → slice_get es position ≡ Some entry

@@ -3,6 +3,7 @@ pub mod AnyOf
 pub mod Asked
 pub mod EntryPositions
 pub mod Flagged
+pub mod Found
 pub mod Holding
 pub mod IndexPositions
 pub mod KeptLists

@@ -1,5 +1,5 @@
 -- Queries that need a second key, and articles that have none of theirs.
-use Rattle.std.proofs.Common.{◌≡◌, ℕ, ◌<◌, Bool, true, false, ◌||◌, nat_eq, List, [], ◌∷◌, map, flat_map, length, get_or, Some, slice_get, option_map, IsTrue, refl, sym, ap, ◌∙◌, subst}
+use Rattle.std.proofs.Common.{◌≡◌, ℕ, ◌<◌, Bool, true, false, not, ◌||◌, nat_eq, List, [], ◌∷◌, map, flat_map, length, get_or, Some, slice_get, option_map, IsTrue, refl, sym, ap, ◌∙◌, subst}
 use Rattle.std.specs.List.{list_any}
 use Rattle.std.proofs.lemmas.Bool.{false_from_ne_true, false≢true, and_parts}
 use Rattle.std.proofs.lemmas.List.{ext_get_or, length-map}
@@ -58,7 +58,7 @@ here test es position entry d there =
     get_or_from_slice_get (map test (trees_of es)) position (test entry.standing.tree) d
     (slice_get-map test (trees_of es) position ∙ ap (option_map test) (slice_get-map tree es position ∙ ap (option_map tree) there))
 
-pub ruled_out : CoversTwice → (es : List Registered) (position : ℕ) (entry : Registered) (fields : Fields) (needs seconds : List Bool) → slice_get es position ≡ Some entry
+ruled_out : CoversTwice → (es : List Registered) (position : ℕ) (entry : Registered) (fields : Fields) (needs seconds : List Bool) → slice_get es position ≡ Some entry
     → needs ≡ map needs_second (trees_of es) → true ≡ get_or needs position false
     → (position < length es → get_or seconds position false ≡ list_any (nat_eq position) (query_positions_sharing second_keys (article_keys fields) (trees_of es))) → false ≡ get_or seconds position false
     → holds entry.standing.tree fields ≡ false
@@ -70,6 +70,19 @@ ruled_out law es position entry fields needs seconds there are needed marked non
     sym (none ∙ marked (slice_get_within es position entry there) ∙ position_passes (λ t. share (second_keys t) keys) (trees_of es) position
     ∙ here (λ t. share (second_keys t) keys) es position entry false there) in
     false_from_ne_true _ (λ held. false≢true (sym lacks ∙ law tree fields held (any_of_none (second_keys tree) some)))
+
+stays : (needed shared : Bool) → (true ≡ needed → false ≡ shared → ⊥) → (shared || not needed) ≡ true
+stays needed true left = refl
+stays false false left = refl
+stays true false left = absurd (left refl refl)
+
+-- a query that holds needs no second key or shares one
+pub met_where_holds : CoversTwice → (es : List Registered) (position : ℕ) (entry : Registered) (fields : Fields) (needs seconds : List Bool) → slice_get es position ≡ Some entry → needs ≡ map needs_second (trees_of es)
+    → (position < length es → get_or seconds position false ≡ list_any (nat_eq position) (query_positions_sharing second_keys (article_keys fields) (trees_of es))) → holds entry.standing.tree fields ≡ true
+    → (get_or seconds position false || not (get_or needs position false)) ≡ true
+met_where_holds law es position entry fields needs seconds there are marked held =
+    stays (get_or needs position false) (get_or seconds position false)
+    (λ needed none. false≢true (sym (ruled_out law es position entry fields needs seconds there are needed marked none) ∙ held))
 
 -- the index by which an article is asked
 pub index_read : (trees : List Tree) (index : IndexValue) (terms : List KeyValue) → IsIndexOf trees index → index.terms ≡ terms

@@ -5,7 +5,7 @@ use Rattle.std.specs.List.{list_any, enumerate_from}
 use Rattle.std.proofs.Math.Bool.{and-false, and-true, or-false}
 use Rattle.std.proofs.lemmas.Bool.{false≢true}
 use Rattle.std.proofs.lemmas.List.{ext_get_or, length-map}
-use Rattle.clip_pieces.specs.Marked.{marked, marked_from}
+use Rattle.clip_pieces.specs.Marked.{marked_from}
 use Rattle.clip_grammar.specs.Tree.{Tree}
 use Rattle.clip_extract.specs.Keys.{KeyValue, is_same, share}
 use Rattle.clip_extract.proofs.Order.{key_cmp_total}
@@ -63,23 +63,22 @@ position_passes test trees position =
     ∙ ap (λ n. list_any (λ (e : ℕ × Tree). test e.1 && nat_eq n e.0) all) from_none
     ∙ flag_at test 0 position trees
 
-marked_passing : (test : Tree → Bool) (n : ℕ) (trees : List Tree) → marked_from n (map test trees) ≡ fronts (filter (λ (e : ℕ × Tree). test e.1) (enumerate_from n trees))
-marked_passing test n [] = refl
-marked_passing test n (t ∷ ts) = by_test (test t) (marked_passing test (n + 1) ts)
+-- the positions of the flags of a test are those of what passes it
+pub marked_map : {X : Type 0} → (test : X → Bool) (n : ℕ) (xs : List X) → marked_from n (map test xs) ≡ map (λ e. e.0) (filter (λ e. test e.1) (enumerate_from n xs))
+marked_map test n [] = refl
+marked_map {X = X} test n (x ∷ xs) = by_test (test x) (marked_map test (n + 1) xs)
   where
-    rest : List (ℕ × Tree)
-    rest = filter (λ (e : ℕ × Tree). test e.1) (enumerate_from (n + 1) ts)
+    rest : List (ℕ × X)
+    rest = filter (λ e. test e.1) (enumerate_from (n + 1) xs)
 
-    by_test : (b : Bool) → marked_from (n + 1) (map test ts) ≡ fronts rest → marked_from n (b ∷ map test ts) ≡ fronts (cond b ((n, t) ∷ rest) rest)
+    by_test : (b : Bool) → marked_from (n + 1) (map test xs) ≡ map (λ (e : ℕ × X). e.0) rest → marked_from n (b ∷ map test xs) ≡ map (λ (e : ℕ × X). e.0) (cond b ((n, x) ∷ rest) rest)
     by_test true same = ap (λ ns. n ∷ ns) same
     by_test false same = same
 
--- flags of just the positions that pass are read off as these positions
-pub passing_marked : (test : Tree → Bool) (trees : List Tree) (flags : List Bool) → length flags ≡ length trees
-    → ((position : ℕ) → position < length flags → get_or flags position false ≡ list_any (nat_eq position) (query_positions test trees)) → marked flags ≡ query_positions test trees
-passing_marked test trees flags long so =
-    let all : flags ≡ map test trees = ext_get_or false flags (map test trees) (long ∙ sym (length-map trees test)) (λ position lt. so position lt ∙ position_passes test trees position) in
-    ap marked all ∙ marked_passing test 0 trees
+-- flags of just the positions that pass are those of the test
+pub passing_flags : (test : Tree → Bool) (trees : List Tree) (flags : List Bool) → length flags ≡ length trees
+    → ((position : ℕ) → position < length flags → get_or flags position false ≡ list_any (nat_eq position) (query_positions test trees)) → flags ≡ map test trees
+passing_flags test trees flags long so = ext_get_or false flags (map test trees) (long ∙ sym (length-map trees test)) (λ position lt. so position lt ∙ position_passes test trees position)
 
 -- ---- no positions where no query passes
 

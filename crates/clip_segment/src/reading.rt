@@ -1,9 +1,11 @@
 //! Articles as a segment asks them.
-ghost use Rattle.std.specs.Prelude.{◌≡◌, false, IfOk, OnOk, Some, option_map};
+ghost use Rattle.std.specs.Prelude.{◌≡◌, ℕ, true, false, IfOk, OnOk, Some, length, map, option_map, slice_index_or};
 ghost use Rattle.std.specs.Arc.{arc_value};
 ghost use Rattle.std.specs.List.{slice_get};
 ghost use Rattle.std.specs.Option.{option_copied};
 ghost use Rattle.clip_extract.specs.Covering.{article_keys};
+ghost use Rattle.clip_extract.specs.Extraction.{query_keys};
+ghost use Rattle.clip_extract.specs.Keys.{share};
 ghost use Rattle.clip_meaning.specs.Meaning.{holds};
 ghost use Rattle.clip_model.specs.History.{Registered};
 ghost use Rattle.clip_segment.specs.Segment.{positions_sharing};
@@ -50,6 +52,22 @@ impl<'a> Model for SegmentReading<'a> {
 }
 
 impl<'a> SegmentReading<'a> {
+    /// The positions of just the entries whose queries share a key with the article, among those of all entries.
+    ///
+    /// `NoMemory` where an allocation failed. Cost: a step for each position under a key of the article, and one for
+    /// each 64 entries of the segment; no entry is looked at.
+    pub fn sharer_marks(&self, alloc: Global) -> Result<Marks, NoMemory>
+        ensures { IfOk result (λ marks. marks
+            ≡ map (λ e. share (query_keys e.standing.tree) (article_keys self.now.article.fields)) self.now.entries) }
+    {
+        marks_under(
+            alloc,
+            self.positions,
+            self.reading.numbers(),
+            self.plans.len(),
+        )
+    }
+
     /// The positions, from 0 and rising, of just the entries whose queries share a key with the article, in place of
     /// those that were in the list.
     ///
@@ -60,13 +78,22 @@ impl<'a> SegmentReading<'a> {
             ≡ positions_sharing (article_keys self.now.article.fields) self.now.entries) }
     {
         let alloc = *positions.allocator();
-        let marks = marks_under(
-            alloc,
-            self.positions,
-            self.reading.numbers(),
-            self.plans.len(),
-        )?;
+        let marks = self.sharer_marks(alloc)?;
         marks.numbers_into(positions)
+    }
+
+    /// Leaves marked just those positions whose queries need no second key or share one with the article: the others
+    /// don't hold of it. Takes no memory. Cost: a step for each 64 entries of the segment; no entry is looked at.
+    pub fn keep_met(&self, marks: &mut Marks)
+        ensures length { length marks.new ≡ length marks.old }
+        ensures fewer { (position : ℕ) → slice_index_or marks.new position false ≡ true
+            → slice_index_or marks.old position false ≡ true }
+        ensures none_lost { (position : ℕ) (entry : Registered) → slice_get self.now.entries position ≡ Some entry
+            → holds entry.standing.tree self.now.article.fields ≡ true
+            → slice_index_or marks.new position false ≡ slice_index_or marks.old position false }
+    {
+        second_covering_law();
+        marks.keep_met(self.needs, &self.seconds);
     }
 
     /// The seq of the entry at a position from 0, or `None` past the end; the entry is not looked at. Takes no memory.
@@ -84,17 +111,12 @@ impl<'a> SegmentReading<'a> {
         self.segment.entry(position)
     }
 
-    /// Whether the query of the entry at a position may hold of the article: `false` rules it out, by its second keys
-    /// or by its first clause, and `true` says nothing. Takes no memory. Constant time; the entry is not looked at, nor
-    /// is the plan where the second keys rule it out.
+    /// Whether the query of the entry at a position may hold of the article: `false` rules it out, by its first clause,
+    /// and `true` says nothing. Takes no memory. Constant time; the entry is not looked at.
     pub fn may_hold(&self, position: u32) -> bool
         ensures { (entry : Registered) → slice_get self.now.entries position ≡ Some entry
             → result ≡ false → holds entry.standing.tree self.now.article.fields ≡ false }
     {
-        second_covering_law();
-        if self.needs.is_marked(position as usize) && !self.seconds.is_marked(position as usize) {
-            return false;
-        }
         self.plans.may_hold(position as usize, &self.reading)
     }
 

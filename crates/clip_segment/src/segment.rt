@@ -1,5 +1,5 @@
 //! Segments: entries in the order of their seqs, with an index over their queries.
-ghost use Rattle.std.specs.Prelude.{◌≡◌, ◌==◌, ◌<◌, ◌≤◌, IfOk, length, map, option_map, vec_items};
+ghost use Rattle.std.specs.Prelude.{◌≡◌, ℕ, ◌==◌, ◌<◌, ◌≤◌, IfOk, IfSome, None, Some, length, map, option_map, vec_items};
 ghost use Rattle.std.specs.Arc.{arc_value};
 ghost use Rattle.std.specs.List.{All, AllPairs, slice_get};
 ghost use Rattle.std.specs.Option.{option_copied};
@@ -184,6 +184,23 @@ impl Segment {
         ensures { result ≡ option_map (λ e. e.seq) (slice_get self.now position) }
     {
         self.seqs.get(position as usize).copied()
+    }
+
+    /// The position of the entry that has a seq, or `None` where none has it; no entry is looked at. Takes no memory.
+    /// Cost: a search by halves, and constant time for a seq above those of all entries.
+    pub fn position_of(&self, seq: u64) -> Option<u32>
+        ensures there { IfSome result (λ position. slice_get (seqs_of self.now) position ≡ Some seq) }
+        ensures nowhere { result ≡ None → (position : ℕ) → slice_get (seqs_of self.now) position ≡ Some seq → ⊥ }
+        ensures rising { IsRising self.now }
+    {
+        let last = self.seqs.last()?;
+        if *last < seq {
+            return None;
+        }
+        match self.seqs.binary_search(&seq) {
+            Ok(position) => Some(position as u32),
+            Err(_) => None,
+        }
     }
 
     /// The seqs of the entries, which rise; no entry is looked at. Constant time.

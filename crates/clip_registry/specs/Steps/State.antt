@@ -5,6 +5,7 @@ use Rattle.std.specs.declared.sync.Arc.{Arc}
 use Rattle.std.specs.declared.alloc.Global.{Global}
 use Rattle.clip_model.specs.declared.limits.TheConstants.{MOST_CALLERS}
 use Rattle.clip_model.specs.History.{IsLegal, replay, listed, own}
+use Rattle.clip_registry.specs.Steps.LiveFlags.{flags_in}
 use Rattle.clip_registry.specs.Steps.Roster.{Roster}
 use Rattle.clip_registry.specs.RegistryState.{RegistryState, IsWhole, beginning}
 use Rattle.clip_registry.specs.declared.state.State.TheInside.{Inside}
@@ -23,8 +24,10 @@ pub record IsConsistent (state : RegistryState) (roster : Roster) (counts : List
   pub numbers : (caller : ℕ) → 0 < caller → caller ≤ MOST_CALLERS
       → slice_index counts (caller - 1) ≡ length (own state.history caller)
 
+-- and beside each segment its entries are flagged where they are live
 abbrev pub IsConsistentInside : Inside → Type 0
 IsConsistentInside s = IsConsistent (state_of s) s.roster s.counts.items
+    × (s.live.items ≡ flags_in s.roster.registry (map arc_value s.segments.items))
 
 -- what a registrar or a view holds: no state before the first command, of a history that will be kept or not
 abbrev pub state_or_beginning : Bool → Option (Arc RegistryState Global) → RegistryState

@@ -1,68 +1,103 @@
-use Rattle.std.proofs.Common.{◌≡◌, ◌+◌, ◌<◌, Bool, List, [], ◌∷◌, ◌++◌, All, map, filter, length, drop, sym, ap, subst, ◌∙◌, arith}
+use Rattle.std.proofs.Common.{◌≡◌, ◌+◌, ◌<◌, Bool, List, [], ◌∷◌, ◌++◌, All, Some, filter, length, map, drop, option_map, slice_get, refl, sym, ap, subst, ◌∙◌, arith}
 use Rattle.std.specs.Arc.{arc_value}
-use Rattle.std.proofs.lemmas.List.{append_assoc, append-nil, drop_all, drop_more, length-map}
+use Rattle.std.proofs.lemmas.List.{append_assoc, append-nil, drop_all, drop_more}
+use Rattle.std.proofs.lemmas.Option.{slice_get-map, slice_get_read}
 use Rattle.clip_extract.specs.Covering.{article_keys}
 use Rattle.clip_meaning.specs.Article.{ArticleValue}
 use Rattle.clip_meaning.specs.Meaning.{holds}
 use Rattle.clip_model.specs.History.{Registered}
-use Rattle.clip_segment.specs.Segment.{AskedValue, all_entries, positions_sharing, seqs_of}
+use Rattle.clip_segment.specs.Segment.{AskedValue, all_entries}
 use Rattle.clip_match.specs.Candidates.{candidates_of}
 use Rattle.clip_match.specs.declared.held.Held.{Held}
 use Rattle.clip_match.specs.Steps.Held.{HasItsHits}
-use Rattle.clip_match.specs.Steps.Positions.{entries_at, live_among, live_with}
-use Rattle.clip_match.proofs.Positions.{live_entries, seqs_split, held_split}
+use Rattle.clip_match.specs.Steps.Positions.{entries_at, live_with}
+use Rattle.clip_match.proofs.Few.{counted_next, few_candidates}
+use Rattle.clip_match.proofs.Positions.{held_split}
 use Rattle.clip_match.proofs.Whole.{misses_none, candidates_registered, candidates_rise}
 use Rattle.clip_match.proofs.trying.judge_candidates.Goals as goal
+use Rattle.clip_match.proofs.trying.judge_candidates.Goals.{In_ok-asked}
 
-pub loop-segment-preserved : goal.loop-segment-preserved
-loop-segment-preserved c =
+pub candidates_in-requires : goal.candidates_in-requires
+candidates_in-requires c =
+    let segments = c.segments-segments.result.now in
+    let i = c.loop-place.place in
+    let within : i < length segments = let l = c.loop-place-test.true in omega arith in
+    let entries : c.in_ok-reading.reading.entries ≡ arc_value c.index-segments-place.result = ap (λ (r : AskedValue). r.entries) c.in_ok-reading.ensures ∙ c.deref.ensures in
+    ap (λ (ss : List (List Registered)). slice_get ss i) (sym c.segments-segments.ensures.segments)
+    ∙ slice_get-map arc_value segments i
+    ∙ ap (option_map arc_value) (slice_get_read segments (length segments) i c.index-segments-place.result refl within c.index-segments-place.is)
+    ∙ ap Some (sym entries)
+
+-- the reading is of the segment's entries and the article
+value : (c : In_ok-asked) → c.in_ok-reading.reading ≡ record { entries = arc_value c.index-segments-place.result; article = c.args.article.now }
+value c =
+    c.in_ok-reading.ensures
+    ∙ ap (λ (es : List Registered). record { entries = es; article = c.in_ok-asking.asking }) c.deref.ensures
+    ∙ ap (λ (article : ArticleValue). record { entries = arc_value c.index-segments-place.result; article = article }) c.in_ok-asking.ensures
+
+-- the segment, and those behind it
+parts : (c : In_ok-asked) → arc_value c.index-segments-place.result ++ all_entries (map arc_value (drop (c.loop-place.place + 1) c.segments-segments.result.now))
+    ≡ all_entries (map arc_value (drop c.loop-place.place c.segments-segments.result.now))
+parts c =
+    let segments = c.segments-segments.result.now in
+    let i = c.loop-place.place in
+    let within : i < length segments = let l = c.loop-place-test.true in omega arith in
+    ap (λ ss. all_entries (map arc_value ss)) (sym (drop_more segments i c.index-segments-place.result within ∙ ap (λ x. x ∷ drop (i + 1) segments) (sym c.index-segments-place.is)))
+
+-- the candidates of the segment are counted
+asked : (c : In_ok-asked) → c.loop-place.asked + c.in_ok-asked.field-0
+    + length (live_with c.args.view.now.history (article_keys c.args.article.now.fields) (all_entries (map arc_value (drop (c.loop-place.place + 1) c.segments-segments.result.now))))
+    ≡ length (live_with c.args.view.now.history (article_keys c.args.article.now.fields) (all_entries (map arc_value c.segments-segments.result.now)))
+asked c =
+    let h = c.args.view.now.history in
+    let ks = article_keys c.args.article.now.fields in
+    let segment : List Registered = arc_value c.index-segments-place.result in
+    counted_next h ks segment (all_entries (map arc_value (drop (c.loop-place.place + 1) c.segments-segments.result.now))) (all_entries (map arc_value (drop c.loop-place.place c.segments-segments.result.now)))
+    c.loop-place.asked c.in_ok-asked.field-0 _ (parts c) c.loop-place.invariant.asked
+    (c.in_ok-asked.ensures.asked ∙ ap (λ (r : AskedValue). length (live_with h (article_keys r.article.fields) r.entries)) (value c))
+
+pub overflow_add-asked : goal.overflow_add-asked
+overflow_add-asked c =
+    let state = c.args.view.now in
+    let ks = article_keys c.args.article.now.fields in
+    let few = few_candidates state c.args.article.now c.segments-segments.ensures.whole c.segments-segments.ensures.legal in
+    let all : length (live_with state.history ks (all_entries (map arc_value c.segments-segments.result.now))) ≡ length (candidates_of state c.args.article.now) =
+    ap (λ ss. length (live_with state.history ks (all_entries ss))) c.segments-segments.ensures.segments in
+    let sum = asked (goal.at.overflow_add-asked c).In_ok-asked in
+    omega (arith, few, all, sum)
+
+pub loop-place-preserved : goal.loop-place-preserved
+loop-place-preserved c =
+    let at = (goal.at.loop-place-preserved c).In_ok-asked in
     let fields = c.args.article.now.fields in
     let ks = article_keys fields in
     let h = c.args.view.now.history in
     let held : Registered → Bool = λ r. holds r.standing.tree fields in
-    let segments = c.segments-segment-items.result.now in
-    let i = c.loop-segment.segment-index in
-    let segment : List Registered = arc_value c.segment-item.result in
-    let others : List Registered = all_entries (map arc_value (drop (i + 1) segments)) in
-    let within : i < length segments = let l = c.loop-segment-test.true in omega arith in
-    let parts : segment ++ others ≡ all_entries (map arc_value (drop i segments)) =
-    ap (λ ss. all_entries (map arc_value ss)) (sym (drop_more segments i c.segment-item.result within ∙ ap (λ x. x ∷ drop (i + 1) segments) (sym c.segment-item.is))) in
-    let value : c.in_ok-reading.reading ≡ record { entries = segment; article = c.args.article.now } =
-    c.in_ok-reading.ensures
-    ∙ ap (λ (es : List Registered). record { entries = es; article = c.in_ok-asking.asking }) c.deref.ensures
-    ∙ ap (λ (article : ArticleValue). record { entries = segment; article = article }) c.in_ok-asking.ensures in
-    let positions = c.deref-in-loop-segment.result.now in
-    let same : positions ≡ positions_sharing ks segment =
-    c.deref-in-loop-segment.ensures.value ∙ c.in_ok-sharers.ensures ∙ ap (λ (r : AskedValue). positions_sharing (article_keys r.article.fields) r.entries) value in
-    let found_live : entries_at c.in_ok-reading.reading.entries (live_among h c.in_ok-reading.reading.entries positions) ≡ live_with h ks segment =
-    ap (λ (r : AskedValue). entries_at r.entries (live_among h r.entries positions)) value ∙ ap (λ ps. entries_at segment (live_among h segment ps)) same ∙ live_entries h ks segment in
-    let tried_live : entries_at segment c.deref-in-loop-segment-2.result.now ≡ live_with h ks segment =
-    ap (entries_at segment) (c.deref-in-loop-segment-2.ensures.value ∙ c.in_ok-keep_live.ensures.live ∙ ap (λ (r : AskedValue). live_among h r.entries positions) value ∙ ap (live_among h segment) same) ∙ live_entries h ks segment in
-    let kept : filter (λ x. holds x.standing.tree c.in_ok-reading.reading.article.fields) (entries_at c.in_ok-reading.reading.entries c.deref-in-loop-segment-3.result.now) ≡ filter held (live_with h ks segment) =
-    ap (λ ps. filter (λ x. holds x.standing.tree c.in_ok-reading.reading.article.fields) (entries_at c.in_ok-reading.reading.entries ps)) c.deref-in-loop-segment-3.ensures.value
+    let segment : List Registered = arc_value c.index-segments-place.result in
+    let others : List Registered = all_entries (map arc_value (drop (c.loop-place.place + 1) c.segments-segments.result.now)) in
+    let here : filter held (entries_at segment c.candidates_in.new.positions.items) ≡ filter held (live_with h ks segment) =
+    subst (λ (r : AskedValue). filter (λ x. holds x.standing.tree r.article.fields) (entries_at r.entries c.candidates_in.new.positions.items) ≡ filter (λ x. holds x.standing.tree r.article.fields) (live_with h (article_keys r.article.fields) r.entries))
+    (value at) c.in_ok-asked.ensures.positions in
+    let kept : filter (λ x. holds x.standing.tree c.in_ok-reading.reading.article.fields) (entries_at c.in_ok-reading.reading.entries c.deref-in-loop-place-2.result.now) ≡ filter held (live_with h ks segment) =
+    ap (λ ps. filter (λ x. holds x.standing.tree c.in_ok-reading.reading.article.fields) (entries_at c.in_ok-reading.reading.entries ps)) c.deref-in-loop-place-2.ensures.value
     ∙ c.in_ok-keep_possible.ensures
-    ∙ ap (λ (r : AskedValue). filter (λ x. holds x.standing.tree r.article.fields) (entries_at r.entries c.deref-in-loop-segment-2.result.now)) value
-    ∙ ap (filter held) tried_live in
-    let holding : entries_at c.in_ok-reading.reading.entries c.deref-in-loop-segment-4.result.now ≡ filter held (live_with h ks segment) =
-    ap (entries_at c.in_ok-reading.reading.entries) c.deref-in-loop-segment-4.ensures.value ∙ c.in_ok-keep_holding.ensures ∙ kept in
-    let seqs = c.loop-segment.asked.items in
-    let found = map (λ (h : Held). h.registered.now) c.loop-segment.held.items in
+    ∙ ap (λ (r : AskedValue). filter (λ x. holds x.standing.tree r.article.fields) (entries_at r.entries c.deref-in-loop-place.result.now)) (value at)
+    ∙ ap (λ ps. filter held (entries_at segment ps)) c.deref-in-loop-place.ensures.value
+    ∙ here in
+    let holding : entries_at c.in_ok-reading.reading.entries c.deref-in-loop-place-3.result.now ≡ filter held (live_with h ks segment) =
+    ap (entries_at c.in_ok-reading.reading.entries) c.deref-in-loop-place-3.ensures.value ∙ c.in_ok-keep_holding.ensures ∙ kept in
+    let found = map (λ (h : Held). h.registered.now) c.loop-place.held.items in
     record {
-      asked =
-          ap (λ xs. xs ++ seqs_of (live_with h ks others)) (c.in_ok-keep_live.ensures.asked ∙ ap (λ es. seqs ++ seqs_of es) found_live)
-          ∙ append_assoc seqs (seqs_of (live_with h ks segment)) (seqs_of (live_with h ks others))
-          ∙ ap (λ xs. seqs ++ xs) (seqs_split h ks segment others)
-          ∙ ap (λ es. seqs ++ seqs_of (live_with h ks es)) parts
-          ∙ c.loop-segment.invariant.asked;
+      asked = asked at;
       held =
           ap (λ xs. xs ++ filter held (live_with h ks others)) (c.in_ok-add_held.ensures.entries ∙ ap (λ es. found ++ es) holding)
           ∙ append_assoc found (filter held (live_with h ks segment)) (filter held (live_with h ks others))
           ∙ ap (λ xs. found ++ xs) (held_split held h ks segment others)
-          ∙ ap (λ es. found ++ filter held (live_with h ks es)) parts
-          ∙ c.loop-segment.invariant.held;
+          ∙ ap (λ es. found ++ filter held (live_with h ks es)) (parts at)
+          ∙ c.loop-place.invariant.held;
       hits =
-          subst (λ (r : AskedValue). All (HasItsHits c.args.hits r.article) c.loop-segment.held.items → All (HasItsHits c.args.hits r.article) c.add_held.new.held.items) value c.in_ok-add_held.ensures.hits
-          c.loop-segment.invariant.hits;
+          subst (λ (r : AskedValue). All (HasItsHits c.args.hits r.article) c.loop-place.held.items → All (HasItsHits c.args.hits r.article) c.add_held.new.held.items) (value at) c.in_ok-add_held.ensures.hits
+          c.loop-place.invariant.hits;
     }
 
 pub returns : goal.returns
@@ -71,22 +106,21 @@ returns c =
     let ks = article_keys fields in
     let state = c.args.view.now in
     let held : Registered → Bool = λ r. holds r.standing.tree fields in
-    let segments = c.segments-segment-items.result.now in
-    let whole = c.segments-segment-items.ensures.whole in
-    let i = c.loop-segment.segment-index in
-    let none : all_entries (map arc_value (drop i segments)) ≡ [] = ap (λ ss. all_entries (map arc_value ss)) (drop_all i segments c.loop-segment-test.false) in
+    let segments = c.segments-segments.result.now in
+    let whole = c.segments-segments.ensures.whole in
+    let i = c.loop-place.place in
+    let none : all_entries (map arc_value (drop i segments)) ≡ [] = ap (λ ss. all_entries (map arc_value ss)) (drop_all i segments c.loop-place-test.false) in
     let all : live_with state.history ks (all_entries (map arc_value segments)) ≡ candidates_of state c.args.article.now =
-    ap (λ ss. live_with state.history ks (all_entries ss)) c.segments-segment-items.ensures.segments in
-    let tried : c.loop-segment.asked.items ≡ seqs_of (candidates_of state c.args.article.now) =
-    sym (append-nil _)
-    ∙ ap (λ es. c.loop-segment.asked.items ++ seqs_of (live_with state.history ks es)) (sym none)
-    ∙ c.loop-segment.invariant.asked
-    ∙ ap seqs_of all in
-    let found = map (λ (h : Held). h.registered.now) c.loop-segment.held.items in
+    ap (λ ss. live_with state.history ks (all_entries ss)) c.segments-segments.ensures.segments in
+    let found = map (λ (h : Held). h.registered.now) c.loop-place.held.items in
     record {
-      asked = omega (arith, c.len.ensures, ap length tried, length-map (candidates_of state c.args.article.now) (λ (e : Registered). e.seq));
-      held = sym (append-nil found) ∙ ap (λ es. found ++ filter held (live_with state.history ks es)) (sym none) ∙ c.loop-segment.invariant.held ∙ ap (filter held) all;
-      hits = c.loop-segment.invariant.hits;
+      asked =
+          let rest : length (live_with state.history ks (all_entries (map arc_value (drop i segments)))) ≡ 0 = ap (λ es. length (live_with state.history ks es)) none in
+          let total = ap length all in
+          let counted = c.loop-place.invariant.asked in
+          omega (arith, rest, total, counted);
+      held = sym (append-nil found) ∙ ap (λ es. found ++ filter held (live_with state.history ks es)) (sym none) ∙ c.loop-place.invariant.held ∙ ap (filter held) all;
+      hits = c.loop-place.invariant.hits;
       misses_none = misses_none c.covering_law.ensures state c.args.article.now whole;
       registered = candidates_registered state c.args.article.now whole;
       rising = candidates_rise state c.args.article.now whole;

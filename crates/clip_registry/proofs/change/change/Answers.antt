@@ -8,7 +8,7 @@ use Rattle.clip_registry.specs.Steps.Roster.{Roster}
 use Rattle.clip_registry.proofs.change.change.Goals as goal
 
 fewer : (c : goal.After-len) → finite.len c.in_ok-roster-in-Delete.roster.registry ≤ finite.len c.args.roster.registry
-fewer c = subst (λ (r : Roster). finite.len r.registry ≤ finite.len c.args.roster.registry) (sym c.in_ok-roster-in-Delete.ensures) (len_removed (map string_bytes c.deref-in-Delete.result.now) c.args.roster.registry)
+fewer c = subst (λ (r : Roster). finite.len r.registry ≤ finite.len c.args.roster.registry) (sym c.in_ok-roster-in-Delete.ensures.roster) (len_removed (map string_bytes c.deref-in-Delete.result.now) c.args.roster.registry)
 
 pub overflow_sub-applied : goal.overflow_sub-applied
 overflow_sub-applied c = let a = fewer c in let b = c.len.ensures in let d = c.len-before.ensures in omega arith

@@ -18,11 +18,11 @@ numbers c = c.in_ok-entries.ensures ∙ ap (λ k. numbered k (map arc_value c.ar
 holds : (c : In_ok-entered) → map arc_value c.deref.result.now ≡ numbered c.args.roster.listed (map arc_value c.args.standings.now)
     → c.in_ok-entered.entered.registry ≡ register_all c.args.roster.listed (map arc_value c.args.standings.now) c.args.roster.registry
 holds c all = registry_after c.args.roster.listed (map arc_value c.args.standings.now) c.args.roster.registry c.args.roster c.in_ok-entered.entered (map arc_value c.deref.result.now)
-    refl c.in_ok-entered.ensures all
+    refl c.in_ok-entered.ensures.roster all
 
-pub with_entries-requires : goal.with_entries-requires
-with_entries-requires c =
-    subst (SeqsFollow c.args.roster.listed) (sym (ap (map arc_value) c.deref.ensures.value ∙ numbers (goal.at.with_entries-requires c).In_ok-entries)) (numbered_follow c.args.roster.listed (map arc_value c.args.standings.now))
+pub with_entries-requires-clause-follow : goal.with_entries-requires-clause-follow
+with_entries-requires-clause-follow c =
+    subst (SeqsFollow c.args.roster.listed) (sym (ap (map arc_value) c.deref.ensures.value ∙ numbers (goal.at.with_entries-requires-clause-follow c).In_ok-entries)) (numbered_follow c.args.roster.listed (map arc_value c.args.standings.now))
 
 pub returns-clause-registry : goal.returns-clause-registry
 returns-clause-registry c =
@@ -33,12 +33,12 @@ pub returns-clause-listed : goal.returns-clause-listed
 returns-clause-listed c =
     let n = c.args.roster.listed in
     let all = ap (map arc_value) c.deref.ensures.value ∙ numbers (goal.at.returns-clause-listed c).In_ok-entries in
-    ap (λ (r : Roster). r.listed) c.in_ok-entered.ensures ∙ ap (λ (rs : List Registered). n + length rs) all ∙ ap (λ k. n + k) (length-numbered n (map arc_value c.args.standings.now) ∙ length-map c.args.standings.now arc_value)
+    ap (λ (r : Roster). r.listed) c.in_ok-entered.ensures.roster ∙ ap (λ (rs : List Registered). n + length rs) all ∙ ap (λ k. n + k) (length-numbered n (map arc_value c.args.standings.now) ∙ length-map c.args.standings.now arc_value)
 
 pub returns-clause-live : goal.returns-clause-live
 returns-clause-live c =
     let here = goal.at.returns-clause-live c in
     let all = numbers here.In_ok-entries in
     let registry = holds here.In_ok-entered (ap (map arc_value) c.deref.ensures.value ∙ all) in
-    c.in_ok-live.ensures ∙ (λ i. live_in (registry i) (map arc_value (c.deref-2.ensures.value i)))
+    c.in_ok-standing.ensures ∙ (λ i. live_in (registry i) (map arc_value (c.deref-2.ensures.value i)))
     ∙ ap (live_in (register_all c.args.roster.listed (map arc_value c.args.standings.now) c.args.roster.registry)) all

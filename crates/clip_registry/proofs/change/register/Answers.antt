@@ -40,7 +40,7 @@ build-requires-clause-short c =
     let live = ap length c.in_ok-roster.ensures.live in
     let fewer = filter_fewer (λ r. is_live_in (register_all n ss c.args.roster.registry) r.seq) (numbered n ss) in
     let same = length-numbered n ss in
-    let a = length-map c.in_ok-roster.live.items arc_value in
+    let a = length-map c.in_ok-roster.entries.items arc_value in
     let b = length-map c.args.standings.now arc_value in
     let d = c.requires.fits in
     omega arith
@@ -53,7 +53,7 @@ returns-clause-changed c =
     let ss = map arc_value c.args.standings.now in
     let n = c.args.roster.listed in
     let done = c.in_ok-roster.ensures in
-    let count : c.len-count.result ≡ length c.in_ok-roster.live.items = let a = c.len-count.ensures in let held = c.in_ok-roster.live.ok.0 in omega arith in
+    let count : c.len-count.result ≡ length c.in_ok-roster.entries.items = let a = c.len-count.ensures in let held = c.in_ok-roster.entries.ok.0 in omega arith in
     let some : 0 < length ss = let a = length-map c.args.standings.now arc_value in let b = some_length (length c.args.standings.now) c.if-is_empty.ensures in omega arith in
     record {
       registry = done.registry;
@@ -63,5 +63,5 @@ returns-clause-changed c =
           ∙ ap (λ (s : List Registered). map arc_value c.args.segments.items ++ s ∷ []) (c.in_ok-new.ensures.ok ∙ c.in_ok-segment.ensures ∙ done.live)
           ∙ sym (segments_register (map arc_value c.args.segments.items) n c.args.roster.registry ss some);
       small = let few = c.if-len-gt-MOST_LIVE.false in let count = c.len.ensures in omega arith;
-      answer = ap applied.Registered (count ∙ sym (length-map c.in_ok-roster.live.items arc_value) ∙ ap length done.live ∙ count_distinct n ss c.args.roster.registry done.numbered);
+      answer = ap applied.Registered (count ∙ sym (length-map c.in_ok-roster.entries.items arc_value) ∙ ap length done.live ∙ count_distinct n ss c.args.roster.registry done.numbered);
     }

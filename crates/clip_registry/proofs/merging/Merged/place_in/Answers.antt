@@ -17,7 +17,7 @@ merged : (c : After-misses_none) → IsMerged c.self.inside.live.value c.args.se
 merged c = subst (IsMerged c.self.inside.live.value) c.self.view_is c.self.invariant
 
 state : (c : After-misses_none) → IsConsistent c.args.state.now c.state.inside.roster c.state.inside.counts.items
-state c = subst (λ (s : RegistryState). IsConsistent s c.state.inside.roster c.state.inside.counts.items) c.state.view_is c.state.invariant
+state c = subst (λ (s : RegistryState). IsConsistent s c.state.inside.roster c.state.inside.counts.items) c.state.view_is c.state.invariant.0
 
 stands : (c : After-misses_none) → StandsAt c.args.state.now.segments c.args.self.now.sources c.in_ok-first.first
 stands c =

@@ -27,7 +27,7 @@ returns-in_default-plan-clause-nothing c _ first run =
 state : (c : After-behind-state-3) → IsConsistent c.args.self.now c.behind-state-3.inside.roster c.behind-state-3.inside.counts.items
 state c =
     subst (λ (s : RegistryState). IsConsistent s c.behind-state-3.inside.roster c.behind-state-3.inside.counts.items)
-    (c.behind-state-3.view_is ∙ c.deref-5.ensures ∙ ap (state_or_beginning c.self.inside.keeps) (sym c.in-Some.is) ∙ c.self.view_is) c.behind-state-3.invariant
+    (c.behind-state-3.view_is ∙ c.deref-5.ensures ∙ ap (state_or_beginning c.self.inside.keeps) (sym c.in-Some.is) ∙ c.self.view_is) c.behind-state-3.invariant.0
 
 -- the sources are the run
 sources : (c : After-behind-state-3) → map arc_value (take (c.in-Some-plan.end - c.in-Some-plan.first) (drop c.in-Some-plan.first c.deref-4.result.now)) ≡ run_at c.args.self.now.segments c.in-Some-plan.first

@@ -4,17 +4,7 @@ use Rattle.clip_model.specs.History.{Registered}
 use Rattle.clip_segment.specs.Segment.{AskedValue}
 use Rattle.clip_segment.specs.Steps.ReadingView.{index_asked}
 use Rattle.clip_segment.proofs.EntryPositions.{plan_of_entry}
-use Rattle.clip_segment.proofs.Seconds.{ruled_out}
 use Rattle.clip_segment.proofs.reading.SegmentReading.may_hold.Goals as goal
-
-pub returns-then-not-is_marked : goal.returns-then-not-is_marked
-returns-then-not-is_marked c =
-    let inside = c.self.inside in
-    let at = c.args.position in
-    subst (λ (asked : AskedValue). (entry : Registered) → slice_get asked.entries at ≡ Some entry → false ≡ false → holds entry.standing.tree asked.article.fields ≡ false) c.self.view_is
-    (λ entry there fails.
-    ruled_out c.second_covering_law.ensures inside.segment.now at entry inside.reading.article.fields inside.needs.now inside.seconds there
-    c.self.invariant.index.needs c.if-is_marked.ensures (c.self.invariant.seconds at) c.if-not-is_marked.ensures)
 
 pub returns : goal.returns
 returns c =

@@ -1,0 +1,19 @@
+-- Live flags beside segments: for each segment a flag for each of its entries, by position.
+use Rattle.std.specs.Prelude.{ℕ, Bool, false, ◌==◌, cond, List, map, Option, None, Some}
+use Rattle.clip_model.specs.History.{Registered, Registry, is_live_in}
+
+-- the flags of entries by a test of their seqs
+abbrev pub flags_of : (ℕ → Bool) → List Registered → List Bool
+flags_of is entries = map (λ r. is r.seq) entries
+
+abbrev pub flags_by : (ℕ → Bool) → List (List Registered) → List (List Bool)
+flags_by is segments = map (flags_of is) segments
+
+-- the flags of what is live in a registry
+abbrev pub flags_in : Registry → List (List Registered) → List (List Bool)
+flags_in registry segments = flags_by (is_live_in registry) segments
+
+-- a test without the seq that is gone, if one is
+abbrev pub without : Option ℕ → (ℕ → Bool) → ℕ → Bool
+without None is seq = is seq
+without (Some gone) is seq = cond (gone == seq) false (is seq)

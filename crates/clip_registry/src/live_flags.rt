@@ -1,0 +1,93 @@
+//! The live flags of segments: for each segment a flag for each of its entries, by position.
+ghost use Rattle.std.specs.Prelude.{◌≡◌, ℕ, Bool, Some, map, length, IfOk, OnOk};
+ghost use Rattle.std.specs.Arc.{arc_value};
+ghost use Rattle.clip_model.specs.History.{is_live_in};
+ghost use Rattle.clip_registry.specs.Steps.LiveFlags.{flags_by, flags_in, flags_of, without};
+
+use crate::roster::Roster;
+use clip_pieces::{Shared, SharedFlags};
+use clip_segment::Segment;
+use clip_words::NoMemory;
+use std::alloc::Global;
+use std::sync::Arc;
+
+/// For each entry of a segment whether it is live in the roster. `NoMemory` where an allocation failed. It costs a step
+/// for each entry, and looks at none.
+pub fn flags_of(
+    alloc: Global,
+    roster: &Roster,
+    segment: &Segment,
+) -> Result<Shared<SharedFlags>, NoMemory>
+    ensures { IfOk result (λ flags. flags ≡ flags_of (is_live_in roster.now.registry) segment.now) }
+{
+    let mut flags = SharedFlags::new(alloc);
+    for seq in segment.seqs() {
+        flags.push(roster.is_live(*seq))?;
+    }
+    Shared::new(alloc, flags)
+}
+
+/// For each of the segments its live flags. `NoMemory` where an allocation failed. It costs a step for each entry.
+pub fn all_flags(
+    alloc: Global,
+    roster: &Roster,
+    segments: &[Arc<Segment>],
+) -> Result<Vec<Shared<SharedFlags>>, NoMemory>
+    ensures { IfOk result (λ live. live.items ≡ flags_in roster.now.registry (map arc_value segments.now)) }
+{
+    let mut live = Vec::with_capacity(alloc, segments.len())?;
+    for segment in segments {
+        live.push(flags_of(alloc, roster, segment)?)?;
+    }
+    Ok(live)
+}
+
+/// Clears the flag of a seq among those of a segment, if an entry of it has the seq. `NoMemory` where an allocation
+/// failed.
+fn clear_in(
+    flags: &mut Shared<SharedFlags>,
+    segment: &Segment,
+    seq: u64,
+) -> Result<(), NoMemory>
+    requires { length flags.old ≡ length segment.now }
+    ensures { (is : ℕ → Bool) → flags.old ≡ flags_of is segment.now
+        → OnOk result (flags.new ≡ flags_of (without (Some seq) is) segment.now) }
+{
+    match segment.position_of(seq) {
+        Some(position) => flags.set(position as usize, false),
+        None => Ok(()),
+    }
+}
+
+/// Clears the flag of a seq, if an entry of the segments has it. `NoMemory` where an allocation failed.
+fn clear(
+    live: &mut Vec<Shared<SharedFlags>>,
+    segments: &[Arc<Segment>],
+    seq: u64,
+) -> Result<(), NoMemory>
+    requires { map length live.old.items ≡ map length (map arc_value segments.now) }
+    ensures { (is : ℕ → Bool) → live.old.items ≡ flags_by is (map arc_value segments.now)
+        → OnOk result (live.new.items ≡ flags_by (without (Some seq) is) (map arc_value segments.now)) }
+{
+    for (place, segment) in segments.iter().enumerate() {
+        clear_in(&mut live[place], segment, seq)?;
+    }
+    Ok(())
+}
+
+/// Clears the flag of the seq that is gone, if one is. `NoMemory` where an allocation failed. It costs a step for each
+/// segment, and a search by halves in those that have a seq that is not below it.
+pub fn clear_gone(
+    live: &mut Vec<Shared<SharedFlags>>,
+    segments: &[Arc<Segment>],
+    gone: Option<u64>,
+) -> Result<(), NoMemory>
+    requires { map length live.old.items ≡ map length (map arc_value segments.now) }
+    ensures { (is : ℕ → Bool) → live.old.items ≡ flags_by is (map arc_value segments.now)
+        → OnOk result (live.new.items ≡ flags_by (without gone is) (map arc_value segments.now)) }
+{
+    match gone {
+        Some(seq) => clear(live, segments, seq),
+        None => Ok(()),
+    }
+}
