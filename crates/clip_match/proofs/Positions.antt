@@ -1,13 +1,13 @@
 -- The positions of entries that share a key.
-use Rattle.std.proofs.Common.{◌≡◌, ℕ, suc, ◌+◌, ◌<◌, Bool, true, false, cond, ◌&&◌, List, [], ◌∷◌, ◌++◌, map, length, get_or, filter, take, Option, Some, None, unwrap_or, option_map, option_to_list, refl, sym, ap, ◌∙◌, subst, arith}
+use Rattle.std.proofs.Common.{◌≡◌, ℕ, suc, ◌+◌, ◌<◌, Bool, true, false, cond, ◌&&◌, List, [], ◌∷◌, ◌++◌, map, length, get_or, filter, take, Option, Some, None, unwrap_or, option_to_list, refl, sym, ap, ◌∙◌, subst, arith}
 use Rattle.std.specs.List.{enumerate_from, slice_get, All}
 use Rattle.std.proofs.lemmas.Option.{none-some}
 use Rattle.std.proofs.lemmas.List.{length-append, append_assoc, append-nil, length-map, get_or-map, take_more, map-append, flat_map_more}
 use Rattle.std.proofs.lemmas.List.Elements.{All-filter, All-cons, All-nil, filter-append}
 use Rattle.clip_model.specs.History.{Registered, History, is_live}
 use Rattle.clip_extract.specs.Keys.{KeyValue}
-use Rattle.clip_segment.specs.Segment.{positions_sharing, seqs_of}
-use Rattle.clip_match.specs.Steps.Positions.{has_one, placed_with, live_with, entries_at, live_among}
+use Rattle.clip_segment.specs.Segment.{positions_sharing}
+use Rattle.clip_match.specs.Steps.Positions.{has_one, placed_with, live_with, entries_at}
 
 -- ---- the entry at a position
 
@@ -98,44 +98,6 @@ module _ (h : History) (ks : List KeyValue) (es : List Registered) (ps : List �
 
 -- ---- entries at positions
 
-placed_entries : (es : List Registered) (qs : List (ℕ × Registered)) → All (λ (p : ℕ × Registered). slice_get es p.0 ≡ Some p.1) qs → entries_at es (map (λ (e : ℕ × Registered). e.0) qs) ≡ map snd qs
-placed_entries es [] all = refl
-placed_entries es (q ∷ qs) all =
-    ap (λ o. option_to_list o ++ entries_at es (map (λ (e : ℕ × Registered). e.0) qs)) (all 0 q (omega arith))
-    ∙ ap (λ xs. q.1 ∷ xs) (placed_entries es qs (λ i d lt. all (suc i) d (omega arith)))
-
-live_placed : (h : History) (es : List Registered) (qs : List (ℕ × Registered)) → All (λ (p : ℕ × Registered). slice_get es p.0 ≡ Some p.1) qs
-    → live_among h es (map (λ (e : ℕ × Registered). e.0) qs) ≡ map (λ (e : ℕ × Registered). e.0) (filter (λ (e : ℕ × Registered). is_live h e.1.seq) qs)
-live_placed h es [] all = refl
-live_placed h es (q ∷ qs) all =
-    let later = live_placed h es qs (λ i d lt. all (suc i) d (omega arith)) in
-    let positions = live_among h es (map (λ (e : ℕ × Registered). e.0) qs) in
-    ap (λ o. cond (unwrap_or (option_map (λ (r : Registered). is_live h r.seq) o) false) (q.0 ∷ positions) positions) (all 0 q (omega arith))
-    ∙ (elim (is_live h q.1.seq) as (λ b. cond b (q.0 ∷ positions) positions
-    ≡ map (λ (e : ℕ × Registered). e.0) (cond b (q ∷ filter (λ (e : ℕ × Registered). is_live h e.1.seq) qs) (filter (λ (e : ℕ × Registered). is_live h e.1.seq) qs))) [
-      | true ↦ ap (λ ps. q.0 ∷ ps) later
-      | false ↦ later
-    ])
-
-snd_of_kept : (t : Registered → Bool) (qs : List (ℕ × Registered)) → map snd (filter (λ (e : ℕ × Registered). t e.1) qs) ≡ filter t (map snd qs)
-snd_of_kept t [] = refl
-snd_of_kept t (q ∷ qs) =
-    elim (t q.1) as (λ b. map snd (cond b (q ∷ filter (λ (e : ℕ × Registered). t e.1) qs) (filter (λ (e : ℕ × Registered). t e.1) qs)) ≡ cond b (q.1 ∷ filter t (map snd qs)) (filter t (map snd qs))) [
-      | true ↦ ap (λ xs. q.1 ∷ xs) (snd_of_kept t qs)
-      | false ↦ snd_of_kept t qs
-    ]
-
--- at the positions of those that share a key and are live stand just these
-pub live_entries : (h : History) (ks : List KeyValue) (es : List Registered) → entries_at es (live_among h es (positions_sharing ks es)) ≡ live_with h ks es
-live_entries h ks es =
-    let qs = placed_with ks es in
-    let there : All (λ (p : ℕ × Registered). slice_get es p.0 ≡ Some p.1) qs = λ i d lt. entry_at_position ks es i d lt in
-    let alive = λ (e : ℕ × Registered). is_live h e.1.seq in
-    ap (entries_at es) (live_placed h es qs there)
-    ∙ placed_entries es (filter alive qs) (All-filter alive (λ (p : ℕ × Registered). slice_get es p.0 ≡ Some p.1) qs there)
-    ∙ snd_of_kept (λ r. is_live h r.seq) qs
-    ∙ live_positions h ks es
-
 -- one position more
 pub entries_more : (es : List Registered) (positions : List ℕ) (p : ℕ) → entries_at es (positions ++ p ∷ []) ≡ entries_at es positions ++ option_to_list (slice_get es p)
 entries_more es positions p = sym (flat_map_more (λ (n : ℕ). option_to_list (slice_get es n)) [] positions p)
@@ -161,30 +123,10 @@ kept_more p es positions kept i x b lt is says before =
     by_entry (Some e) false there says =
         sym (append-nil (entries_at es kept)) ∙ ap (λ c. entries_at es kept ++ cond c (e ∷ []) []) (says e refl)
 
-pub live_more_at : (h : History) (es : List Registered) (positions : List ℕ) (i p : ℕ) → i < length positions → p ≡ get_or positions i p
-    → live_among h es (take (i + 1) positions) ≡ live_among h es (take i positions) ++ cond (unwrap_or (option_map (λ (r : Registered). is_live h r.seq) (slice_get es p)) false) (p ∷ []) []
-live_more_at h es positions i p lt is =
-    let alive = λ (n : ℕ). unwrap_or (option_map (λ (r : Registered). is_live h r.seq) (slice_get es n)) false in
-    ap (filter alive) (take_more positions i p lt ∙ ap (λ q. take i positions ++ q ∷ []) (sym is))
-    ∙ filter-append alive (take i positions) (p ∷ [])
-
--- ---- the entry of a seq that was found
-
-pub entry_of_seq : (o : Option Registered) (seq : ℕ) → Some seq ≡ option_map (λ (e : Registered). e.seq) o → (x : Registered) × ((Some x ≡ o) × (x.seq ≡ seq))
-entry_of_seq None seq there = absurd (none-some _ (sym there))
-entry_of_seq (Some x) seq there = (x, (refl, ap (λ o. unwrap_or o seq) (sym there)))
-
-pub no_entry : (o : Option Registered) → None ≡ option_map (λ (e : Registered). e.seq) o → o ≡ None
-no_entry None none = refl
-no_entry (Some x) none = absurd (none-some _ none)
-
 -- ---- one segment after another
 
 pub live_split : (h : History) (ks : List KeyValue) (segment others : List Registered) → live_with h ks segment ++ live_with h ks others ≡ live_with h ks (segment ++ others)
 live_split h ks segment others = sym (filter-append (λ r. is_live h r.seq && has_one ks r) segment others)
-
-pub seqs_split : (h : History) (ks : List KeyValue) (segment others : List Registered) → seqs_of (live_with h ks segment) ++ seqs_of (live_with h ks others) ≡ seqs_of (live_with h ks (segment ++ others))
-seqs_split h ks segment others = sym (map-append (λ (e : Registered). e.seq) (live_with h ks segment) (live_with h ks others)) ∙ ap seqs_of (live_split h ks segment others)
 
 pub held_split : (p : Registered → Bool) (h : History) (ks : List KeyValue) (segment others : List Registered) → filter p (live_with h ks segment) ++ filter p (live_with h ks others) ≡ filter p (live_with h ks (segment ++ others))
 held_split p h ks segment others = sym (filter-append p (live_with h ks segment) (live_with h ks others)) ∙ ap (filter p) (live_split h ks segment others)

@@ -1,5 +1,5 @@
 -- The entries of a segment that share a key.
-use Rattle.std.specs.Prelude.{ℕ, Bool, false, ◌&&◌, List, filter, flat_map, option_map, option_to_list, unwrap_or}
+use Rattle.std.specs.Prelude.{ℕ, Bool, ◌&&◌, List, filter, flat_map, option_to_list}
 use Rattle.std.specs.List.{enumerate_from, slice_get}
 use Rattle.clip_model.specs.History.{History, Registered, is_live}
 use Rattle.clip_extract.specs.Keys.{KeyValue, share}
@@ -20,8 +20,3 @@ live_with history keys entries = filter (λ r. is_live history r.seq && has_one 
 -- the entries at these positions
 abbrev pub entries_at : List Registered → List ℕ → List Registered
 entries_at entries positions = flat_map (λ p. option_to_list (slice_get entries p)) positions
-
--- those of the positions at which a live entry stands
-abbrev pub live_among : History → List Registered → List ℕ → List ℕ
-live_among history entries positions =
-    filter (λ p. unwrap_or (option_map (λ r. is_live history r.seq) (slice_get entries p)) false) positions
