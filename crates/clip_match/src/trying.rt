@@ -28,9 +28,9 @@ pub struct Tried<'a> {
     pub entries: Vec<&'a Entry>,
 }
 
-/// The positions of those candidates of a segment that no second key rules out, in place of those that were in the list,
-/// and how many candidates it has: the live entries whose query has a key in common with the article. They are counted
-/// and ruled out by words of 64 positions, and no entry is looked at.
+/// The positions of those candidates of a segment that no second key rules out, in place of those that were in the
+/// list, and how many candidates it has: the live entries whose query has a key in common with the article. They are
+/// counted and ruled out by words of 64 positions, and no entry is looked at.
 fn candidates_in(
     alloc: Global,
     view: &View,

@@ -61,7 +61,8 @@ fn keep_bits(words: &mut Vec<u64>, others: &SharedList<u64>)
 
 /// The word with just those of its bits that are met: those of `has`, and those that `needs` has not.
 fn met(word: u64, needs: u64, has: u64) -> u64
-    ensures { (bit : ℕ) → bit < 64 → is_set result bit ≡ (is_set word bit && (is_set has bit || not (is_set needs bit))) }
+    ensures { (bit : ℕ) → bit < 64 → is_set result bit
+        ≡ (is_set word bit && (is_set has bit || not (is_set needs bit))) }
 {
     word & (has | !needs)
 }

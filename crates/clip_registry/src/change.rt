@@ -144,8 +144,8 @@ fn register(
     })
 }
 
-/// Does a command to the segments, their live flags and the roster: `Full` where more than `MOST_LIVE` queries would then be registered,
-/// and `NoMemory` where an allocation failed.
+/// Does a command to the segments, their live flags and the roster: `Full` where more than `MOST_LIVE` queries would
+/// then be registered, and `NoMemory` where an allocation failed.
 pub fn change(
     alloc: Global,
     segments: Vec<Arc<Segment>>,

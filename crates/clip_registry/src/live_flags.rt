@@ -44,11 +44,7 @@ pub fn all_flags(
 
 /// Clears the flag of a seq among those of a segment, if an entry of it has the seq. `NoMemory` where an allocation
 /// failed.
-fn clear_in(
-    flags: &mut Shared<SharedFlags>,
-    segment: &Segment,
-    seq: u64,
-) -> Result<(), NoMemory>
+fn clear_in(flags: &mut Shared<SharedFlags>, segment: &Segment, seq: u64) -> Result<(), NoMemory>
     requires { length flags.old ≡ length segment.now }
     ensures { (is : ℕ → Bool) → flags.old ≡ flags_of is segment.now
         → OnOk result (flags.new ≡ flags_of (without (Some seq) is) segment.now) }

@@ -71,10 +71,12 @@ invariant_of-next c =
     let h : History = (state_of c.self.inside).history in
     let place : c.args.caller - 1 < length c.self.inside.counts.items = let a = kept.callers in let b = c.requires.caller_from in let d = c.requires.caller_to in omega arith in
     let at : c.index_mut.result.now ≡ length (own h c.args.caller) =
-    counted c.self.inside.counts.items (c.args.caller - 1) c.index_mut.result.now (length (own h c.args.caller)) place c.index_mut.ensures.value (kept.numbers c.args.caller c.requires.caller_from c.requires.caller_to) in
-    (consistent_after (state_of c.self.inside) _ c.self.inside.roster (content c.in_ok-changed.changed.segments.items c.in_ok-changed.changed.roster) c.in_ok-changed.changed.applied
-    c.self.inside.counts.items c.args.caller (command_of c.args.command.now) c.index_mut.result.now kept c.requires.fits c.requires.caller_from c.requires.caller_to
-    c.in_ok-changed.ensures.changed (accepted (goal.at.invariant_of-next c).In_ok-changed) at, c.in_ok-changed.ensures.flags)
+    counted c.self.inside.counts.items (c.args.caller - 1) c.index_mut.result.now (length (own h c.args.caller)) place c.index_mut.ensures.value (kept.numbers c.args.caller c.requires.caller_from c.requires.caller_to) in (
+      consistent_after (state_of c.self.inside) _ c.self.inside.roster (content c.in_ok-changed.changed.segments.items c.in_ok-changed.changed.roster) c.in_ok-changed.changed.applied
+          c.self.inside.counts.items c.args.caller (command_of c.args.command.now) c.index_mut.result.now kept c.requires.fits c.requires.caller_from c.requires.caller_to
+          c.in_ok-changed.ensures.changed (accepted (goal.at.invariant_of-next c).In_ok-changed) at,
+      c.in_ok-changed.ensures.flags,
+    )
 
 pub returns-clause-accepted : goal.returns-clause-accepted
 returns-clause-accepted c =

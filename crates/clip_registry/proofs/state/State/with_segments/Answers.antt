@@ -19,8 +19,9 @@ invariant_of-next c =
     let kept : IsConsistent (record (state_of c.self.inside) { segments = segments }) c.self.inside.roster c.self.inside.counts.items =
     consistent_kept (state_of c.self.inside) c.self.inside.roster c.self.inside.counts.items segments c.self.invariant.0 is in
     let registry : c.in_ok-clone-2.field-0.registry ≡ replay c.args.self.now.history =
-    ap (λ (r : Roster). r.registry) c.in_ok-clone-2.ensures.cases ∙ c.self.invariant.0.registry ∙ ap (λ (s : RegistryState). replay s.history) c.self.view_is in
-    (subst (λ (l : Log). IsConsistent (record { segments = segments; history = l.history; keeps = l.keeps }) c.in_ok-clone-2.field-0 c.in_ok-clone-3.field-0.items) (sym c.in_ok-clone.ensures.cases)
-    (subst (λ (r : Roster). IsConsistent (record (state_of c.self.inside) { segments = segments }) r c.in_ok-clone-3.field-0.items) (sym c.in_ok-clone-2.ensures.cases)
-    (subst (IsConsistent (record (state_of c.self.inside) { segments = segments }) c.self.inside.roster) (sym counts) kept)),
-      c.requires.flags ∙ ap (λ m. flags_in m segments) (sym registry))
+    ap (λ (r : Roster). r.registry) c.in_ok-clone-2.ensures.cases ∙ c.self.invariant.0.registry ∙ ap (λ (s : RegistryState). replay s.history) c.self.view_is in (
+      subst (λ (l : Log). IsConsistent (record { segments = segments; history = l.history; keeps = l.keeps }) c.in_ok-clone-2.field-0 c.in_ok-clone-3.field-0.items) (sym c.in_ok-clone.ensures.cases)
+          (subst (λ (r : Roster). IsConsistent (record (state_of c.self.inside) { segments = segments }) r c.in_ok-clone-3.field-0.items) (sym c.in_ok-clone-2.ensures.cases)
+          (subst (IsConsistent (record (state_of c.self.inside) { segments = segments }) c.self.inside.roster) (sym counts) kept)),
+      c.requires.flags ∙ ap (λ m. flags_in m segments) (sym registry),
+    )

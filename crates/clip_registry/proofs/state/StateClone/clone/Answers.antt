@@ -19,11 +19,12 @@ invariant_of-result c =
     let counts : c.in_ok-clone-4.field-0.items ≡ c.self.inside.counts.items = same_from_all_zip (λ (x y : ℕ). y ≡ x) _ _ c.in_ok-clone-4.ensures.cases.0 (λ x y e. e) in
     let live : c.in_ok-clone-5.field-0.items ≡ c.self.inside.live.items = same_from_all_zip (λ (x y : List Bool). y ≡ x) _ _ c.in_ok-clone-5.ensures.cases.0 (λ x y e. e) in
     let roster = c.in_ok-clone-3.ensures.cases in
-    let segments = map_shared c.self.inside.segments.items c.in_ok-clone.field-0.items c.in_ok-clone.ensures.cases.0 in
-    (subst (λ s. IsConsistent s c.in_ok-clone-3.field-0 c.in_ok-clone-4.field-0.items) (sym (same_state c))
-    (subst (λ (r : Roster). IsConsistent (state_of c.self.inside) r c.in_ok-clone-4.field-0.items) (sym c.in_ok-clone-3.ensures.cases)
-    (subst (IsConsistent (state_of c.self.inside) c.self.inside.roster) (sym counts) c.self.invariant.0)),
-      live ∙ c.self.invariant.1 ∙ sym (λ i. flags_in (roster i).registry (segments i)))
+    let segments = map_shared c.self.inside.segments.items c.in_ok-clone.field-0.items c.in_ok-clone.ensures.cases.0 in (
+      subst (λ s. IsConsistent s c.in_ok-clone-3.field-0 c.in_ok-clone-4.field-0.items) (sym (same_state c))
+          (subst (λ (r : Roster). IsConsistent (state_of c.self.inside) r c.in_ok-clone-4.field-0.items) (sym c.in_ok-clone-3.ensures.cases)
+          (subst (IsConsistent (state_of c.self.inside) c.self.inside.roster) (sym counts) c.self.invariant.0)),
+      live ∙ c.self.invariant.1 ∙ sym (λ i. flags_in (roster i).registry (segments i)),
+    )
 
 pub returns : goal.returns
 returns c = record { cases = same_state c ∙ c.self.view_is }
