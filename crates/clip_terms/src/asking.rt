@@ -20,8 +20,8 @@ use std::marker::Model;
 use std::sync::ArcStr;
 
 /// An article with its keys but for the fronts, in order, each once, with the leads and the short lengths of their
-/// texts, and for each field how many of them are its, and the keys of its words, by their places in that list and in the order
-/// of its text. Contracts see the article.
+/// texts; and for each field how many of them are its, and the keys of its words, by their places in that list and in
+/// the order of its text. Contracts see the article.
 #[derive(Drop)]
 pub struct Asking<'a> {
     article: &'a Article,

@@ -106,7 +106,7 @@ fn first_from(leads: &[u64], from: usize, lead: u64) -> usize
 }
 
 /// Whether the lead at a place, if there is one, is past those of the words that begin with a text of this lead and
-/// this short length.
+/// this short length. Texts longer than a lead are not told apart by it: of these, and of an empty one, it says no.
 fn is_past(leads: &[u64], place: usize, lead: u64, short: u8) -> bool
     ensures { result ≡ true → IsPast leads.now place lead short }
 {
@@ -259,9 +259,9 @@ impl<'a> FieldTerms<'a> {
         self.fronts.end - self.fronts.start
     }
 
-    /// Adds the numbers of the fronts that are fronts of the words of an article's field, whose leads these are. Cost: a
-    /// step for each front of the field and for each of these words, and a search by halves among the words for each
-    /// front that may be had.
+    /// Adds the numbers of the fronts that are fronts of the words of an article's field, whose leads these are. Both
+    /// rise, so one walk over them tells which fronts may be had; only these are looked for. Cost: a step for each front
+    /// of the field and for each of these words, and a search by halves among the words for each front that may be had.
     pub(crate) fn add_fronts_of(
         &self,
         field: &Field,

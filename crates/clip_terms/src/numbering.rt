@@ -148,8 +148,8 @@ fn add_posting_fronts(
     Ok(())
 }
 
-/// Adds the numbers of the fronts of a field's words, of these leads. Asks for each front among the terms, or for each front of the
-/// words where these are fewer.
+/// Adds the numbers of the fronts of a field's words, whose leads these are. Asks for each front among the terms, or for
+/// each front of the words where these are fewer.
 fn add_field_fronts(
     terms: &Terms,
     field: &Field,
