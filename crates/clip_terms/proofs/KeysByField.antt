@@ -77,7 +77,7 @@ words_below : (name v : List ℕ) (ws : List (List ℕ)) → AllByRecursion (λ 
 words_below name v [] all = tt
 words_below name v (w ∷ ws) all = (word_below name v w all.0, words_below name v ws all.1)
 
-words_rise : (name : List ℕ) (ws : List (List ℕ)) → IsStrictlySortedBy bytes_cmp ws → IsStrictlySortedBy key_cmp (map (Word name) ws)
+pub words_rise : (name : List ℕ) (ws : List (List ℕ)) → IsStrictlySortedBy bytes_cmp ws → IsStrictlySortedBy key_cmp (map (Word name) ws)
 unfolding IsStrictlySortedBy
 words_rise name [] rising = tt
 words_rise name (w ∷ ws) rising = (words_below name w ws rising.0, words_rise name ws rising.1)

@@ -6,6 +6,7 @@ pub mod LeadsOfTerms
 pub mod Merging
 pub mod NumberedKeys
 pub mod Numbers
+pub mod PastFronts
 pub mod PlacedWords
 pub mod ReadingOf
 pub mod Runs

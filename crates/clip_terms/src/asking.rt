@@ -20,8 +20,8 @@ use std::marker::Model;
 use std::sync::ArcStr;
 
 /// An article with its keys but for the fronts, in order, each once, with the leads and the short lengths of their
-/// texts, and for each field the keys of its words, by their places in that list and in the order of its text.
-/// Contracts see the article.
+/// texts; and for each field how many of them are its, and the keys of its words, by their places in that list and in
+/// the order of its text. Contracts see the article.
 #[derive(Drop)]
 pub struct Asking<'a> {
     article: &'a Article,
@@ -29,6 +29,7 @@ pub struct Asking<'a> {
     leads: Vec<u64>,
     lengths: Vec<u8>,
     places: Vec<Vec<usize>>,
+    counts: Vec<usize>,
 }
 
 impl<'a> Model for Asking<'a> {
@@ -109,8 +110,11 @@ impl<'a> Asking<'a> {
         let mut keys = Vec::new(alloc);
         keys.push(Key::Any)?;
         let mut places = Vec::new(alloc);
+        let mut counts = Vec::new(alloc);
         for field in article.fields() {
+            let before = keys.len();
             places.push(add_field(alloc, field, &mut keys)?)?;
+            counts.push(keys.len() - before)?;
         }
         let leads = leads_of(alloc, &keys)?;
         let lengths = lengths_of(alloc, &keys)?;
@@ -120,6 +124,7 @@ impl<'a> Asking<'a> {
             leads,
             lengths,
             places,
+            counts,
         })
     }
 
@@ -149,6 +154,13 @@ impl<'a> Asking<'a> {
         ensures { AreShortLengths (word_part_keys self.now.fields) result.now }
     {
         &self.lengths
+    }
+
+    /// How many keys each field has of these. Constant time.
+    pub(crate) fn counts(&self) -> &[usize]
+        ensures { result.now ≡ map (λ field. length (ordered_keys field)) (finite.entries self.now.fields) }
+    {
+        &self.counts
     }
 
     /// For each field, in the byte order of their names, and each word in the order of its text, which of the keys is

@@ -1,11 +1,13 @@
 //! The terms of one field, found by the first bytes of their texts.
-ghost use Rattle.std.specs.Prelude.{◌≡◌, ℕ, ◌<◌, ◌≤◌, ◌^◌, if◌then◌else◌, OnOk, map, length, slice_index};
-ghost use Rattle.std.specs.Str.{bytes_eq};
+ghost use Rattle.std.specs.Prelude.{◌≡◌, ℕ, true, ◌<◌, ◌≤◌, ◌^◌, if◌then◌else◌, OnOk, map, length, slice_index};
+ghost use Rattle.std.specs.Str.{bytes_eq, IsUtf8};
+ghost use Rattle.std.specs.List.{All};
 ghost use Rattle.clip_extract.specs.Covering.{front_keys};
 ghost use Rattle.clip_extract.specs.Keys.{Word, Front, key_of};
 ghost use Rattle.clip_terms.specs.Terms.{number_of};
 ghost use Rattle.clip_terms.specs.Steps.Fronts.{AddsNumbersOf};
-ghost use Rattle.clip_terms.specs.Steps.Leads.{AreLeads, AreShortLengths, NeverFall, TextsRise, IsPlaceOf};
+ghost use Rattle.clip_terms.specs.Steps.Leads.{AreLeads, AreShortLengths, NeverFall, TextsRise, IsPlaceOf, IsPast};
+ghost use Rattle.clip_terms.specs.Steps.KeysByField.{ordered_keys};
 
 use crate::leads::Sought;
 use crate::likely::{SIDE_BY_SIDE, likely_places};
@@ -90,6 +92,32 @@ fn first_near(leads: &[u64], part: &Range<usize>, lead: u64, likely: usize) -> u
         return likely;
     }
     first_of_lead(leads, part, lead)
+}
+
+/// The first place from one on whose lead is not below this one.
+fn first_from(leads: &[u64], from: usize, lead: u64) -> usize
+    ensures { (n : ℕ) → from ≤ n → n < result → slice_index leads.now n < lead }
+{
+    let mut place = from;
+    while place < leads.len() && leads[place] < lead {
+        place += 1;
+    }
+    place
+}
+
+/// Whether the lead at a place, if there is one, is past those of the words that begin with a text of this lead and
+/// this short length. Texts longer than a lead are not told apart by it: of these, and of an empty one, it says no.
+fn is_past(leads: &[u64], place: usize, lead: u64, short: u8) -> bool
+    ensures { result ≡ true → IsPast leads.now place lead short }
+{
+    if short == 0 || short > 8 {
+        return false;
+    }
+    let Some(first) = leads.get(place) else {
+        return true;
+    };
+    let span = 1u64 << (64 - 8 * u32::from(short));
+    *first > lead && *first - lead >= span
 }
 
 /// Where the key of a text stands among keys whose texts rise.
@@ -231,18 +259,28 @@ impl<'a> FieldTerms<'a> {
         self.fronts.end - self.fronts.start
     }
 
-    /// Adds the numbers of the fronts that are fronts of the words of an article's field. Cost: for each front of the
-    /// field a search by halves among these words.
+    /// Adds the numbers of the fronts that are fronts of the words of an article's field, whose leads these are. Both
+    /// rise, so one walk over them tells which fronts may be had; only these are looked for. Cost: a step for each front
+    /// of the field and for each of these words, and a search by halves among the words for each front that may be had.
     pub(crate) fn add_fronts_of(
         &self,
         field: &Field,
+        words: &[u64],
         numbers: &mut Vec<u32>,
     ) -> Result<(), NoMemory>
-        requires { self.now.field ≡ field.now.0 }
+        requires field { self.now.field ≡ field.now.0 }
+        requires texts { All IsUtf8 field.now.1 }
+        requires words { AreLeads (ordered_keys field.now) words.now }
         ensures { OnOk result (AddsNumbersOf self.now.terms
             (front_keys field.now) numbers.old.items numbers.new.items) }
     {
+        let mut place = 0;
         for number in self.fronts.start..self.fronts.end {
+            let lead = self.leads[number];
+            place = first_from(words, place, lead);
+            if is_past(words, place, lead, self.lengths[number]) {
+                continue;
+            }
             let text = self.keys[number].text();
             if !has_front_key(field, text) {
                 continue;

@@ -1,16 +1,18 @@
 //! The numbers of an article's keys.
 ghost use Rattle.std.specs.Prelude.{◌≡◌, ◌++◌, [], ◌<◌, IfOk, OnOk, length, map, slice_index, flat_map};
 ghost use Rattle.std.specs.Prelude.{option_map, option_to_list};
+ghost use Rattle.std.specs.FinMap as finite;
 ghost use Rattle.clip_extract.specs.Keys.{Front, key_of, text_of};
 ghost use Rattle.clip_extract.specs.Fronts.{fronts};
 ghost use Rattle.clip_extract.specs.Covering.{front_keys};
 ghost use Rattle.clip_terms.specs.Terms.{number_of};
-ghost use Rattle.clip_terms.specs.Steps.KeysByField.{is_word};
+ghost use Rattle.clip_terms.specs.Steps.KeysByField.{is_word, ordered_keys};
 ghost use Rattle.clip_meaning.specs.Leads.{IsLead};
 ghost use Rattle.clip_terms.specs.Steps.Leads.{AreLeads, IsShortLength, AreShortLengths};
 ghost use Rattle.clip_terms.specs.Steps.Numbers.{known};
 ghost use Rattle.clip_terms.specs.Steps.Fronts.{other_fronts, asked_fronts, AddsNumbersOf};
 
+use crate::asking::Asking;
 use crate::field_terms::FieldTerms;
 use crate::leads::Sought;
 use crate::likely::LikelyPlaces;
@@ -146,31 +148,42 @@ fn add_posting_fronts(
     Ok(())
 }
 
-/// Adds the numbers of the fronts of a field's words. Asks for each front among the terms, or for each front of the
-/// words where these are fewer.
-fn add_field_fronts(terms: &Terms, field: &Field, numbers: &mut Vec<u32>) -> Result<(), NoMemory>
+/// Adds the numbers of the fronts of a field's words, whose leads these are. Asks for each front among the terms, or for
+/// each front of the words where these are fewer.
+fn add_field_fronts(
+    terms: &Terms,
+    field: &Field,
+    leads: &[u64],
+    numbers: &mut Vec<u32>,
+) -> Result<(), NoMemory>
+    requires { AreLeads (ordered_keys field.now) leads.now }
     ensures { OnOk result (AddsNumbersOf terms.now (front_keys field.now) numbers.old.items numbers.new.items) }
 {
     terms.order_law();
     let of_field = terms.of_field(field.name());
     if of_field.front_count() <= field.words().len() {
-        return of_field.add_fronts_of(field, numbers);
+        return of_field.add_fronts_of(field, leads, numbers);
     }
     add_posting_fronts(&of_field, field.postings(), numbers)?;
     Ok(())
 }
 
-/// Adds the numbers of the fronts of the fields' words.
+/// Adds the numbers of the fronts of the words of an article's fields.
 pub(crate) fn add_front_numbers(
     terms: &Terms,
-    fields: &[Field],
+    asking: &Asking<'_>,
     numbers: &mut Vec<u32>,
 ) -> Result<(), NoMemory>
     ensures { OnOk result (AddsNumbersOf terms.now
-        (flat_map front_keys fields.now) numbers.old.items numbers.new.items) }
+        (flat_map front_keys (finite.entries asking.now.fields)) numbers.old.items numbers.new.items) }
 {
-    for field in fields {
-        add_field_fronts(terms, field, numbers)?;
+    let fields = asking.article().fields();
+    let counts = asking.counts();
+    let mut leads = asking.leads().split_at(1).1;
+    for place in 0..fields.len() {
+        let (of_field, others) = leads.split_at(counts[place]);
+        add_field_fronts(terms, &fields[place], of_field, numbers)?;
+        leads = others;
     }
     Ok(())
 }

@@ -99,9 +99,9 @@ impl<'a> Reading<'a> {
     /// Reads an article by these terms.
     ///
     /// `NoMemory` where an allocation failed. Cost: for each field of the article a search among the field's terms for
-    /// each of its words that differs from the others, and one among its words for each front of the field that is a
-    /// term, or, where these are more than the words, one among the terms for each front of the words; a step for each
-    /// word of the article, and one for each 64 terms.
+    /// each of its words that differs from the others, a step for each front of the field that is a term and a search
+    /// among the field's words for each of these that may be had, or, where these are more than the words, a search
+    /// among the terms for each front of the words; a step for each word of the article, and one for each 64 terms.
     pub fn of(alloc: Global, terms: &'a Terms, asking: &Asking<'a>) -> Result<Reading<'a>, NoMemory>
         ensures { IfOk result (λ reading. reading ≡ record { terms = terms.now; article = asking.now }) }
     {
@@ -114,7 +114,7 @@ impl<'a> Reading<'a> {
             asking.lengths(),
         )?;
         let mut numbers = known_numbers(alloc, &by_key)?;
-        add_front_numbers(terms, asking.article().fields(), &mut numbers)?;
+        add_front_numbers(terms, asking, &mut numbers)?;
         let marks = marks_of(alloc, &numbers, terms.len())?;
         let fields = field_numbers(alloc, asking.places(), &by_key)?;
         Ok(Reading {
