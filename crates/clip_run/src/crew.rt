@@ -280,9 +280,9 @@ impl<'r, 'd, 'g, R: Threads + Wait + Sync, N: DeskName, G: Gate + Clone + Send +
     /// line stands read already, nothing is owed after it.
     ///
     /// `NoMemory` where an allocation failed or a listener answers it; the listeners have heard a front of the alerts
-    /// of what was owed and of the line then. Cost: that of `take_line_unread`; for a batch that of a thread's start, or
-    /// of `match_drafts_in_pieces`; and that of `deliver_found` for what is given. It waits for threads whose batch is
-    /// given.
+    /// of what was owed and of the line then. Cost: that of `take_line_unread`; for a batch that of a thread's start,
+    /// or of `match_drafts_in_pieces`; and that of `deliver_found` for what is given. It waits for threads whose batch
+    /// is given.
     pub fn answer<A: Audience>(
         &mut self,
         alloc: Global,
