@@ -148,8 +148,11 @@ fn add_posting_fronts(
     Ok(())
 }
 
-/// Adds the numbers of the fronts of a field's words, whose leads these are. Asks for each front among the terms, or for
-/// each front of the words where these are fewer.
+/// How many fronts of a table a walk passes in less time than it takes to look the fronts of one word up in it.
+const FRONTS_FOR_A_WORD: usize = 32;
+
+/// Adds the numbers of the fronts of a field's words, whose leads these are. Walks over the fronts among the terms, or
+/// looks each front of the words up where these are so few that this takes less time.
 fn add_field_fronts(
     terms: &Terms,
     field: &Field,
@@ -161,7 +164,7 @@ fn add_field_fronts(
 {
     terms.order_law();
     let of_field = terms.of_field(field.name());
-    if of_field.front_count() <= field.words().len() {
+    if of_field.front_count() / FRONTS_FOR_A_WORD <= field.words().len() {
         return of_field.add_fronts_of(field, leads, numbers);
     }
     add_posting_fronts(&of_field, field.postings(), numbers)?;
