@@ -138,11 +138,12 @@ fn add_with_hits<'a>(
     ensures hits { OnOk result (All (HasItsHits HitsFound.AtOnce reading.now.article) held.old.items
         → All (HasItsHits HitsFound.AtOnce reading.now.article) held.new.items) }
 {
+    let mut flags = Vec::new(alloc);
     for position in positions {
         let Some(registered) = reading.entry(*position) else {
             continue;
         };
-        let hits = spots.hits(alloc, *position)?;
+        let hits = spots.hits(alloc, *position, &mut flags)?;
         held.push(Held::of(registered, Some(hits)))?;
     }
     Ok(())

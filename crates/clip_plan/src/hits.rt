@@ -35,8 +35,8 @@ fn add_hits(
 
 impl Plans {
     /// Where in an article the leaves of the query of the plan at a place stand: its hits, where the plan's numbers are
-    /// those of the terms of the article's fields, which are all there in order. Looks at no query's tree but those of
-    /// prefixes and ranges.
+    /// those of the terms of the article's fields, which are all there in order. `flags` is room for a flag for each
+    /// word of a field. Looks at no query's tree but those of prefixes and ranges.
     ///
     /// `NoMemory` where an allocation failed, or where the count of a field's name is at its end. Cost: for each field
     /// a flag for each of its words, and a walk over the plan's steps, as of `mark_hits`.
@@ -45,16 +45,16 @@ impl Plans {
         alloc: Global,
         place: usize,
         spots: &[FieldSpots],
+        flags: &mut Vec<u8>,
     ) -> Result<Vec<Hit>, NoMemory>
         ensures { IfOk result (λ found. (tree : Tree) (terms : List KeyValue) (fields : Fields)
             → spots.now ≡ map (spots_among terms) (finite.entries fields)
             → decoded terms (unwrap_or (slice_get self.now place) []) ≡ plan_of tree
             → map hit_value found.items ≡ hits tree fields) }
     {
-        let mut flags = Vec::new(alloc);
         let mut found = Vec::new(alloc);
         for of_field in spots {
-            add_hits(self, place, of_field, &mut flags, &mut found)?;
+            add_hits(self, place, of_field, flags, &mut found)?;
         }
         Ok(found)
     }

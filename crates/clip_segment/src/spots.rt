@@ -61,14 +61,20 @@ impl<'a> SegmentSpots<'a> {
     }
 
     /// Where in the article the leaves of the query of the entry at a position stand: its hits, whether it holds or
-    /// not. The entry is not looked at.
+    /// not. `flags` is room for a flag for each word of a field. The entry is not looked at.
     ///
     /// `NoMemory` where an allocation failed, or where the count of a field's name is at its end. Cost: that of
     /// `Plans::hits`.
-    pub fn hits(&self, alloc: Global, position: u32) -> Result<Vec<Hit>, NoMemory>
+    pub fn hits(
+        &self,
+        alloc: Global,
+        position: u32,
+        flags: &mut Vec<u8>,
+    ) -> Result<Vec<Hit>, NoMemory>
         ensures { IfOk result (λ found. (entry : Registered) → slice_get self.now.entries position ≡ Some entry
             → map hit_value found.items ≡ hits entry.standing.tree self.now.article.fields) }
     {
-        self.plans.hits(alloc, position as usize, &self.fields)
+        self.plans
+            .hits(alloc, position as usize, &self.fields, flags)
     }
 }

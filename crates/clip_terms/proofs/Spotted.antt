@@ -1,10 +1,10 @@
 -- Spots: where the term of a number stands in a field, and which positions a run of numbers covers.
-use Rattle.std.proofs.Common.{◌≡◌, ℕ, zero, suc, ◌+◌, ◌<◌, ◌≤◌, Bool, true, false, cond, ◌&&◌, ◌||◌, nat_eq, nat_lt, nat_le, List, [], ◌∷◌, ◌++◌, filter, map, flat_map, length, take, drop, get_or, Option, Some, None, IsPermutation, refl, sym, ap, ◌∙◌, arith, eq-eqb, ne_eqb, append_assoc}
+use Rattle.std.proofs.Common.{◌≡◌, ℕ, zero, suc, ◌+◌, ◌-◌, ◌<◌, ◌≤◌, Bool, true, false, cond, ◌&&◌, ◌||◌, nat_eq, nat_lt, nat_le, List, [], ◌∷◌, ◌++◌, filter, map, flat_map, length, take, drop, get_or, Option, Some, None, IsPermutation, refl, sym, ap, ◌∙◌, subst, arith, eq-eqb, ne_eqb, append_assoc}
 use Rattle.std.specs.List.{list_any, starts_with}
-use Rattle.std.specs.List.Sorted.{IsStrictlySortedBy, IsPartitionPoint}
+use Rattle.std.specs.List.Sorted.{IsStrictlySortedBy, IsNonDecreasingBy, IsPartitionPoint}
 use Rattle.std.proofs.lemmas.Bool.{ltb-true, leb-true, le-ltb}
 use Rattle.std.proofs.lemmas.Bool.Decides.{nat_tests}
-use Rattle.std.proofs.lemmas.List.{length-append, length-map, length-drop, drop-drop, get_or-map, get_or-drop, drop-map}
+use Rattle.std.proofs.lemmas.List.{length-append, length-map, length-drop, drop-drop, get_or-map, get_or-drop, get_or_default, drop-map}
 use Rattle.std.proofs.lemmas.List.Folds.{list_any-append}
 use Rattle.std.proofs.lemmas.List.Sorted.{list_any-IsPermutation}
 use Rattle.clip_meaning.specs.Hits.{is_within}
@@ -83,6 +83,25 @@ not_higher a n high = grind (arith, nat_tests)
 
 just : (a n : ℕ) → nat_lt a n ≡ false → nat_le a n ≡ true → nat_eq a n ≡ true
 just a n low high = grind (arith, nat_tests)
+
+-- none is of a number that no spot has
+none_of : (n : ℕ) (xs : List Spot) → ((k : ℕ) (d : Spot) → k < length xs → nat_eq (get_or xs k d).number n ≡ false) → filter (is_of n) xs ≡ []
+none_of n xs out = sym (front_kept (is_of n) 0 xs (λ k d lt inside. absurd (omega arith)) (λ k d le inside. out k d inside))
+
+-- the number of the first is the least, and that of the last the greatest
+pub none_below : (n : ℕ) (xs : List Spot) (x : Spot) → IsNonDecreasingBy (λ (s : Spot). s.number) xs → x ≡ get_or xs 0 x → n < x.number → filter (is_of n) xs ≡ []
+none_below n xs x rise is lt =
+    none_of n xs
+    (λ k d inside.
+    let first : x ≡ get_or xs 0 d = is ∙ get_or_default xs 0 x d (omega (arith, inside)) in
+    ne_eqb (get_or xs k d).number n (λ e. omega (arith, e, subst (λ (s : Spot). n < s.number) first lt, rise 0 k d (omega arith) inside)))
+
+pub none_above : (n : ℕ) (xs : List Spot) (x : Spot) → IsNonDecreasingBy (λ (s : Spot). s.number) xs → x ≡ get_or xs (length xs - 1) x → x.number < n → filter (is_of n) xs ≡ []
+none_above n xs x rise is lt =
+    none_of n xs
+    (λ k d inside.
+    let last : x ≡ get_or xs (length xs - 1) d = is ∙ get_or_default xs (length xs - 1) x d (omega (arith, inside)) in
+    ne_eqb (get_or xs k d).number n (λ e. omega (arith, e, subst (λ (s : Spot). s.number < n) last lt, rise k (length xs - 1) d (omega (arith, inside)) (omega (arith, inside)))))
 
 -- between the places of two searches
 pub kept_between : (n : ℕ) (xs from found : List Spot) (i j : ℕ) → IsPartitionPoint (λ (s : Spot). nat_lt s.number n ≡ true) (λ (s : Spot). nat_lt s.number n ≡ false) xs i → from ≡ drop i xs

@@ -1,7 +1,7 @@
 //! Where the words of a field stand, by the numbers of their terms.
-ghost use Rattle.std.specs.Prelude.{◌≡◌, ◌++◌, IfOk, OnOk, map, flat_map, filter, length, drop, nat_eq, nat_lt, nat_le};
+ghost use Rattle.std.specs.Prelude.{◌≡◌, ◌≤◌, ◌++◌, [], true, false, IfOk, OnOk, map, flat_map, filter, length, drop, nat_eq, nat_lt, nat_le};
 ghost use Rattle.std.specs.List.{list_any};
-ghost use Rattle.std.specs.List.Sorted.{IsNonDecreasingBy};
+ghost use Rattle.std.specs.List.Sorted.{IsNonDecreasingBy, IsPartitionPoint};
 ghost use Rattle.clip_meaning.specs.Steps.Marks.{AreRaised};
 ghost use Rattle.clip_extract.specs.Covering.{field_keys};
 ghost use Rattle.clip_terms.specs.Spots.{is_at, is_covered, spots_among};
@@ -91,23 +91,49 @@ fn sorted_spots(
     Ok(spots)
 }
 
+/// Whether a number is below those of all spots or above them, as the numbers of other fields are.
+fn is_beyond(spots: &[Spot], number: u32) -> bool
+    requires { IsNonDecreasingBy (λ spot. spot.number) spots.now }
+    ensures { result ≡ true → filter (is_of number) spots.now ≡ [] }
+{
+    let Some(lowest) = spots.first() else {
+        return true;
+    };
+    let Some(highest) = spots.last() else {
+        return true;
+    };
+    number < lowest.number || highest.number < number
+}
+
+/// How many spots are of numbers up to this one, by a walk from the start.
+fn count_up_to(spots: &[Spot], number: u32) -> usize
+    requires { IsNonDecreasingBy (λ spot. spot.number) spots.now }
+    ensures within { result ≤ length spots.now }
+    ensures point { IsPartitionPoint (λ spot. nat_le spot.number number ≡ true)
+        (λ spot. nat_le spot.number number ≡ false) spots.now result }
+{
+    let mut count = 0;
+    while count < spots.len() && spots[count].number <= number {
+        count += 1;
+    }
+    count
+}
+
 /// The spots of a number, among spots by their numbers.
 fn those_of(spots: &[Spot], number: u32) -> &[Spot]
     requires { IsNonDecreasingBy (λ spot. spot.number) spots.now }
     ensures { result.now ≡ filter (is_of number) spots.now }
 {
+    if is_beyond(spots, number) {
+        return &[];
+    }
     let first = spots.partition_point(
         |spot: &Spot| -> bool
             ensures { result ≡ nat_lt spot.now.number number }
         { spot.number < number },
     );
     let from = spots.split_at(first).1;
-    let count = from.partition_point(
-        |spot: &Spot| -> bool
-            ensures { result ≡ nat_le spot.now.number number }
-        { spot.number <= number },
-    );
-    from.split_at(count).0
+    from.split_at(count_up_to(from, number)).0
 }
 
 /// Raises the flags of the positions of spots.
@@ -178,8 +204,8 @@ impl<'a> FieldSpots<'a> {
         self.terms
     }
 
-    /// Raises the flags of the positions at which the term of a number stands. Takes no memory. Cost: searches by
-    /// halves among the field's words that are terms, and a step for each position.
+    /// Raises the flags of the positions at which the term of a number stands. Takes no memory. Cost: where the number
+    /// is between those of the field's words a search by halves among these, and a step for each position.
     pub fn mark_term(&self, number: u32, flags: &mut Vec<u8>)
         requires { length flags.old.items ≡ length self.now.field.1 }
         ensures long { length flags.new.items ≡ length flags.old.items }

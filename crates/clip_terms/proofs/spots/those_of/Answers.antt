@@ -1,6 +1,5 @@
-use Rattle.std.proofs.Common.{subst, sym, nat_lt, nat_le, rules, of_calls}
-use Rattle.std.specs.List.Sorted.{IsNonDecreasingBy}
-use Rattle.std.proofs.lemmas.List.Sorted.{IsPartitionPoint-from_clause, IsPartitionedBy-ltb, IsPartitionedBy-leb, IsNonDecreasingBy-drop}
+use Rattle.std.proofs.Common.{nat_lt, rules, of_calls}
+use Rattle.std.proofs.lemmas.List.Sorted.{IsPartitionPoint-from_clause, IsPartitionedBy-ltb}
 use Rattle.clip_terms.specs.declared.spots.Spot.{Spot}
 use Rattle.clip_terms.proofs.Spotted.{kept_between}
 use Rattle.clip_terms.proofs.spots.those_of.Goals as goal
@@ -10,7 +9,5 @@ returns c =
     let n = c.args.number in
     let xs = c.args.spots.now in
     let from = c.split_at.result.1.now in
-    let rise = subst (IsNonDecreasingBy (λ (s : Spot). s.number)) (sym c.split_at.ensures.back) (IsNonDecreasingBy-drop (λ (s : Spot). s.number) c.partition_point-first.result xs c.requires) in
     let low = IsPartitionPoint-from_clause (λ (s : Spot). nat_lt s.number n) xs c.partition_point-first.result c.partition_point-first.ensures.partitioned (IsPartitionedBy-ltb (λ (s : Spot). s.number) xs n c.requires) (λ a r f k. search (rules, of_calls)) in
-    let high = IsPartitionPoint-from_clause (λ (s : Spot). nat_le s.number n) from c.partition_point-count.result c.partition_point-count.ensures.partitioned (IsPartitionedBy-leb (λ (s : Spot). s.number) from n rise) (λ a r f k. search (rules, of_calls)) in
-    kept_between n xs from c.split_at-2.result.0.now c.partition_point-first.result c.partition_point-count.result low c.split_at.ensures.back high c.split_at-2.ensures.front
+    kept_between n xs from c.split_at-2.result.0.now c.partition_point-first.result c.count_up_to.result low c.split_at.ensures.back c.count_up_to.ensures.point c.split_at-2.ensures.front
