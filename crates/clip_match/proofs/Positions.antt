@@ -1,5 +1,5 @@
 -- The positions of entries that share a key.
-use Rattle.std.proofs.Common.{◌≡◌, ℕ, suc, ◌+◌, ◌<◌, Bool, true, false, cond, ◌&&◌, List, [], ◌∷◌, ◌++◌, map, length, get_or, filter, take, Option, Some, None, unwrap_or, option_to_list, refl, sym, ap, ◌∙◌, subst, arith}
+use Rattle.std.proofs.Common.{◌≡◌, ℕ, ◌+◌, ◌<◌, Bool, true, false, cond, ◌&&◌, List, [], ◌∷◌, ◌++◌, map, length, get_or, filter, take, Option, Some, None, unwrap_or, option_to_list, refl, sym, ap, ◌∙◌, subst, arith}
 use Rattle.std.specs.List.{enumerate_from, slice_get, All}
 use Rattle.std.proofs.lemmas.Option.{none-some}
 use Rattle.std.proofs.lemmas.List.{length-append, append_assoc, append-nil, length-map, get_or-map, take_more, map-append, flat_map_more}

@@ -1,0 +1,58 @@
+use Rattle.std.proofs.Common.{◌≡◌, ◌++◌, ◌∙◌, ◌∷◌, ◌+◌, List, [], Some, All, map, take, get_or, option_map, option_to_list, sym, ap, subst}
+use Rattle.std.specs.List.{slice_get}
+use Rattle.std.specs.Arc.{arc_value}
+use Rattle.std.specs.Option.{IfSome, option_copied}
+use Rattle.std.specs.Prelude.{is_some}
+use Rattle.std.proofs.lemmas.List.{append_assoc, map-append, take_more}
+use Rattle.std.proofs.lemmas.List.Elements.{All-append, All-cons, All-nil}
+use Rattle.clip_meaning.specs.Hits.{hit_value, hits}
+use Rattle.clip_model.specs.History.{Registered}
+use Rattle.clip_segment.specs.Segment.{AskedValue}
+use Rattle.clip_match.specs.declared.held.Held.{Held}
+use Rattle.clip_match.specs.declared.held.HitsFound.TheVariants.{AtOnce}
+use Rattle.clip_match.specs.Steps.Held.{HasItsHits}
+use Rattle.clip_match.specs.Steps.Positions.{entries_at}
+use Rattle.clip_match.proofs.Positions.{entries_more}
+use Rattle.clip_match.proofs.trying.add_with_hits.Goals as goal
+
+pub loop-position-preserved : goal.loop-position-preserved
+loop-position-preserved c =
+    let es = c.args.reading.now.entries in
+    let ps = c.args.positions.now in
+    let i = c.loop-position.position-index in
+    let p = get_or ps i 0 in
+    let one : Held = c.of.result in
+    let entry : List Held → List Registered = map (λ (h : Held). h.registered.now) in
+    let old = c.args.held.now.items in
+    let now = c.loop-position.held.items in
+    let there : slice_get es p ≡ Some one.registered.now =
+    sym c.entry.ensures
+    ∙ ap (λ o. option_map arc_value (option_copied o)) c.in-Some.is
+    ∙ ap Some (sym c.deref.ensures ∙ sym c.of.ensures.registered) in
+    let made =
+    subst (λ (a : AskedValue). (entry : Registered) → slice_get a.entries p ≡ Some entry → map hit_value c.in_ok-hits.hits.items ≡ hits entry.standing.tree a.article.fields) c.requires
+    c.in_ok-hits.ensures one.registered.now there in
+    let more : entries_at es (take i ps) ++ one.registered.now ∷ [] ≡ entries_at es (take (i + 1) ps) =
+    ap (λ o. entries_at es (take i ps) ++ option_to_list o) (sym there)
+    ∙ sym (entries_more es (take i ps) p)
+    ∙ ap (entries_at es) (sym (take_more ps i 0 c.loop-position-test.true)) in
+    record {
+      entries =
+          ap entry c.in_ok-push.ensures.items
+          ∙ map-append (λ (h : Held). h.registered.now) now (one ∷ [])
+          ∙ ap (λ xs. xs ++ one.registered.now ∷ []) c.loop-position.invariant.entries
+          ∙ append_assoc (entry old) (entries_at es (take i ps)) (one.registered.now ∷ [])
+          ∙ ap (λ xs. entry old ++ xs) more;
+      hits =
+          λ before.
+          subst (All (HasItsHits AtOnce c.args.reading.now.article)) (sym c.in_ok-push.ensures.items)
+          (All-append (HasItsHits AtOnce c.args.reading.now.article) now (one ∷ []) (c.loop-position.invariant.hits before)
+          (All-cons (HasItsHits AtOnce c.args.reading.now.article) one []
+          (record {
+            right =
+                subst (λ o. IfSome o (λ found. map hit_value found.items ≡ hits one.registered.now.standing.tree c.args.reading.now.article.fields))
+                (sym c.of.ensures.hits) made;
+            there = λ _. ap is_some c.of.ensures.hits;
+          })
+          (All-nil (HasItsHits AtOnce c.args.reading.now.article))));
+    }
