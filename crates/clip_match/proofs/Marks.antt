@@ -1,6 +1,6 @@
 -- Marks of a segment's entries.
-use Rattle.std.proofs.Common.{◌≡◌, ℕ, zero, suc, ◌+◌, Bool, true, false, cond, ◌&&◌, List, [], ◌∷◌, ◌++◌, length, map, filter, get_or, Some, slice_get, option_to_list, refl, sym, ap, ap₂, ◌∙◌, arith}
-use Rattle.std.specs.List.{count_by, enumerate_from}
+use Rattle.std.proofs.Common.{◌≡◌, ℕ, suc, ◌+◌, Bool, true, false, cond, ◌&&◌, List, [], ◌∷◌, ◌++◌, length, map, filter, get_or, Some, slice_get, option_to_list, refl, sym, ap, ◌∙◌, arith}
+use Rattle.std.specs.List.{count_by}
 use Rattle.std.proofs.Math.Bool.{and_comm}
 use Rattle.std.proofs.lemmas.List.{length-append, length-map, append_assoc}
 use Rattle.std.proofs.lemmas.List.Sums.{length-filter}

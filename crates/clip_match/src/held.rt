@@ -56,34 +56,85 @@ impl<'a> LedId<'a> {
     }
 }
 
-/// An entry whose query holds of an article, with its id, and with its hits where they were found at once.
+/// An entry whose query holds of an article, with its hits where they were found at once.
 #[derive(Drop)]
 pub(crate) struct Held<'a> {
     pub(crate) registered: &'a Entry,
-    id: LedId<'a>,
     pub(crate) hits: Option<Vec<Hit>>,
-    ghost own: { id ≡ registered.now.standing.id },
 }
 
 impl<'a> Held<'a> {
-    /// An entry with its hits, where they were found.
+    /// An entry with its hits, where they were found. The entry is not looked at.
     pub(crate) fn of(registered: &'a Entry, hits: Option<Vec<Hit>>) -> Held<'a>
         ensures registered { result.registered.now ≡ registered.now }
         ensures hits { result.hits ≡ hits }
     {
-        Held {
-            registered,
-            id: LedId::of(registered.standing().id()),
-            hits,
-        }
+        Held { registered, hits }
     }
+}
 
+/// The same with the text of its query's id.
+#[derive(Drop)]
+struct Identified<'a> {
+    held: Held<'a>,
+    id: &'a str,
+    ghost own: { id.now ≡ held.registered.now.standing.id },
+}
+
+/// The same with its query's id and the lead of that.
+#[derive(Drop)]
+pub(crate) struct Named<'a> {
+    pub(crate) held: Held<'a>,
+    id: LedId<'a>,
+    ghost own: { id ≡ held.registered.now.standing.id },
+}
+
+impl<'a> Named<'a> {
     /// The order of the ids of two entries. A text is looked at only where both have the same lead.
-    pub(crate) fn order(&self, other: &Held<'a>) -> Ordering
-        ensures { result ≡ bytes_cmp self.now.registered.now.standing.id other.now.registered.now.standing.id }
+    pub(crate) fn order(&self, other: &Named<'a>) -> Ordering
+        ensures { result
+            ≡ bytes_cmp self.now.held.registered.now.standing.id other.now.held.registered.now.standing.id }
     {
         self.id.order(&other.id)
     }
+}
+
+/// Finds where the ids stand, and looks at no text: each of these look-ups is a line of places in memory, and they wait
+/// for them side by side.
+fn with_ids<'a>(alloc: Global, held: Vec<Held<'a>>) -> Result<Vec<Identified<'a>>, NoMemory>
+    ensures { IfOk result (λ found. map (λ i. i.held) found.items ≡ held.entry.items) }
+{
+    let mut found = Vec::with_capacity(alloc, held.len())?;
+    for held in held {
+        let id = held.registered.standing().id();
+        found.push(Identified { held, id })?;
+    }
+    Ok(found)
+}
+
+/// The same with the leads of the ids.
+fn with_leads<'a>(alloc: Global, found: Vec<Identified<'a>>) -> Result<Vec<Named<'a>>, NoMemory>
+    ensures { IfOk result (λ named. map (λ n. n.held) named.items ≡ map (λ i. i.held) found.entry.items) }
+{
+    let mut named = Vec::with_capacity(alloc, found.len())?;
+    for one in found {
+        let Identified { held, id, .. } = one;
+        named.push(Named {
+            held,
+            id: LedId::of(id),
+        })?;
+    }
+    Ok(named)
+}
+
+/// The entries with the ids of their queries.
+pub(crate) fn with_led_ids<'a>(
+    alloc: Global,
+    held: Vec<Held<'a>>,
+) -> Result<Vec<Named<'a>>, NoMemory>
+    ensures { IfOk result (λ named. map (λ n. n.held) named.items ≡ held.entry.items) }
+{
+    with_leads(alloc, with_ids(alloc, held)?)
 }
 
 /// The entries, without their hits.

@@ -7,8 +7,8 @@ ghost use Rattle.clip_standing.specs.Alerts.{alert_value, alerts_value, has_hits
 ghost use Rattle.clip_match.specs.Alerts.{HaveHits, alert_due, alerts_due};
 ghost use Rattle.clip_match.specs.Steps.Held.{AreItsHits};
 
-use crate::held::{Held, HitsFound};
-use crate::trying::judge_candidates;
+use crate::held::{Held, HitsFound, Named, with_led_ids};
+use crate::trying::{Judged, judge_candidates};
 use clip_meaning::Article;
 use clip_registry::View;
 use clip_standing::{Alert, Alerts};
@@ -17,13 +17,13 @@ use std::alloc::Global;
 use std::cmp::Ordering;
 
 /// Sorts entries by the ids of their queries.
-fn sort_by_id(held: &mut Vec<Held>)
-    ensures moved { IsPermutation held.old.items held.new.items }
-    ensures sorted { IsSortedByKey (λ r. r.standing.id) bytes_cmp (map (λ h. h.registered.now) held.new.items) }
+fn sort_by_id(named: &mut Vec<Named>)
+    ensures moved { IsPermutation named.old.items named.new.items }
+    ensures sorted { IsSortedByKey (λ r. r.standing.id) bytes_cmp (map (λ n. n.held.registered.now) named.new.items) }
 {
-    held.sort_unstable_by(
-        |a: &Held, b: &Held| -> Ordering
-            ensures { result ≡ bytes_cmp a.now.registered.now.standing.id b.now.registered.now.standing.id }
+    named.sort_unstable_by(
+        |a: &Named, b: &Named| -> Ordering
+            ensures { result ≡ bytes_cmp a.now.held.registered.now.standing.id b.now.held.registered.now.standing.id }
         { a.order(b) },
     );
 }
@@ -34,11 +34,7 @@ fn alert_of(held: Held<'_>, article: &Article) -> Result<Alert, NoMemory>
     ensures value { IfOk result (λ alert. alert_value alert ≡ alert_due article.now held.entry.registered.now) }
     ensures found { IfOk result (λ alert. is_some held.entry.hits ≡ true → has_hits alert ≡ true) }
 {
-    let Held {
-        registered,
-        hits,
-        ..
-    } = held;
+    let Held { registered, hits } = held;
     match hits {
         Some(hits) => Alert::with_hits(registered.standing(), article, hits),
         None => Alert::of(registered.standing(), article),
@@ -46,16 +42,16 @@ fn alert_of(held: Held<'_>, article: &Article) -> Result<Alert, NoMemory>
 }
 
 /// The alerts of queries that hold of the article, in their order, with their hits where these were found.
-fn alerts(alloc: Global, held: Vec<Held<'_>>, article: &Article) -> Result<Vec<Alert>, NoMemory>
-    requires { All (AreItsHits article.now) held.items }
+fn alerts(alloc: Global, named: Vec<Named<'_>>, article: &Article) -> Result<Vec<Alert>, NoMemory>
+    requires { All (λ n. AreItsHits article.now n.held) named.items }
     ensures value { IfOk result (λ alerts. map alert_value alerts.items
-        ≡ map (alert_due article.now) (map (λ h. h.registered.now) held.entry.items)) }
-    ensures found { IfOk result (λ alerts. All (λ h. is_some h.hits ≡ true) held.entry.items
+        ≡ map (alert_due article.now) (map (λ n. n.held.registered.now) named.entry.items)) }
+    ensures found { IfOk result (λ alerts. All (λ n. is_some n.held.hits ≡ true) named.entry.items
         → All (λ alert. has_hits alert ≡ true) alerts.items) }
 {
-    let mut alerts = Vec::with_capacity(alloc, held.len())?;
-    for one in held {
-        alerts.push(alert_of(one, article)?)?;
+    let mut alerts = Vec::with_capacity(alloc, named.len())?;
+    for one in named {
+        alerts.push(alert_of(one.held, article)?)?;
     }
     Ok(alerts)
 }
@@ -88,13 +84,14 @@ pub fn match_article_finding(
     ensures due { IfOk result (λ found. alerts_value found ≡ alerts_due view.now article.now) }
     ensures hits { IfOk result (λ found. HaveHits hits found) }
 {
-    let mut found = judge_candidates(alloc, view, article, hits)?;
-    sort_by_id(&mut found.held);
+    let Judged { asked, held } = judge_candidates(alloc, view, article, hits)?;
+    let mut named = with_led_ids(alloc, held)?;
+    sort_by_id(&mut named);
     Ok(Alerts {
         article: article.shared_id().clone()?,
         place: view.place(),
-        asked: found.asked,
-        alerts: alerts(alloc, found.held, article)?,
+        asked,
+        alerts: alerts(alloc, named, article)?,
     })
 }
 
