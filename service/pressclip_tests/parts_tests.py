@@ -1,12 +1,14 @@
-"""Tests of what a worker hands its engine of a register."""
+"""Tests of what a worker hands its engine of a register, and of what an engine is started with."""
 
 from __future__ import annotations
 
 import json
+import os
 import sys
 from pathlib import Path
 from typing import Sequence
 
+from pressclip_service.engine import Engine
 from pressclip_service.live import even_lines
 
 from .grid_runs import Grid
@@ -67,5 +69,27 @@ def large_registers_through_a_grid() -> None:
         grid.needs_all()
 
 
+def told_of_memory() -> list[bytes] | None:
+    """What a process that is started as an engine finds in its environment of how memory is handed out."""
+    engine = Engine(["/bin/sh", "-c", 'printf "%s\\n" "$GLIBC_TUNABLES"'])
+    try:
+        return engine.read()
+    finally:
+        engine.kill()
+
+
+def an_engine_is_told_how_memory_is_handed_out() -> None:
+    """By the words of docs/OPERATING.md where the environment has none, and else by those that it has."""
+    before = os.environ.pop("GLIBC_TUNABLES", None)
+    try:
+        need(told_of_memory() == [b"glibc.malloc.tcache_count=500:glibc.malloc.hugetlb=1"], f"told {told_of_memory()}")
+        os.environ["GLIBC_TUNABLES"] = "glibc.malloc.hugetlb=0"
+        need(told_of_memory() == [b"glibc.malloc.hugetlb=0"], f"told {told_of_memory()} where that is said already")
+    finally:
+        os.environ.pop("GLIBC_TUNABLES", None)
+        if before is not None:
+            os.environ["GLIBC_TUNABLES"] = before
+
+
 TESTS = (registers_are_halved_near_powers_of_4, an_id_that_repeats_keeps_its_register_whole,
-         parts_of_like_requests_are_merged, large_registers_through_a_grid)
+         parts_of_like_requests_are_merged, an_engine_is_told_how_memory_is_handed_out, large_registers_through_a_grid)
