@@ -12,7 +12,7 @@ use clip_match::{HitsFound, match_batch_finding};
 use clip_meaning::Article;
 use clip_protocol::Form;
 use clip_registry::View;
-use clip_words::NoMemory;
+use clip_words::{NoMemory, WordPool};
 use std::alloc::Global;
 
 /// When hits are found: at once where replies show them, and else when they are asked for.
@@ -48,6 +48,7 @@ fn matched(
 /// Answers the line of this number: the text of its reply, or nothing for a blank line.
 pub(crate) fn answer(
     alloc: Global,
+    pool: &mut WordPool,
     owned: &mut Owned,
     form: Form,
     number: u64,
@@ -57,7 +58,7 @@ pub(crate) fn answer(
         line.now text.items) }
 {
     let mut listeners = House::new(alloc)?;
-    match take_line(alloc, owned, &listeners, number, line)? {
+    match take_line(alloc, pool, owned, &listeners, number, line)? {
         Taken::Text(text) => Ok(text),
         Taken::Articles(articles) => {
             let view = owned.registrar.view()?;

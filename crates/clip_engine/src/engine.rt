@@ -22,17 +22,18 @@ use clip_meaning::{Article, ArticleFault};
 use clip_protocol::{Form, Listing, Refusal, Unread, read_listing};
 use clip_registry::Registrar;
 use clip_standing::{Alerts, Applied, Command, Refused, Standing};
-use clip_words::{NoMemory, is_id};
+use clip_words::{NoMemory, WordPool, is_id};
 use std::alloc::Global;
 use std::marker::Model;
 use std::sync::Arc;
 
-/// An engine: a registrar, how many lines it has answered, and whether its replies show hits. Contracts see the history
-/// of the accepted commands for the registrar.
+/// An engine: a registrar, words of its last articles, how many lines it has answered, and whether its replies show
+/// hits. Contracts see the history of the accepted commands for the registrar.
 #[derive(Drop)]
 pub struct Engine {
     alloc: Global,
     owned: Owned,
+    pool: WordPool,
     lines: u64,
     hits: bool,
 }
@@ -106,6 +107,7 @@ impl Engine {
             owned: Owned {
                 registrar: Registrar::without_history(alloc),
             },
+            pool: WordPool::new(alloc),
             lines: 0,
             hits,
         }
@@ -147,7 +149,14 @@ impl Engine {
         let Ok(before) = self.owned.registrar.copy() else {
             return Err(LineFault::NoMemory);
         };
-        match answer(self.alloc, &mut self.owned, form, number, line) {
+        match answer(
+            self.alloc,
+            &mut self.pool,
+            &mut self.owned,
+            form,
+            number,
+            line,
+        ) {
             Ok(text) => {
                 self.lines = number;
                 Ok(text)

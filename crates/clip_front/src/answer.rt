@@ -21,7 +21,7 @@ use clip_protocol::{
     read_listing,
 };
 use clip_standing::{Command, Standing};
-use clip_words::NoMemory;
+use clip_words::{NoMemory, WordPool};
 use std::alloc::Global;
 use std::sync::Arc;
 
@@ -190,11 +190,12 @@ pub fn take_line_unread<A: Audience, H: Registry>(
     }
 }
 
-/// As `take_line_unread`, and reads the articles of a match.
+/// As `take_line_unread`, and reads the articles of a match, whose words are shared with those of the pool.
 ///
 /// `NoMemory` where an allocation failed. Cost: that of `take_line_unread`, and of `articles_of` for a match.
 pub fn take_line<A: Audience, H: Registry>(
     alloc: Global,
+    pool: &mut WordPool,
     registry: &mut H,
     audience: &A,
     number: u64,
@@ -209,6 +210,6 @@ pub fn take_line<A: Audience, H: Registry>(
 {
     match take_line_unread(alloc, registry, audience, number, bytes)? {
         TakenUnread::Text(text) => Ok(Taken::Text(text)),
-        TakenUnread::Drafts(drafts) => Ok(Taken::Articles(articles_of(alloc, &drafts)?)),
+        TakenUnread::Drafts(drafts) => Ok(Taken::Articles(articles_of(alloc, pool, &drafts)?)),
     }
 }

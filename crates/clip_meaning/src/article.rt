@@ -7,7 +7,7 @@ ghost use Rattle.clip_meaning.specs.Article.{words_in, fault_of, refusal_of, art
 use crate::fault::{ArticleFault, fault_of};
 use crate::field::Field;
 use crate::field_map::FieldMap;
-use clip_words::NoMemory;
+use clip_words::{NoMemory, WordPool};
 use std::alloc::Global;
 use std::marker::Model;
 use std::sync::{Arc, ArcStr};
@@ -57,13 +57,33 @@ impl Article {
         ensures kept { IfOk result (λ _. fault_of id.now (pairs_of fields.now) ≡ None) }
         ensures refused { IfErr result (λ fault. fault ≡ refusal_of id.now (pairs_of fields.now)) }
     {
+        let mut pool = WordPool::new(alloc);
+        Article::read_sharing(alloc, &mut pool, id, fields)
+    }
+
+    /// As `read`, with words that are shared with those of the pool: articles that are read one after another with one
+    /// pool take few allocations, since most of their words stand in one of the last.
+    ///
+    /// # Errors
+    ///
+    /// Those of `read`; `NoMemory` also where the count of a text's handles is at its end.
+    pub fn read_sharing(
+        alloc: Global,
+        pool: &mut WordPool,
+        id: &str,
+        fields: &[(String, String)],
+    ) -> Result<Article, ArticleFault>
+        ensures read { IfOk result (λ article. article ≡ article_value id.now (pairs_of fields.now)) }
+        ensures kept { IfOk result (λ _. fault_of id.now (pairs_of fields.now) ≡ None) }
+        ensures refused { IfErr result (λ fault. fault ≡ refusal_of id.now (pairs_of fields.now)) }
+    {
         if let Some(fault) = fault_of(id, fields) {
             return Err(fault);
         }
         let id = ArcStr::from_str(alloc, id)?;
         let mut kept = FieldMap::new(alloc);
         for (name, text) in fields {
-            kept.insert(Field::read(alloc, name.as_str(), text.as_str())?)?;
+            kept.insert(Field::read(alloc, pool, name.as_str(), text.as_str())?)?;
         }
         Ok(Article {
             parts: Arc::new(alloc, Parts { id, fields: kept })?,

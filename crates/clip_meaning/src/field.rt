@@ -16,7 +16,7 @@ ghost use Rattle.clip_meaning.specs.Steps.Marks.{AreRaised};
 use crate::index::{Posting, WordIndex};
 use crate::marking::{mark_all, mark_run};
 use clip_grammar::query::Bound;
-use clip_words::{NoMemory, shared_words};
+use clip_words::{NoMemory, WordPool, shared_words};
 use std::alloc::Global;
 use std::marker::Model;
 use std::sync::ArcStr;
@@ -45,14 +45,19 @@ impl Model for Field {
 }
 
 impl Field {
-    /// Cuts a field's text into words, folds them and sorts them.
-    pub(crate) fn read(alloc: Global, name: &str, text: &str) -> Result<Field, NoMemory>
+    /// Cuts a field's text into words, folds them and sorts them. Words and name are shared with those of the pool.
+    pub(crate) fn read(
+        alloc: Global,
+        pool: &mut WordPool,
+        name: &str,
+        text: &str,
+    ) -> Result<Field, NoMemory>
         ensures { IfOk result (λ field. field ≡ (name.now, words_of text.now)) }
     {
-        let words = shared_words(alloc, text)?;
+        let words = shared_words(alloc, pool, text)?;
         let index = WordIndex::read(alloc, &words)?;
         Ok(Field {
-            name: ArcStr::from_str(alloc, name)?,
+            name: pool.shared(alloc, name)?,
             words,
             index,
         })

@@ -18,7 +18,7 @@ use clip_meaning::Article;
 use clip_registry::{Registrar, View, merge_turn};
 use clip_standing::{Applied, Command, Refused};
 use clip_stream::{RunFault, Sink, Source};
-use clip_words::NoMemory;
+use clip_words::{NoMemory, WordPool};
 use std::alloc::Global;
 
 /// The caller of each change.
@@ -66,10 +66,12 @@ impl Registry for Owned {
     }
 }
 
-/// The registry of a run and its books. They answer requests, with an audience to which alerts are told.
+/// The registry of a run, its books, and words of its last articles. They answer requests, with an audience to which
+/// alerts are told.
 #[derive(Drop)]
 struct RunServer {
     registry: Owned,
+    pool: WordPool,
     books: Books,
 }
 
@@ -111,7 +113,14 @@ impl<A: Audience> Server<A> for RunServer {
         bytes: &[u8],
         _has_more: bool,
     ) -> Result<Vec<u8>, NoMemory> {
-        match take_line(alloc, &mut self.registry, audience, number, bytes)? {
+        match take_line(
+            alloc,
+            &mut self.pool,
+            &mut self.registry,
+            audience,
+            number,
+            bytes,
+        )? {
             Taken::Text(text) => Ok(text),
             Taken::Articles(articles) => {
                 let view = self.registry.registrar.view()?;
@@ -179,6 +188,7 @@ pub fn run_alone<R: Source, W: Sink, A: Audience>(
         registry: Owned {
             registrar: Registrar::without_history(alloc),
         },
+        pool: WordPool::new(alloc),
         books: Books::new(alloc, settings),
     };
     let lines = serve(alloc, reader, writer, audience, &mut server)?;

@@ -11,7 +11,7 @@ use clip_match::{Gate, HitsFound};
 use clip_protocol::JudgedDraft;
 use clip_registry::View;
 use clip_standing::Alerts;
-use clip_words::NoMemory;
+use clip_words::{NoMemory, WordPool};
 use std::alloc::Global;
 use std::thread;
 use std::thread::{PromisedHandle, Threads};
@@ -55,7 +55,10 @@ pub fn start_batch<R: Threads, G: Gate + Clone + Send + 'static>(
     let gate = gate.clone()?;
     let due = Due::to(&view, &drafts);
     let promise = Due::to(&view, &drafts);
-    let work = move || match_drafts(alloc, &view, &drafts, hits, batch, 0, &gate);
+    let work = move || {
+        let mut pool = WordPool::new(alloc);
+        match_drafts(alloc, &mut pool, &view, &drafts, hits, batch, 0, &gate)
+    };
     match thread::spawn_with(rt, promise, work) {
         Ok(thread) => Ok(Pending::InFlight(Flight { number, thread })),
         Err(refused) => {
@@ -69,10 +72,12 @@ pub fn start_batch<R: Threads, G: Gate + Clone + Send + 'static>(
     }
 }
 
-/// Reads and matches a batch in so many pieces, while the caller waits.
+/// Reads and matches a batch in so many pieces, while the caller waits. The articles of one piece share their words with
+/// those of the pool.
 pub fn match_here<R: Threads + Sync, G: Gate>(
     rt: &R,
     alloc: Global,
+    pool: &mut WordPool,
     number: u64,
     view: View,
     drafts: Vec<JudgedDraft>,
@@ -84,7 +89,11 @@ pub fn match_here<R: Threads + Sync, G: Gate>(
     ensures { IfOk result (λ p. owed_by p ≡ matched number view.history drafts.items) }
 {
     let due = Due::to(&view, &drafts);
-    let alerts = match_drafts_in_pieces(rt, alloc, &view, &drafts, hits, batch, pieces, gate)?;
+    let alerts = if pieces > 1 {
+        match_drafts_in_pieces(rt, alloc, &view, &drafts, hits, batch, pieces, gate)?
+    } else {
+        match_drafts(alloc, pool, &view, &drafts, hits, batch, 0, gate)?
+    };
     Ok(Pending::Matched(Matched {
         number,
         due,

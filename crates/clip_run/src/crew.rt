@@ -16,7 +16,7 @@ use clip_ledger::Ledger;
 use clip_listen::Audience;
 use clip_match::Gate;
 use clip_protocol::JudgedDraft;
-use clip_words::NoMemory;
+use clip_words::{NoMemory, WordPool};
 use std::alloc::Global;
 use std::collections::VecDeque;
 use std::marker::Model;
@@ -26,13 +26,15 @@ use std::thread::Threads;
 /// The most batches in flight.
 const MOST_IN_FLIGHT: u32 = 32;
 
-/// What answers the lines of a run: the only caller at a desk, its books, and what it owes.
+/// What answers the lines of a run: the only caller at a desk, its books, words of the articles that were matched on its
+/// thread, and what it owes.
 #[derive(Drop)]
 pub struct Crew<'r, 'd, 'g, R, N: DeskName, G> {
     rt: &'r R,
     gate: &'g G,
     caller: Caller<'r, 'd, R, N>,
     books: Books,
+    pool: WordPool,
     pending: VecDeque<Pending>,
     in_flight: u32,
     most: u32,
@@ -125,6 +127,7 @@ impl<'r, 'd, 'g, R: Threads + Wait + Sync, N: DeskName, G: Gate + Clone + Send +
             gate,
             caller,
             books: Books::new(alloc, settings),
+            pool: WordPool::new(alloc),
             pending: VecDeque::new(alloc),
             in_flight: 0,
             most: settings.workers.min(MOST_IN_FLIGHT),
@@ -214,6 +217,7 @@ impl<'r, 'd, 'g, R: Threads + Wait + Sync, N: DeskName, G: Gate + Clone + Send +
             match_here(
                 self.rt,
                 alloc,
+                &mut self.pool,
                 number,
                 view,
                 drafts,

@@ -8,16 +8,17 @@ use clip_match::{Gate, HitsFound, articles_in, match_piece_finding};
 use clip_protocol::{JudgedDraft, articles_of};
 use clip_registry::View;
 use clip_standing::Alerts;
-use clip_words::NoMemory;
+use clip_words::{NoMemory, WordPool};
 use std::alloc::Global;
 use std::thread::{Threads, join};
 
-/// The alerts of a piece of a batch: its articles are read, and then matched between the gate's `enter` and its
-/// `leave`, all on the thread that calls it.
+/// The alerts of a piece of a batch: its articles are read, with words that are shared with those of the pool, and then
+/// matched between the gate's `enter` and its `leave`, all on the thread that calls it.
 ///
 /// `NoMemory` where an allocation failed. Cost: that of `articles_of` and of `match_piece_finding`.
 pub fn match_drafts<G: Gate>(
     alloc: Global,
+    pool: &mut WordPool,
     view: &View,
     drafts: &[JudgedDraft],
     hits: HitsFound,
@@ -27,14 +28,14 @@ pub fn match_drafts<G: Gate>(
 ) -> Result<Vec<Alerts>, NoMemory>
     ensures { IfOk result (λ found. map alerts_value found.items ≡ map (alerts_due view.now) drafts.now) }
 {
-    let articles = articles_of(alloc, drafts)?;
+    let articles = articles_of(alloc, pool, drafts)?;
     match_piece_finding(alloc, view, &articles, hits, batch, piece, gate)
 }
 
 /// The alerts of the articles that the drafts of a batch are, in the order of the drafts, all at one view: what
 /// `match_drafts` gives, by so many pieces, each of a thread of its own but one.
 ///
-/// The drafts are cut as `match_pieces_finding` cuts articles. 0 pieces count as 1, and no drafts make no piece.
+/// The drafts are cut as `match_pieces_finding` cuts articles, and the articles of a piece share their words. 0 pieces count as 1, and no drafts make no piece.
 ///
 /// `NoMemory` where an allocation failed, after all pieces have ended. Cost: that of `match_drafts`, shared among the
 /// pieces, and the start of a thread for each piece but one. It waits for its threads.
@@ -74,7 +75,8 @@ fn match_from<R: Threads + Sync, G: Gate>(
     ensures { IfOk result (λ found. map alerts_value found.items ≡ map (alerts_due view.now) drafts.now) }
 {
     if pieces == 1 {
-        return match_drafts(alloc, view, drafts, hits, batch, number, gate);
+        let mut pool = WordPool::new(alloc);
+        return match_drafts(alloc, &mut pool, view, drafts, hits, batch, number, gate);
     }
     let low = pieces / 2;
     let high = pieces - low;

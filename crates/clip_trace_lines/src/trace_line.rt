@@ -15,7 +15,7 @@ use clip_protocol::{
 use clip_standing::{Command, Standing};
 use clip_stream::MOST_LINE_BYTES;
 use clip_trace::Event;
-use clip_words::{NoMemory, are_ids};
+use clip_words::{NoMemory, WordPool, are_ids};
 use std::alloc::Global;
 use std::sync::Arc;
 
@@ -136,7 +136,10 @@ impl TraceLine {
             return Err(LIMITED);
         }
         let drafts = judge_drafts(alloc, drafts)?;
-        Ok(TraceLine::Event(Event::Look(batch, articles_of(alloc, &drafts)?)))
+        Ok(TraceLine::Event(Event::Look(
+            batch,
+            articles_of(alloc, &mut WordPool::new(alloc), &drafts)?,
+        )))
     }
 
     /// The line of a request, where it is within the limits.

@@ -1,0 +1,90 @@
+//! Words that were met lately, whose texts are shared with those that are met again.
+ghost use Rattle.std.specs.Prelude.{◌≡◌, IfOk, IfSome};
+ghost use Rattle.std.specs.Arc.{arc_str_bytes};
+
+use crate::NoMemory;
+use std::alloc::Global;
+use std::sync::ArcStr;
+
+/// How many words a pool keeps at most.
+const PLACES: usize = 2048;
+
+/// The most bytes of a word that a pool keeps.
+const MOST_KEPT_BYTES: usize = 64;
+
+/// Words that were met lately, at most one at each of its places. A word that is met again while it is there gets no
+/// text of its own, so that prose takes few allocations: most of its words are common ones.
+///
+/// It keeps at most 2,048 words of at most 64 bytes each. What it gives does not depend on what it keeps.
+#[derive(Debug, Drop)]
+pub struct WordPool {
+    words: Vec<Option<ArcStr>>,
+    places: usize,
+}
+
+/// The place of a word: by the hash FNV-1a of its bytes.
+fn place_of(word: &str) -> usize {
+    let mut hash: u64 = 0xcbf2_9ce4_8422_2325;
+    for byte in word.as_bytes() {
+        hash = (hash ^ *byte as u64).wrapping_mul(0x0100_0000_01b3);
+    }
+    (hash >> 32) as usize % PLACES
+}
+
+impl WordPool {
+    /// A pool with no words. Takes no memory before the first word comes.
+    pub fn new(alloc: Global) -> WordPool {
+        WordPool {
+            words: Vec::new(alloc),
+            places: PLACES,
+        }
+    }
+
+    /// A pool that never keeps a word, and takes no memory.
+    pub fn without_places(alloc: Global) -> WordPool {
+        WordPool {
+            words: Vec::new(alloc),
+            places: 0,
+        }
+    }
+
+    /// Makes its places, where they are not there.
+    fn make_places(&mut self) -> Result<(), NoMemory> {
+        self.words
+            .reserve(self.places.saturating_sub(self.words.len()))?;
+        for _ in self.words.len()..self.places {
+            self.words.push(None)?;
+        }
+        Ok(())
+    }
+
+    /// The word that the pool keeps at a place, if it is this one.
+    fn kept(&self, place: usize, word: &str) -> Option<&ArcStr>
+        ensures { IfSome result (λ kept. arc_str_bytes kept.now ≡ word.now) }
+    {
+        match self.words.get(place) {
+            Some(Some(kept)) if kept.as_str() == word => Some(kept),
+            _ => None,
+        }
+    }
+
+    /// The word in a text that is shared with others of its kind, where the pool keeps one. Otherwise the text is made,
+    /// and kept in the place of another word.
+    ///
+    /// `NoMemory` where an allocation failed, or where the count of a text's handles is at its end. Cost: a step for
+    /// each byte of the word; no allocation where the word is kept.
+    pub fn shared(&mut self, alloc: Global, word: &str) -> Result<ArcStr, NoMemory>
+        ensures { IfOk result (λ text. arc_str_bytes text ≡ word.now) }
+    {
+        self.make_places()?;
+        let place = place_of(word);
+        if let Some(kept) = self.kept(place, word) {
+            return Ok(kept.clone()?);
+        }
+        let text = ArcStr::from_str(alloc, word)?;
+        if place < self.words.len() && word.len() <= MOST_KEPT_BYTES {
+            self.words[place] = Some(text.clone()?);
+        }
+        Ok(text)
+    }
+}
