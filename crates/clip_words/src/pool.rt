@@ -7,7 +7,7 @@ use std::alloc::Global;
 use std::sync::ArcStr;
 
 /// How many words a pool keeps at most.
-const PLACES: usize = 2048;
+const PLACES: usize = 4096;
 
 /// The most bytes of a word that a pool keeps.
 const MOST_KEPT_BYTES: usize = 64;
@@ -15,7 +15,7 @@ const MOST_KEPT_BYTES: usize = 64;
 /// Words that were met lately, at most one at each of its places. A word that is met again while it is there gets no
 /// text of its own, so that prose takes few allocations: most of its words are common ones.
 ///
-/// It keeps at most 2,048 words of at most 64 bytes each. What it gives does not depend on what it keeps.
+/// It keeps at most 4,096 words of at most 64 bytes each. What it gives does not depend on what it keeps.
 #[derive(Debug, Drop)]
 pub struct WordPool {
     words: Vec<Option<ArcStr>>,
@@ -28,7 +28,7 @@ fn place_of(word: &str) -> usize {
     for byte in word.as_bytes() {
         hash = (hash ^ *byte as u64).wrapping_mul(0x0100_0000_01b3);
     }
-    (hash >> 32) as usize % PLACES
+    hash as usize % PLACES
 }
 
 impl WordPool {
