@@ -1,6 +1,7 @@
 //! Articles: worked examples.
 use clip_meaning::{Article, ArticleFault, Field};
-use clip_samples::article;
+use clip_samples::{article, article_sharing};
+use clip_words::WordPool;
 use std::alloc::{AllocError, Global};
 use std::test::Fail;
 
@@ -10,7 +11,7 @@ type Fields = &'static [(&'static str, &'static str)];
 /// Each an id, fields, and the article or why it is refused: its id, and of each field the name, the words, and
 /// the postings, each a word and its position.
 #[rattlefmt::skip]
-static ARTICLES: [(&str, Fields, &str); 19] = [
+static ARTICLES: [(&str, Fields, &str); 21] = [
     (
         "a1",
         &[("title", "Green Tea"), ("body", "tea, TEA and milk")],
@@ -22,6 +23,13 @@ static ARTICLES: [(&str, Fields, &str); 19] = [
         "a2 [text: tea tea and milk tea and a teapot; a@6 and@2 and@5 milk@3 tea@0 tea@1 tea@4 teapot@7]",
     ),
     ("a3", &[], "a3"),
+    // in a pool bread and lily have one place, and berry and money
+    ("a4", &[("text", "Bread, lily; bread")], "a4 [text: bread lily bread; bread@0 bread@2 lily@1]"),
+    (
+        "a5",
+        &[("text", "Bread: money, berry, money, lily")],
+        "a5 [text: bread money berry money lily; berry@2 bread@0 lily@4 money@1 money@3]",
+    ),
     // names
     ("a1", &[("9a", "tea")], "Field"),
     ("a1", &[("", "tea")], "Field"),
@@ -100,13 +108,12 @@ fn fault_text(alloc: Global, fault: ArticleFault) -> Result<String, AllocError> 
     format!(in alloc; "{fault:?}")
 }
 
-/// The article of an id and of fields, or why it is refused.
+/// An article, or why it is refused.
 fn article_or_fault(
     alloc: Global,
-    id: &str,
-    fields: &[(&str, &str)],
+    read: Result<Article, ArticleFault>,
 ) -> Result<String, AllocError> {
-    match article(alloc, id, fields) {
+    match read {
         Ok(article) => show(alloc, &article),
         Err(fault) => fault_text(alloc, fault),
     }
@@ -116,9 +123,13 @@ fn article_or_fault(
 fn an_article_has_the_words_and_the_postings_of_each_field_by_name(
     rt: HostRuntime,
 ) -> Result<(), Fail> {
+    let mut pool = WordPool::new(rt.alloc());
     for (id, fields, wanted) in &ARTICLES {
-        let told = article_or_fault(rt.alloc(), id, fields)?;
+        let told = article_or_fault(rt.alloc(), article(rt.alloc(), id, fields))?;
         assert!(rt; told.as_str() == *wanted, "{told}");
+        let sharing = article_sharing(rt.alloc(), &mut pool, id, fields);
+        let told = article_or_fault(rt.alloc(), sharing)?;
+        assert!(rt; told.as_str() == *wanted, "with a pool: {told}");
     }
     Ok(())
 }
