@@ -116,7 +116,7 @@ fn pieces_of(articles: usize, workers: u32) -> u32
 
 /// How many of so many articles are in the first ones of their pieces, whose sizes differ by at most one: the first
 /// pieces have one more than the others. Constant time.
-fn articles_in(first: u32, pieces: u32, articles: usize) -> usize
+pub fn articles_in(first: u32, pieces: u32, articles: usize) -> usize
     requires { (0 < pieces) × (first ≤ pieces) }
     ensures cut { result ≡ articles / pieces * first + min (articles % pieces) first }
     ensures within { result ≤ articles }

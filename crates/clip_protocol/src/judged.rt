@@ -47,16 +47,6 @@ impl JudgedDraft {
         }
     }
 
-    /// How many bytes the texts of its fields have, by which a batch is cut into pieces that take about as long as one
-    /// another. Cost: a step for each field.
-    pub fn text_bytes(&self) -> usize {
-        let mut bytes = 0usize;
-        for (_, text) in &self.draft.fields {
-            bytes = bytes.saturating_add(text.len());
-        }
-        bytes
-    }
-
     /// The article that the draft is, whose words are shared with those of the pool. `NoMemory` where an allocation
     /// failed or the count of a text's handles is at its end, and only there. Cost: that of `Article::read_sharing`.
     pub fn read(&self, alloc: Global, pool: &mut WordPool) -> Result<Article, NoMemory>

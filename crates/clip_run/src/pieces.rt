@@ -1,10 +1,10 @@
 //! The alerts of a batch whose articles are read by the threads that match them.
-ghost use Rattle.std.specs.Prelude.{◌≡◌, ◌+◌, ◌^◌, ◌<◌, ◌≤◌, length, map, IfOk};
+ghost use Rattle.std.specs.Prelude.{◌≡◌, ◌+◌, ◌^◌, ◌<◌, map, IfOk};
 ghost use Rattle.std.specs.Thread.{IsSync};
 ghost use Rattle.clip_standing.specs.Alerts.{alerts_value};
 ghost use Rattle.clip_match.specs.Alerts.{alerts_due};
 
-use clip_match::{Gate, HitsFound, match_piece_finding};
+use clip_match::{Gate, HitsFound, articles_in, match_piece_finding};
 use clip_protocol::{JudgedDraft, articles_of};
 use clip_registry::View;
 use clip_standing::Alerts;
@@ -35,7 +35,7 @@ pub fn match_drafts<G: Gate>(
 /// The alerts of the articles that the drafts of a batch are, in the order of the drafts, all at one view: what
 /// `match_drafts` gives, by so many pieces, each of a thread of its own but one.
 ///
-/// The drafts are cut into neighbouring pieces whose texts have about as many bytes as one another's, and the articles of a piece share their words. 0 pieces count as 1, and no drafts make no piece.
+/// The drafts are cut as `match_pieces_finding` cuts articles, and the articles of a piece share their words. 0 pieces count as 1, and no drafts make no piece.
 ///
 /// `NoMemory` where an allocation failed, after all pieces have ended. Cost: that of `match_drafts`, shared among the
 /// pieces, and the start of a thread for each piece but one. It waits for its threads.
@@ -55,32 +55,6 @@ pub fn match_drafts_in_pieces<R: Threads + Sync, G: Gate>(
         return Ok(Vec::new(alloc));
     }
     match_from(rt, alloc, view, drafts, hits, batch, 0, pieces.max(1), gate)
-}
-
-/// How many bytes the texts of the drafts have.
-fn bytes_of(drafts: &[JudgedDraft]) -> usize {
-    let mut bytes = 0usize;
-    for draft in drafts {
-        bytes = bytes.saturating_add(draft.text_bytes());
-    }
-    bytes
-}
-
-/// How many of the drafts go into the first of so many pieces: those whose texts have about that share of the bytes of
-/// all, since a match takes about as long as its text has bytes. Cost: a step for each field of a draft.
-fn drafts_in(drafts: &[JudgedDraft], first: u32, pieces: u32) -> usize
-    requires { 0 < pieces }
-    ensures { result ≤ length drafts.now }
-{
-    let mut left = (bytes_of(drafts) / pieces as usize).saturating_mul(first as usize);
-    for place in 0..drafts.len() {
-        let bytes = drafts[place].text_bytes();
-        if left < bytes / 2 {
-            return place;
-        }
-        left = left.saturating_sub(bytes);
-    }
-    drafts.len()
 }
 
 /// The alerts of drafts that are to be cut into pieces, of which this is the number of the first. The pieces are halved
@@ -107,7 +81,7 @@ fn match_from<R: Threads + Sync, G: Gate>(
     let low = pieces / 2;
     let high = pieces - low;
     let up = number + low;
-    let (front, back) = drafts.split_at(drafts_in(drafts, low, pieces));
+    let (front, back) = drafts.split_at(articles_in(low, pieces, drafts.len()));
     let (first, second) = join(
         rt,
         move || -> Result<Vec<Alerts>, NoMemory>
