@@ -71,8 +71,8 @@ impl Registry for Owned {
 #[derive(Drop)]
 struct RunServer {
     registry: Owned,
-    pool: WordPool,
     books: Books,
+    pool: WordPool,
 }
 
 /// Matches articles at a view, and delivers their alerts: the text of the reply to the line of this number.
@@ -188,8 +188,8 @@ pub fn run_alone<R: Source, W: Sink, A: Audience>(
         registry: Owned {
             registrar: Registrar::without_history(alloc),
         },
-        pool: WordPool::new(alloc),
         books: Books::new(alloc, settings),
+        pool: WordPool::new(alloc),
     };
     let lines = serve(alloc, reader, writer, audience, &mut server)?;
     Ok(Ended {
