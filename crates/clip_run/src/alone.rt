@@ -157,8 +157,8 @@ impl<A: Audience> Server<A> for RunServer {
 /// entry, and rewrites the segments that have a dead one. A match costs for each article its words, a look-up of its
 /// keys in each segment, and its candidates, and not the registry, and for each alert with a listener a look-up of
 /// the name and what that listener takes. Memory: one line and what it asks for, up to 64 KiB of gathered replies and
-/// one reply more, the registered queries, and those that no merge or purge has left out yet, with their index, the
-/// history of the accepted changes, and a row for each alert where rows are kept.
+/// one reply more, at most 4,096 words of the last articles, the registered queries, and those that no merge or purge
+/// has left out yet, with their index, and a row for each alert where rows are kept.
 pub fn run_alone<R: Source, W: Sink, A: Audience>(
     alloc: Global,
     reader: &mut R,

@@ -72,8 +72,8 @@ pub fn start_batch<R: Threads, G: Gate + Clone + Send + 'static>(
     }
 }
 
-/// Reads and matches a batch in so many pieces, while the caller waits. The articles of one piece share their words with
-/// those of the pool.
+/// Reads and matches a batch in so many pieces, while the caller waits. Where it is one piece, its articles share their
+/// words with those of the pool, and otherwise those of a piece with one another.
 pub fn match_here<R: Threads + Sync, G: Gate>(
     rt: &R,
     alloc: Global,

@@ -26,8 +26,8 @@ use std::thread::Threads;
 /// The most batches in flight.
 const MOST_IN_FLIGHT: u32 = 32;
 
-/// What answers the lines of a run: the only caller at a desk, its books, words of the articles that were matched on its
-/// thread, and what it owes.
+/// What answers the lines of a run: the only caller at a desk, its books, words of the articles that were matched on
+/// its thread, and what it owes.
 #[derive(Drop)]
 pub struct Crew<'r, 'd, 'g, R, N: DeskName, G> {
     rt: &'r R,

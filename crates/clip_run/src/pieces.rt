@@ -35,7 +35,8 @@ pub fn match_drafts<G: Gate>(
 /// The alerts of the articles that the drafts of a batch are, in the order of the drafts, all at one view: what
 /// `match_drafts` gives, by so many pieces, each of a thread of its own but one.
 ///
-/// The drafts are cut as `match_pieces_finding` cuts articles, and the articles of a piece share their words. 0 pieces count as 1, and no drafts make no piece.
+/// The drafts are cut as `match_pieces_finding` cuts articles, and the articles of a piece share their words. 0 pieces
+/// count as 1, and no drafts make no piece.
 ///
 /// `NoMemory` where an allocation failed, after all pieces have ended. Cost: that of `match_drafts`, shared among the
 /// pieces, and the start of a thread for each piece but one. It waits for its threads.
