@@ -1,5 +1,5 @@
 //! The hits of a plan's query.
-ghost use Rattle.std.specs.Prelude.{◌≡◌, ◌++◌, List, [], IfOk, OnOk, map, unwrap_or, slice_get};
+ghost use Rattle.std.specs.Prelude.{◌≡◌, ◌++◌, List, [], OnOk, map, unwrap_or, slice_get};
 ghost use Rattle.std.specs.FinMap as finite;
 ghost use Rattle.clip_grammar.specs.Tree.{Tree};
 ghost use Rattle.clip_meaning.specs.Article.{Fields};
@@ -12,10 +12,9 @@ use crate::plans::Plans;
 use clip_meaning::{DOWN, Hit, add_raised};
 use clip_terms::FieldSpots;
 use clip_words::NoMemory;
-use std::alloc::Global;
 
 /// Adds the hits in one field of the query of the plan at a place. `flags` is room for a flag of each of its words.
-fn add_hits(
+fn add_hits_in(
     plans: &Plans,
     place: usize,
     spots: &FieldSpots,
@@ -34,28 +33,28 @@ fn add_hits(
 }
 
 impl Plans {
-    /// Where in an article the leaves of the query of the plan at a place stand: its hits, where the plan's numbers are
-    /// those of the terms of the article's fields, which are all there in order. `flags` is room for a flag for each
+    /// Adds where in an article the leaves of the query of the plan at a place stand: its hits, where the plan's numbers
+    /// are those of the terms of the article's fields, which are all there in order. `flags` is room for a flag for each
     /// word of a field. Looks at no query's tree but those of prefixes and ranges.
     ///
-    /// `NoMemory` where an allocation failed, or where the count of a field's name is at its end. Cost: for each field
-    /// a flag for each of its words, and a walk over the plan's steps, as of `mark_hits`.
-    pub fn hits(
+    /// `NoMemory` where an allocation failed, or where the count of a field's name is at its end; some hits may then
+    /// have been added. Cost: for each field a flag for each of its words, and a walk over the plan's steps, as of
+    /// `mark_hits`.
+    pub fn add_hits(
         &self,
-        alloc: Global,
         place: usize,
         spots: &[FieldSpots],
         flags: &mut Vec<u8>,
-    ) -> Result<Vec<Hit>, NoMemory>
-        ensures { IfOk result (λ found. (tree : Tree) (terms : List KeyValue) (fields : Fields)
+        found: &mut Vec<Hit>,
+    ) -> Result<(), NoMemory>
+        ensures { OnOk result ((tree : Tree) (terms : List KeyValue) (fields : Fields)
             → spots.now ≡ map (spots_among terms) (finite.entries fields)
             → decoded terms (unwrap_or (slice_get self.now place) []) ≡ plan_of tree
-            → map hit_value found.items ≡ hits tree fields) }
+            → map hit_value found.new.items ≡ map hit_value found.old.items ++ hits tree fields) }
     {
-        let mut found = Vec::new(alloc);
         for of_field in spots {
-            add_hits(self, place, of_field, flags, &mut found)?;
+            add_hits_in(self, place, of_field, flags, found)?;
         }
-        Ok(found)
+        Ok(())
     }
 }

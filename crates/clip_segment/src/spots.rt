@@ -1,5 +1,5 @@
 //! Where the words of an article stand, as a segment asks for them.
-ghost use Rattle.std.specs.Prelude.{◌≡◌, IfOk, Some, map};
+ghost use Rattle.std.specs.Prelude.{◌≡◌, ◌++◌, IfOk, OnOk, Some, map};
 ghost use Rattle.std.specs.List.{slice_get};
 ghost use Rattle.clip_meaning.specs.Hits.{hit_value, hits};
 ghost use Rattle.clip_model.specs.History.{Registered};
@@ -60,21 +60,22 @@ impl<'a> SegmentSpots<'a> {
         })
     }
 
-    /// Where in the article the leaves of the query of the entry at a position stand: its hits, whether it holds or
+    /// Adds where in the article the leaves of the query of the entry at a position stand: its hits, whether it holds or
     /// not. `flags` is room for a flag for each word of a field. The entry is not looked at.
     ///
-    /// `NoMemory` where an allocation failed, or where the count of a field's name is at its end. Cost: that of
-    /// `Plans::hits`.
-    pub fn hits(
+    /// `NoMemory` where an allocation failed, or where the count of a field's name is at its end; some hits may then
+    /// have been added. Cost: that of `Plans::add_hits`.
+    pub fn add_hits(
         &self,
-        alloc: Global,
         position: u32,
         flags: &mut Vec<u8>,
-    ) -> Result<Vec<Hit>, NoMemory>
-        ensures { IfOk result (λ found. (entry : Registered) → slice_get self.now.entries position ≡ Some entry
-            → map hit_value found.items ≡ hits entry.standing.tree self.now.article.fields) }
+        found: &mut Vec<Hit>,
+    ) -> Result<(), NoMemory>
+        ensures { OnOk result ((entry : Registered) → slice_get self.now.entries position ≡ Some entry
+            → map hit_value found.new.items
+            ≡ map hit_value found.old.items ++ hits entry.standing.tree self.now.article.fields) }
     {
         self.plans
-            .hits(alloc, position as usize, &self.fields, flags)
+            .add_hits(position as usize, &self.fields, flags, found)
     }
 }

@@ -19,6 +19,8 @@ use Rattle.clip_standing.specs.contracts.reading.Reading.TheInside as reading_in
 use Rattle.clip_standing.specs.contracts.fresh.Fresh as fresh
 use Rattle.clip_standing.specs.contracts.standing.Standing as standing
 use Rattle.clip_standing.specs.contracts.standing.Standing.TheInside as standing_inside
+use Rattle.clip_standing.specs.contracts.found.FoundHits as found
+use Rattle.clip_standing.specs.contracts.found.FoundHits.TheInside as found_inside
 use Rattle.clip_standing.specs.contracts.alert.Alert as alert
 use Rattle.clip_standing.specs.contracts.entry.Entry as entry
 use Rattle.clip_standing.specs.contracts.entry.Entry.TheInside as entry_inside
@@ -68,5 +70,11 @@ history_entry_sync = declared_sync history_entry.the_type (search global, (searc
 hit_send : IsSend hit.the_row
 hit_send = declared_send hit.the_type (search (global, arc_str_sent.the_send), (search global, tt))
 
+hit_sync : IsSync hit.the_row
+hit_sync = declared_sync hit.the_type (search (global, arc_str_sent.the_sync), (search global, tt))
+
+found_send : IsSend found.the_row
+found_send = view_send found_inside.the_row _ _ _ _ (declared_send found_inside.the_type (search (global, arc_sent.the_send, vec_sent.the_send, vec_sent.the_sync, hit_send, hit_sync), (search global, (search global, tt))))
+
 pub alert_send : IsSend alert.the_row
-alert_send = declared_send alert.the_type (search (global, arc_sent.the_send, standing_send, standing_sync), (search (global, article_sent.the_send), (search (global, vec_sent.the_send, option_sent.the_send, hit_send), tt)))
+alert_send = declared_send alert.the_type (search (global, arc_sent.the_send, standing_send, standing_sync), (search (global, article_sent.the_send), (search (global, option_sent.the_send, found_send), tt)))

@@ -6,6 +6,7 @@ ghost use Rattle.clip_meaning.specs.Hits.{hit_value};
 ghost use Rattle.clip_model.specs.Alerts.{alert_for};
 ghost use Rattle.clip_standing.specs.Steps.FoundHits.{AreFound, one_way_found};
 
+use crate::found::FoundHits;
 use crate::standing::Standing;
 use clip_meaning::{Article, Hit};
 use clip_words::NoMemory;
@@ -18,7 +19,7 @@ use std::sync::{Arc, ArcStr};
 pub struct Alert {
     standing: Arc<Standing>,
     article: Article,
-    found: Option<Vec<Hit>>,
+    found: Option<FoundHits>,
     ghost found_are: { AreFound standing.value article found } by { one_way_found standing.value article found },
 }
 
@@ -46,9 +47,9 @@ impl Alert {
     pub fn with_hits(
         standing: &Arc<Standing>,
         article: &Article,
-        hits: Vec<Hit>,
+        hits: FoundHits,
     ) -> Result<Alert, NoMemory>
-        requires { map hit_value hits.items ≡ (alert_for standing.now.value article.now).hits }
+        requires { hits ≡ (alert_for standing.now.value article.now).hits }
         ensures value { IfOk result (λ alert. alert_value alert ≡ alert_for standing.now.value article.now) }
         ensures article { IfOk result (λ alert. alert.article ≡ article.now) }
         ensures found { IfOk result (λ alert. has_hits alert ≡ true) }
@@ -88,7 +89,7 @@ impl Alert {
         ensures hits { IfSome result (λ hits. map hit_value hits.now ≡ (alert_value self.now).hits) }
     {
         match &self.found {
-            Some(hits) => Some(hits),
+            Some(hits) => Some(hits.as_slice()),
             None => None,
         }
     }
@@ -103,7 +104,7 @@ impl Alert {
         ensures { IfOk result (λ hits. map hit_value hits.items ≡ (alert_value self.now).hits) }
     {
         match &self.found {
-            Some(hits) => Ok(hits.clone()?),
+            Some(hits) => Ok(hits.as_slice().to_vec(alloc)?),
             None => self.standing.hits_in(alloc, &self.article),
         }
     }

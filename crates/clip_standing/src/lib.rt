@@ -5,6 +5,7 @@
 mod alert;
 mod command;
 mod entry;
+mod found;
 mod fresh;
 mod reading;
 mod standing;
@@ -12,4 +13,5 @@ mod standing;
 pub use alert::{Alert, Alerts};
 pub use command::{Applied, Command, HistoryEntry, Refused};
 pub use entry::Entry;
+pub use found::FoundHits;
 pub use standing::{Standing, StandingFault};

@@ -9,7 +9,7 @@ use Rattle.clip_meaning.specs.Steps.Marks.{is_up, raised}
 use Rattle.clip_meaning.proofs.Marks.{raised_hits}
 use Rattle.clip_plan.specs.Plan.{decoded, plan_of}
 use Rattle.clip_plan.proofs.Named.{on_each}
-use Rattle.clip_plan.proofs.hits.add_hits.Goals as goal
+use Rattle.clip_plan.proofs.hits.add_hits_in.Goals as goal
 
 -- the flags that are up after the plan was walked through are those of the words that its query names
 pub returns : goal.returns
