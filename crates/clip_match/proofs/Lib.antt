@@ -1,4 +1,5 @@
 pub mod Due
+pub mod Places
 pub mod Positions
 pub mod Marks
 pub mod Few

@@ -2,7 +2,7 @@
 ghost use Rattle.std.specs.Prelude.{◌≡◌, map, IfOk};
 ghost use Rattle.clip_words.specs.Order.{bytes_cmp};
 
-use clip_meaning::{Hit, compare_by_leads, lead_of};
+use clip_meaning::{compare_by_leads, lead_of};
 use clip_standing::Entry;
 use clip_words::NoMemory;
 use std::alloc::Global;
@@ -56,16 +56,23 @@ impl<'a> LedId<'a> {
     }
 }
 
-/// An entry whose query holds of an article, with its hits where they were found at once.
+/// Where the hits of one query stand in a list of those of many: from one place up to another, which is not theirs.
+#[derive(Clone, Copy, Debug)]
+pub(crate) struct HitPlaces {
+    pub(crate) start: usize,
+    pub(crate) end: usize,
+}
+
+/// An entry whose query holds of an article, with the places of its hits where they were found at once.
 #[derive(Drop)]
 pub(crate) struct Held<'a> {
     pub(crate) registered: &'a Entry,
-    pub(crate) hits: Option<Vec<Hit>>,
+    pub(crate) hits: Option<HitPlaces>,
 }
 
 impl<'a> Held<'a> {
-    /// An entry with its hits, where they were found. The entry is not looked at.
-    pub(crate) fn of(registered: &'a Entry, hits: Option<Vec<Hit>>) -> Held<'a>
+    /// An entry with the places of its hits, where they were found. The entry is not looked at.
+    pub(crate) fn of(registered: &'a Entry, hits: Option<HitPlaces>) -> Held<'a>
         ensures registered { result.registered.now ≡ registered.now }
         ensures hits { result.hits ≡ hits }
     {

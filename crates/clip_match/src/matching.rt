@@ -3,18 +3,20 @@ ghost use Rattle.std.specs.Prelude.{◌≡◌, true, map, is_some, IfOk, IsPermu
 ghost use Rattle.std.specs.List.{All};
 ghost use Rattle.std.specs.List.Sorted.{IsSortedByKey};
 ghost use Rattle.clip_words.specs.Order.{bytes_cmp};
+ghost use Rattle.clip_meaning.specs.Hits.{hit_value};
 ghost use Rattle.clip_standing.specs.Alerts.{alert_value, alerts_value, has_hits};
 ghost use Rattle.clip_match.specs.Alerts.{HaveHits, alert_due, alerts_due};
 ghost use Rattle.clip_match.specs.Steps.Held.{AreItsHits};
 
-use crate::held::{Held, HitsFound, Named, with_led_ids};
+use crate::held::{Held, HitPlaces, HitsFound, Named, with_led_ids};
 use crate::trying::{Judged, judge_candidates};
-use clip_meaning::Article;
+use clip_meaning::{Article, Hit};
 use clip_registry::View;
-use clip_standing::{Alert, Alerts};
+use clip_standing::{Alert, Alerts, FoundHits};
 use clip_words::NoMemory;
 use std::alloc::Global;
 use std::cmp::Ordering;
+use std::sync::Arc;
 
 /// Sorts entries by the ids of their queries.
 fn sort_by_id(named: &mut Vec<Named>)
@@ -28,22 +30,32 @@ fn sort_by_id(named: &mut Vec<Named>)
     );
 }
 
-/// The alert of an entry whose query holds of the article, with its hits where they were found.
-fn alert_of(held: Held<'_>, article: &Article) -> Result<Alert, NoMemory>
-    requires { AreItsHits article.now held }
+/// The alert of an entry whose query holds of the article, with its hits where they were found, which stand among those
+/// of all.
+fn alert_of(held: Held<'_>, article: &Article, all_hits: &Arc<Vec<Hit>>) -> Result<Alert, NoMemory>
+    requires { AreItsHits article.now (map hit_value all_hits.now.value.items) held }
     ensures value { IfOk result (λ alert. alert_value alert ≡ alert_due article.now held.entry.registered.now) }
     ensures found { IfOk result (λ alert. is_some held.entry.hits ≡ true → has_hits alert ≡ true) }
 {
     let Held { registered, hits } = held;
     match hits {
-        Some(hits) => Alert::with_hits(registered.standing(), article, hits),
+        Some(HitPlaces { start, end }) => {
+            let hits = FoundHits::among(all_hits, start, end)?;
+            Alert::with_hits(registered.standing(), article, hits)
+        }
         None => Alert::of(registered.standing(), article),
     }
 }
 
-/// The alerts of queries that hold of the article, in their order, with their hits where these were found.
-fn alerts(alloc: Global, named: Vec<Named<'_>>, article: &Article) -> Result<Vec<Alert>, NoMemory>
-    requires { All (λ n. AreItsHits article.now n.held) named.items }
+/// The alerts of queries that hold of the article, in their order, with their hits where these were found, which stand
+/// among those of all.
+fn alerts(
+    alloc: Global,
+    named: Vec<Named<'_>>,
+    article: &Article,
+    all_hits: &Arc<Vec<Hit>>,
+) -> Result<Vec<Alert>, NoMemory>
+    requires { All (λ n. AreItsHits article.now (map hit_value all_hits.now.value.items) n.held) named.items }
     ensures value { IfOk result (λ alerts. map alert_value alerts.items
         ≡ map (alert_due article.now) (map (λ n. n.held.registered.now) named.entry.items)) }
     ensures found { IfOk result (λ alerts. All (λ n. is_some n.held.hits ≡ true) named.entry.items
@@ -51,7 +63,7 @@ fn alerts(alloc: Global, named: Vec<Named<'_>>, article: &Article) -> Result<Vec
 {
     let mut alerts = Vec::with_capacity(alloc, named.len())?;
     for one in named {
-        alerts.push(alert_of(one.held, article)?)?;
+        alerts.push(alert_of(one.held, article, all_hits)?)?;
     }
     Ok(alerts)
 }
@@ -74,7 +86,7 @@ pub fn match_article(alloc: Global, view: &View, article: &Article) -> Result<Al
 ///
 /// `NoMemory` where an allocation failed, or, where hits are found at once, where the count of a field's name is at its
 /// end. Cost: that of `match_article`; where hits are found at once, in each segment of which a query holds that of
-/// `SegmentReading::spots`, and for each query that holds that of `SegmentSpots::hits`.
+/// `SegmentReading::spots`, and for each query that holds that of `SegmentSpots::add_hits`.
 pub fn match_article_finding(
     alloc: Global,
     view: &View,
@@ -84,14 +96,18 @@ pub fn match_article_finding(
     ensures due { IfOk result (λ found. alerts_value found ≡ alerts_due view.now article.now) }
     ensures hits { IfOk result (λ found. HaveHits hits found) }
 {
-    let Judged { asked, held } = judge_candidates(alloc, view, article, hits)?;
+    let Judged {
+        asked,
+        held,
+        all_hits,
+    } = judge_candidates(alloc, view, article, hits)?;
     let mut named = with_led_ids(alloc, held)?;
     sort_by_id(&mut named);
     Ok(Alerts {
         article: article.shared_id().clone()?,
         place: view.place(),
         asked,
-        alerts: alerts(alloc, named, article)?,
+        alerts: alerts(alloc, named, article, &Arc::new(alloc, all_hits)?)?,
     })
 }
 

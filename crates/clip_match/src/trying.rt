@@ -1,16 +1,17 @@
 //! The candidates of an article whose queries hold of it.
-ghost use Rattle.std.specs.Prelude.{◌≡◌, ◌++◌, Some, map, filter, length, IfOk, OnOk};
+ghost use Rattle.std.specs.Prelude.{◌≡◌, ◌++◌, List, Some, map, filter, length, IfOk, OnOk};
 ghost use Rattle.std.specs.List.{All, slice_get};
 ghost use Rattle.clip_extract.specs.Covering.{article_keys};
+ghost use Rattle.clip_meaning.specs.Hits.{HitValue, hit_value};
 ghost use Rattle.clip_meaning.specs.Meaning.{holds};
 ghost use Rattle.clip_segment.specs.Segment.{IsRising};
 ghost use Rattle.clip_match.specs.Candidates.{candidates_of, MissesNone, AreRegistered};
 ghost use Rattle.clip_match.specs.Steps.Held.{HasItsHits};
 ghost use Rattle.clip_match.specs.Steps.Positions.{entries_at, live_with};
 
-use crate::held::{Held, HitsFound, entries_of};
+use crate::held::{Held, HitPlaces, HitsFound, entries_of};
 use clip_extract::covering_law;
-use clip_meaning::Article;
+use clip_meaning::{Article, Hit};
 use clip_plan::Tally;
 use clip_registry::View;
 use clip_segment::{SegmentReading, SegmentSpots};
@@ -112,8 +113,9 @@ fn add_entries<'a>(
 ) -> Result<(), NoMemory>
     ensures entries { OnOk result (map (λ h. h.registered.now) held.new.items
         ≡ map (λ h. h.registered.now) held.old.items ++ entries_at reading.now.entries positions.now) }
-    ensures hits { OnOk result (All (HasItsHits HitsFound.WhenAsked reading.now.article) held.old.items
-        → All (HasItsHits HitsFound.WhenAsked reading.now.article) held.new.items) }
+    ensures hits { OnOk result ((all : List HitValue)
+        → All (HasItsHits HitsFound.WhenAsked reading.now.article all) held.old.items
+        → All (HasItsHits HitsFound.WhenAsked reading.now.article all) held.new.items) }
 {
     for position in positions {
         let Some(registered) = reading.entry(*position) else {
@@ -124,44 +126,50 @@ fn add_entries<'a>(
     Ok(())
 }
 
-/// Adds the entries of a segment at these positions, with their hits.
+/// Adds the entries of a segment at these positions, and their hits to those of others.
 fn add_with_hits<'a>(
     alloc: Global,
     reading: &SegmentReading<'a>,
     spots: &SegmentSpots<'_>,
     positions: &[u32],
+    all_hits: &mut Vec<Hit>,
     held: &mut Vec<Held<'a>>,
 ) -> Result<(), NoMemory>
     requires { spots.now ≡ reading.now }
     ensures entries { OnOk result (map (λ h. h.registered.now) held.new.items
         ≡ map (λ h. h.registered.now) held.old.items ++ entries_at reading.now.entries positions.now) }
-    ensures hits { OnOk result (All (HasItsHits HitsFound.AtOnce reading.now.article) held.old.items
-        → All (HasItsHits HitsFound.AtOnce reading.now.article) held.new.items) }
+    ensures hits { OnOk result (
+        All (HasItsHits HitsFound.AtOnce reading.now.article (map hit_value all_hits.old.items)) held.old.items
+        → All (HasItsHits HitsFound.AtOnce reading.now.article (map hit_value all_hits.new.items)) held.new.items) }
 {
     let mut flags = Vec::new(alloc);
     for position in positions {
         let Some(registered) = reading.entry(*position) else {
             continue;
         };
-        let hits = spots.hits(alloc, *position, &mut flags)?;
-        held.push(Held::of(registered, Some(hits)))?;
+        let start = all_hits.len();
+        spots.add_hits(*position, &mut flags, all_hits)?;
+        let end = all_hits.len();
+        held.push(Held::of(registered, Some(HitPlaces { start, end })))?;
     }
     Ok(())
 }
 
-/// Adds the entries of a segment at these positions, with their hits where these are found at once. Where the words of
-/// the article stand is only found out where there is a position and hits are wanted.
+/// Adds the entries of a segment at these positions, and, where hits are found at once, theirs to those of others.
+/// Where the words of the article stand is only found out where there is a position and hits are wanted.
 fn add_held<'a>(
     alloc: Global,
     reading: &SegmentReading<'a>,
     positions: &[u32],
     hits: HitsFound,
+    all_hits: &mut Vec<Hit>,
     held: &mut Vec<Held<'a>>,
 ) -> Result<(), NoMemory>
     ensures entries { OnOk result (map (λ h. h.registered.now) held.new.items
         ≡ map (λ h. h.registered.now) held.old.items ++ entries_at reading.now.entries positions.now) }
-    ensures hits { OnOk result (All (HasItsHits hits reading.now.article) held.old.items
-        → All (HasItsHits hits reading.now.article) held.new.items) }
+    ensures hits { OnOk result (
+        All (HasItsHits hits reading.now.article (map hit_value all_hits.old.items)) held.old.items
+        → All (HasItsHits hits reading.now.article (map hit_value all_hits.new.items)) held.new.items) }
 {
     if positions.is_empty() {
         return Ok(());
@@ -170,7 +178,7 @@ fn add_held<'a>(
         HitsFound::WhenAsked => add_entries(reading, positions, held),
         HitsFound::AtOnce => {
             let spots = reading.spots(alloc)?;
-            add_with_hits(alloc, reading, &spots, positions, held)
+            add_with_hits(alloc, reading, &spots, positions, all_hits, held)
         }
     }
 }
@@ -180,6 +188,8 @@ fn add_held<'a>(
 pub(crate) struct Judged<'a> {
     pub(crate) asked: u64,
     pub(crate) held: Vec<Held<'a>>,
+    /// The hits of all of them, where they were found.
+    pub(crate) all_hits: Vec<Hit>,
 }
 
 /// As `holding`, with the hits of those that hold where these are found at once.
@@ -192,7 +202,8 @@ pub(crate) fn judge_candidates<'a>(
     ensures asked { IfOk result (λ found. found.asked ≡ length (candidates_of view.now article.now)) }
     ensures held { IfOk result (λ found. map (λ h. h.registered.now) found.held.items
         ≡ filter (λ r. holds r.standing.tree article.now.fields) (candidates_of view.now article.now)) }
-    ensures hits { IfOk result (λ found. All (HasItsHits hits article.now) found.held.items) }
+    ensures hits { IfOk result (λ found.
+        All (HasItsHits hits article.now (map hit_value found.all_hits.items)) found.held.items) }
     ensures misses_none { IfOk result (λ _. MissesNone view.now article.now (candidates_of view.now article.now)) }
     ensures registered { IfOk result (λ _. AreRegistered view.now (candidates_of view.now article.now)) }
     ensures rising { IfOk result (λ _. IsRising (candidates_of view.now article.now)) }
@@ -205,15 +216,20 @@ pub(crate) fn judge_candidates<'a>(
     let mut stack = Vec::new(alloc);
     let mut asked = 0;
     let mut held = Vec::new(alloc);
+    let mut all_hits = Vec::new(alloc);
     let segments = view.segments();
     for (place, segment) in segments.iter().enumerate() {
         let reading = segment.read(alloc, &asking)?;
         asked += candidates_in(alloc, view, place, &reading, &mut positions)?;
         keep_possible(&reading, &positions, &mut possible)?;
         keep_holding(&reading, &possible, &mut stack, &mut holding)?;
-        add_held(alloc, &reading, &holding, hits, &mut held)?;
+        add_held(alloc, &reading, &holding, hits, &mut all_hits, &mut held)?;
     }
-    Ok(Judged { asked, held })
+    Ok(Judged {
+        asked,
+        held,
+        all_hits,
+    })
 }
 
 /// Of the candidates of an article, which are the live entries whose query has a key in common with it, how many there

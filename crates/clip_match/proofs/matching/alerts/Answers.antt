@@ -1,8 +1,9 @@
-use Rattle.std.proofs.Common.{◌≡◌, ◌<◌, All, List, Vec, Global, length, get_or, true, is_some, sym, ◌∙◌, subst, arith}
+use Rattle.std.proofs.Common.{◌≡◌, ◌<◌, All, List, Vec, Global, length, map, get_or, true, is_some, sym, ◌∙◌, subst, arith}
 use Rattle.std.proofs.lemmas.Grind.{common_steps}
 use Rattle.std.proofs.lemmas.Iterator.Adapters.{YieldsList-from_vec}
 use Rattle.std.proofs.lemmas.Iterator.Consumers.{YieldsList-turn}
 use Rattle.std.proofs.lemmas.List.Elements.{All-push}
+use Rattle.clip_meaning.specs.Hits.{hit_value}
 use Rattle.clip_standing.specs.Alerts.{has_hits}
 use Rattle.clip_standing.specs.declared.alert.Alert.{Alert}
 use Rattle.clip_match.specs.declared.held.Named.{Named}
@@ -20,7 +21,7 @@ pub alert_of-requires : goal.alert_of-requires
 alert_of-requires c =
     let given = c.into_iter-one-iterator.ensures.into_iter_gives in
     let turn = YieldsList-turn (YieldsList-from_vec {s = c.into_iter-one-iterator.result} c.args.named.items given.0 (given.1 ∙ counted c.args.named)) c.loop-one.yielded c.loop-one.one-iterator c.loop-one.yielded_by c.next.result c.next.new.self c.in-Some.one c.in-Some.is c.next.ensures.steps in
-    at_turn (λ (n : Named). AreItsHits c.args.article.now n.held) c.args.named.items c.loop-one.yielded c.in-Some.one c.requires turn.0 turn.1
+    at_turn (λ (n : Named). AreItsHits c.args.article.now (map hit_value c.args.all_hits.now.value.items) n.held) c.args.named.items c.loop-one.yielded c.in-Some.one c.requires turn.0 turn.1
 
 pub loop-one-preserved : goal.loop-one-preserved
 loop-one-preserved c =

@@ -1,17 +1,19 @@
-use Rattle.std.proofs.Common.{◌≡◌, ◌++◌, ◌∙◌, ◌∷◌, ◌+◌, List, [], Some, All, map, take, get_or, option_map, option_to_list, sym, ap, subst}
+use Rattle.std.proofs.Common.{◌≡◌, ◌++◌, ◌∙◌, ◌∷◌, ◌+◌, List, [], Some, All, arith, length, map, take, get_or, option_map, option_to_list, sym, ap, subst}
 use Rattle.std.specs.List.{slice_get}
 use Rattle.std.specs.Arc.{arc_value}
 use Rattle.std.specs.Option.{IfSome, option_copied}
 use Rattle.std.specs.Prelude.{is_some}
-use Rattle.std.proofs.lemmas.List.{append_assoc, map-append, take_more}
+use Rattle.std.proofs.lemmas.List.{append_assoc, length-map, map-append, take_more}
 use Rattle.std.proofs.lemmas.List.Elements.{All-append, All-cons, All-nil}
 use Rattle.clip_meaning.specs.Hits.{hit_value, hits}
 use Rattle.clip_model.specs.History.{Registered}
 use Rattle.clip_segment.specs.Segment.{AskedValue}
 use Rattle.clip_match.specs.declared.held.Held.{Held}
+use Rattle.clip_match.specs.declared.held.HitPlaces.{HitPlaces}
 use Rattle.clip_match.specs.declared.held.HitsFound.TheVariants.{AtOnce}
-use Rattle.clip_match.specs.Steps.Held.{HasItsHits}
+use Rattle.clip_match.specs.Steps.Held.{HasItsHits, StandAt}
 use Rattle.clip_match.specs.Steps.Positions.{entries_at}
+use Rattle.clip_match.proofs.Places.{each_still, stand_last}
 use Rattle.clip_match.proofs.Positions.{entries_more}
 use Rattle.clip_match.proofs.trying.add_with_hits.Goals as goal
 
@@ -29,9 +31,15 @@ loop-position-preserved c =
     sym c.entry.ensures
     ∙ ap (λ o. option_map arc_value (option_copied o)) c.in-Some.is
     ∙ ap Some (sym c.deref.ensures ∙ sym c.of.ensures.registered) in
-    let made =
-    subst (λ (a : AskedValue). (entry : Registered) → slice_get a.entries p ≡ Some entry → map hit_value c.in_ok-hits.hits.items ≡ hits entry.standing.tree a.article.fields) c.requires
-    c.in_ok-hits.ensures one.registered.now there in
+    let article = c.args.reading.now.article in
+    let all = map hit_value c.loop-position.all_hits.items in
+    let found = hits one.registered.now.standing.tree article.fields in
+    let made : map hit_value c.add_hits.new.found.items ≡ all ++ found =
+    subst (λ (a : AskedValue). (entry : Registered) → slice_get a.entries p ≡ Some entry → map hit_value c.add_hits.new.found.items ≡ all ++ hits entry.standing.tree a.article.fields) c.requires
+    c.in_ok-add_hits.ensures one.registered.now there in
+    let places : HitPlaces = record { start = c.len.result; end = c.len-2.result } in
+    let start : places.start ≡ length all = omega (arith, c.len.ensures, length-map c.loop-position.all_hits.items hit_value) in
+    let end : places.end ≡ length (all ++ found) = omega (arith, c.len-2.ensures, length-map c.add_hits.new.found.items hit_value, ap length made) in
     let more : entries_at es (take i ps) ++ one.registered.now ∷ [] ≡ entries_at es (take (i + 1) ps) =
     ap (λ o. entries_at es (take i ps) ++ option_to_list o) (sym there)
     ∙ sym (entries_more es (take i ps) p)
@@ -45,14 +53,13 @@ loop-position-preserved c =
           ∙ ap (λ xs. entry old ++ xs) more;
       hits =
           λ before.
-          subst (All (HasItsHits AtOnce c.args.reading.now.article)) (sym c.in_ok-push.ensures.items)
-          (All-append (HasItsHits AtOnce c.args.reading.now.article) now (one ∷ []) (c.loop-position.invariant.hits before)
-          (All-cons (HasItsHits AtOnce c.args.reading.now.article) one []
+          subst (All (HasItsHits AtOnce article (map hit_value c.add_hits.new.found.items))) (sym c.in_ok-push.ensures.items)
+          (subst (λ list. All (HasItsHits AtOnce article list) (now ++ one ∷ [])) (sym made)
+          (All-append (HasItsHits AtOnce article (all ++ found)) now (one ∷ []) (each_still AtOnce article all found now (c.loop-position.invariant.hits before))
+          (All-cons (HasItsHits AtOnce article (all ++ found)) one []
           (record {
-            right =
-                subst (λ o. IfSome o (λ found. map hit_value found.items ≡ hits one.registered.now.standing.tree c.args.reading.now.article.fields))
-                (sym c.of.ensures.hits) made;
+            right = subst (λ o. IfSome o (StandAt (all ++ found) found)) (sym c.of.ensures.hits) (stand_last all found places start end);
             there = λ _. ap is_some c.of.ensures.hits;
           })
-          (All-nil (HasItsHits AtOnce c.args.reading.now.article))));
+          (All-nil (HasItsHits AtOnce article (all ++ found))))));
     }

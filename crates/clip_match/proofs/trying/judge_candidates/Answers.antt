@@ -4,6 +4,7 @@ use Rattle.std.proofs.lemmas.List.{append_assoc, append-nil, drop_all, drop_more
 use Rattle.std.proofs.lemmas.Option.{slice_get-map, slice_get_read}
 use Rattle.clip_extract.specs.Covering.{article_keys}
 use Rattle.clip_meaning.specs.Article.{ArticleValue}
+use Rattle.clip_meaning.specs.Hits.{hit_value}
 use Rattle.clip_meaning.specs.Meaning.{holds}
 use Rattle.clip_model.specs.History.{Registered}
 use Rattle.clip_segment.specs.Segment.{AskedValue, all_entries}
@@ -96,7 +97,7 @@ loop-place-preserved c =
           ∙ ap (λ es. found ++ filter held (live_with h ks es)) (parts at)
           ∙ c.loop-place.invariant.held;
       hits =
-          subst (λ (r : AskedValue). All (HasItsHits c.args.hits r.article) c.loop-place.held.items → All (HasItsHits c.args.hits r.article) c.add_held.new.held.items) (value at) c.in_ok-add_held.ensures.hits
+          subst (λ (r : AskedValue). All (HasItsHits c.args.hits r.article (map hit_value c.loop-place.all_hits.items)) c.loop-place.held.items → All (HasItsHits c.args.hits r.article (map hit_value c.add_held.new.all_hits.items)) c.add_held.new.held.items) (value at) c.in_ok-add_held.ensures.hits
           c.loop-place.invariant.hits;
     }
 

@@ -1,6 +1,7 @@
 use Rattle.std.proofs.Common.{◌≡◌, ◌+◌, ◌++◌, All, length, map, filter, drop}
 use Rattle.std.specs.Arc.{arc_value}
 use Rattle.clip_extract.specs.Covering.{article_keys}
+use Rattle.clip_meaning.specs.Hits.{hit_value}
 use Rattle.clip_meaning.specs.Meaning.{holds}
 use Rattle.clip_segment.specs.Segment.{all_entries}
 use Rattle.clip_match.specs.Steps.Held.{HasItsHits}
@@ -14,5 +15,5 @@ invariant-loop-place l = record {
   held : map (λ h. h.registered.now) l.held.items
       ++ filter (λ r. holds r.standing.tree l.article.fields) (live_with l.view.history (article_keys l.article.fields) (all_entries (map arc_value (drop l.place l.segments))))
       ≡ filter (λ r. holds r.standing.tree l.article.fields) (live_with l.view.history (article_keys l.article.fields) (all_entries (map arc_value l.segments)));
-  hits : All (HasItsHits l.hits l.article) l.held.items;
+  hits : All (HasItsHits l.hits l.article (map hit_value l.all_hits.items)) l.held.items;
 }
