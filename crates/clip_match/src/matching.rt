@@ -101,13 +101,14 @@ pub fn match_article_finding(
         held,
         all_hits,
     } = judge_candidates(alloc, view, article, hits)?;
+    let all_hits = Arc::new(alloc, all_hits)?;
     let mut named = with_led_ids(alloc, held)?;
     sort_by_id(&mut named);
     Ok(Alerts {
         article: article.shared_id().clone()?,
         place: view.place(),
         asked,
-        alerts: alerts(alloc, named, article, &Arc::new(alloc, all_hits)?)?,
+        alerts: alerts(alloc, named, article, &all_hits)?,
     })
 }
 

@@ -1,8 +1,10 @@
-use Rattle.std.proofs.Common.{◌≡◌, All, List, true, is_some, map, filter, IsPermutation, sym, ap, subst, ◌∙◌, arith, rules}
+use Rattle.std.proofs.Common.{◌≡◌, All, List, Vec, Global, true, is_some, map, filter, IsPermutation, sym, ap, subst, ◌∙◌, arith, rules}
 use Rattle.std.proofs.lemmas.List.{get_or-map, length-map}
 use Rattle.std.proofs.lemmas.Simd.{map-map}
 use Rattle.std.proofs.lemmas.List.Sorted.{All-permutation, IsPermutation-map}
+use Rattle.clip_meaning.specs.Hits.{hit_value}
 use Rattle.clip_meaning.specs.Meaning.{holds}
+use Rattle.clip_meaning.specs.declared.hit.Hit.{Hit}
 use Rattle.clip_model.specs.Alerts.{alerts}
 use Rattle.clip_model.specs.History.{Registered}
 use Rattle.clip_match.specs.Candidates.{candidates_of}
@@ -21,8 +23,11 @@ all_held P named held is each k d lt =
 
 pub alerts-requires : goal.alerts-requires
 alerts-requires c =
-    All-permutation (λ (n : Named). AreItsHits c.args.article.now n.held) c.in_ok-named.named.items c.sort_by_id.new.named.items c.sort_by_id.ensures.moved
-    (all_held (AreItsHits c.args.article.now) c.in_ok-named.named.items _ c.in_ok-named.ensures (λ k d lt. (c.in_ok-asked.ensures.hits k d lt).right))
+    let article = c.args.article.now in
+    let found = c.in_ok-asked.field-0.all_hits in
+    subst (λ (list : Vec Hit Global). All (λ (n : Named). AreItsHits article (map hit_value list.items) n.held) c.sort_by_id.new.named.items) (sym c.in_ok-all_hits.ensures.ok)
+    (All-permutation (λ (n : Named). AreItsHits article (map hit_value found.items) n.held) c.in_ok-named.named.items c.sort_by_id.new.named.items c.sort_by_id.ensures.moved
+    (all_held (AreItsHits article (map hit_value found.items)) c.in_ok-named.named.items _ c.in_ok-named.ensures (λ k d lt. (c.in_ok-asked.ensures.hits k d lt).right)))
 
 pub returns-clause-due : goal.returns-clause-due
 returns-clause-due c =
