@@ -1,13 +1,16 @@
 //! The delivery of a line's alerts.
 ghost use Rattle.std.specs.Prelude.{◌≡◌, ◌++◌, map, IfOk, OnOk, OnErr};
+ghost use Rattle.std.specs.List.{All};
 ghost use Rattle.clip_standing.specs.Alerts.{alerts_value};
 ghost use Rattle.clip_listen.specs.Heard.{told_all, note_value, notes_of, alerts_of, HearsFront};
+ghost use Rattle.clip_front.specs.declared.settings.Settings.{Settings};
 ghost use Rattle.clip_front.specs.Outcome.{kept_rows, rows_of_article};
-ghost use Rattle.clip_front.specs.Steps.Found.{told_in, rows_in, found_text};
+ghost use Rattle.clip_protocol.specs.Found.{found_value};
+ghost use Rattle.clip_front.specs.Steps.Found.{IsFor, told_in, rows_in, found_text};
 
 use crate::books::Books;
 use clip_listen::{Audience, Note, deliver_to};
-use clip_protocol::Reply;
+use clip_protocol::{Found, found_text};
 use clip_standing::Alerts;
 use clip_words::NoMemory;
 use std::alloc::Global;
@@ -35,42 +38,107 @@ fn deliver_article<A: Audience>(
     Ok(notes)
 }
 
-/// Delivers the alerts of each article, posts them, and gives what the listeners said, all in order.
+/// The alerts of articles, none of which are shown already.
+fn unshown(alloc: Global, alerts: Vec<Alerts>) -> Result<Vec<Found>, NoMemory>
+    ensures value { IfOk result (λ found. map found_value found.items ≡ map alerts_value alerts.entry.items) }
+    ensures any { IfOk result (λ found. (settings : Settings) → All (IsFor settings) found.items) }
+{
+    let mut found = Vec::with_capacity(alloc, alerts.len())?;
+    for alerts in alerts {
+        found.push(Found::Alerts(alerts))?;
+    }
+    Ok(found)
+}
+
+/// Delivers what was found of an article, posts it, and gives what the listeners said: of what is shown already nothing,
+/// since nobody hears it.
+fn deliver_one<A: Audience>(
+    alloc: Global,
+    audience: &mut A,
+    books: &mut Books,
+    line: u64,
+    found: &Found,
+) -> Result<Vec<Note>, NoMemory>
+    requires { IsFor books.old.settings found.now }
+    ensures notes { IfOk result (λ notes. map note_value notes.items
+        ≡ notes_of (A.hearers audience.old) (found_value found.now).alerts) }
+    ensures heard { OnOk result (A.hearers audience.new
+        ≡ told_all (found_value found.now).alerts (A.hearers audience.old)) }
+    ensures rows { OnOk result (books.new.ledger ≡ books.old.ledger ++ kept_rows books.old.settings.keeps_rows
+        (rows_of_article (A.hearers audience.old) line (found_value found.now).alerts)) }
+    ensures settings { books.new.settings ≡ books.old.settings }
+    ensures err { OnErr result (HearsFront (found_value found.now).alerts
+        (A.hearers audience.old) (A.hearers audience.new)) }
+{
+    match found {
+        Found::Alerts(alerts) => deliver_article(alloc, audience, books, line, alerts),
+        Found::Shown(_) => Ok(Vec::new(alloc)),
+    }
+}
+
+/// Delivers what was found of each article, posts it, and gives what the listeners said, all in order.
 ///
 /// `NoMemory` where an allocation failed or a listener answers it; the listeners have heard some first ones of the
-/// alerts then. Cost: that of `deliver_to` and of `Books::post` for each article.
+/// alerts then. Cost: that of `deliver_to` and of `Books::post` for each article whose alerts are not shown already.
 fn deliver_all<A: Audience>(
     alloc: Global,
     audience: &mut A,
     books: &mut Books,
     line: u64,
-    found: &[Alerts],
+    found: &[Found],
 ) -> Result<Vec<Note>, NoMemory>
+    requires { All (IsFor books.old.settings) found.now }
     ensures notes { IfOk result (λ notes. map note_value notes.items
-        ≡ notes_of (A.hearers audience.old) (told_in (map alerts_value found.now))) }
+        ≡ notes_of (A.hearers audience.old) (told_in (map found_value found.now))) }
     ensures heard { OnOk result (A.hearers audience.new
-        ≡ told_all (told_in (map alerts_value found.now)) (A.hearers audience.old)) }
+        ≡ told_all (told_in (map found_value found.now)) (A.hearers audience.old)) }
     ensures rows { OnOk result (books.new.ledger ≡ books.old.ledger ++ kept_rows books.old.settings.keeps_rows
-        (rows_in (A.hearers audience.old) line (map alerts_value found.now))) }
+        (rows_in (A.hearers audience.old) line (map found_value found.now))) }
     ensures settings { books.new.settings ≡ books.old.settings }
-    ensures err { OnErr result (HearsFront (told_in (map alerts_value found.now))
+    ensures err { OnErr result (HearsFront (told_in (map found_value found.now))
         (A.hearers audience.old) (A.hearers audience.new)) }
 {
     let mut notes = Vec::new(alloc);
-    for alerts in found {
-        let mut said = deliver_article(alloc, audience, books, line, alerts)?;
+    for one in found {
+        let mut said = deliver_one(alloc, audience, books, line, one)?;
         notes.append(&mut said)?;
     }
     Ok(notes)
 }
 
-/// Delivers the alerts that were found of a line's articles, posts them, and gives the text of the reply to the line of
-/// this number: the ids of the queries of each article, with hits where the books' settings ask for them, and what the
-/// listeners said, all in order.
+/// Delivers what was found of a line's articles, posts it, and gives the text of the reply to the line of this number:
+/// the ids of the queries of each article, with hits where the books' settings ask for them, and what the listeners
+/// said, all in order. What is shown already was shown for these settings.
 ///
 /// `NoMemory` where an allocation failed or a listener answers it; the listeners have heard some first ones of the
-/// alerts then, and some first rows may be posted. Cost: that of `deliver_to` and of `Books::post` for each article,
-/// and of the text.
+/// alerts then, and some first rows may be posted. Cost: that of `deliver_to` and of `Books::post` for each article
+/// whose alerts are not shown already, and of the text.
+pub fn deliver_shown<A: Audience>(
+    alloc: Global,
+    audience: &mut A,
+    books: &mut Books,
+    number: u64,
+    found: &[Found],
+) -> Result<Vec<u8>, NoMemory>
+    requires { All (IsFor books.old.settings) found.now }
+    ensures text { IfOk result (λ text. text.items
+        ≡ found_text books.old.settings.form (A.hearers audience.old) number (map found_value found.now)) }
+    ensures heard { OnOk result (A.hearers audience.new
+        ≡ told_all (told_in (map found_value found.now)) (A.hearers audience.old)) }
+    ensures rows { OnOk result (books.new.ledger ≡ books.old.ledger ++ kept_rows books.old.settings.keeps_rows
+        (rows_in (A.hearers audience.old) number (map found_value found.now))) }
+    ensures settings { books.new.settings ≡ books.old.settings }
+    ensures err { OnErr result (HearsFront (told_in (map found_value found.now))
+        (A.hearers audience.old) (A.hearers audience.new)) }
+{
+    let form = books.settings.form;
+    let notes = deliver_all(alloc, audience, books, number, found)?;
+    found_text(alloc, form, number, found, &notes)
+}
+
+/// As `deliver_shown`, of alerts of which none are shown already.
+///
+/// `NoMemory` and cost as of `deliver_shown`.
 pub fn deliver_found<A: Audience>(
     alloc: Global,
     audience: &mut A,
@@ -88,7 +156,6 @@ pub fn deliver_found<A: Audience>(
     ensures err { OnErr result (HearsFront (told_in (map alerts_value found.items))
         (A.hearers audience.old) (A.hearers audience.new)) }
 {
-    let form = books.settings.form;
-    let notes = deliver_all(alloc, audience, books, number, &found)?;
-    Reply::Matched(form, found, notes).text(alloc, number)
+    let found = unshown(alloc, found)?;
+    deliver_shown(alloc, audience, books, number, &found)
 }

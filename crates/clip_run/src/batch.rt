@@ -1,16 +1,14 @@
 //! Batches that are matched while the run goes on.
-ghost use Rattle.std.specs.Prelude.{◌≡◌, map, IfOk};
-ghost use Rattle.clip_match.specs.Alerts.{alerts_due};
-ghost use Rattle.clip_standing.specs.Alerts.{alerts_value};
+ghost use Rattle.std.specs.Prelude.{◌≡◌, IfOk};
 ghost use Rattle.clip_run.specs.Owed.{matched};
-ghost use Rattle.clip_run.specs.Pending.{owed_by};
+ghost use Rattle.clip_run.specs.Pending.{owed_by, IsDue, GoesBy};
 
 use crate::due::{Due, Matched};
 use crate::pieces::{match_drafts, match_drafts_in_pieces};
-use clip_match::{Gate, HitsFound};
-use clip_protocol::JudgedDraft;
+use clip_front::Settings;
+use clip_match::Gate;
+use clip_protocol::{Found, JudgedDraft};
 use clip_registry::View;
-use clip_standing::Alerts;
 use clip_words::{NoMemory, WordPool};
 use std::alloc::Global;
 use std::thread;
@@ -25,7 +23,7 @@ pub struct Flight {
     /// The number of its line.
     pub number: u64,
     /// The thread.
-    pub thread: PromisedHandle<Result<Vec<Alerts>, NoMemory>, Due>,
+    pub thread: PromisedHandle<Result<Vec<Found>, NoMemory>, Due>,
 }
 
 /// What a run owes to a line.
@@ -46,28 +44,25 @@ pub fn start_batch<R: Threads, G: Gate + Clone + Send + 'static>(
     number: u64,
     view: View,
     drafts: Vec<JudgedDraft>,
-    hits: HitsFound,
+    settings: Settings,
     batch: u64,
     gate: &G,
 ) -> Result<Pending, NoMemory>
-    ensures { IfOk result (λ p. owed_by p ≡ matched number view.history drafts.items) }
+    ensures owed { IfOk result (λ p. owed_by p ≡ matched number view.history drafts.items) }
+    ensures settings { IfOk result (λ p. GoesBy settings p) }
 {
     let gate = gate.clone()?;
-    let due = Due::to(&view, &drafts);
-    let promise = Due::to(&view, &drafts);
+    let due = Due::to(&view, &drafts, settings);
+    let promise = Due::to(&view, &drafts, settings);
     let work = move || {
         let mut pool = WordPool::new(alloc);
-        match_drafts(alloc, &mut pool, &view, &drafts, hits, batch, 0, &gate)
+        match_drafts(alloc, &mut pool, &view, &drafts, settings, batch, 0, &gate)
     };
     match thread::spawn_with(rt, promise, work) {
         Ok(thread) => Ok(Pending::InFlight(Flight { number, thread })),
         Err(refused) => {
-            let alerts = (refused.value)()?;
-            Ok(Pending::Matched(Matched {
-                number,
-                due,
-                alerts,
-            }))
+            let found = (refused.value)()?;
+            Ok(Pending::Matched(Matched { number, due, found }))
         }
     }
 }
@@ -81,24 +76,21 @@ pub fn match_here<R: Threads + Sync, G: Gate>(
     number: u64,
     view: View,
     drafts: Vec<JudgedDraft>,
-    hits: HitsFound,
+    settings: Settings,
     batch: u64,
     pieces: u32,
     gate: &G,
 ) -> Result<Pending, NoMemory>
-    ensures { IfOk result (λ p. owed_by p ≡ matched number view.history drafts.items) }
+    ensures owed { IfOk result (λ p. owed_by p ≡ matched number view.history drafts.items) }
+    ensures settings { IfOk result (λ p. GoesBy settings p) }
 {
-    let due = Due::to(&view, &drafts);
-    let alerts = if pieces > 1 {
-        match_drafts_in_pieces(rt, alloc, &view, &drafts, hits, batch, pieces, gate)?
+    let due = Due::to(&view, &drafts, settings);
+    let found = if pieces > 1 {
+        match_drafts_in_pieces(rt, alloc, &view, &drafts, settings, batch, pieces, gate)?
     } else {
-        match_drafts(alloc, pool, &view, &drafts, hits, batch, 0, gate)?
+        match_drafts(alloc, pool, &view, &drafts, settings, batch, 0, gate)?
     };
-    Ok(Pending::Matched(Matched {
-        number,
-        due,
-        alerts,
-    }))
+    Ok(Pending::Matched(Matched { number, due, found }))
 }
 
 /// Into how many pieces a batch is cut: as many as there are workers, but so few that each has `LEAST_PIECE` articles.
@@ -117,10 +109,9 @@ impl Pending {
 }
 
 impl Flight {
-    /// The alerts that its thread found. It waits for the thread.
-    pub fn join<R: Threads>(self, rt: &R) -> Result<Vec<Alerts>, NoMemory>
-        ensures { IfOk result (λ found. map alerts_value found.items
-            ≡ map (alerts_due self.thread.promise.view.value) self.thread.promise.drafts.value.items) }
+    /// What its thread found. It waits for the thread.
+    pub fn join<R: Threads>(self, rt: &R) -> Result<Vec<Found>, NoMemory>
+        ensures { IfOk result (λ found. IsDue self.thread.promise found.items) }
     {
         self.thread.join(rt)
     }

@@ -4,14 +4,12 @@ ghost use Rattle.clip_front.specs.Outcome.{kept_rows};
 ghost use Rattle.clip_listen.specs.Heard.{told_all, HearsFront};
 ghost use Rattle.clip_run.specs.Crews.{CrewIs, course};
 ghost use Rattle.clip_run.specs.Owed.{owed_of, matched, Turns, BreaksOff, HearsOwed, PaysInto, TakesBatch, TurnsInto};
-ghost use Rattle.clip_run.specs.Pending.{owed_by};
+ghost use Rattle.clip_run.specs.Pending.{owed_by, GoesBy};
 
 use crate::batch::{Pending, match_here, pieces_that_pay, start_batch};
 use crate::caller::Caller;
-use crate::due::Matched;
-use crate::finding::hits_found;
 use clip_desk::DeskName;
-use clip_front::{Books, Settings, TakenUnread, deliver_found, take_line_unread};
+use clip_front::{Books, Settings, TakenUnread, deliver_shown, take_line_unread};
 use clip_ledger::Ledger;
 use clip_listen::Audience;
 use clip_match::Gate;
@@ -44,8 +42,9 @@ pub struct Crew<'r, 'd, 'g, R, N: DeskName, G> {
 
 impl<'r, 'd, 'g, R, N: DeskName, G> Model for Crew<'r, 'd, 'g, R, N, G> {
     ghost use Rattle.std.specs.Prelude.{map};
+    ghost use Rattle.std.specs.List.{All};
     ghost use Rattle.clip_run.specs.Crews.{CrewIs, crew_code};
-    ghost use Rattle.clip_run.specs.Pending.{owed_by};
+    ghost use Rattle.clip_run.specs.Pending.{owed_by, GoesBy};
 
     ghost Value = { CrewIs };
 
@@ -57,6 +56,8 @@ impl<'r, 'd, 'g, R, N: DeskName, G> Model for Crew<'r, 'd, 'g, R, N, G> {
       settings = c.books.settings;
       owed = map owed_by c.pending.items;
     } };
+
+    ghost invariant = { λ c. All (GoesBy c.books.settings) c.pending.items };
 }
 
 /// Gives what is owed to one line: its text, once its alerts are delivered. It waits for the thread that matches its
@@ -68,6 +69,7 @@ fn settle<R: Threads, A: Audience>(
     books: &mut Books,
     item: Pending,
 ) -> Result<Vec<u8>, NoMemory>
+    requires { GoesBy books.old.settings item }
     ensures text { IfOk result (λ text. text.items
         ≡ (owed_of (A.hearers audience.old) (owed_by item)).text books.old.settings.form) }
     ensures heard { OnOk result (A.hearers audience.new
@@ -81,13 +83,12 @@ fn settle<R: Threads, A: Audience>(
     match item {
         Pending::Ready(text) => Ok(text),
         Pending::Matched(batch) => {
-            let Matched { number, alerts, .. } = batch;
-            deliver_found(alloc, audience, books, number, alerts)
+            deliver_shown(alloc, audience, books, batch.number, &batch.found)
         }
         Pending::InFlight(flight) => {
             let number = flight.number;
-            let alerts = flight.join(rt)?;
-            deliver_found(alloc, audience, books, number, alerts)
+            let found = flight.join(rt)?;
+            deliver_shown(alloc, audience, books, number, &found)
         }
     }
 }
@@ -201,7 +202,6 @@ impl<'r, 'd, 'g, R: Threads + Wait + Sync, N: DeskName, G: Gate + Clone + Send +
         let view = self.caller.look()?;
         self.batches = self.batches.wrapping_add(1);
         let pieces = pieces_that_pay(drafts.len(), self.workers);
-        let hits = hits_found(self.books.settings);
         let item = if has_more && pieces < self.workers {
             start_batch(
                 self.rt,
@@ -209,7 +209,7 @@ impl<'r, 'd, 'g, R: Threads + Wait + Sync, N: DeskName, G: Gate + Clone + Send +
                 number,
                 view,
                 drafts,
-                hits,
+                self.books.settings,
                 self.batches,
                 self.gate,
             )?
@@ -221,7 +221,7 @@ impl<'r, 'd, 'g, R: Threads + Wait + Sync, N: DeskName, G: Gate + Clone + Send +
                 number,
                 view,
                 drafts,
-                hits,
+                self.books.settings,
                 self.batches,
                 pieces,
                 self.gate,
@@ -285,7 +285,7 @@ impl<'r, 'd, 'g, R: Threads + Wait + Sync, N: DeskName, G: Gate + Clone + Send +
     ///
     /// `NoMemory` where an allocation failed or a listener answers it; the listeners have heard a front of the alerts
     /// of what was owed and of the line then. Cost: that of `take_line_unread`; for a batch that of a thread's start,
-    /// or of `match_drafts_in_pieces`; and that of `deliver_found` for what is given. It waits for threads whose batch
+    /// or of `match_drafts_in_pieces`; and that of `deliver_shown` for what is given. It waits for threads whose batch
     /// is given.
     pub fn answer<A: Audience>(
         &mut self,

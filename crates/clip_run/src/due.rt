@@ -1,31 +1,34 @@
 //! What is due to a batch, and a batch that was matched.
 ghost use Rattle.std.specs.Prelude.{◌≡◌, map};
+ghost use Rattle.std.specs.List.{All};
 ghost use Rattle.clip_match.specs.Alerts.{alerts_due};
-ghost use Rattle.clip_standing.specs.Alerts.{alerts_value};
+ghost use Rattle.clip_protocol.specs.Found.{found_value};
+ghost use Rattle.clip_front.specs.Steps.Found.{IsFor};
 
-use clip_protocol::JudgedDraft;
+use clip_front::Settings;
+use clip_protocol::{Found, JudgedDraft};
 use clip_registry::View;
-use clip_standing::Alerts;
 use clip_words::NoMemory;
 use std::snapshot::Snapshot;
 use std::thread::Promise;
 
-/// What is due to a batch: the alerts of the articles that these drafts are, at this view. It takes no bytes.
+/// What is due to a batch: the alerts of the articles that these drafts are, at this view, as a run with these settings
+/// finds them.
 #[derive(Drop)]
 pub struct Due {
     /// The view.
     pub view: Snapshot<View>,
     /// The drafts.
     pub drafts: Snapshot<Vec<JudgedDraft>>,
+    /// The settings.
+    pub settings: Settings,
 }
 
-impl Promise<Result<Vec<Alerts>, NoMemory>> for Due {
-    ghost use Rattle.std.specs.Prelude.{◌≡◌, map, IfOk};
-    ghost use Rattle.clip_match.specs.Alerts.{alerts_due};
-    ghost use Rattle.clip_standing.specs.Alerts.{alerts_value};
+impl Promise<Result<Vec<Found>, NoMemory>> for Due {
+    ghost use Rattle.std.specs.Prelude.{IfOk};
+    ghost use Rattle.clip_run.specs.Pending.{IsDue};
 
-    ghost kept_by = { λ due result. IfOk result (λ found. map alerts_value found.items
-        ≡ map (alerts_due due.view.value) due.drafts.value.items) };
+    ghost kept_by = { λ due result. IfOk result (λ found. IsDue due found.items) };
 }
 
 /// A batch that was matched.
@@ -35,19 +38,22 @@ pub struct Matched {
     pub number: u64,
     /// What was due to it.
     pub due: Due,
-    /// The alerts of each article.
-    pub alerts: Vec<Alerts>,
-    pub ghost right: { map alerts_value alerts.items ≡ map (alerts_due due.view.value) due.drafts.value.items },
+    /// What was found of each article.
+    pub found: Vec<Found>,
+    pub ghost right: { IsDue due found.items },
 }
 
 impl Due {
-    /// What is due to the drafts' articles at the view. Constant time.
-    pub fn to(view: &View, drafts: &Vec<JudgedDraft>) -> Due
-        ensures { (result.view.value ≡ view.now) × (result.drafts.value ≡ drafts.now) }
+    /// What is due to the drafts' articles at the view, with these settings. Constant time.
+    pub fn to(view: &View, drafts: &Vec<JudgedDraft>, settings: Settings) -> Due
+        ensures view { result.view.value ≡ view.now }
+        ensures drafts { result.drafts.value ≡ drafts.now }
+        ensures settings { result.settings ≡ settings }
     {
         Due {
             view: Snapshot::of(view),
             drafts: Snapshot::of(drafts),
+            settings,
         }
     }
 }

@@ -1,13 +1,21 @@
 -- What is given for the alerts that were found for a line.
-use Rattle.std.specs.Prelude.{ℕ, List, map, flat_map}
+use Rattle.std.specs.Prelude.{◌≡◌, ℕ, List, false, map, flat_map, ⊤}
 use Rattle.clip_model.specs.Alerts.{Alert}
 use Rattle.clip_standing.specs.Alerts.{AlertsValue}
 use Rattle.clip_listen.specs.Heard.{Hearer}
 use Rattle.clip_ledger.specs.Rows.{RowValue}
 use Rattle.clip_front.specs.Outcome.{Outcome, rows_of_article}
+use Rattle.clip_front.specs.declared.settings.Settings.{Settings}
 use Rattle.clip_protocol.specs.declared.form.Form.{Form}
+use Rattle.clip_protocol.specs.declared.found.Found.{Found}
+use Rattle.clip_protocol.specs.declared.found.Found.TheVariants as found
 use Rattle.clip_protocol.specs.Reply.{matched, reply_text, texts_said}
 use Rattle.clip_protocol.specs.Steps.Views.{alerts_by_id}
+
+-- what was found is shown, if it is, in the form of the settings, and only where no rows are kept
+abbrev pub IsFor : Settings → Found → Type 0
+IsFor settings (found.Alerts a) = ⊤
+IsFor settings (found.Shown s) = (s.form ≡ settings.form) × (settings.keeps_rows ≡ false)
 
 -- the alerts that are found of articles, in order
 abbrev pub told_in : List AlertsValue → List Alert

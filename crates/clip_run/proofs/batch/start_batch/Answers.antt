@@ -19,10 +19,10 @@ use Rattle.clip_registry.specs.contracts.view.View as view
 use Rattle.std.specs.contracts.alloc.Global as global
 use Rattle.std.specs.contracts.impls.GlobalAllocator.TheImpl as global_allocator
 use Rattle.std.specs.contracts.vec.Vec as vec
-use Rattle.clip_standing.specs.contracts.alert.Alerts as alerts
-use Rattle.clip_match.proofs.Sent.{alerts_send}
-use Rattle.clip_match.proofs.held.HitsFound.TheSendSync as hits_found_sent
-use Rattle.clip_match.specs.contracts.held.HitsFound as hits_found
+use Rattle.clip_front.proofs.settings.Settings.TheSendSync as settings_sent
+use Rattle.clip_front.specs.contracts.settings.Settings as settings
+use Rattle.clip_protocol.specs.contracts.found.Found as found
+use Rattle.clip_run.proofs.Sent.{found_send}
 use Rattle.clip_run.proofs.batch.start_batch.Goals as goal
 
 ruleset lists = (sendable, global_sent.the_send, global_sent.the_sync, allocator_sent.the_frees, vec_sent.the_send, judged_sent.the_send)
@@ -35,9 +35,9 @@ captures_send name A B C D E F a b c d e f =
 pub spawn_with-requires-send-F : goal.spawn_with-requires-send-F
 spawn_with-requires-send-F g c κs within =
     let drafts = vec.the_row judged.the_row global.the_row global_allocator.ghosts in
-    param_send 2 _ (arg_send _ no _ (captures_send _ global.the_row view.the_row drafts hits_found.the_row (u64-field).row (param 1 g.row.G) (search lists) view_is_send (search lists) hits_found_sent.the_send (search sendable) (search (sendable, c.type_bounds.send-G))))
+    param_send 2 _ (arg_send _ no _ (captures_send _ global.the_row view.the_row drafts settings.the_row (u64-field).row (param 1 g.row.G) (search lists) view_is_send (search lists) settings_sent.the_send (search sendable) (search (sendable, c.type_bounds.send-G))))
 
 pub spawn_with-requires-send-T : goal.spawn_with-requires-send-T
 spawn_with-requires-send-T g c κs within =
-    let found = vec_sent.the_send alerts.the_row global.the_row global_allocator.ghosts alerts_send global_sent.the_send allocator_sent.the_frees in
-    param_send 3 _ (arg_send _ no _ (result_sent.the_send _ _ found no_memory_sent.the_send))
+    let all = vec_sent.the_send found.the_row global.the_row global_allocator.ghosts found_send global_sent.the_send allocator_sent.the_frees in
+    param_send 3 _ (arg_send _ no _ (result_sent.the_send _ _ all no_memory_sent.the_send))

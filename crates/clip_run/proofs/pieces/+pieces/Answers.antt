@@ -16,14 +16,14 @@ use Rattle.std.below.std_heap.proofs.GlobalAllocator.TheSendSync as allocator_se
 use Rattle.std.proofs.result.Result.TheSendSync as result_sent
 use Rattle.std.proofs.vec.Vec.TheSendSync as vec_sent
 use Rattle.clip_words.proofs.NoMemory.TheSendSync as no_memory_sent
-use Rattle.clip_standing.specs.contracts.alert.Alerts as alerts
 use Rattle.clip_registry.specs.contracts.view.View as view
 use Rattle.clip_registry.proofs.Sent.{view_is_sync}
 use Rattle.clip_protocol.specs.contracts.judged.JudgedDraft as judged
 use Rattle.clip_protocol.proofs.judged.JudgedDraft.TheSendSync as judged_sent
-use Rattle.clip_match.specs.contracts.held.HitsFound as hits_found
-use Rattle.clip_match.proofs.held.HitsFound.TheSendSync as hits_found_sent
-use Rattle.clip_match.proofs.Sent.{alerts_send}
+use Rattle.clip_front.proofs.settings.Settings.TheSendSync as settings_sent
+use Rattle.clip_front.specs.contracts.settings.Settings as settings
+use Rattle.clip_protocol.specs.contracts.found.Found as found
+use Rattle.clip_run.proofs.Sent.{found_send}
 use Rattle.clip_run.proofs.pieces.+pieces.Goals as goal
 
 -- a closure of nine captures
@@ -52,14 +52,14 @@ join-first-requires-send-F g t c κs within =
     let front = (shr_slice_field (record { mir = named 8; lft = κs.1.1.1.1.1.1.1.1.0 }) judged.the_row tt).row in
     let gate = (shr_ref_field (record { mir = named 9; lft = κs.1.1.1.1.1.1.1.1.1.0 }) (param 1 g.row.G) tt).row in
     let number = u32-field.row in
-    let captured = rt ∷ global.the_row ∷ looked ∷ front ∷ hits_found.the_row ∷ u64-field.row ∷ number ∷ number ∷ gate ∷ [] in
+    let captured = rt ∷ global.the_row ∷ looked ∷ front ∷ settings.the_row ∷ u64-field.row ∷ number ∷ number ∷ gate ∷ [] in
     let name = codes "clip_run::pieces::fn::match_from::join+arg2+Self" in
     param_send 1 _ (arg_send _ no (TupleAt name captured)
-    (captures_send name rt global.the_row looked front hits_found.the_row u64-field.row number number gate
-    (shr_send _ _ _ (param_sync 0 _ r)) global_sent.the_send (shr_send _ _ _ view_is_sync) (shr_slice_send _ _ _ judged_sent.the_sync) hits_found_sent.the_send
+    (captures_send name rt global.the_row looked front settings.the_row u64-field.row number number gate
+    (shr_send _ _ _ (param_sync 0 _ r)) global_sent.the_send (shr_send _ _ _ view_is_sync) (shr_slice_send _ _ _ judged_sent.the_sync) settings_sent.the_send
     (search sendable) (search sendable) (search sendable) (shr_send _ _ _ (param_sync 1 _ s))))
 
 pub join-first-requires-send-A : goal.join-first-requires-send-A
 join-first-requires-send-A g t c κs within =
-    let found = vec_sent.the_send alerts.the_row global.the_row global_allocator.ghosts alerts_send global_sent.the_send allocator_sent.the_frees in
-    param_send 3 _ (arg_send _ no _ (result_sent.the_send _ _ found no_memory_sent.the_send))
+    let all = vec_sent.the_send found.the_row global.the_row global_allocator.ghosts found_send global_sent.the_send allocator_sent.the_frees in
+    param_send 3 _ (arg_send _ no _ (result_sent.the_send _ _ all no_memory_sent.the_send))

@@ -1,13 +1,13 @@
 use Rattle.std.proofs.Common.{map, ap, ◌∙◌}
 use Rattle.std.proofs.lemmas.Result.{IfOk-weaker}
-use Rattle.clip_standing.specs.Alerts.{alerts_value}
+use Rattle.clip_protocol.specs.Found.{found_value}
 use Rattle.clip_protocol.specs.Reply.{matched, reply_text}
 use Rattle.clip_protocol.specs.Steps.Views.{alerts_by_id}
 use Rattle.clip_front.proofs.Found.{texts_of_notes}
-use Rattle.clip_front.proofs.deliver.deliver_found.Goals as goal
+use Rattle.clip_front.proofs.deliver.deliver_shown.Goals as goal
 
 pub returns-clause-text : goal.returns-clause-text
 returns-clause-text g c =
     let notes = rw c.deref.ensures.value at c.in_ok-notes.ensures.notes in
     let said = texts_of_notes c.in_ok-notes.notes.items ∙ ap (map (λ n. n.text)) notes in
-    IfOk-weaker c.text.result _ _ (λ text printed. printed ∙ ap (λ texts. reply_text c.args.number (matched c.args.books.now.settings.form (map alerts_by_id (map alerts_value c.args.found.items)) texts)) said) c.text.ensures
+    IfOk-weaker c.found_text.result _ _ (λ text printed. printed ∙ ap (λ texts. reply_text c.args.number (matched c.args.books.now.settings.form (map alerts_by_id (map found_value c.args.found.now)) texts)) said) c.found_text.ensures
