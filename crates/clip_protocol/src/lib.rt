@@ -8,6 +8,7 @@ mod listing;
 mod members;
 mod printing;
 mod refusal;
+mod remembered;
 mod reply;
 mod request;
 
