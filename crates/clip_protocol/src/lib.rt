@@ -2,6 +2,7 @@
 #![tactic(auto)]
 
 mod form;
+mod found;
 mod judged;
 mod line;
 mod listing;
@@ -11,8 +12,10 @@ mod refusal;
 mod remembered;
 mod reply;
 mod request;
+mod shown;
 
 pub use form::Form;
+pub use found::{Found, found_text};
 pub use judged::{JudgedDraft, articles_of, judge_drafts};
 pub use line::{Line, have_ids, is_blank, json_of};
 pub use listing::{ListFault, read_listing};
@@ -22,3 +25,4 @@ pub use members::{
 pub use refusal::{Refusal, UNSHAPED, Unread};
 pub use reply::{Reply, accepted};
 pub use request::{Draft, Listing, Request, drafts_of, listings_of, texts_of};
+pub use shown::Shown;
