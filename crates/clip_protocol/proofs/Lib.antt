@@ -1,3 +1,4 @@
 pub mod Meanings
 pub mod ObjectMembers
+pub mod Printed
 pub mod RequestLaw

@@ -1,11 +1,11 @@
 //! What was found of an article, and the text of the reply to a match.
-ghost use Rattle.std.specs.Prelude.{◌≡◌, ◌∷◌, [], ◌++◌, All, IfOk, None, codes, map};
-ghost use Rattle.std.specs.Bool.{OnFalse};
+ghost use Rattle.std.specs.Prelude.{◌≡◌, ◌∷◌, [], ◌++◌, All, IfOk, OnOk, codes, false, is_some, map, true};
 ghost use Rattle.std.specs.Arc.{arc_str_bytes};
+ghost use Rattle.std.specs.List.{list_any};
 ghost use Rattle.json.specs.Print.{print, quoted};
 ghost use Rattle.serde_json.specs.Data.{string};
 ghost use Rattle.serde_json.specs.View.{items_of};
-ghost use Rattle.serde_json.specs.Written.{items_text, members_text};
+ghost use Rattle.serde_json.specs.Written.{comma_if, items_text, members_text};
 ghost use Rattle.clip_standing.specs.Alerts.{alert_value, alerts_value};
 ghost use Rattle.clip_protocol.specs.Found.{IsShownIn, found_value};
 ghost use Rattle.clip_protocol.specs.Reply as reply;
@@ -33,11 +33,18 @@ pub enum Found {
     Shown(Shown),
 }
 
-/// Whether the query of one of the alerts has a listener.
-fn has_listener(alerts: &[Alert]) -> bool
-    ensures { OnFalse result (All (λ a. a.listener ≡ None) (map alert_value alerts.now)) }
+/// Whether the query of the alert has a listener.
+fn has_listener(alert: &Alert) -> bool
+    ensures { result ≡ is_some (alert_value alert.now).listener }
 {
-    alerts.iter().any(|alert| alert.listener().is_some())
+    alert.listener().is_some()
+}
+
+/// Whether the query of one of the alerts has a listener.
+fn have_listener(alerts: &[Alert]) -> bool
+    ensures { result ≡ list_any (λ a. is_some (alert_value a).listener) alerts.now }
+{
+    alerts.iter().any(|alert| has_listener(alert))
 }
 
 impl Found {
@@ -49,7 +56,7 @@ impl Found {
         ensures value { IfOk result (λ found. found_value found ≡ alerts_value alerts) }
         ensures form { IfOk result (λ found. IsShownIn form found) }
     {
-        if has_listener(&alerts.alerts) {
+        if have_listener(&alerts.alerts) {
             return Ok(Found::Alerts(alerts));
         }
         Ok(Found::Shown(Shown::of(alloc, form, &alerts)?))
@@ -64,6 +71,16 @@ fn opened_text(alloc: Global) -> Result<Vec<u8>, NoMemory>
     out.key("alerts")?;
     out.begin_array()?;
     Ok(out.into_inner())
+}
+
+/// Adds a comma to the text, where what comes stands after another.
+fn separate(text: &mut Vec<u8>, later: bool) -> Result<(), NoMemory>
+    ensures { OnOk result (text.new.items ≡ text.old.items ++ comma_if later) }
+{
+    if later {
+        text.push(b',')?;
+    }
+    Ok(())
 }
 
 /// The text, and after it what a reply shows of an article.
@@ -91,16 +108,14 @@ fn with_articles(
     mut text: Vec<u8>,
     alloc: Global,
     form: Form,
-    found: &[Found],
+    all: &[Found],
 ) -> Result<Vec<u8>, NoMemory>
-    requires { All (IsShownIn form) found.now }
+    requires { All (IsShownIn form) all.now }
     ensures { IfOk result (λ after. after.items ++ 93 ∷ [] ≡ text.items ++ items_text false
-        (items_of (map (alerts_data form) (map alerts_by_id (map found_value found.now))))) }
+        (items_of (map (alerts_data form) (map alerts_by_id (map found_value all.now))))) }
 {
-    for (place, found) in found.iter().enumerate() {
-        if place > 0 {
-            text.push(b',')?;
-        }
+    for (place, found) in all.iter().enumerate() {
+        separate(&mut text, place > 0)?;
         text = with_article(text, alloc, form, found)?;
     }
     Ok(text)
