@@ -2,3 +2,4 @@ pub mod Meanings
 pub mod ObjectMembers
 pub mod Printed
 pub mod RequestLaw
+pub mod Sent

@@ -1,5 +1,5 @@
--- Stepping stones: outlines of lines, what is printed of a reply, requests, lines and replies as contracts see them, and
--- how alerts that are let go are remembered.
+-- Stepping stones: outlines of lines, what is printed of a reply, how alerts that are let go are remembered, and
+-- requests, lines and replies as contracts see them.
 pub mod Listings
 pub mod Outline
 pub mod Printing

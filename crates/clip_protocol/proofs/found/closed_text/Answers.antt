@@ -1,7 +1,7 @@
-use Rattle.std.proofs.Common.{◌≡◌, [], ◌∷◌, ◌++◌, IfOk, List, ℕ, ap, ap₂, ◌∙◌, append_assoc, codes, decimal, map, subst, true}
+use Rattle.std.proofs.Common.{◌≡◌, [], ◌∷◌, ◌++◌, IfOk, List, ℕ, ap, ap₂, ◌∙◌, append_assoc, codes, map, subst, true}
 use Rattle.std.specs.Arc.{arc_str_bytes}
 use Rattle.json.specs.Print.{print}
-use Rattle.json.specs.Token.{Token, end_array, end_object, key, number}
+use Rattle.json.specs.Token.{Token, end_array, end_object, key}
 use Rattle.serde_json.specs.Data.{string}
 use Rattle.serde_json.specs.Written.{members_text}
 use Rattle.clip_protocol.specs.Reply.{number_of}

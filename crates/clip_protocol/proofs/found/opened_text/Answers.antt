@@ -1,4 +1,4 @@
-use Rattle.std.proofs.Common.{◌≡◌, [], ◌∷◌, ◌++◌, codes, ap, ap₂, ◌∙◌}
+use Rattle.std.proofs.Common.{[], ◌∷◌, ◌++◌, codes, ap, ap₂, ◌∙◌}
 use Rattle.json.specs.Token.{begin_array, key}
 use Rattle.json.specs.Print.{escape_byte, print, print_from}
 use Rattle.clip_protocol.proofs.found.opened_text.Goals as goal
