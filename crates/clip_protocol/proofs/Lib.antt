@@ -1,3 +1,5 @@
 pub mod Meanings
 pub mod ObjectMembers
+pub mod Printed
 pub mod RequestLaw
+pub mod Sent

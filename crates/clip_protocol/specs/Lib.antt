@@ -1,3 +1,4 @@
+pub mod Found
 pub mod LineMeaning
 pub mod Refusal
 pub mod Reply

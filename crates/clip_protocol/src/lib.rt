@@ -2,16 +2,20 @@
 #![tactic(auto)]
 
 mod form;
+mod found;
 mod judged;
 mod line;
 mod listing;
 mod members;
 mod printing;
 mod refusal;
+mod remembered;
 mod reply;
 mod request;
+mod shown;
 
 pub use form::Form;
+pub use found::{Found, found_text};
 pub use judged::{JudgedDraft, articles_of, judge_drafts};
 pub use line::{Line, have_ids, is_blank, json_of};
 pub use listing::{ListFault, read_listing};
@@ -21,3 +25,4 @@ pub use members::{
 pub use refusal::{Refusal, UNSHAPED, Unread};
 pub use reply::{Reply, accepted};
 pub use request::{Draft, Listing, Request, drafts_of, listings_of, texts_of};
+pub use shown::Shown;

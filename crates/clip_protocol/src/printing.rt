@@ -1,6 +1,7 @@
 //! The values in replies, written token by token.
-ghost use Rattle.std.specs.Prelude.{map, option_map, string_bytes};
+ghost use Rattle.std.specs.Prelude.{◌≡◌, ◌++◌, IfOk, map, option_map, string_bytes};
 ghost use Rattle.std.specs.Arc.{arc_str_bytes};
+ghost use Rattle.json.specs.Print.{print};
 ghost use Rattle.serde_json.specs.Data.{string};
 ghost use Rattle.clip_meaning.specs.Hits.{hit_value};
 ghost use Rattle.clip_standing.specs.Alerts.{alert_value, alerts_value};
@@ -136,6 +137,21 @@ fn write_alerts(out: &mut Writer, alloc: Global, form: Form, found: &Alerts) -> 
     write_queries(out, &found.alerts)?;
     out.end_object()?;
     Ok(())
+}
+
+/// The text, and after it an article's alerts in a form.
+pub fn alerts_text(
+    text: Vec<u8>,
+    alloc: Global,
+    form: Form,
+    found: &Alerts,
+) -> Result<Vec<u8>, NoMemory>
+    ensures { IfOk result (λ after. after.items
+        ≡ text.items ++ print (data_tokens (alerts_data form (alerts_by_id (alerts_value found.now))))) }
+{
+    let mut out = Writer::new(text);
+    write_alerts(&mut out, alloc, form, found)?;
+    Ok(out.into_inner())
 }
 
 /// Writes the alerts of each article in a form.

@@ -1,6 +1,7 @@
 //! Replies, and their text.
 ghost use Rattle.std.specs.Prelude.{◌≡◌, [], ◌∷◌, ◌++◌, codes, IfOk, map, option_map, string_bytes};
 ghost use Rattle.std.specs.Arc.{arc_str_bytes};
+ghost use Rattle.json.specs.Print.{print};
 ghost use Rattle.json.specs.Token.{begin_object, end_object};
 ghost use Rattle.serde_json.specs.Data.{Data, string};
 ghost use Rattle.clip_standing.specs.Alerts.{alerts_value};
@@ -51,7 +52,7 @@ pub enum Reply {
 }
 
 /// A reply whose object has begun.
-fn begun(alloc: Global) -> Result<Writer, NoMemory>
+pub fn begun(alloc: Global) -> Result<Writer, NoMemory>
     ensures before { IfOk result (λ out. out.before ≡ []) }
     ensures tokens { IfOk result (λ out. out.tokens ≡ begin_object ∷ []) }
 {
@@ -60,15 +61,22 @@ fn begun(alloc: Global) -> Result<Writer, NoMemory>
     Ok(out)
 }
 
-/// The text of a reply, of which all but the end of its object is written: compact JSON, and a line feed.
-fn ended(mut out: Writer) -> Result<Vec<u8>, NoMemory>
-    ensures { (d : Data) → out.before ≡ [] → out.tokens ++ end_object ∷ [] ≡ data_tokens d
-        → IfOk result (λ text. text.items ≡ printed d) }
+/// What is written of a reply, after it the end of its object, and a line feed.
+pub fn line_of(mut out: Writer) -> Result<Vec<u8>, NoMemory>
+    ensures { IfOk result (λ text. text.items ≡ out.before ++ print (out.tokens ++ end_object ∷ []) ++ 10 ∷ []) }
 {
     out.end_object()?;
     let mut text = out.into_inner();
     text.push(b'\n')?;
     Ok(text)
+}
+
+/// The text of a reply, of which all but the end of its object is written: compact JSON, and a line feed.
+fn ended(out: Writer) -> Result<Vec<u8>, NoMemory>
+    ensures { (d : Data) → out.before ≡ [] → out.tokens ++ end_object ∷ [] ≡ data_tokens d
+        → IfOk result (λ text. text.items ≡ printed d) }
+{
+    line_of(out)
 }
 
 /// The reply to the line of this number that gives a word under this name, which comes after `line`.

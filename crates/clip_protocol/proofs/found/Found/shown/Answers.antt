@@ -1,0 +1,20 @@
+use Rattle.std.proofs.Common.{◌≡◌, All, List, ℕ, None, Option, Some, ap, ◌∙◌, false, is_some, map, refl, sym, true}
+use Rattle.std.specs.List.{list_any}
+use Rattle.std.proofs.lemmas.List.Elements.{All-map}
+use Rattle.std.proofs.lemmas.List.Folds.{list_any_at}
+use Rattle.clip_standing.specs.Alerts.{alert_value}
+use Rattle.clip_standing.specs.declared.alert.Alert.{Alert}
+use Rattle.clip_protocol.proofs.found.Found.shown.Goals as goal
+
+none_if : (o : Option (List ℕ)) → (is_some o ≡ true → ⊥) → o ≡ None
+none_if None h = refl
+none_if (Some x) h = absurd (h refl)
+
+-- where no alert has a listener, each has none
+unheard : (alerts : List Alert) → list_any (λ a. is_some (alert_value a).listener) alerts ≡ false → All (λ a. a.listener ≡ None) (map alert_value alerts)
+unheard alerts none =
+    All-map (λ a. a.listener ≡ None) alert_value alerts (λ k d h. none_if _ (λ some.
+    let one : list_any (λ a. is_some (alert_value a).listener) alerts ≡ true = list_any_at (λ a. is_some (alert_value a).listener) alerts k d h some in cc))
+
+pub of-requires : goal.of-requires
+of-requires c = unheard c.args.alerts.alerts.items (sym (c.if-have_listener.ensures ∙ ap (list_any (λ a. is_some (alert_value a).listener)) c.deref.ensures.value))
