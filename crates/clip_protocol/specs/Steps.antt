@@ -1,7 +1,6 @@
--- Stepping stones: outlines of lines, what is printed of a reply, how alerts that are let go are remembered, and
--- requests, lines and replies as contracts see them.
+-- Stepping stones: outlines of lines, what is printed of a reply, and requests, lines and replies as contracts see
+-- them.
 pub mod Listings
 pub mod Outline
 pub mod Printing
-pub mod Remembered
 pub mod Views

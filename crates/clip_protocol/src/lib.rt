@@ -9,7 +9,6 @@ mod listing;
 mod members;
 mod printing;
 mod refusal;
-mod remembered;
 mod reply;
 mod request;
 mod shown;

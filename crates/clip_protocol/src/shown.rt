@@ -9,10 +9,10 @@ ghost use Rattle.clip_protocol.specs.Steps.Views.{alerts_by_id};
 
 use crate::form::Form;
 use crate::printing::alerts_text;
-use crate::remembered::Remembered;
 use clip_standing::Alerts;
 use clip_words::NoMemory;
 use std::alloc::Global;
+use std::snapshot::Snapshot;
 
 /// What a reply to a match shows of an article, whose alerts are let go, since no query among them has a listener.
 #[derive(Drop)]
@@ -20,9 +20,11 @@ pub struct Shown {
     /// The form.
     pub form: Form,
     text: Vec<u8>,
-    alerts: Remembered,
-    pub ghost written: { text.items ≡ print (data_tokens (alerts_data form (alerts_by_id alerts.alerts))) },
-    pub ghost unheard: { All (λ a. a.listener ≡ None) alerts.alerts.alerts } by { Prim.hlevel props },
+    /// What its alerts were, for proofs alone. It takes no bytes.
+    pub alerts: Snapshot<Alerts>,
+    pub ghost written: { text.items
+        ≡ print (data_tokens (alerts_data form (alerts_by_id (alerts_value alerts.value)))) },
+    pub ghost unheard: { All (λ a. a.listener ≡ None) (alerts_value alerts.value).alerts } by { Prim.hlevel props },
 }
 
 impl Shown {
@@ -32,19 +34,20 @@ impl Shown {
     pub fn of(alloc: Global, form: Form, alerts: &Alerts) -> Result<Shown, NoMemory>
         requires { All (λ a. a.listener ≡ None) (alerts_value alerts.now).alerts }
         ensures form { IfOk result (λ shown. shown.form ≡ form) }
-        ensures alerts { IfOk result (λ shown. shown.alerts.alerts ≡ alerts_value alerts.now) }
+        ensures alerts { IfOk result (λ shown. shown.alerts.value ≡ alerts.now) }
     {
         let text = alerts_text(Vec::new(alloc), alloc, form, alerts)?;
         Ok(Shown {
             form,
             text,
-            alerts: Remembered::of(alerts),
+            alerts: Snapshot::of(alerts),
         })
     }
 
     /// The text. Takes constant time.
     pub fn as_slice(&self) -> &[u8]
-        ensures { result.now ≡ print (data_tokens (alerts_data self.now.form (alerts_by_id self.now.alerts.alerts))) }
+        ensures { result.now ≡ print (data_tokens
+            (alerts_data self.now.form (alerts_by_id (alerts_value self.now.alerts.value)))) }
     {
         &self.text
     }
