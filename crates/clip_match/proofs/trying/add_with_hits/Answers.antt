@@ -37,9 +37,9 @@ loop-position-preserved c =
     let made : map hit_value c.add_hits.new.found.items ≡ all ++ found =
     subst (λ (a : AskedValue). (entry : Registered) → slice_get a.entries p ≡ Some entry → map hit_value c.add_hits.new.found.items ≡ all ++ hits entry.standing.tree a.article.fields) c.requires
     c.in_ok-add_hits.ensures one.registered.now there in
-    let places : HitPlaces = record { start = c.len.result; end = c.len-2.result } in
-    let start : places.start ≡ length all = omega (arith, c.len.ensures, length-map c.loop-position.all_hits.items hit_value) in
-    let end : places.end ≡ length (all ++ found) = omega (arith, c.len-2.ensures, length-map c.add_hits.new.found.items hit_value, ap length made) in
+    let places : HitPlaces = record { start = c.len-start.result; end = c.len-end.result } in
+    let start : places.start ≡ length all = omega (arith, c.len-start.ensures, length-map c.loop-position.all_hits.items hit_value) in
+    let end : places.end ≡ length (all ++ found) = omega (arith, c.len-end.ensures, length-map c.add_hits.new.found.items hit_value, ap length made) in
     let more : entries_at es (take i ps) ++ one.registered.now ∷ [] ≡ entries_at es (take (i + 1) ps) =
     ap (λ o. entries_at es (take i ps) ++ option_to_list o) (sym there)
     ∙ sym (entries_more es (take i ps) p)
