@@ -39,12 +39,12 @@ fn deliver_article<A: Audience>(
 }
 
 /// The alerts of articles, none of which are shown already.
-fn unshown(alloc: Global, alerts: Vec<Alerts>) -> Result<Vec<Found>, NoMemory>
-    ensures value { IfOk result (λ found. map found_value found.items ≡ map alerts_value alerts.entry.items) }
+fn unshown(alloc: Global, all: Vec<Alerts>) -> Result<Vec<Found>, NoMemory>
+    ensures value { IfOk result (λ found. map found_value found.items ≡ map alerts_value all.items) }
     ensures any { IfOk result (λ found. (settings : Settings) → All (IsFor settings) found.items) }
 {
-    let mut found = Vec::with_capacity(alloc, alerts.len())?;
-    for alerts in alerts {
+    let mut found = Vec::with_capacity(alloc, all.len())?;
+    for alerts in all {
         found.push(Found::Alerts(alerts))?;
     }
     Ok(found)

@@ -36,7 +36,7 @@ fn found_of_all(
     settings: Settings,
     all: Vec<Alerts>,
 ) -> Result<Vec<Found>, NoMemory>
-    ensures value { IfOk result (λ found. map found_value found.items ≡ map alerts_value all.entry.items) }
+    ensures value { IfOk result (λ found. map found_value found.items ≡ map alerts_value all.items) }
     ensures fit { IfOk result (λ found. All (IsFor settings) found.items) }
 {
     let mut found = Vec::with_capacity(alloc, all.len())?;
