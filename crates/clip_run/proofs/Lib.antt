@@ -5,5 +5,4 @@ pub mod OnlyCaller
 pub mod Outcomes
 pub mod Owing
 pub mod Seats
-pub mod Sent
 pub mod Turns

@@ -22,7 +22,7 @@ use Rattle.std.specs.contracts.vec.Vec as vec
 use Rattle.clip_front.proofs.settings.Settings.TheSendSync as settings_sent
 use Rattle.clip_front.specs.contracts.settings.Settings as settings
 use Rattle.clip_protocol.specs.contracts.found.Found as found
-use Rattle.clip_run.proofs.Sent.{found_send}
+use Rattle.clip_protocol.proofs.Sent.{found_send}
 use Rattle.clip_run.proofs.batch.start_batch.Goals as goal
 
 ruleset lists = (sendable, global_sent.the_send, global_sent.the_sync, allocator_sent.the_frees, vec_sent.the_send, judged_sent.the_send)

@@ -23,7 +23,7 @@ use Rattle.clip_protocol.proofs.judged.JudgedDraft.TheSendSync as judged_sent
 use Rattle.clip_front.proofs.settings.Settings.TheSendSync as settings_sent
 use Rattle.clip_front.specs.contracts.settings.Settings as settings
 use Rattle.clip_protocol.specs.contracts.found.Found as found
-use Rattle.clip_run.proofs.Sent.{found_send}
+use Rattle.clip_protocol.proofs.Sent.{found_send}
 use Rattle.clip_run.proofs.pieces.+pieces.Goals as goal
 
 -- a closure of nine captures
