@@ -56,7 +56,8 @@ impl Found {
         ensures value { IfOk result (λ found. found_value found ≡ alerts_value alerts) }
         ensures form { IfOk result (λ found. IsShownIn form found) }
     {
-        if have_listener(&alerts.alerts) {
+        let is_heard = have_listener(&alerts.alerts);
+        if is_heard {
             return Ok(Found::Alerts(alerts));
         }
         Ok(Found::Shown(Shown::of(alloc, form, &alerts)?))

@@ -17,4 +17,4 @@ unheard alerts none =
     let one : list_any (λ a. is_some (alert_value a).listener) alerts ≡ true = list_any_at (λ a. is_some (alert_value a).listener) alerts k d h some in cc))
 
 pub of-requires : goal.of-requires
-of-requires c = unheard c.args.alerts.alerts.items (sym (c.if-have_listener.ensures ∙ ap (list_any (λ a. is_some (alert_value a).listener)) c.deref.ensures.value))
+of-requires c = unheard c.args.alerts.alerts.items (sym (ap (list_any (λ a. is_some (alert_value a).listener)) c.deref.ensures.value) ∙ sym c.have_listener-is_heard.ensures ∙ c.if-is_heard.false)
