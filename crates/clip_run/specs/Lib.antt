@@ -1,5 +1,6 @@
 pub mod Alone
 pub mod Crews
+pub mod Due
 pub mod Owed
 pub mod Pending
 pub mod Ran

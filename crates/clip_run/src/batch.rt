@@ -1,7 +1,8 @@
 //! Batches that are matched while the run goes on.
 ghost use Rattle.std.specs.Prelude.{◌≡◌, IfOk};
 ghost use Rattle.clip_run.specs.Owed.{matched};
-ghost use Rattle.clip_run.specs.Pending.{owed_by, IsDue, GoesBy};
+ghost use Rattle.clip_run.specs.Due.{IsDue};
+ghost use Rattle.clip_run.specs.Pending.{owed_by, GoesBy};
 
 use crate::due::{Due, Matched};
 use crate::pieces::{match_drafts, match_drafts_in_pieces};

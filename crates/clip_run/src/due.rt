@@ -1,9 +1,6 @@
 //! What is due to a batch, and a batch that was matched.
-ghost use Rattle.std.specs.Prelude.{◌≡◌, map};
-ghost use Rattle.std.specs.List.{All};
-ghost use Rattle.clip_match.specs.Alerts.{alerts_due};
-ghost use Rattle.clip_protocol.specs.Found.{found_value};
-ghost use Rattle.clip_front.specs.Steps.Found.{IsFor};
+ghost use Rattle.std.specs.Prelude.{◌≡◌};
+ghost use Rattle.clip_run.specs.Due.{IsDue};
 
 use clip_front::Settings;
 use clip_protocol::{Found, JudgedDraft};
@@ -26,7 +23,7 @@ pub struct Due {
 
 impl Promise<Result<Vec<Found>, NoMemory>> for Due {
     ghost use Rattle.std.specs.Prelude.{IfOk};
-    ghost use Rattle.clip_run.specs.Pending.{IsDue};
+    ghost use Rattle.clip_run.specs.Due.{IsDue};
 
     ghost kept_by = { λ due result. IfOk result (λ found. IsDue due found.items) };
 }
