@@ -29,7 +29,7 @@ some_still all more found (Some places) at = stand_still all more found places a
 pub each_still : (wanted : HitsFound) (article : ArticleValue) (all more : List HitValue) (held : List Held) → All (HasItsHits wanted article all) held → All (HasItsHits wanted article (all ++ more)) held
 each_still wanted article all more held each k d lt =
     let one = each k d lt in
-    record { right = some_still all more _ _ one.right; there = one.there; }
+    record { right = some_still all more _ _ one.right; there = one.there }
 
 -- those that were added last
 pub stand_last : (all found : List HitValue) (places : HitPlaces) → places.start ≡ length all → places.end ≡ length (all ++ found) → StandAt (all ++ found) found places

@@ -1,6 +1,6 @@
 //! What is due to a batch, and a batch that was matched.
 ghost use Rattle.std.specs.Prelude.{◌≡◌};
-ghost use Rattle.clip_run.specs.Due.{IsDue};
+ghost use Rattle.clip_run.specs.Due.{IsDue, one_way_due};
 
 use clip_front::Settings;
 use clip_protocol::{Found, JudgedDraft};
@@ -37,7 +37,7 @@ pub struct Matched {
     pub due: Due,
     /// What was found of each article.
     pub found: Vec<Found>,
-    pub ghost right: { IsDue due found.items },
+    pub ghost right: { IsDue due found.items } by { one_way_due due found.items },
 }
 
 impl Due {

@@ -1,5 +1,6 @@
 -- What is given for the alerts that were found for a line.
 use Rattle.std.specs.Prelude.{◌≡◌, ℕ, List, false, map, flat_map, ⊤}
+use Rattle.std.proofs.Props.{props}
 use Rattle.clip_model.specs.Alerts.{Alert}
 use Rattle.clip_standing.specs.Alerts.{AlertsValue}
 use Rattle.clip_listen.specs.Heard.{Hearer}
@@ -16,6 +17,11 @@ use Rattle.clip_protocol.specs.Steps.Views.{alerts_by_id}
 abbrev pub IsFor : Settings → Found → Type 0
 IsFor settings (found.Alerts a) = ⊤
 IsFor settings (found.Shown s) = (s.form ≡ settings.form) × (settings.keeps_rows ≡ false)
+
+-- any two proofs of it are one
+pub one_way_for : (settings : Settings) (one : Found) → IsProp (IsFor settings one)
+one_way_for settings (found.Alerts a) = Prim.hlevel props
+one_way_for settings (found.Shown s) = Prim.hlevel props
 
 -- the alerts that are found of articles, in order
 abbrev pub told_in : List AlertsValue → List Alert
