@@ -31,11 +31,7 @@ fn found_of(alloc: Global, settings: Settings, alerts: Alerts) -> Result<Found, 
 }
 
 /// The same of each of several articles.
-fn found_of_all(
-    alloc: Global,
-    settings: Settings,
-    all: Vec<Alerts>,
-) -> Result<Vec<Found>, NoMemory>
+fn found_of_all(alloc: Global, settings: Settings, all: Vec<Alerts>) -> Result<Vec<Found>, NoMemory>
     ensures value { IfOk result (λ found. map found_value found.items ≡ map alerts_value all.items) }
     ensures fit { IfOk result (λ found. All (IsFor settings) found.items) }
 {
@@ -94,7 +90,17 @@ pub fn match_drafts_in_pieces<R: Threads + Sync, G: Gate>(
     if drafts.is_empty() {
         return Ok(Vec::new(alloc));
     }
-    match_from(rt, alloc, view, drafts, settings, batch, 0, pieces.max(1), gate)
+    match_from(
+        rt,
+        alloc,
+        view,
+        drafts,
+        settings,
+        batch,
+        0,
+        pieces.max(1),
+        gate,
+    )
 }
 
 /// What is found of drafts that are to be cut into pieces, of which this is the number of the first. The pieces are
@@ -117,7 +123,9 @@ fn match_from<R: Threads + Sync, G: Gate>(
 {
     if pieces == 1 {
         let mut pool = WordPool::new(alloc);
-        return match_drafts(alloc, &mut pool, view, drafts, settings, batch, number, gate);
+        return match_drafts(
+            alloc, &mut pool, view, drafts, settings, batch, number, gate,
+        );
     }
     let low = pieces / 2;
     let high = pieces - low;
