@@ -51,7 +51,8 @@ impl Found {
     /// What a reply of this form shows of the alerts, where no query among them has a listener, and else the alerts as
     /// they are. So what nobody is told of is written, and let go, where it was found.
     ///
-    /// `NoMemory` where an allocation failed. Its cost is that of the text, as `Reply::text` has it.
+    /// `NoMemory` where an allocation failed. Its cost is linear in the text; with hits that of `Alert::hits` comes to
+    /// it for each alert that carries none.
     pub fn shown(alloc: Global, form: Form, alerts: Alerts) -> Result<Found, NoMemory>
         ensures value { IfOk result (λ found. found_value found ≡ alerts_value alerts) }
         ensures form { IfOk result (λ found. IsShownIn form found) }

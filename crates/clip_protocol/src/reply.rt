@@ -1,6 +1,5 @@
-//! Replies, and their text.
+//! Replies, and their text. That of the reply to a match is made of what was found (`found_text`).
 ghost use Rattle.std.specs.Prelude.{◌≡◌, [], ◌∷◌, ◌++◌, codes, IfOk, map, option_map, string_bytes};
-ghost use Rattle.std.specs.Arc.{arc_str_bytes};
 ghost use Rattle.json.specs.Print.{print};
 ghost use Rattle.json.specs.Token.{begin_object, end_object};
 ghost use Rattle.serde_json.specs.Data.{Data, string};
@@ -12,11 +11,8 @@ ghost use Rattle.clip_protocol.specs.Steps.Printing.{data_tokens};
 ghost use Rattle.clip_protocol.specs.Steps.Views.{alerts_by_id, applied_view, reply_view};
 
 use crate::form::Form;
-use crate::printing::{
-    write_alerts_of_all, write_notes, write_number, write_text, write_text_or_null,
-};
+use crate::printing::{write_alerts_of_all, write_number, write_text, write_text_or_null};
 use crate::refusal::Refusal;
-use clip_listen::Note;
 use clip_standing::{Alerts, Applied};
 use clip_words::NoMemory;
 use json::Writer;
@@ -43,8 +39,6 @@ pub enum Reply {
     Counted(u64),
     /// The text of a query, where one is registered under the id.
     Shown(Option<String>),
-    /// The alerts of each article, shown in this form, and what the listeners said of them.
-    Matched(Form, Vec<Alerts>, Vec<Note>),
     /// The word for the answer to an event of a trace.
     Stepped(&'static str),
     /// The alerts of each article of a batch of a trace.
@@ -158,29 +152,6 @@ fn shown_text(alloc: Global, number: u64, text: &Option<String>) -> Result<Vec<u
     ended(out)
 }
 
-/// The reply to a match.
-#[tactic(auto, unfolding(crate::specs::Reply::reply_value))]
-fn matched_text(
-    alloc: Global,
-    form: Form,
-    number: u64,
-    found: &[Alerts],
-    notes: &[Note],
-) -> Result<Vec<u8>, NoMemory>
-    ensures { IfOk result (λ text. text.items ≡ printed (reply_value number
-        (reply.matched form (map alerts_by_id (map alerts_value found.now))
-        (map (λ n. arc_str_bytes n.text) notes.now)))) }
-{
-    let mut out = begun(alloc)?;
-    out.key("alerts")?;
-    write_alerts_of_all(&mut out, alloc, form, found)?;
-    out.key("line")?;
-    write_number(&mut out, number)?;
-    out.key("notes")?;
-    write_notes(&mut out, notes)?;
-    ended(out)
-}
-
 /// The reply to the finish of a batch.
 #[tactic(auto, unfolding(crate::specs::Reply::reply_value))]
 fn finished_text(alloc: Global, number: u64, found: &[Alerts]) -> Result<Vec<u8>, NoMemory>
@@ -214,7 +185,7 @@ impl Reply {
     /// The text of the reply to the line of this number: compact JSON and a line feed, or nothing.
     ///
     /// `NoMemory` where an allocation failed. Its cost is linear in the text, which is written token by token and
-    /// allocates only as it grows; with hits that of `Alert::hits` comes to it for each alert that carries none.
+    /// allocates only as it grows.
     #[tactic(auto, unfolding(crate::specs::Reply::reply_value))]
     pub fn text(self, alloc: Global, number: u64) -> Result<Vec<u8>, NoMemory>
         ensures { IfOk result (λ text. text.items ≡ reply_text number (reply_view self)) }
@@ -229,9 +200,6 @@ impl Reply {
             Reply::Purged => purged_text(alloc, number),
             Reply::Counted(count) => numbers_text(alloc, "count", count, "line", number),
             Reply::Shown(text) => shown_text(alloc, number, &text),
-            Reply::Matched(form, found, notes) => {
-                matched_text(alloc, form, number, &found, &notes)
-            }
             Reply::Stepped(word) => word_text(alloc, number, "step", word),
             Reply::Finished(found) => finished_text(alloc, number, &found),
         }

@@ -30,7 +30,8 @@ pub struct Shown {
 impl Shown {
     /// What a reply of this form shows of these alerts.
     ///
-    /// `NoMemory` where an allocation failed. Its cost is that of the text, as `Reply::text` has it.
+    /// `NoMemory` where an allocation failed. Its cost is linear in the text; with hits that of `Alert::hits` comes to
+    /// it for each alert that carries none.
     pub fn of(alloc: Global, form: Form, alerts: &Alerts) -> Result<Shown, NoMemory>
         requires { All (λ a. a.listener ≡ None) (alerts_value alerts.now).alerts }
         ensures form { IfOk result (λ shown. shown.form ≡ form) }

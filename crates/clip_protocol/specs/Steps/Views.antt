@@ -1,6 +1,5 @@
 -- What contracts see of requests, lines and replies.
 use Rattle.std.specs.Prelude.{ℕ, List, map, String, string_bytes, option_map}
-use Rattle.std.specs.Arc.{arc_str_bytes}
 use Rattle.std.specs.declared.alloc.Global.{Global}
 use Rattle.clip_model.specs.Alerts.{Alert}
 use Rattle.clip_standing.specs.declared.command.Applied.{Applied}
@@ -68,8 +67,6 @@ reply_view (answered.Cleared count) = reply.cleared count
 reply_view answered.Purged = reply.purged
 reply_view (answered.Counted count) = reply.counted count
 reply_view (answered.Shown text) = reply.shown (option_map string_bytes text)
-reply_view (answered.Matched form found notes) =
-    reply.matched form (map alerts_by_id (map alerts_value found.items)) (map (λ n. arc_str_bytes n.text) notes.items)
 reply_view (answered.Stepped word) = reply.stepped word.now
 reply_view (answered.Finished found) = reply.finished (map alerts_by_id (map alerts_value found.items))
 
