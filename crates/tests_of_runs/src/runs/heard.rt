@@ -14,12 +14,13 @@ use std::sync::Wait;
 use std::test::Fail;
 use std::thread::Threads;
 
-/// A register of three queries for two listeners and none, a match, a register for a name that is not here, and
-/// a count.
+/// A register of four queries for two listeners and none, a match of an article that listeners hear of and of one that
+/// none does, a register for a name that is not here, and a count.
 const LINES: [&str; 4] = [
     concat!(
         r#"{"op":"register","queries":[{"id":"q1","query":"tea","listener":"mail"},"#,
-        r#"{"id":"q2","query":"tea","listener":"feed"},{"id":"q3","query":"tea"}]}"#,
+        r#"{"id":"q2","query":"tea","listener":"feed"},{"id":"q3","query":"tea"},"#,
+        r#"{"id":"q5","query":"coffee"}]}"#,
     ),
     concat!(
         r#"{"op":"match","articles":[{"id":"a1","fields":{"text":"tea"}},"#,
@@ -31,13 +32,13 @@ const LINES: [&str; 4] = [
 
 /// The replies to them.
 const REPLIES: [&str; 4] = [
-    r#"{"line":1,"registered":3}"#,
+    r#"{"line":1,"registered":4}"#,
     concat!(
-        r#"{"alerts":[{"article":"a1","queries":["q1","q2","q3"]},{"article":"a2","queries":[]}],"#,
+        r#"{"alerts":[{"article":"a1","queries":["q1","q2","q3"]},{"article":"a2","queries":["q5"]}],"#,
         r#""line":2,"notes":["mail: q1 in a1","feed q2/a1"]}"#,
     ),
     r#"{"line":3,"refused":"listener","which":0}"#,
-    r#"{"count":3,"line":4}"#,
+    r#"{"count":4,"line":4}"#,
 ];
 
 /// The listeners under their names.
@@ -93,7 +94,7 @@ fn is_heard<R: Threads + Wait + Sync + Abort + AllocGlobal>(
     )?;
     assert!(rt; sink.taken.as_slice() == text_of(rt.alloc(), &REPLIES)?.as_bytes());
     assert!(rt; ended.ledger.rows().len() == rows);
-    assert!(rt; ended.ledger.total("mail") == (rows / 3) as u64);
+    assert!(rt; ended.ledger.total("mail") == (rows / 4) as u64);
     let parts = listeners.into_parts();
     for (part, wanted) in parts.iter().zip(heard) {
         assert!(rt; queries_of(rt.alloc(), part.1.heard())?.as_str() == wanted);
@@ -109,7 +110,7 @@ fn each_listener_hears_its_own_alerts_and_the_ledger_has_a_row_for_each(
     for workers in WORKERS {
         let mail = folder(alloc, "mail: ", " in ")?;
         let parts = named(alloc, mail, folder(alloc, "feed ", "/")?)?;
-        is_heard(&rt, workers, parts, true, ["q1 ", "q2 "], 3)?;
+        is_heard(&rt, workers, parts, true, ["q1 ", "q2 "], 4)?;
     }
     Ok(())
 }
