@@ -50,8 +50,8 @@ fn unshown(alloc: Global, all: Vec<Alerts>) -> Result<Vec<Found>, NoMemory>
     Ok(found)
 }
 
-/// Delivers what was found of an article, posts it, and gives what the listeners said: of what is shown already nothing,
-/// since nobody hears it.
+/// Delivers what was found of an article, posts it, and gives what the listeners said: nothing of what is shown
+/// already, since nobody hears it.
 fn deliver_one<A: Audience>(
     alloc: Global,
     audience: &mut A,

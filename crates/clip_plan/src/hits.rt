@@ -33,9 +33,9 @@ fn add_hits_in(
 }
 
 impl Plans {
-    /// Adds where in an article the leaves of the query of the plan at a place stand: its hits, where the plan's numbers
-    /// are those of the terms of the article's fields, which are all there in order. `flags` is room for a flag for each
-    /// word of a field. Looks at no query's tree but those of prefixes and ranges.
+    /// Adds where in an article the leaves of the query of the plan at a place stand: its hits, where the plan's
+    /// numbers are those of the terms of the article's fields, which are all there in order. `flags` is room for a flag
+    /// for each word of a field. Looks at no query's tree but those of prefixes and ranges.
     ///
     /// `NoMemory` where an allocation failed, or where the count of a field's name is at its end; some hits may then
     /// have been added. Cost: for each field a flag for each of its words, and a walk over the plan's steps, as of

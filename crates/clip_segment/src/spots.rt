@@ -60,8 +60,8 @@ impl<'a> SegmentSpots<'a> {
         })
     }
 
-    /// Adds where in the article the leaves of the query of the entry at a position stand: its hits, whether it holds or
-    /// not. `flags` is room for a flag for each word of a field. The entry is not looked at.
+    /// Adds where in the article the leaves of the query of the entry at a position stand: its hits, whether it holds
+    /// or not. `flags` is room for a flag for each word of a field. The entry is not looked at.
     ///
     /// `NoMemory` where an allocation failed, or where the count of a field's name is at its end; some hits may then
     /// have been added. Cost: that of `Plans::add_hits`.
