@@ -37,7 +37,8 @@ later_none t (w ∷ ws) m n lt =
     and-none true = refl
     and-none false = refl
 
-at_numbered : (t : List ℕ → Bool) (ws : List (List ℕ)) (k n m : ℕ) → m ≡ n + k → k < length ws → list_any (λ (p : Place). t p.0 && nat_eq m p.1) (numbered n ws) ≡ t (get_or ws k [])
+-- a word passes where the posting of its position does
+pub at_numbered : (t : List ℕ → Bool) (ws : List (List ℕ)) (k n m : ℕ) → m ≡ n + k → k < length ws → list_any (λ (p : Place). t p.0 && nat_eq m p.1) (numbered n ws) ≡ t (get_or ws k [])
 at_numbered t [] k n m is lt = absurd (omega arith)
 at_numbered t (w ∷ ws) zero n m is lt =
     ap (λ b. (t w && b) || list_any (λ (p : Place). t p.0 && nat_eq m p.1) (numbered (n + 1) ws)) (eq-eqb m n (omega (arith, is)))
@@ -54,11 +55,15 @@ at_numbered t (w ∷ ws) (suc k) n m is lt =
     none true = refl
     none false = refl
 
+-- a test finds one among the postings of the words that pass where it finds one among all of these
+pub found_among : (t : List ℕ → Bool) (test : Place → Bool) (ws : List (List ℕ)) (ps found : List Place) → IsPermutation (numbered 0 ws) ps → found ≡ filter (λ (p : Place). t p.0) ps → list_any test found ≡ list_any (λ (p : Place). t p.0 && test p) (numbered 0 ws)
+found_among t test ws ps found same kept =
+    ap (list_any test) kept ∙ any_filter (λ (p : Place). t p.0) test ps ∙ sym (list_any-IsPermutation (λ (p : Place). t p.0 && test p) (numbered 0 ws) ps same)
+
 -- a position is among the postings of the words that pass where its word passes
 pub passing_at : (t : List ℕ → Bool) (ws : List (List ℕ)) (ps found : List Place) (k : ℕ) → IsPermutation (numbered 0 ws) ps → found ≡ filter (λ (p : Place). t p.0) ps → k < length ws → list_any (λ (p : Place). nat_eq k p.1) found ≡ t (get_or ws k [])
 passing_at t ws ps found k same kept lt =
-    ap (list_any (λ (p : Place). nat_eq k p.1)) kept ∙ any_filter (λ (p : Place). t p.0) (λ (p : Place). nat_eq k p.1) ps
-    ∙ sym (list_any-IsPermutation (λ (p : Place). t p.0 && nat_eq k p.1) (numbered 0 ws) ps same) ∙ at_numbered t ws k 0 k (omega arith) lt
+    found_among t (λ (p : Place). nat_eq k p.1) ws ps found same kept ∙ at_numbered t ws k 0 k (omega arith) lt
 
 -- ---- the postings of a phrase's first word
 

@@ -9,6 +9,7 @@ ghost use Rattle.clip_words.specs.Order.{bytes_cmp};
 ghost use Rattle.clip_grammar.specs.Tokens.{End};
 ghost use Rattle.clip_grammar.specs.Tree.{end_of};
 ghost use Rattle.clip_meaning.specs.Index.{numbered, posting_cmp};
+ghost use Rattle.clip_meaning.specs.Leads.{IsLead};
 ghost use Rattle.clip_meaning.specs.Steps.Searches.{from_low};
 ghost use Rattle.clip_meaning.specs.Meaning.{below, begins_with, is_between};
 
@@ -71,7 +72,7 @@ fn order(a: &Posting, b: &Posting) -> Ordering
 
 /// A text that is looked for among postings, and its lead. Contracts see the text.
 #[derive(Drop)]
-struct Sought<'a> {
+pub(crate) struct Sought<'a> {
     text: &'a str,
     lead: u64,
 }
@@ -92,10 +93,15 @@ impl<'a> Sought<'a> {
     fn of(text: &'a str) -> Sought<'a>
         ensures { result ≡ text.now }
     {
-        Sought {
-            text,
-            lead: lead_of(text),
-        }
+        Sought::with(text, lead_of(text))
+    }
+
+    /// Looks for a text, whose lead this is.
+    pub(crate) fn with(text: &'a str, lead: u64) -> Sought<'a>
+        requires { IsLead text.now lead }
+        ensures { result ≡ text.now }
+    {
+        Sought { text, lead }
     }
 
     /// Compares the text with the word of a posting, which is looked at only where both have the same lead.
@@ -166,19 +172,26 @@ impl WordIndex {
         &self.postings
     }
 
+    /// The postings of the words that are not below a text.
+    fn from(&self, sought: &Sought<'_>) -> &[Posting]
+        ensures value { result.now ≡ from_low (End.With sought.now) self.now }
+        ensures sorted { IsSortedByKey (λ p. p.0) bytes_cmp self.now }
+    {
+        let postings = self.postings();
+        let place = postings.partition_point(
+            |posting: &Posting| -> bool
+                ensures { result ≡ is_gt (bytes_cmp sought.entry.now posting.now.0) }
+            { sought.order(posting).is_gt() },
+        );
+        postings.split_at(place).1
+    }
+
     /// The postings of the words that are not below a word.
     fn not_below(&self, word: &str) -> &[Posting]
         ensures value { result.now ≡ from_low (End.With word.now) self.now }
         ensures sorted { IsSortedByKey (λ p. p.0) bytes_cmp self.now }
     {
-        let sought = Sought::of(word);
-        let postings = self.postings();
-        let place = postings.partition_point(
-            |posting: &Posting| -> bool
-                ensures { result ≡ is_gt (bytes_cmp sought.entry posting.now.0) }
-            { sought.order(posting).is_gt() },
-        );
-        postings.split_at(place).1
+        self.from(&Sought::of(word))
     }
 
     /// The postings of the words that are above a word.
@@ -212,11 +225,17 @@ impl WordIndex {
     pub(crate) fn occurrences(&self, word: &str) -> &[Posting]
         ensures { result.now ≡ filter (λ p. bytes_eq p.0 word.now) self.now }
     {
-        let sought = Sought::of(word);
-        let postings = self.not_below(word);
+        self.occurrences_of(&Sought::of(word))
+    }
+
+    /// The postings of the word that is looked for.
+    pub(crate) fn occurrences_of(&self, sought: &Sought<'_>) -> &[Posting]
+        ensures { result.now ≡ filter (λ p. bytes_eq p.0 sought.now) self.now }
+    {
+        let postings = self.from(sought);
         let place = postings.partition_point(
             |posting: &Posting| -> bool
-                ensures { result ≡ not (is_lt (bytes_cmp sought.entry posting.now.0)) }
+                ensures { result ≡ not (is_lt (bytes_cmp sought.entry.now posting.now.0)) }
             { !sought.order(posting).is_lt() },
         );
         postings.split_at(place).0

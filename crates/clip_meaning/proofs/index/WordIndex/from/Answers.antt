@@ -2,11 +2,11 @@ use Rattle.std.proofs.Common.{sym, subst, rules, of_calls, is_gt}
 use Rattle.std.proofs.lemmas.List.Sorted.{IsPartitionPoint-from_clause}
 use Rattle.clip_words.specs.Order.{bytes_cmp}
 use Rattle.clip_meaning.proofs.Postings.{Sorted, rises, below_first, from_word}
-use Rattle.clip_meaning.proofs.index.WordIndex.not_below.Goals as goal
+use Rattle.clip_meaning.proofs.index.WordIndex.from.Goals as goal
 
 pub returns-clause-value : goal.returns-clause-value
 returns-clause-value c =
-    let word = c.args.word.now in
+    let word = c.args.sought.now in
     let ps = c.postings-postings.result.now in
     let sorted : Sorted ps = subst Sorted (sym c.postings-postings.ensures.value) c.postings-postings.ensures.sorted in
     let point = IsPartitionPoint-from_clause (λ p. is_gt (bytes_cmp word p.0)) ps c.partition_point-place.result c.partition_point-place.ensures.partitioned (below_first word ps (rises ps sorted)) (λ a r f k. search (rules, of_calls)) in
