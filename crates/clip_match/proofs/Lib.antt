@@ -3,6 +3,5 @@ pub mod Places
 pub mod Positions
 pub mod Marks
 pub mod Few
-pub mod Sent
 pub mod Sorted
 pub mod Whole

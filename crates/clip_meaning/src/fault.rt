@@ -144,9 +144,9 @@ fn has_twice(fields: &[(String, String)]) -> bool
     false
 }
 
-/// The first refusal that holds of an id and of pairs of a field's name and its text, in the order of `ArticleFault`, or
-/// none: no text is looked at. Takes no memory. Cost: a look at the id and at each name, and a comparison of each two
-/// names, of 16 at most.
+/// The first refusal that holds of an id and of pairs of a field's name and its text, in the order of `ArticleFault`,
+/// or none: no text is looked at. Takes no memory. Cost: a look at the id and at each name, and a comparison of each
+/// two names, of 16 at most.
 #[tactic(auto, unfolding(crate::specs::Article::fault_of))]
 pub fn fault_of(id: &str, fields: &[(String, String)]) -> Option<ArticleFault>
     ensures { result ≡ fault_of id.now (pairs_of fields.now) }

@@ -3,7 +3,6 @@ use Rattle.std.proofs.Common.{◌≡◌, ℕ, zero, suc, ◌+◌, ◌-◌, ◌<�
 use Rattle.std.specs.Prelude.{Result, Ok, Err, OnOk}
 use Rattle.std.specs.List.{list_any, starts_with, flat_map}
 use Rattle.std.proofs.lemmas.List.Concat.{flat_map-append}
-use Rattle.std.proofs.lemmas.Bool.{and_parts, and_from}
 use Rattle.std.proofs.lemmas.List.{length-map, drop-map, drop_more, drop_all, get_or-map, take_more}
 use Rattle.std.proofs.lemmas.Slice.Eq.{bytes_eq-Decides}
 use Rattle.clip_grammar.proofs.Booleans.{same_answer}
@@ -13,9 +12,8 @@ use Rattle.clip_grammar.specs.declared.query.Occur.TheVariants.{Must}
 use Rattle.clip_meaning.specs.Hits.{asks, covers, is_named, is_named_by, is_within}
 use Rattle.clip_meaning.specs.Index.{numbered}
 use Rattle.clip_extract.specs.Keys.{KeyValue, Word, is_same}
-use Rattle.clip_extract.proofs.Order.{same_itself, same_key}
 use Rattle.clip_terms.specs.Spots.{FieldValue, covers_from, is_covered}
-use Rattle.clip_terms.proofs.Spotted.{none_covered}
+use Rattle.clip_terms.proofs.Spotted.{at_word, none_covered}
 use Rattle.clip_plan.specs.Plan.{Mark, Leaf, Open, Close, clause_marks, group_marks, plan_of}
 use Rattle.clip_plan.specs.declared.step.Step.{Step}
 use Rattle.clip_plan.specs.Steps.Judging.{meant}
@@ -35,23 +33,6 @@ or_assoc false b c = refl
 none_of : {A : Type 0} (t : A → Bool) (xs : List A) → ((x : A) → t x ≡ false) → list_any t xs ≡ false
 none_of t [] fails = refl
 none_of t (x ∷ xs) fails = (λ i. fails x i || none_of t xs fails i)
-
--- ---- a word
-
--- the word of a field is the key's where the field has the key's name and the word is the key's
-at_word : (g w f v : List ℕ) → is_same (Word g w) (Word f v) ≡ (bytes_eq f g && bytes_eq w v)
-at_word g w f v =
-    same_answer _ _
-    (λ t.
-    let same : Word g w ≡ Word f v = same_key (Word g w) (Word f v) t in
-    let field : f ≡ g = cc in
-    let word : w ≡ v = cc in
-    and_from (bytes_eq f g) (bytes_eq w v) ((bytes_eq-Decides f g).1 field) ((bytes_eq-Decides w v).1 word))
-    (λ t.
-    let parts = and_parts (bytes_eq f g) (bytes_eq w v) t in
-    let field : f ≡ g = (bytes_eq-Decides f g).0 parts.0 in
-    let word : w ≡ v = (bytes_eq-Decides w v).0 parts.1 in
-    (λ i. is_same (Word g w) (Word (field i) (sym word i))) ∙ same_itself (Word g w))
 
 -- ---- a phrase
 

@@ -3,18 +3,14 @@ use denote.Param.Send.{IsSend, sendable}
 use denote.Param.SendFields.{declared_send, variants_send}
 use Rattle.std.proofs.alloc.Global.TheSendSync as global_sent
 use Rattle.std.below.std_heap.proofs.GlobalAllocator.TheSendSync as allocator_sent
-use Rattle.std.proofs.sync.ArcStr.TheSendSync as arc_str_sent
 use Rattle.std.proofs.vec.Vec.TheSendSync as vec_sent
-use Rattle.clip_standing.proofs.Sent.{alert_send}
+use Rattle.clip_standing.proofs.Sent.{alerts_send}
 use Rattle.clip_standing.specs.contracts.alert.Alerts as alerts
 use Rattle.std.below.core.proofs.snapshot.Sent.{snapshot_send}
 use Rattle.clip_protocol.specs.contracts.found.Found as found
 use Rattle.clip_protocol.specs.contracts.shown.Shown as shown
 
 ruleset global = (sendable, global_sent.the_send, global_sent.the_sync, allocator_sent.the_frees)
-
-alerts_send : IsSend alerts.the_row
-alerts_send = declared_send alerts.the_type (search (global, arc_str_sent.the_send), (search global, (search global, (search (global, vec_sent.the_send, alert_send), tt))))
 
 shown_send : IsSend shown.the_row
 shown_send = declared_send shown.the_type (search sendable, (search (global, vec_sent.the_send), (snapshot_send alerts.the_row, tt)))

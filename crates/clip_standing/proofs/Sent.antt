@@ -22,6 +22,7 @@ use Rattle.clip_standing.specs.contracts.standing.Standing.TheInside as standing
 use Rattle.clip_standing.specs.contracts.found.FoundHits as found
 use Rattle.clip_standing.specs.contracts.found.FoundHits.TheInside as found_inside
 use Rattle.clip_standing.specs.contracts.alert.Alert as alert
+use Rattle.clip_standing.specs.contracts.alert.Alerts as alerts
 use Rattle.clip_standing.specs.contracts.entry.Entry as entry
 use Rattle.clip_standing.specs.contracts.entry.Entry.TheInside as entry_inside
 use Rattle.clip_standing.specs.contracts.command.Command as command
@@ -78,3 +79,6 @@ found_send = view_send found_inside.the_row _ _ _ _ (declared_send found_inside.
 
 pub alert_send : IsSend alert.the_row
 alert_send = declared_send alert.the_type (search (global, arc_sent.the_send, standing_send, standing_sync), (search (global, article_sent.the_send), (search (global, option_sent.the_send, found_send), tt)))
+
+pub alerts_send : IsSend alerts.the_row
+alerts_send = declared_send alerts.the_type (search (global, arc_str_sent.the_send), (search global, (search global, (search (global, vec_sent.the_send, alert_send), tt))))

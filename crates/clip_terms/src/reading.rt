@@ -55,7 +55,7 @@ fn marks_of(alloc: Global, numbers: &[u32], bound: usize) -> Result<Marks, NoMem
 }
 
 /// The number of the key at a place, if there is one.
-pub(crate) fn number_at(by_key: &[Option<u32>], place: usize) -> Option<u32>
+fn number_at(by_key: &[Option<u32>], place: usize) -> Option<u32>
     ensures { result ≡ number_at by_key.now place }
 {
     match by_key.get(place) {
@@ -167,10 +167,9 @@ impl<'a> Reading<'a> {
         stands_in_any(&self.fields, run)
     }
 
-    /// For each field, in the byte order of their names, where its words stand, by the numbers of their terms.
+    /// The fields, in the byte order of their names, with the numbers of their words' terms.
     ///
-    /// `NoMemory` where an allocation failed. Cost: a step for each word of the article; nothing is sorted anew, since
-    /// the numbers of a field's words rise with the words, and an article has these in order.
+    /// `NoMemory` where an allocation failed. Cost: a step for each field.
     pub fn spots(&self, alloc: Global) -> Result<Vec<FieldSpots<'_>>, NoMemory>
         ensures { IfOk result (λ spots. spots.items
             ≡ map (spots_among self.now.terms) (finite.entries self.now.article.fields)) }
@@ -178,19 +177,18 @@ impl<'a> Reading<'a> {
         let count = self.article.fields().len();
         let mut spots = Vec::with_capacity(alloc, count)?;
         for place in 0..count {
-            spots.push(self.spots_at(alloc, place)?)?;
+            spots.push(self.spots_at(place))?;
         }
         Ok(spots)
     }
 
-    /// Where the words of the field of a place stand.
-    fn spots_at(&self, alloc: Global, place: usize) -> Result<FieldSpots<'_>, NoMemory>
+    /// The field of a place.
+    fn spots_at(&self, place: usize) -> FieldSpots<'_>
         requires { place < length (finite.entries self.now.article.fields) }
-        ensures { IfOk result (λ spots. spots
-            ≡ spots_among self.now.terms (get_or (finite.entries self.now.article.fields) place ([], []))) }
+        ensures { result
+            ≡ spots_among self.now.terms (get_or (finite.entries self.now.article.fields) place ([], [])) }
     {
         FieldSpots::of(
-            alloc,
             self.terms,
             &self.article.fields()[place],
             &self.fields[place],

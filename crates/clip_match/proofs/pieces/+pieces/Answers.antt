@@ -23,7 +23,7 @@ use Rattle.clip_meaning.specs.contracts.article.Article as article
 use Rattle.clip_meaning.proofs.article.Article.TheSendSync as article_sent
 use Rattle.clip_match.specs.contracts.held.HitsFound as hits_found
 use Rattle.clip_match.proofs.held.HitsFound.TheSendSync as hits_found_sent
-use Rattle.clip_match.proofs.Sent.{alerts_send}
+use Rattle.clip_standing.proofs.Sent.{alerts_send}
 use Rattle.clip_match.proofs.pieces.+pieces.Goals as goal
 
 -- a closure of nine captures

@@ -4,8 +4,8 @@ use Rattle.clip_meaning.specs.Steps.Marks.{is_up}
 use Rattle.clip_terms.specs.Steps.Spots.{covers_at}
 use Rattle.clip_terms.proofs.spots.mark_runs.Given as goal
 
-abbrev pub invariant-loop-spot : goal.invariant-loop-spot
-invariant-loop-spot l = record {
+abbrev pub invariant-loop-posting : goal.invariant-loop-posting
+invariant-loop-posting l = record {
   long : length l.flags.items ≡ length l.fn.flags.items;
-  raised : (k : ℕ) → k < length l.fn.flags.items → (is_up (get_or l.flags.items k 0) || list_any (covers_at l.run l.numbers k) (drop l.spot-index l.spots)) ≡ (is_up (get_or l.fn.flags.items k 0) || list_any (covers_at l.run l.numbers k) l.spots);
+  raised : (k : ℕ) → k < length l.fn.flags.items → (is_up (get_or l.flags.items k 0) || list_any (covers_at l.run l.numbers k) (drop l.posting-index l.postings)) ≡ (is_up (get_or l.fn.flags.items k 0) || list_any (covers_at l.run l.numbers k) l.postings);
 }
