@@ -1,5 +1,5 @@
 -- What was found of an article as contracts see it.
-use Rattle.std.specs.Prelude.{◌≡◌, ⊤}
+use Rattle.std.specs.Prelude.{◌≡◌, Bool, false, true, ⊤}
 use Rattle.clip_standing.specs.Alerts.{AlertsValue, alerts_value}
 use Rattle.clip_protocol.specs.declared.form.Form.{Form}
 use Rattle.clip_protocol.specs.declared.found.Found.{Found}
@@ -14,3 +14,8 @@ found_value (Shown shown) = alerts_value shown.alerts.value
 abbrev pub IsShownIn : Form → Found → Type 0
 IsShownIn form (Alerts found) = ⊤
 IsShownIn form (Shown shown) = shown.form ≡ form
+
+-- it is text
+abbrev pub is_shown : Found → Bool
+is_shown (Alerts found) = false
+is_shown (Shown shown) = true

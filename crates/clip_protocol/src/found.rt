@@ -1,5 +1,5 @@
 //! What was found of an article, and the text of the reply to a match.
-ghost use Rattle.std.specs.Prelude.{◌≡◌, ◌∷◌, [], ◌++◌, All, IfOk, OnOk, codes, false, is_some, map, true};
+ghost use Rattle.std.specs.Prelude.{◌≡◌, ◌∷◌, [], ◌++◌, All, IfOk, OnOk, codes, false, is_some, map, not, true};
 ghost use Rattle.std.specs.Arc.{arc_str_bytes};
 ghost use Rattle.std.specs.List.{list_any};
 ghost use Rattle.json.specs.Print.{print, quoted};
@@ -7,7 +7,7 @@ ghost use Rattle.serde_json.specs.Data.{string};
 ghost use Rattle.serde_json.specs.View.{items_of};
 ghost use Rattle.serde_json.specs.Written.{comma_if, items_text, members_text};
 ghost use Rattle.clip_standing.specs.Alerts.{alert_value, alerts_value};
-ghost use Rattle.clip_protocol.specs.Found.{IsShownIn, found_value};
+ghost use Rattle.clip_protocol.specs.Found.{IsShownIn, found_value, is_shown};
 ghost use Rattle.clip_protocol.specs.Reply as reply;
 ghost use Rattle.clip_protocol.specs.Reply.{alerts_data, number_of, reply_text};
 ghost use Rattle.clip_protocol.specs.Request.{array_of, members_from};
@@ -56,6 +56,8 @@ impl Found {
     pub fn shown(alloc: Global, form: Form, alerts: Alerts) -> Result<Found, NoMemory>
         ensures value { IfOk result (λ found. found_value found ≡ alerts_value alerts) }
         ensures form { IfOk result (λ found. IsShownIn form found) }
+        ensures unheard { IfOk result (λ found.
+            is_shown found ≡ not (list_any (λ a. is_some a.listener) (alerts_value alerts).alerts)) }
     {
         let is_heard = have_listener(&alerts.alerts);
         if is_heard {

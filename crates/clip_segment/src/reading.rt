@@ -134,7 +134,7 @@ impl<'a> SegmentReading<'a> {
     /// Where the words of the article stand by the numbers of the terms of the segment's index, to find the hits of the
     /// segment's queries by.
     ///
-    /// `NoMemory` where an allocation failed. Cost: that of `Reading::spots`, a step for each word of the article.
+    /// `NoMemory` where an allocation failed. Cost: that of `Reading::spots`, a step for each field.
     pub fn spots(&self, alloc: Global) -> Result<SegmentSpots<'_>, NoMemory>
         ensures { IfOk result (λ spots. spots ≡ self.now) }
     {

@@ -1,4 +1,4 @@
-use Rattle.std.proofs.Common.{◌≡◌, All, List, ℕ, None, Option, Some, ap, ◌∙◌, false, is_some, map, refl, sym, true}
+use Rattle.std.proofs.Common.{◌≡◌, ◌||◌, ◌∷◌, [], not, All, List, ℕ, None, Option, Some, ap, ◌∙◌, false, is_some, map, refl, sym, true}
 use Rattle.std.specs.List.{list_any}
 use Rattle.std.proofs.lemmas.List.Elements.{All-map}
 use Rattle.std.proofs.lemmas.List.Folds.{list_any_at}
@@ -18,3 +18,16 @@ unheard alerts none =
 
 pub of-requires : goal.of-requires
 of-requires c = unheard c.args.alerts.alerts.items (sym (ap (list_any (λ a. is_some (alert_value a).listener)) c.deref.ensures.value) ∙ sym c.have_listener-is_heard.ensures ∙ c.if-is_heard.false)
+
+-- whether one has a listener, asked of what they are
+heard : (alerts : List Alert) → list_any (λ a. is_some a.listener) (map alert_value alerts) ≡ list_any (λ a. is_some (alert_value a).listener) alerts
+heard [] = refl
+heard (a ∷ alerts) = ap (λ b. is_some (alert_value a).listener || b) (heard alerts)
+
+pub returns-then-is_heard-clause-unheard : goal.returns-then-is_heard-clause-unheard
+returns-then-is_heard-clause-unheard c =
+    sym (ap not (heard c.args.alerts.alerts.items ∙ sym (ap (list_any (λ a. is_some (alert_value a).listener)) c.deref.ensures.value) ∙ sym c.have_listener-is_heard.ensures ∙ c.if-is_heard.true))
+
+pub returns-clause-unheard : goal.returns-clause-unheard
+returns-clause-unheard c =
+    sym (ap not (heard c.args.alerts.alerts.items ∙ sym (ap (list_any (λ a. is_some (alert_value a).listener)) c.deref.ensures.value) ∙ sym c.have_listener-is_heard.ensures ∙ c.if-is_heard.false))
