@@ -108,7 +108,7 @@ impl Field {
     }
 
     /// The postings of a word, beside which its lead is given. Takes no memory. Compares about the logarithm of the
-    /// number of words, and looks at a text only where it has that lead.
+    /// number of words, and takes a step for each posting; looks at a text only where it has that lead.
     pub fn occurrences(&self, word: &str, lead: u64) -> &[Posting]
         requires { IsLead word.now lead }
         ensures { (test : List ℕ × ℕ → Bool) → list_any test result.now

@@ -1,8 +1,8 @@
 //! The words of a field in byte order, each with its position.
-ghost use Rattle.std.specs.Prelude.{◌≡◌, map, filter, not, IfOk, IsPermutation};
+ghost use Rattle.std.specs.Prelude.{◌≡◌, ◌≤◌, true, false, length, map, filter, not, IfOk, IsPermutation};
 ghost use Rattle.std.specs.Arc.{arc_str_bytes};
 ghost use Rattle.std.specs.List.{list_any};
-ghost use Rattle.std.specs.List.Sorted.{IsSorted, IsSortedByKey};
+ghost use Rattle.std.specs.List.Sorted.{IsPartitionPoint, IsSorted, IsSortedByKey};
 ghost use Rattle.std.specs.Str.{bytes_eq};
 ghost use Rattle.std.specs.Ordering.{is_gt, is_lt};
 ghost use Rattle.clip_words.specs.Order.{bytes_cmp};
@@ -175,6 +175,7 @@ impl WordIndex {
     /// The postings of the words that are not below a text.
     fn from(&self, sought: &Sought<'_>) -> &[Posting]
         ensures value { result.now ≡ from_low (End.With sought.now) self.now }
+        ensures rest { IsSortedByKey (λ p. p.0) bytes_cmp result.now }
         ensures sorted { IsSortedByKey (λ p. p.0) bytes_cmp self.now }
     {
         let postings = self.postings();
@@ -233,12 +234,7 @@ impl WordIndex {
         ensures { result.now ≡ filter (λ p. bytes_eq p.0 sought.now) self.now }
     {
         let postings = self.from(sought);
-        let place = postings.partition_point(
-            |posting: &Posting| -> bool
-                ensures { result ≡ not (is_lt (bytes_cmp sought.entry.now posting.now.0)) }
-            { !sought.order(posting).is_lt() },
-        );
-        postings.split_at(place).0
+        postings.split_at(count_up_to(postings, sought)).0
     }
 
     /// The postings of the words that begin with the front.
@@ -296,6 +292,21 @@ impl WordIndex {
             None => false,
         }
     }
+}
+
+/// How many of the postings are of words that are not above the one that is looked for, by a walk from the start: a
+/// word seldom stands in many places.
+fn count_up_to(postings: &[Posting], sought: &Sought<'_>) -> usize
+    requires { IsSortedByKey (λ p. p.0) bytes_cmp postings.now }
+    ensures within { result ≤ length postings.now }
+    ensures point { IsPartitionPoint (λ p. not (is_lt (bytes_cmp sought.now p.0)) ≡ true)
+        (λ p. not (is_lt (bytes_cmp sought.now p.0)) ≡ false) postings.now result }
+{
+    let mut count = 0;
+    while count < postings.len() && !sought.order(&postings[count]).is_lt() {
+        count += 1;
+    }
+    count
 }
 
 /// Whether a word is not above the high end of a range.
