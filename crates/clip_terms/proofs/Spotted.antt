@@ -1,29 +1,29 @@
 -- Spots: where the term of a number stands in a field, and which positions a run of numbers covers.
-use Rattle.std.proofs.Common.{◌≡◌, ℕ, ◌+◌, ◌<◌, Bool, true, false, ◌&&◌, ◌||◌, nat_eq, nat_lt, nat_le, List, [], ◌∷◌, map, length, drop, get_or, bytes_eq, Option, Global, refl, sym, ap, ◌∙◌, arith}
+use Rattle.std.proofs.Common.{◌≡◌, ℕ, ◌+◌, ◌<◌, Bool, true, false, ◌&&◌, ◌||◌, nat_eq, nat_lt, nat_le, List, [], ◌∷◌, map, length, drop, get_or, bytes_eq, Option, None, refl, sym, ap, ◌∙◌, arith}
 use Rattle.std.specs.List.{list_any, starts_with}
 use Rattle.std.specs.List.Sorted.{IsStrictlySortedBy}
 use Rattle.std.specs.Cmp.{eq_by_cmp_equiv}
-use Rattle.std.specs.declared.sync.ArcStr.{ArcStr}
-use Rattle.std.proofs.lemmas.Bool.{leb-true, le-ltb, ltb-false, and_parts, and_from}
-use Rattle.std.proofs.lemmas.List.{length-map, get_or-map, get_or_past, drop-map}
-use Rattle.std.proofs.lemmas.Option.{unwrap_or-slice_get}
+use Rattle.std.specs.FinMap as finite
+use Rattle.std.proofs.lemmas.Bool.{leb-true, le-ltb, and_parts, and_from, false_from_ne_true, false≢true, true≢false}
+use Rattle.std.proofs.lemmas.List.{length-map, get_or-map, drop-map}
+use Rattle.std.proofs.lemmas.List.Folds.{list_any_at}
 use Rattle.std.proofs.lemmas.Slice.Eq.{bytes_eq-Decides}
 use Rattle.clip_grammar.proofs.Booleans.{same_answer}
+use Rattle.clip_meaning.specs.Article.{Fields}
 use Rattle.clip_meaning.specs.Hits.{is_within}
 use Rattle.clip_meaning.specs.Index.{numbered}
 use Rattle.clip_meaning.proofs.Marks.{at_numbered}
 use Rattle.clip_meaning.proofs.Numbered.{rest_dropped}
-use Rattle.clip_extract.specs.Keys.{KeyValue, Any, Word, key_cmp, key_of, is_same}
-use Rattle.clip_extract.specs.declared.key.Key.{Key}
-use Rattle.clip_extract.specs.declared.key.Key.TheVariants as variant
+use Rattle.clip_extract.specs.Keys.{KeyValue, Any, Word, key_cmp, is_same}
 use Rattle.clip_extract.specs.Covering.{field_keys}
 use Rattle.clip_extract.proofs.Order.{key_cmp_total, same_itself, same_key}
+use Rattle.clip_terms.specs.Reading.{stands_in}
 use Rattle.clip_terms.specs.Terms.{term_at, number_of}
 use Rattle.clip_terms.specs.Spots.{FieldValue, is_at, covers_from, is_covered}
-use Rattle.clip_terms.specs.Steps.Runs.{begins_with}
-use Rattle.clip_terms.specs.Steps.Spots.{covers_at}
-use Rattle.clip_terms.proofs.LeadsOfTerms.{read_at}
-use Rattle.clip_terms.proofs.Runs.{begins}
+use Rattle.clip_terms.specs.Steps.Runs.{begins_with, is_number}
+use Rattle.clip_terms.specs.Steps.Spots.{AreOfKey, IsOfArticle, covers_at}
+use Rattle.clip_terms.proofs.NumberedKeys.{word_numbered}
+use Rattle.clip_terms.proofs.Runs.{begins, lacks}
 
 -- ---- the postings of a key
 
@@ -42,44 +42,53 @@ at_word g w f v =
     let word : w ≡ v = (bytes_eq-Decides w v).0 parts.1 in
     (λ i. is_same (Word g w) (Word (field i) (sym word i))) ∙ same_itself (Word g w))
 
--- the postings of a key among those of a field
-abbrev pub AreOfKey : FieldValue → KeyValue → List (List ℕ × ℕ) → Type 0
-AreOfKey field key found = (test : List ℕ × ℕ → Bool) → list_any test found ≡ list_any (λ p. is_same (Word field.0 p.0) key && test p) (numbered 0 field.1)
-
 -- no word is the key's
-pub none_of_key : (field : FieldValue) (key : KeyValue) → ((w : List ℕ) → is_same (Word field.0 w) key ≡ false) → AreOfKey field key []
-none_of_key field key out test = sym (none (numbered 0 field.1))
+pub none_of_key : (field : FieldValue) (key : KeyValue) → list_any (λ w. is_same (Word field.0 w) key) field.1 ≡ false → AreOfKey field key []
+none_of_key field key out test = sym (none field.1 0 out)
   where
-    none : (ps : List (List ℕ × ℕ)) → list_any (λ p. is_same (Word field.0 p.0) key && test p) ps ≡ false
-    none [] = refl
-    none (p ∷ ps) = (λ i. (out p.0 i && test p) || none ps i)
+    both : (a b c : Bool) → (a || b) ≡ false → (b ≡ false → c ≡ false) → ((a && true) || c) ≡ false
+    both false b c e rest = rest e
+    both true b c e rest = absurd (true≢false e)
 
--- a key of another field
-pub of_another : (g f v w : List ℕ) → bytes_eq f g ≡ false → is_same (Word g w) (Word f v) ≡ false
-of_another g f v w apart = at_word g w f v ∙ ap (λ b. b && bytes_eq w v) apart
+    weaker : (a t c : Bool) → ((a && true) || c) ≡ false → ((a && t) || c) ≡ false
+    weaker false t c e = e
+    weaker true t c e = absurd (true≢false e)
 
--- the term of a number, as it is read from the keys
-pub term_read : (keys : List Key) (terms : List KeyValue) (n : ℕ) (k : Key) → map key_of keys ≡ terms → n < length keys → k ≡ get_or keys n k → term_at terms n ≡ key_of k
-term_read keys terms n k are lt is = unwrap_or-slice_get terms n Any ∙ ap (λ ts. get_or ts n Any) (sym are) ∙ read_at keys n k lt is Any
-
-pub term_past : (keys : List Key) (terms : List KeyValue) (n : ℕ) → map key_of keys ≡ terms → false ≡ nat_lt n (length keys) → term_at terms n ≡ Any
-term_past keys terms n are past =
-    unwrap_or-slice_get terms n Any ∙ get_or_past terms n Any (omega (arith, ltb-false n (length keys) (sym past), ap length are, length-map keys key_of))
-
--- a key that is no word's
-pub no_word : (g w : List ℕ) (k : Key) → ((field word : ArcStr Global) → k ≡ variant.Word field word → ⊥) → is_same (Word g w) (key_of k) ≡ false
-no_word g w variant.Any other = refl
-no_word g w (variant.Word field word) other = absurd (other field word refl)
-no_word g w (variant.Front field front) other = refl
+    none : (ws : List (List ℕ)) (n : ℕ) → list_any (λ w. is_same (Word field.0 w) key) ws ≡ false → list_any (λ p. is_same (Word field.0 p.0) key && test p) (numbered n ws) ≡ false
+    none [] n e = refl
+    none (w ∷ ws) n e =
+        weaker (is_same (Word field.0 w) key) (test (w, n)) _
+        (both (is_same (Word field.0 w) key) (list_any (λ v. is_same (Word field.0 v) key) ws) (list_any (λ p. is_same (Word field.0 p.0) key && test p) (numbered (n + 1) ws)) e (none ws (n + 1)))
 
 -- the postings of a word are those of its key
-pub word_postings : (field : FieldValue) (f v : List ℕ) (found : List (List ℕ × ℕ)) → bytes_eq f field.0 ≡ true
-    → ((test : List ℕ × ℕ → Bool) → list_any test found ≡ list_any (λ p. bytes_eq p.0 v && test p) (numbered 0 field.1)) → AreOfKey field (Word f v) found
-word_postings field f v found same are test =
-    are test ∙ (λ i. list_any (λ (p : List ℕ × ℕ). here p.0 i && test p) (numbered 0 field.1))
+pub word_postings : (field : FieldValue) (w : List ℕ) (key : KeyValue) (found : List (List ℕ × ℕ)) → is_same (Word field.0 w) key ≡ true
+    → ((test : List ℕ × ℕ → Bool) → list_any test found ≡ list_any (λ p. bytes_eq p.0 w && test p) (numbered 0 field.1)) → AreOfKey field key found
+word_postings field w key found same are test =
+    are test ∙ (λ i. list_any (λ (p : List ℕ × ℕ). here p.0 i && test p) (numbered 0 field.1)) ∙ ap (λ k. list_any (λ (p : List ℕ × ℕ). is_same (Word field.0 p.0) k && test p) (numbered 0 field.1)) (same_key (Word field.0 w) key same)
   where
-    here : (w : List ℕ) → bytes_eq w v ≡ is_same (Word field.0 w) (Word f v)
-    here w = sym (at_word field.0 w f v ∙ ap (λ b. b && bytes_eq w v) same)
+    itself : bytes_eq field.0 field.0 ≡ true
+    itself = (bytes_eq-Decides field.0 field.0).1 refl
+
+    here : (v : List ℕ) → bytes_eq v w ≡ is_same (Word field.0 v) (Word field.0 w)
+    here v = sym (at_word field.0 v field.0 w ∙ ap (λ b. b && bytes_eq v w) itself)
+
+single : (b : Bool) → (b && true) ≡ b
+single true = refl
+single false = refl
+
+-- a run of one key stands where a word is the key's
+one_stands : (name : List ℕ) (key : KeyValue) (ws : List (List ℕ)) → stands_in (key ∷ []) (map (Word name) ws) ≡ list_any (λ w. is_same (Word name w) key) ws
+one_stands name key [] = refl
+one_stands name key (w ∷ ws) = λ i. (single (is_same key (Word name w)) ∙ (eq_by_cmp_equiv key_cmp_total).symm key (Word name w)) i || one_stands name key ws i
+
+-- a key that the article lacks is that of no word of a field of it
+pub of_article : (fields : Fields) (place : ℕ) → place < length (finite.entries fields) → IsOfArticle fields (get_or (finite.entries fields) place ([], []))
+of_article fields place lt key lacking =
+    let field : FieldValue = get_or (finite.entries fields) place ([], []) in
+    let stands : FieldValue → Bool = λ f. stands_in (key ∷ []) (field_keys f) in
+    let nowhere : list_any stands (finite.entries fields) ≡ false = lacks fields (key ∷ []) (ap (λ b. b && true) lacking) in
+    sym (one_stands field.0 key field.1)
+    ∙ false_from_ne_true (stands field) (λ here. false≢true (sym nowhere ∙ list_any_at stands (finite.entries fields) place ([], []) lt here))
 
 -- they are where the key stands
 pub key_postings : (field : FieldValue) (key : KeyValue) (found : List (List ℕ × ℕ)) (k : ℕ) → AreOfKey field key found → k < length field.1 → list_any (λ p. nat_eq k p.1) found ≡ is_at field k key
@@ -106,6 +115,17 @@ run_of_first field key run k start (w ∷ words) e =
     ∙ ap (λ b. covers_from field (key ∷ run) k start || b) (run_of_first field key run k (start + 1) words (rest_dropped start field.1 w words e))
 
 module _ (terms : List KeyValue) (strict : IsStrictlySortedBy key_cmp terms) where
+  -- where no word has the number, none is its term's
+  pub none_numbered : (name : List ℕ) (words : List (List ℕ)) (n : ℕ) → list_any (λ m. is_number m n) (map (number_of terms) (map (Word name) words)) ≡ list_any (λ w. is_same (Word name w) (term_at terms n)) words
+  none_numbered name [] n = refl
+  none_numbered name (w ∷ words) n = λ i. word_numbered terms name w n strict i || none_numbered name words n i
+
+  -- a word that has the number is its term's
+  pub is_numbered : (field : FieldValue) (n place : ℕ) → place < length field.1 → is_number (get_or (map (number_of terms) (field_keys field)) place None) n ≡ is_same (Word field.0 (get_or field.1 place [])) (term_at terms n)
+  is_numbered field n place lt =
+      ap (λ o. is_number o n) (get_or-map (number_of terms) (map (Word field.0) field.1) place Any None (omega (arith, length-map field.1 (Word field.0), lt)) ∙ ap (number_of terms) (get_or-map (Word field.0) field.1 place [] Any lt))
+      ∙ word_numbered terms field.0 (get_or field.1 place []) n strict
+
   abbrev numbers_of : List ℕ → List (List ℕ) → List (Option ℕ)
   numbers_of name words = map (number_of terms) (map (Word name) words)
 

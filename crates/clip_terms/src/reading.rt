@@ -133,6 +133,13 @@ impl<'a> Reading<'a> {
         self.article
     }
 
+    /// The terms. Constant time.
+    pub(crate) fn terms(&self) -> &'a Terms
+        ensures { result.now ≡ self.now.terms }
+    {
+        self.terms
+    }
+
     /// The numbers of the terms that the article has, in any order. Constant time.
     pub fn numbers(&self) -> &[u32]
         ensures within { All (λ n. n < length self.now.terms) result.now }
@@ -188,11 +195,7 @@ impl<'a> Reading<'a> {
         ensures { result
             ≡ spots_among self.now.terms (get_or (finite.entries self.now.article.fields) place ([], [])) }
     {
-        FieldSpots::of(
-            self.terms,
-            &self.article.fields()[place],
-            &self.fields[place],
-        )
+        FieldSpots::of(self, &self.article.fields()[place], &self.fields[place])
     }
 
     /// Whether the article has each of the terms of these numbers.
@@ -209,7 +212,7 @@ impl<'a> Reading<'a> {
 }
 
 /// Whether a place has this number.
-fn is_number(found: Option<u32>, number: u32) -> bool
+pub(crate) fn is_number(found: Option<u32>, number: u32) -> bool
     ensures { result ≡ is_number found number }
 {
     match found {

@@ -1,24 +1,23 @@
 //! Where the words of a field stand, by the numbers of their terms.
-ghost use Rattle.std.specs.Prelude.{◌≡◌, ℕ, Bool, ◌&&◌, List, map, length, drop};
+ghost use Rattle.std.specs.Prelude.{◌≡◌, ◌<◌, MatchOption, None, false, true, get_or, map, length, drop};
 ghost use Rattle.std.specs.List.{list_any};
-ghost use Rattle.clip_meaning.specs.Index.{numbered};
 ghost use Rattle.clip_meaning.specs.Steps.Marks.{AreRaised};
 ghost use Rattle.clip_extract.specs.Covering.{field_keys};
-ghost use Rattle.clip_extract.specs.Keys.{Word, is_same};
 ghost use Rattle.clip_terms.specs.Spots.{is_at, is_covered, spots_among};
 ghost use Rattle.clip_terms.specs.Terms.{number_of, term_at};
-ghost use Rattle.clip_terms.specs.Steps.Spots.{covers_at};
+ghost use Rattle.clip_terms.specs.Steps.Runs.{is_number};
+ghost use Rattle.clip_terms.specs.Steps.Spots.{AreOfKey, IsOfArticle, covers_at};
 
-use crate::reading::starts_with;
+use crate::reading::{Reading, is_number, starts_with};
 use crate::terms::Terms;
-use clip_extract::Key;
-use clip_meaning::{Field, Posting, mark_all, mark_run};
+use clip_meaning::{Field, Posting, lead_of, mark_all, mark_run};
 use std::marker::Model;
 
-/// One field of an article, of whose words the numbers of their terms are known. Contracts see the terms and the field.
+/// One field of an article that is asked by the numbers of terms, with the numbers of its words. Contracts see the terms
+/// and the field.
 #[derive(Drop)]
 pub struct FieldSpots<'a> {
-    terms: &'a Terms,
+    reading: &'a Reading<'a>,
     field: &'a Field,
     numbers: &'a [Option<u32>],
 }
@@ -34,6 +33,19 @@ impl<'a> Model for FieldSpots<'a> {
     ghost view = { spots_value };
 
     ghost invariant = { AreSpots };
+}
+
+/// The first place of a number, if it has one.
+fn place_of(numbers: &[Option<u32>], number: u32) -> Option<usize>
+    ensures { MatchOption result (list_any (λ m. is_number m number) numbers.now ≡ false)
+        (λ n. (n < length numbers.now) × (is_number (get_or numbers.now n None) number ≡ true)) }
+{
+    for place in 0..numbers.len() {
+        if is_number(numbers[place], number) {
+            return Some(place);
+        }
+    }
+    None
 }
 
 /// The numbers from a position on, none where it is past the end.
@@ -62,18 +74,19 @@ fn mark_runs(postings: &[Posting], numbers: &[Option<u32>], run: &[u32], flags: 
 }
 
 impl<'a> FieldSpots<'a> {
-    /// A field, of which these are the numbers of the words, in the order of the text.
+    /// A field of the article of a reading, of which these are the numbers of the words, in the order of the text.
     pub(crate) fn of(
-        terms: &'a Terms,
+        reading: &'a Reading<'a>,
         field: &'a Field,
         numbers: &'a [Option<u32>],
     ) -> FieldSpots<'a>
-        requires { numbers.now ≡ map (number_of terms.now) (field_keys field.now) }
-        ensures { result ≡ spots_among terms.now field.now }
+        requires numbers { numbers.now ≡ map (number_of reading.now.terms) (field_keys field.now) }
+        requires among { IsOfArticle reading.now.article.fields field.now }
+        ensures { result ≡ spots_among reading.now.terms field.now }
     {
-        terms.order_law();
+        reading.terms().order_law();
         FieldSpots {
-            terms,
+            reading,
             field,
             numbers,
         }
@@ -90,30 +103,27 @@ impl<'a> FieldSpots<'a> {
     pub fn terms(&self) -> &'a Terms
         ensures { result.now ≡ self.now.terms }
     {
-        self.terms
+        self.reading.terms()
     }
 
-    /// The postings of the term of a number, none where it is no word of this field.
+    /// The postings of the term of a number, none where it is no word of this field. No term is looked at: where the
+    /// article has the term, its text is that of the first word with its number.
     fn postings_of(&self, number: u32) -> &'a [Posting]
-        ensures { (test : List ℕ × ℕ → Bool) → list_any test result.now
-            ≡ list_any (λ p. is_same (Word self.now.field.0 p.0) (term_at self.now.terms number) && test p)
-            (numbered 0 self.now.field.1) }
+        ensures { AreOfKey self.now.field (term_at self.now.terms number) result.now }
     {
-        let place = number as usize;
-        let Some(key) = self.terms.keys().get(place) else {
-            return &[];
-        };
-        let Key::Word(name, word) = key else {
-            return &[];
-        };
-        if name.as_str() != self.field.name().as_str() {
+        if !self.reading.has(number) {
             return &[];
         }
-        self.field.occurrences(word, self.terms.leads()[place])
+        let Some(place) = place_of(self.numbers, number) else {
+            return &[];
+        };
+        let word = self.field.words()[place].as_str();
+        self.field.occurrences(word, lead_of(word))
     }
 
-    /// Raises the flags of the positions at which the term of a number stands. Takes no memory. Cost: where the term is
-    /// a word of this field a search by halves among its words, and a step for each position.
+    /// Raises the flags of the positions at which the term of a number stands. Takes no memory. Cost: where the article
+    /// has the term a walk over the field's words up to the first that is the term's, and, if there is one, a search by
+    /// halves among them and a step for each position; constant where it doesn't.
     pub fn mark_term(&self, number: u32, flags: &mut Vec<u8>)
         requires { length flags.old.items ≡ length self.now.field.1 }
         ensures long { length flags.new.items ≡ length flags.old.items }

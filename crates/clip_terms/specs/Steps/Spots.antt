@@ -1,13 +1,27 @@
 -- The positions of a field's words, by the numbers of their terms.
-use Rattle.std.specs.Prelude.{◌≡◌, ℕ, Bool, ◌&&◌, List, map, length, drop, Option}
+use Rattle.std.specs.Prelude.{◌≡◌, ℕ, Bool, false, ◌&&◌, List, map, length, drop, Option}
+use Rattle.std.specs.List.{list_any}
 use Rattle.std.specs.List.Sorted.{IsStrictlySortedBy}
+use Rattle.clip_meaning.specs.Article.{Fields}
 use Rattle.clip_meaning.specs.Hits.{is_within}
-use Rattle.clip_extract.specs.Keys.{key_cmp}
+use Rattle.clip_meaning.specs.Index.{numbered}
+use Rattle.clip_extract.specs.Keys.{KeyValue, Word, key_cmp, is_same}
 use Rattle.clip_extract.specs.Covering.{field_keys}
+use Rattle.clip_terms.specs.Reading.{has_key}
 use Rattle.clip_terms.specs.Terms.{number_of}
-use Rattle.clip_terms.specs.Spots.{SpotsValue}
+use Rattle.clip_terms.specs.Spots.{FieldValue, SpotsValue}
 use Rattle.clip_terms.specs.Steps.Runs.{begins_with}
 use Rattle.clip_terms.specs.declared.spots.FieldSpots.TheInside.{Inside}
+
+-- the postings are those of the key's word among those of the field
+abbrev pub AreOfKey : FieldValue → KeyValue → List (List ℕ × ℕ) → Type 0
+AreOfKey field key found = (test : List ℕ × ℕ → Bool)
+    → list_any test found ≡ list_any (λ p. is_same (Word field.0 p.0) key && test p) (numbered 0 field.1)
+
+-- a key that the article lacks is that of no word of the field
+abbrev pub IsOfArticle : Fields → FieldValue → Type 0
+IsOfArticle fields field = (key : KeyValue) → has_key fields key ≡ false
+    → list_any (λ w. is_same (Word field.0 w) key) field.1 ≡ false
 
 -- the numbers of the run stand from the posting on, and the position is one of theirs
 abbrev pub covers_at : (run : List ℕ) (numbers : List (Option ℕ)) (position : ℕ) → List ℕ × ℕ → Bool
@@ -16,9 +30,10 @@ covers_at run numbers position posting =
 
 -- spots as contracts see them
 abbrev pub spots_value : Inside → SpotsValue
-spots_value spots = record { terms = spots.terms.now; field = spots.field.now }
+spots_value spots = record { terms = spots.reading.now.terms; field = spots.field.now }
 
--- The terms are in order, each once, and each word's number stands at its position.
+-- The terms are in order, each once, each word's number stands at its position, and the field is one of the article's.
 pub record AreSpots (spots : Inside) : Type 0 where
-  pub strict : IsStrictlySortedBy key_cmp spots.terms.now
-  pub numbers : spots.numbers.now ≡ map (number_of spots.terms.now) (field_keys spots.field.now)
+  pub strict : IsStrictlySortedBy key_cmp spots.reading.now.terms
+  pub numbers : spots.numbers.now ≡ map (number_of spots.reading.now.terms) (field_keys spots.field.now)
+  pub among : IsOfArticle spots.reading.now.article.fields spots.field.now

@@ -3,7 +3,8 @@ use Rattle.std.proofs.lemmas.List.{nil_from_length}
 use Rattle.clip_meaning.specs.Steps.Marks.{is_up}
 use Rattle.clip_terms.specs.Terms.{term_at}
 use Rattle.clip_terms.specs.Spots.{SpotsValue, is_covered}
-use Rattle.clip_terms.proofs.Spotted.{AreOfKey, run_postings, none_covered, or_false}
+use Rattle.clip_terms.specs.Steps.Spots.{AreOfKey}
+use Rattle.clip_terms.proofs.Spotted.{run_postings, none_covered, or_false}
 use Rattle.clip_terms.proofs.spots.FieldSpots.mark_run.Goals as goal
 
 pub returns-in-Some-clause-raised : goal.returns-in-Some-clause-raised
@@ -14,9 +15,9 @@ returns-in-Some-clause-raised c k lt =
     let inside = c.self.inside in
     let holds = c.self.invariant in
     let found = c.postings_of.result.now in
-    let are : AreOfKey inside.field.now (term_at inside.terms.now first) found = subst (λ (s : SpotsValue). AreOfKey s.field (term_at s.terms first) found) (sym c.self.view_is) c.postings_of.ensures in
+    let are : AreOfKey inside.field.now (term_at inside.reading.now.terms first) found = subst (λ (s : SpotsValue). AreOfKey s.field (term_at s.terms first) found) (sym c.self.view_is) c.postings_of.ensures in
     c.mark_runs.ensures.raised k lt
-    ∙ ap (λ b. old || b) (run_postings inside.terms.now holds.strict inside.field.now inside.numbers.now found run first k c.in-Some.ensures.item.3.0 c.in-Some.ensures.item.1 holds.numbers are)
+    ∙ ap (λ b. old || b) (run_postings inside.reading.now.terms holds.strict inside.field.now inside.numbers.now found run first k c.in-Some.ensures.item.3.0 c.in-Some.ensures.item.1 holds.numbers are)
     ∙ ap (λ (s : SpotsValue). old || is_covered s.field (map (term_at s.terms) run) k) c.self.view_is
 
 pub returns-in_default-clause-raised : goal.returns-in_default-clause-raised

@@ -1,65 +1,54 @@
-use Rattle.std.proofs.Common.{◌≡◌, ◌∙◌, ap, subst, sym, arith, ℕ, List, ◌&&◌, false, true, not, length, bytes_eq, get_or}
+use Rattle.std.proofs.Common.{◌≡◌, ◌∙◌, ◌<◌, [], None, ap, subst, sym, arith, true, length, get_or}
 use Rattle.std.specs.Arc.{arc_str_bytes}
 use Rattle.std.specs.List.{list_any}
-use Rattle.std.proofs.lemmas.Bool.{not-true, not-false}
-use Rattle.std.proofs.lemmas.List.{length-map}
-use Rattle.clip_meaning.specs.Index.{numbered}
-use Rattle.clip_meaning.specs.Leads.{IsLead}
-use Rattle.clip_extract.specs.Keys.{Any, Word, key_of, is_same, text_of}
+use Rattle.std.proofs.lemmas.List.{length-map, get_or-map}
+use Rattle.clip_extract.specs.Keys.{Word, is_same}
+use Rattle.clip_extract.specs.Covering.{field_keys}
 use Rattle.clip_terms.specs.Spots.{SpotsValue}
-use Rattle.clip_terms.specs.Terms.{term_at}
-use Rattle.clip_terms.proofs.LeadsOfTerms.{lead_at, leads_long, read_at}
-use Rattle.clip_terms.proofs.Spotted.{AreOfKey, none_of_key, no_word, of_another, term_past, term_read, word_postings}
+use Rattle.clip_terms.specs.Terms.{term_at, number_of}
+use Rattle.clip_terms.specs.Steps.Runs.{is_number}
+use Rattle.clip_terms.specs.Steps.Spots.{AreOfKey}
+use Rattle.clip_terms.proofs.Spotted.{none_of_key, word_postings, none_numbered, is_numbered}
 use Rattle.clip_terms.proofs.spots.FieldSpots.postings_of.Goals as goal
+
+pub returns-then-not-has : goal.returns-then-not-has
+returns-then-not-has c =
+    let inside = c.self.inside in
+    let key = term_at inside.reading.now.terms c.args.number in
+    subst (λ (s : SpotsValue). AreOfKey s.field (term_at s.terms c.args.number) []) c.self.view_is
+    (none_of_key inside.field.now key (c.self.invariant.among key (sym c.has.ensures ∙ c.if-not-has.true)))
 
 pub returns-in_default : goal.returns-in_default
 returns-in_default c =
-    let value = c.args.self.now in
+    let inside = c.self.inside in
     let n = c.args.number in
-    let past : term_at value.terms n ≡ Any = term_past c.keys.result.now value.terms n (c.keys.ensures.terms ∙ ap (λ (s : SpotsValue). s.terms) c.self.view_is) c.in_default.ensures.lookup.0 in
-    none_of_key value.field (term_at value.terms n) (λ w. ap (is_same (Word value.field.0 w)) past)
+    let terms = inside.reading.now.terms in
+    let field = inside.field.now in
+    subst (λ (s : SpotsValue). AreOfKey s.field (term_at s.terms n) []) c.self.view_is
+    (none_of_key field (term_at terms n)
+    (sym (none_numbered terms c.self.invariant.strict field.0 field.1 n) ∙ ap (list_any (λ m. is_number m n)) (sym c.self.invariant.numbers) ∙ c.in_default.ensures))
 
-pub returns-in_default-key : goal.returns-in_default-key
-returns-in_default-key c =
-    let value = c.args.self.now in
-    let n = c.args.number in
-    let read = term_read c.keys.result.now value.terms n c.in-Some.key.now (c.keys.ensures.terms ∙ ap (λ (s : SpotsValue). s.terms) c.self.view_is) c.in-Some.ensures.lookup.3.0 c.in-Some.ensures.lookup.1 in
-    none_of_key value.field (term_at value.terms n) (λ w. ap (is_same (Word value.field.0 w)) read ∙ no_word value.field.0 w c.in-Some.key.now c.in_default-key.not-Word)
-
-pub returns-then-ne : goal.returns-then-ne
-returns-then-ne c =
-    let value = c.args.self.now in
-    let n = c.args.number in
-    let name = arc_str_bytes c.in-Word.name in
-    let word = arc_str_bytes c.in-Word.word in
-    let read = term_read c.keys.result.now value.terms n c.in-Some.key.now (c.keys.ensures.terms ∙ ap (λ (s : SpotsValue). s.terms) c.self.view_is) c.in-Some.ensures.lookup.3.0 c.in-Some.ensures.lookup.1 ∙ ap key_of c.in-Word.is in
-    let tested = c.ne.ensures ∙ (λ i. not (bytes_eq (c.as_str.ensures.value i) ((c.as_str-2.ensures.value ∙ c.name.ensures) i))) in
-    let apart : bytes_eq name value.field.0 ≡ false = ap (λ (s : SpotsValue). bytes_eq name s.field.0) (sym c.self.view_is) ∙ not-true _ (sym tested ∙ c.if-ne.true) in
-    none_of_key value.field (term_at value.terms n) (λ w. ap (is_same (Word value.field.0 w)) read ∙ of_another value.field.0 name word w apart)
-
-pub bounds-leads-place : goal.bounds-leads-place
-bounds-leads-place c =
-    omega (arith, leads_long c.self.inside.terms.now c.leads.result.now c.leads.ensures, ap length c.keys.ensures.terms, length-map c.keys.result.now key_of, c.in-Some.ensures.lookup.3.0)
-
-pub occurrences-requires : goal.occurrences-requires
-occurrences-requires c =
-    let terms = c.self.inside.terms.now in
-    let n = c.args.number in
-    let leads = c.leads.result.now in
-    let lt = c.in-Some.ensures.lookup.3.0 in
-    let text = ap text_of (ap (λ ts. get_or ts n Any) (sym c.keys.ensures.terms) ∙ read_at c.keys.result.now n c.in-Some.key.now lt c.in-Some.ensures.lookup.1 Any ∙ ap key_of c.in-Word.is) in
-    subst (λ t. IsLead t (get_or leads n 0)) (text ∙ sym c.deref.ensures.value)
-    (lead_at terms leads c.leads.ensures n Any (omega (arith, ap length c.keys.ensures.terms, length-map c.keys.result.now key_of, lt)))
+pub bounds-words-place : goal.bounds-words-place
+bounds-words-place c =
+    let inside = c.self.inside in
+    let field = inside.field.now in
+    omega (arith, c.in-Some.ensures.0, ap length c.self.invariant.numbers, length-map (field_keys field) (number_of inside.reading.now.terms), length-map field.1 (Word field.0), ap length c.words.ensures, length-map c.words.result.now arc_str_bytes)
 
 pub returns : goal.returns
 returns c =
     let inside = c.self.inside in
     let n = c.args.number in
-    let found = c.occurrences.result.now in
-    let name = arc_str_bytes c.in-Word.name in
-    let word = arc_str_bytes c.in-Word.word in
-    let tested = c.ne.ensures ∙ (λ i. not (bytes_eq (c.as_str.ensures.value i) ((c.as_str-2.ensures.value ∙ c.name.ensures) i))) in
-    let same : bytes_eq name inside.field.now.0 ≡ true = not-false _ (sym tested ∙ c.if-ne.false) in
-    let read : term_at inside.terms.now n ≡ Word name word = term_read c.keys.result.now inside.terms.now n c.in-Some.key.now c.keys.ensures.terms c.in-Some.ensures.lookup.3.0 c.in-Some.ensures.lookup.1 ∙ ap key_of c.in-Word.is in
-    let are : AreOfKey inside.field.now (Word name word) found = word_postings inside.field.now name word found same (λ test. c.occurrences.ensures test ∙ (λ i. list_any (λ (p : List ℕ × ℕ). bytes_eq p.0 (c.deref.ensures.value i) && test p) (numbered 0 inside.field.now.1))) in
-    subst (λ (s : SpotsValue). AreOfKey s.field (term_at s.terms n) found) c.self.view_is (subst (λ key. AreOfKey inside.field.now key found) (sym read) are)
+    let terms = inside.reading.now.terms in
+    let field = inside.field.now in
+    let place = c.in-Some.place in
+    let item = c.index-words-place.result in
+    let words = c.words.result.now in
+    let lt : place < length field.1 = omega (arith, c.in-Some.ensures.0, ap length c.self.invariant.numbers, length-map (field_keys field) (number_of terms), length-map field.1 (Word field.0)) in
+    let word : c.as_str-word.result.now ≡ get_or field.1 place [] =
+    c.as_str-word.ensures.value ∙ ap arc_str_bytes c.index-words-place.is
+    ∙ sym (get_or-map arc_str_bytes words place item [] (omega (arith, lt, ap length c.words.ensures, length-map words arc_str_bytes))) ∙ ap (λ ws. get_or ws place []) c.words.ensures in
+    let same : is_same (Word field.0 c.as_str-word.result.now) (term_at terms n) ≡ true =
+    ap (λ w. is_same (Word field.0 w) (term_at terms n)) word ∙ sym (is_numbered terms c.self.invariant.strict field n place lt)
+    ∙ ap (λ os. is_number (get_or os place None) n) (sym c.self.invariant.numbers) ∙ c.in-Some.ensures.1 in
+    subst (λ (s : SpotsValue). AreOfKey s.field (term_at s.terms n) c.occurrences.result.now) c.self.view_is
+    (word_postings field c.as_str-word.result.now (term_at terms n) c.occurrences.result.now same c.occurrences.ensures)
