@@ -1,5 +1,6 @@
 pub mod Fields
 mod Groups
+pub mod LeadPostings
 pub mod Leads
 pub mod Marks
 pub mod Numbered

@@ -91,9 +91,6 @@ rises-drop (suc n) (p ∷ ps) r = rises-drop n ps (tail_rises p ps r)
 pub rises_from : (low : End) (ps : List Place) → Rises ps → Rises (from_low low ps)
 rises_from low ps r = rises-drop (prefix_len (λ (p : Place). not (above low p.0)) ps) ps r
 
-pub sorted_again : (ps : List Place) → Rises ps → Sorted ps
-sorted_again ps r k d low high = r k (k + 1) d (omega arith) high
-
 -- words below a word, and words not above it, come before the others
 pub below_first : (word : List ℕ) (ps : List Place) → Rises ps → IsPartitionedBy (λ (p : Place). is_gt (bytes_cmp word p.0)) ps
 below_first word ps r i j d le lt g =
@@ -109,14 +106,6 @@ upto_first word ps r i j d le lt g = by_order (bytes_cmp word (get_or ps i d).0)
     by_order Less e = absurd (true≢false (sym g ∙ ap (λ b. not (is_lt b)) (below_upto word (get_or ps i d).0 (get_or ps j d).0 e (r i j d le lt))))
     by_order Equal e = refl
     by_order Greater e = refl
-
--- and where a word is above it, so are those after
-pub past_upto : (word : List ℕ) (ps : List Place) → Rises ps → (i k : ℕ) (d : Place) → i ≤ k → k < length ps → is_lt (bytes_cmp word (get_or ps i d).0) ≡ true → not (is_lt (bytes_cmp word (get_or ps k d).0)) ≡ false
-past_upto word ps r i k d le lt above = by_test (not (is_lt (bytes_cmp word (get_or ps k d).0))) refl
-  where
-    by_test : (b : Bool) → not (is_lt (bytes_cmp word (get_or ps k d).0)) ≡ b → b ≡ false
-    by_test true e = sym (upto_first word ps r i k d le lt e) ∙ ap not above
-    by_test false e = refl
 
 -- ---- where a range begins
 

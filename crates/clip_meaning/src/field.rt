@@ -8,13 +8,13 @@ ghost use Rattle.clip_words.specs.Order.{bytes_cmp};
 ghost use Rattle.clip_words.specs.Words.{words_of};
 ghost use Rattle.clip_grammar.specs.Tree.{end_of};
 ghost use Rattle.clip_meaning.specs.Index.{numbered, posting_cmp};
-ghost use Rattle.clip_meaning.specs.Leads.{IsLead};
+ghost use Rattle.clip_meaning.specs.Leads.{has_lead};
 ghost use Rattle.clip_meaning.specs.Steps.Searches.{stands_at};
 ghost use Rattle.clip_meaning.specs.Meaning.{begins_with, has_phrase, is_between};
 ghost use Rattle.clip_meaning.specs.Hits.{covers};
 ghost use Rattle.clip_meaning.specs.Steps.Marks.{AreRaised};
 
-use crate::index::{Posting, Sought, WordIndex};
+use crate::index::{Posting, WordIndex};
 use crate::marking::{mark_all, mark_run};
 use clip_grammar::query::Bound;
 use clip_words::{NoMemory, WordPool, shared_words};
@@ -107,14 +107,14 @@ impl Field {
         stands_at_any(&self.words, self.index.occurrences(first), phrase)
     }
 
-    /// The postings of a word, beside which its lead is given. Takes no memory. Compares about the logarithm of the
-    /// number of words, and takes a step for each posting; looks at a text only where it has that lead.
-    pub fn occurrences(&self, word: &str, lead: u64) -> &[Posting]
-        requires { IsLead word.now lead }
+    /// The postings of the words of a lead: those of all words that have it as the number of their first eight bytes.
+    /// Takes no memory. Cost: about the logarithm of the number of words, and a step for each that is given; no text is
+    /// looked at.
+    pub fn of_lead(&self, lead: u64) -> &[Posting]
         ensures { (test : List ℕ × ℕ → Bool) → list_any test result.now
-            ≡ list_any (λ p. bytes_eq p.0 word.now && test p) (numbered 0 self.now.1) }
+            ≡ list_any (λ p. has_lead lead p && test p) (numbered 0 self.now.1) }
     {
-        self.index.occurrences_of(&Sought::with(word, lead))
+        self.index.of_lead(lead)
     }
 
     /// Whether a word begins with the front, as in Lucene's PrefixQuery. Takes no memory. Compares about the logarithm

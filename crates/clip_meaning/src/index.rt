@@ -1,15 +1,15 @@
 //! The words of a field in byte order, each with its position.
-ghost use Rattle.std.specs.Prelude.{◌≡◌, ◌≤◌, true, false, length, map, filter, not, IfOk, IsPermutation};
+ghost use Rattle.std.specs.Prelude.{◌≡◌, ◌≤◌, nat_lt, length, map, filter, not, IfOk, IsPermutation};
 ghost use Rattle.std.specs.Arc.{arc_str_bytes};
-ghost use Rattle.std.specs.List.{list_any};
-ghost use Rattle.std.specs.List.Sorted.{IsPartitionPoint, IsSorted, IsSortedByKey};
+ghost use Rattle.std.specs.List.{All, list_any, prefix_len};
+ghost use Rattle.std.specs.List.Sorted.{IsSorted, IsSortedByKey};
 ghost use Rattle.std.specs.Str.{bytes_eq};
 ghost use Rattle.std.specs.Ordering.{is_gt, is_lt};
 ghost use Rattle.clip_words.specs.Order.{bytes_cmp};
 ghost use Rattle.clip_grammar.specs.Tokens.{End};
 ghost use Rattle.clip_grammar.specs.Tree.{end_of};
 ghost use Rattle.clip_meaning.specs.Index.{numbered, posting_cmp};
-ghost use Rattle.clip_meaning.specs.Leads.{IsLead};
+ghost use Rattle.clip_meaning.specs.Leads.{AreBytes, has_lead, lead_of};
 ghost use Rattle.clip_meaning.specs.Steps.Searches.{from_low};
 ghost use Rattle.clip_meaning.specs.Meaning.{below, begins_with, is_between};
 
@@ -58,6 +58,13 @@ impl Posting {
     {
         self.position
     }
+
+    /// Whether the word has a lead.
+    fn has_lead(&self, lead: u64) -> bool
+        ensures { result ≡ has_lead lead self.now }
+    {
+        self.lead == lead
+    }
 }
 
 /// Compares postings by their words, and those of one word by their positions. Looks at the texts only where the words
@@ -72,7 +79,7 @@ fn order(a: &Posting, b: &Posting) -> Ordering
 
 /// A text that is looked for among postings, and its lead. Contracts see the text.
 #[derive(Drop)]
-pub(crate) struct Sought<'a> {
+struct Sought<'a> {
     text: &'a str,
     lead: u64,
 }
@@ -93,15 +100,10 @@ impl<'a> Sought<'a> {
     fn of(text: &'a str) -> Sought<'a>
         ensures { result ≡ text.now }
     {
-        Sought::with(text, lead_of(text))
-    }
-
-    /// Looks for a text, whose lead this is.
-    pub(crate) fn with(text: &'a str, lead: u64) -> Sought<'a>
-        requires { IsLead text.now lead }
-        ensures { result ≡ text.now }
-    {
-        Sought { text, lead }
+        Sought {
+            text,
+            lead: lead_of(text),
+        }
     }
 
     /// Compares the text with the word of a posting, which is looked at only where both have the same lead.
@@ -130,12 +132,16 @@ impl Model for WordIndex {
 
     ghost view = { λ index. index.postings.items };
 
-    ghost invariant = { λ index. IsSorted posting_cmp index.postings.items };
+    ghost use Rattle.std.specs.List.{All};
+    ghost use Rattle.clip_meaning.specs.Leads.{AreBytes};
+
+    ghost invariant = { λ index. IsSorted posting_cmp index.postings.items × All (λ p. AreBytes p.0) index.postings.items };
 }
 
 /// The words in order, each with its position.
 fn postings_of(alloc: Global, words: &[ArcStr]) -> Result<Vec<Posting>, NoMemory>
-    ensures { IfOk result (λ postings. postings.items ≡ numbered 0 (map arc_str_bytes words.now)) }
+    ensures words { IfOk result (λ postings. postings.items ≡ numbered 0 (map arc_str_bytes words.now)) }
+    ensures bytes { IfOk result (λ postings. All (λ p. AreBytes p.0) postings.items) }
 {
     let mut postings = Vec::with_capacity(alloc, words.len())?;
     for word in words {
@@ -168,23 +174,23 @@ impl WordIndex {
         ensures value { result.now ≡ self.now }
         ensures sorted { IsSortedByKey (λ p. p.0) bytes_cmp self.now }
         ensures in_order { IsSorted posting_cmp self.now }
+        ensures bytes { All (λ p. AreBytes p.0) self.now }
     {
         &self.postings
     }
 
-    /// The postings of the words that are not below a text.
-    fn from(&self, sought: &Sought<'_>) -> &[Posting]
-        ensures value { result.now ≡ from_low (End.With sought.now) self.now }
-        ensures rest { IsSortedByKey (λ p. p.0) bytes_cmp result.now }
-        ensures sorted { IsSortedByKey (λ p. p.0) bytes_cmp self.now }
+    /// The postings of the words of a lead, by a search by halves among the leads and a walk over those that are found.
+    pub(crate) fn of_lead(&self, lead: u64) -> &[Posting]
+        ensures { result.now ≡ filter (has_lead lead) self.now }
     {
         let postings = self.postings();
         let place = postings.partition_point(
             |posting: &Posting| -> bool
-                ensures { result ≡ is_gt (bytes_cmp sought.entry.now posting.now.0) }
-            { sought.order(posting).is_gt() },
+                ensures { result ≡ nat_lt (lead_of posting.now.0) lead }
+            { posting.lead < lead },
         );
-        postings.split_at(place).1
+        let postings = postings.split_at(place).1;
+        postings.split_at(count_of_lead(postings, lead)).0
     }
 
     /// The postings of the words that are not below a word.
@@ -192,7 +198,14 @@ impl WordIndex {
         ensures value { result.now ≡ from_low (End.With word.now) self.now }
         ensures sorted { IsSortedByKey (λ p. p.0) bytes_cmp self.now }
     {
-        self.from(&Sought::of(word))
+        let sought = Sought::of(word);
+        let postings = self.postings();
+        let place = postings.partition_point(
+            |posting: &Posting| -> bool
+                ensures { result ≡ is_gt (bytes_cmp sought.entry posting.now.0) }
+            { sought.order(posting).is_gt() },
+        );
+        postings.split_at(place).1
     }
 
     /// The postings of the words that are above a word.
@@ -226,15 +239,14 @@ impl WordIndex {
     pub(crate) fn occurrences(&self, word: &str) -> &[Posting]
         ensures { result.now ≡ filter (λ p. bytes_eq p.0 word.now) self.now }
     {
-        self.occurrences_of(&Sought::of(word))
-    }
-
-    /// The postings of the word that is looked for.
-    pub(crate) fn occurrences_of(&self, sought: &Sought<'_>) -> &[Posting]
-        ensures { result.now ≡ filter (λ p. bytes_eq p.0 sought.now) self.now }
-    {
-        let postings = self.from(sought);
-        postings.split_at(count_up_to(postings, sought)).0
+        let sought = Sought::of(word);
+        let postings = self.not_below(word);
+        let place = postings.partition_point(
+            |posting: &Posting| -> bool
+                ensures { result ≡ not (is_lt (bytes_cmp sought.entry posting.now.0)) }
+            { !sought.order(posting).is_lt() },
+        );
+        postings.split_at(place).0
     }
 
     /// The postings of the words that begin with the front.
@@ -294,16 +306,13 @@ impl WordIndex {
     }
 }
 
-/// How many of the postings are of words that are not above the one that is looked for, by a walk from the start: a
-/// word seldom stands in many places.
-fn count_up_to(postings: &[Posting], sought: &Sought<'_>) -> usize
-    requires { IsSortedByKey (λ p. p.0) bytes_cmp postings.now }
+/// How many of the postings at the front are of words of a lead.
+fn count_of_lead(postings: &[Posting], lead: u64) -> usize
     ensures within { result ≤ length postings.now }
-    ensures point { IsPartitionPoint (λ p. not (is_lt (bytes_cmp sought.now p.0)) ≡ true)
-        (λ p. not (is_lt (bytes_cmp sought.now p.0)) ≡ false) postings.now result }
+    ensures count { result ≡ prefix_len (has_lead lead) postings.now }
 {
     let mut count = 0;
-    while count < postings.len() && !sought.order(&postings[count]).is_lt() {
+    while count < postings.len() && postings[count].has_lead(lead) {
         count += 1;
     }
     count

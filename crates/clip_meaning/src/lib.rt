@@ -22,5 +22,5 @@ pub use field::Field;
 pub use hit::{Hit, add_raised, hits, mark};
 pub use index::Posting;
 pub use lead::{compare_by_leads, lead_of};
-pub use marking::{DOWN, UP, mark_all, mark_run};
+pub use marking::{DOWN, UP, mark_run};
 pub use meaning::holds;

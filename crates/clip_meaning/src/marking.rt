@@ -33,8 +33,8 @@ pub fn mark_run(flags: &mut Vec<u8>, start: usize, count: usize)
     }
 }
 
-/// Raises the flags of the positions of postings, as far as there are flags. Takes a step for each.
-pub fn mark_all(flags: &mut Vec<u8>, postings: &[Posting])
+/// Raises the flags of the positions of postings.
+pub(crate) fn mark_all(flags: &mut Vec<u8>, postings: &[Posting])
     ensures long { length flags.new.items ≡ length flags.old.items }
     ensures raised { AreRaised flags.old.items flags.new.items (λ k. list_any (λ p. nat_eq k p.1) postings.now) }
 {

@@ -1,28 +1,29 @@
 -- Spots: where the term of a number stands in a field, and which positions a run of numbers covers.
-use Rattle.std.proofs.Common.{◌≡◌, ℕ, ◌+◌, ◌<◌, Bool, true, false, ◌&&◌, ◌||◌, nat_eq, nat_lt, nat_le, List, [], ◌∷◌, map, length, drop, get_or, bytes_eq, Option, None, refl, sym, ap, ◌∙◌, arith}
+use Rattle.std.proofs.Common.{◌≡◌, ℕ, ◌+◌, ◌<◌, ◌≤◌, Bool, true, false, ◌&&◌, ◌||◌, nat_eq, nat_lt, nat_le, List, [], ◌∷◌, map, length, drop, get_or, bytes_eq, Option, unwrap_or, refl, sym, ap, subst, ◌∙◌, arith, eq-eqb, eqb-true}
 use Rattle.std.specs.List.{list_any, starts_with}
 use Rattle.std.specs.List.Sorted.{IsStrictlySortedBy}
 use Rattle.std.specs.Cmp.{eq_by_cmp_equiv}
 use Rattle.std.specs.FinMap as finite
-use Rattle.std.proofs.lemmas.Bool.{leb-true, le-ltb, and_parts, and_from, false_from_ne_true, false≢true, true≢false}
+use Rattle.std.proofs.lemmas.Bool.{leb-true, ltb-true, le-leb, lt-ltb, le-ltb, and_parts, and_from, false_from_ne_true, false≢true, true≢false}
 use Rattle.std.proofs.lemmas.List.{length-map, get_or-map, drop-map}
 use Rattle.std.proofs.lemmas.List.Folds.{list_any_at}
+use Rattle.std.proofs.lemmas.Option.{slice_get_past}
 use Rattle.std.proofs.lemmas.Slice.Eq.{bytes_eq-Decides}
 use Rattle.clip_grammar.proofs.Booleans.{same_answer}
 use Rattle.clip_meaning.specs.Article.{Fields}
 use Rattle.clip_meaning.specs.Hits.{is_within}
 use Rattle.clip_meaning.specs.Index.{numbered}
+use Rattle.clip_meaning.specs.Leads.{IsLead, has_lead, lead_of}
 use Rattle.clip_meaning.proofs.Marks.{at_numbered}
 use Rattle.clip_meaning.proofs.Numbered.{rest_dropped}
-use Rattle.clip_extract.specs.Keys.{KeyValue, Any, Word, key_cmp, is_same}
+use Rattle.clip_extract.specs.Keys.{KeyValue, Any, Word, key_cmp, is_same, text_of}
 use Rattle.clip_extract.specs.Covering.{field_keys}
 use Rattle.clip_extract.proofs.Order.{key_cmp_total, same_itself, same_key}
 use Rattle.clip_terms.specs.Reading.{stands_in}
 use Rattle.clip_terms.specs.Terms.{term_at, number_of}
 use Rattle.clip_terms.specs.Spots.{FieldValue, is_at, covers_from, is_covered}
-use Rattle.clip_terms.specs.Steps.Runs.{begins_with, is_number}
-use Rattle.clip_terms.specs.Steps.Spots.{AreOfKey, IsOfArticle, covers_at}
-use Rattle.clip_terms.proofs.NumberedKeys.{word_numbered}
+use Rattle.clip_terms.specs.Steps.Runs.{begins_with}
+use Rattle.clip_terms.specs.Steps.Spots.{AreNear, IsOfArticle, covers_at}
 use Rattle.clip_terms.proofs.Runs.{begins, lacks}
 
 -- ---- the postings of a key
@@ -43,34 +44,37 @@ at_word g w f v =
     (λ i. is_same (Word g w) (Word (field i) (sym word i))) ∙ same_itself (Word g w))
 
 -- no word is the key's
-pub none_of_key : (field : FieldValue) (key : KeyValue) → list_any (λ w. is_same (Word field.0 w) key) field.1 ≡ false → AreOfKey field key []
-none_of_key field key out test = sym (none field.1 0 out)
+pub none_near : (field : FieldValue) (key : KeyValue) → list_any (λ w. is_same (Word field.0 w) key) field.1 ≡ false → AreNear field key []
+none_near field key out = record {
+  passes = λ p. is_same (Word field.0 p.0) key;
+  of_key = λ word position same. same;
+  just = λ test. sym (none test field.1 0 out);
+}
   where
-    both : (a b c : Bool) → (a || b) ≡ false → (b ≡ false → c ≡ false) → ((a && true) || c) ≡ false
-    both false b c e rest = rest e
-    both true b c e rest = absurd (true≢false e)
+    both : (a t b c : Bool) → (a || b) ≡ false → (b ≡ false → c ≡ false) → ((a && t) || c) ≡ false
+    both false t b c e rest = rest e
+    both true t b c e rest = absurd (true≢false e)
 
-    weaker : (a t c : Bool) → ((a && true) || c) ≡ false → ((a && t) || c) ≡ false
-    weaker false t c e = e
-    weaker true t c e = absurd (true≢false e)
+    none : (test : List ℕ × ℕ → Bool) (ws : List (List ℕ)) (n : ℕ) → list_any (λ w. is_same (Word field.0 w) key) ws ≡ false → list_any (λ p. is_same (Word field.0 p.0) key && test p) (numbered n ws) ≡ false
+    none test [] n e = refl
+    none test (w ∷ ws) n e = both (is_same (Word field.0 w) key) (test (w, n)) _ _ e (none test ws (n + 1))
 
-    none : (ws : List (List ℕ)) (n : ℕ) → list_any (λ w. is_same (Word field.0 w) key) ws ≡ false → list_any (λ p. is_same (Word field.0 p.0) key && test p) (numbered n ws) ≡ false
-    none [] n e = refl
-    none (w ∷ ws) n e =
-        weaker (is_same (Word field.0 w) key) (test (w, n)) _
-        (both (is_same (Word field.0 w) key) (list_any (λ v. is_same (Word field.0 v) key) ws) (list_any (λ p. is_same (Word field.0 p.0) key && test p) (numbered (n + 1) ws)) e (none ws (n + 1)))
-
--- the postings of a word are those of its key
-pub word_postings : (field : FieldValue) (w : List ℕ) (key : KeyValue) (found : List (List ℕ × ℕ)) → is_same (Word field.0 w) key ≡ true
-    → ((test : List ℕ × ℕ → Bool) → list_any test found ≡ list_any (λ p. bytes_eq p.0 w && test p) (numbered 0 field.1)) → AreOfKey field key found
-word_postings field w key found same are test =
-    are test ∙ (λ i. list_any (λ (p : List ℕ × ℕ). here p.0 i && test p) (numbered 0 field.1)) ∙ ap (λ k. list_any (λ (p : List ℕ × ℕ). is_same (Word field.0 p.0) k && test p) (numbered 0 field.1)) (same_key (Word field.0 w) key same)
+-- the key past the last term is no word's
+pub none_past : (field : FieldValue) (terms : List KeyValue) (n : ℕ) → length terms ≤ n → AreNear field (term_at terms n) []
+none_past field terms n past = subst (λ key. AreNear field key []) (sym (ap (λ o. unwrap_or o Any) (slice_get_past terms n past))) (none_near field Any (no_word field.1))
   where
-    itself : bytes_eq field.0 field.0 ≡ true
-    itself = (bytes_eq-Decides field.0 field.0).1 refl
+    no_word : (ws : List (List ℕ)) → list_any (λ w. is_same (Word field.0 w) Any) ws ≡ false
+    no_word [] = refl
+    no_word (w ∷ ws) = no_word ws
 
-    here : (v : List ℕ) → bytes_eq v w ≡ is_same (Word field.0 v) (Word field.0 w)
-    here v = sym (at_word field.0 v field.0 w ∙ ap (λ b. b && bytes_eq v w) itself)
+-- the postings of the lead of its text are near a key
+pub lead_near : (field : FieldValue) (key : KeyValue) (lead : ℕ) (found : List (List ℕ × ℕ)) → IsLead (text_of key) lead
+    → ((test : List ℕ × ℕ → Bool) → list_any test found ≡ list_any (λ p. has_lead lead p && test p) (numbered 0 field.1)) → AreNear field key found
+lead_near field key lead found is just = record {
+  passes = has_lead lead;
+  of_key = λ word position same. eq-eqb _ _ (ap (λ k. lead_of (text_of k)) (same_key (Word field.0 word) key same) ∙ sym is.number);
+  just = just;
+}
 
 single : (b : Bool) → (b && true) ≡ b
 single true = refl
@@ -90,42 +94,50 @@ of_article fields place lt key lacking =
     sym (one_stands field.0 key field.1)
     ∙ false_from_ne_true (stands field) (λ here. false≢true (sym nowhere ∙ list_any_at stands (finite.entries fields) place ([], []) lt here))
 
--- they are where the key stands
-pub key_postings : (field : FieldValue) (key : KeyValue) (found : List (List ℕ × ℕ)) (k : ℕ) → AreOfKey field key found → k < length field.1 → list_any (λ p. nat_eq k p.1) found ≡ is_at field k key
-key_postings field key found k are lt = are (λ p. nat_eq k p.1) ∙ at_numbered (λ w. is_same (Word field.0 w) key) field.1 k 0 k (omega arith) lt
-
 -- ---- a run
 
-same_first : (a b c d : Bool) → a ≡ b → (a && ((b && c) && d)) ≡ ((b && c) && d)
-same_first a true c d e = ap (λ x. x && (c && d)) e
-same_first a false c d e = ap (λ x. x && false) e
+guarded : (a b c d : Bool) → (b ≡ true → a ≡ true) → (a && ((b && c) && d)) ≡ ((b && c) && d)
+guarded a true c d pass = ap (λ x. x && (c && d)) (pass refl)
+guarded true false c d pass = refl
+guarded false false c d pass = refl
+
+-- what covers from a word on, where the keys of the words from there on are these
+from_word : (field : FieldValue) (keys : List KeyValue) (k start : ℕ) (w : List ℕ) (words : List (List ℕ)) → drop start field.1 ≡ w ∷ words → covers_from field keys k start ≡ (starts_with is_same (map (Word field.0) (w ∷ words)) keys && is_within start (length keys) k)
+from_word field keys k start w words e = ap (λ xs. starts_with is_same xs keys && is_within start (length keys) k) (drop-map (Word field.0) start field.1 ∙ ap (map (Word field.0)) e)
 
 -- where a run of keys stands there stands the first of them
-run_of_first : (field : FieldValue) (key : KeyValue) (run : List KeyValue) (k start : ℕ) (words : List (List ℕ)) → drop start field.1 ≡ words
-    → list_any (λ (p : List ℕ × ℕ). is_same (Word field.0 p.0) key && covers_from field (key ∷ run) k p.1) (numbered start words) ≡ list_any (λ (p : List ℕ × ℕ). covers_from field (key ∷ run) k p.1) (numbered start words)
-run_of_first field key run k start [] e = refl
-run_of_first field key run k start (w ∷ words) e =
-    let inner = is_within start (length (key ∷ run)) k in
-    let keys : drop start (field_keys field) ≡ Word field.0 w ∷ map (Word field.0) words = drop-map (Word field.0) start field.1 ∙ ap (map (Word field.0)) e in
-    let head : (is_same (Word field.0 w) key && covers_from field (key ∷ run) k start) ≡ covers_from field (key ∷ run) k start =
-    ap (λ xs. is_same (Word field.0 w) key && (starts_with is_same xs (key ∷ run) && inner)) keys
-    ∙ same_first (is_same (Word field.0 w) key) (is_same key (Word field.0 w)) _ inner ((eq_by_cmp_equiv key_cmp_total).symm (Word field.0 w) key)
-    ∙ sym (ap (λ xs. starts_with is_same xs (key ∷ run) && inner) keys) in
-    ap (λ b. b || list_any (λ (p : List ℕ × ℕ). is_same (Word field.0 p.0) key && covers_from field (key ∷ run) k p.1) (numbered (start + 1) words)) head
-    ∙ ap (λ b. covers_from field (key ∷ run) k start || b) (run_of_first field key run k (start + 1) words (rest_dropped start field.1 w words e))
+run_of_near : (field : FieldValue) (key : KeyValue) (run : List KeyValue) (found : List (List ℕ × ℕ)) (near : AreNear field key found) (k start : ℕ) (words : List (List ℕ)) → drop start field.1 ≡ words
+    → list_any (λ (p : List ℕ × ℕ). near.passes p && covers_from field (key ∷ run) k p.1) (numbered start words) ≡ list_any (λ (p : List ℕ × ℕ). covers_from field (key ∷ run) k p.1) (numbered start words)
+run_of_near field key run found near k start [] e = refl
+run_of_near field key run found near k start (w ∷ words) e =
+    let from = from_word field (key ∷ run) k start w words e in
+    let head : (near.passes (w, start) && covers_from field (key ∷ run) k start) ≡ covers_from field (key ∷ run) k start =
+    ap (λ b. near.passes (w, start) && b) from
+    ∙ guarded (near.passes (w, start)) (is_same key (Word field.0 w)) _ _ (λ same. near.of_key w start ((eq_by_cmp_equiv key_cmp_total).symm (Word field.0 w) key ∙ same))
+    ∙ sym from in
+    ap (λ b. b || list_any (λ (p : List ℕ × ℕ). near.passes p && covers_from field (key ∷ run) k p.1) (numbered (start + 1) words)) head
+    ∙ ap (λ b. covers_from field (key ∷ run) k start || b) (run_of_near field key run found near k (start + 1) words (rest_dropped start field.1 w words e))
+
+-- a run of one number covers the position that it begins at
+one_within : (start k : ℕ) → is_within start 1 k ≡ nat_eq k start
+one_within start k =
+    same_answer _ _
+    (λ t. let parts = and_parts (nat_le start k) (nat_lt k (start + 1)) t in eq-eqb k start (omega (arith, leb-true start k parts.0, ltb-true k (start + 1) parts.1)))
+    (λ t. let same : k ≡ start = eqb-true k start t in and_from (nat_le start k) (nat_lt k (start + 1)) (le-leb start k (omega (arith, same))) (lt-ltb k (start + 1) (omega (arith, same))))
+
+-- a run of one key covers the positions where it stands
+one_covered : (field : FieldValue) (key : KeyValue) (k start : ℕ) (words : List (List ℕ)) → drop start field.1 ≡ words
+    → list_any (λ (p : List ℕ × ℕ). covers_from field (key ∷ []) k p.1) (numbered start words) ≡ list_any (λ (p : List ℕ × ℕ). is_same (Word field.0 p.0) key && nat_eq k p.1) (numbered start words)
+one_covered field key k start [] e = refl
+one_covered field key k start (w ∷ words) e =
+    ap (λ b. b || list_any (λ (p : List ℕ × ℕ). covers_from field (key ∷ []) k p.1) (numbered (start + 1) words))
+    (from_word field (key ∷ []) k start w words e ∙ (λ i. (single (is_same key (Word field.0 w)) ∙ (eq_by_cmp_equiv key_cmp_total).symm key (Word field.0 w)) i && one_within start k i))
+    ∙ ap (λ b. (is_same (Word field.0 w) key && nat_eq k start) || b) (one_covered field key k (start + 1) words (rest_dropped start field.1 w words e))
+
+pub one_at : (field : FieldValue) (key : KeyValue) (k : ℕ) → k < length field.1 → is_covered field (key ∷ []) k ≡ is_at field k key
+one_at field key k lt = one_covered field key k 0 field.1 refl ∙ at_numbered (λ w. is_same (Word field.0 w) key) field.1 k 0 k (omega arith) lt
 
 module _ (terms : List KeyValue) (strict : IsStrictlySortedBy key_cmp terms) where
-  -- where no word has the number, none is its term's
-  pub none_numbered : (name : List ℕ) (words : List (List ℕ)) (n : ℕ) → list_any (λ m. is_number m n) (map (number_of terms) (map (Word name) words)) ≡ list_any (λ w. is_same (Word name w) (term_at terms n)) words
-  none_numbered name [] n = refl
-  none_numbered name (w ∷ words) n = λ i. word_numbered terms name w n strict i || none_numbered name words n i
-
-  -- a word that has the number is its term's
-  pub is_numbered : (field : FieldValue) (n place : ℕ) → place < length field.1 → is_number (get_or (map (number_of terms) (field_keys field)) place None) n ≡ is_same (Word field.0 (get_or field.1 place [])) (term_at terms n)
-  is_numbered field n place lt =
-      ap (λ o. is_number o n) (get_or-map (number_of terms) (map (Word field.0) field.1) place Any None (omega (arith, length-map field.1 (Word field.0), lt)) ∙ ap (number_of terms) (get_or-map (Word field.0) field.1 place [] Any lt))
-      ∙ word_numbered terms field.0 (get_or field.1 place []) n strict
-
   abbrev numbers_of : List ℕ → List (List ℕ) → List (Option ℕ)
   numbers_of name words = map (number_of terms) (map (Word name) words)
 
@@ -136,16 +148,16 @@ module _ (terms : List KeyValue) (strict : IsStrictlySortedBy key_cmp terms) whe
       ∙ ap (λ xs. starts_with is_same xs (map (term_at terms) run) && is_within start (length run) k) (sym (drop-map (Word field.0) start field.1))
       ∙ ap (λ m. starts_with is_same (drop start (field_keys field)) (map (term_at terms) run) && is_within start m k) (sym (length-map run (term_at terms)))
 
-  -- the postings of the term of its first number settle which positions a run covers
+  -- postings near the term of its first number settle which positions a run covers
   pub run_postings : (field : FieldValue) (numbers : List (Option ℕ)) (found : List (List ℕ × ℕ)) (run : List ℕ) (x k : ℕ) → 0 < length run → x ≡ get_or run 0 x → numbers ≡ map (number_of terms) (field_keys field)
-      → AreOfKey field (term_at terms x) found → list_any (covers_at run numbers k) found ≡ is_covered field (map (term_at terms) run) k
-  run_postings field numbers found [] x k some is are of_first = absurd (omega arith)
-  run_postings field numbers found (n ∷ run) x k some is are of_first =
+      → AreNear field (term_at terms x) found → list_any (covers_at run numbers k) found ≡ is_covered field (map (term_at terms) run) k
+  run_postings field numbers found [] x k some is are near = absurd (omega arith)
+  run_postings field numbers found (n ∷ run) x k some is are near =
+      let first : AreNear field (term_at terms n) found = subst (λ m. AreNear field (term_at terms m) found) is near in
       ap (λ os. list_any (covers_at (n ∷ run) os k) found) are
       ∙ (λ i. list_any (λ (p : List ℕ × ℕ). run_at field (n ∷ run) k p.1 i) found)
-      ∙ of_first (λ p. covers_from field (map (term_at terms) (n ∷ run)) k p.1)
-      ∙ ap (λ m. list_any (λ (p : List ℕ × ℕ). is_same (Word field.0 p.0) (term_at terms m) && covers_from field (map (term_at terms) (n ∷ run)) k p.1) (numbered 0 field.1)) is
-      ∙ run_of_first field (term_at terms n) (map (term_at terms) run) k 0 field.1 refl
+      ∙ first.just (λ p. covers_from field (map (term_at terms) (n ∷ run)) k p.1)
+      ∙ run_of_near field (term_at terms n) (map (term_at terms) run) found first k 0 field.1 refl
 
 -- ---- no keys cover no position
 

@@ -1,16 +1,15 @@
 //! Where the words of a field stand, by the numbers of their terms.
-ghost use Rattle.std.specs.Prelude.{◌≡◌, ◌<◌, MatchOption, None, false, true, get_or, map, length, drop};
+ghost use Rattle.std.specs.Prelude.{◌≡◌, map, length, drop};
 ghost use Rattle.std.specs.List.{list_any};
 ghost use Rattle.clip_meaning.specs.Steps.Marks.{AreRaised};
 ghost use Rattle.clip_extract.specs.Covering.{field_keys};
 ghost use Rattle.clip_terms.specs.Spots.{is_at, is_covered, spots_among};
 ghost use Rattle.clip_terms.specs.Terms.{number_of, term_at};
-ghost use Rattle.clip_terms.specs.Steps.Runs.{is_number};
-ghost use Rattle.clip_terms.specs.Steps.Spots.{AreOfKey, IsOfArticle, covers_at};
+ghost use Rattle.clip_terms.specs.Steps.Spots.{AreNear, IsOfArticle, covers_at};
 
-use crate::reading::{Reading, is_number, starts_with};
+use crate::reading::{Reading, starts_with};
 use crate::terms::Terms;
-use clip_meaning::{Field, Posting, lead_of, mark_all, mark_run};
+use clip_meaning::{Field, Posting, mark_run};
 use std::marker::Model;
 
 /// One field of an article that is asked by the numbers of terms, with the numbers of its words. Contracts see the terms
@@ -33,19 +32,6 @@ impl<'a> Model for FieldSpots<'a> {
     ghost view = { spots_value };
 
     ghost invariant = { AreSpots };
-}
-
-/// The first place of a number, if it has one.
-fn place_of(numbers: &[Option<u32>], number: u32) -> Option<usize>
-    ensures { MatchOption result (list_any (λ m. is_number m number) numbers.now ≡ false)
-        (λ n. (n < length numbers.now) × (is_number (get_or numbers.now n None) number ≡ true)) }
-{
-    for place in 0..numbers.len() {
-        if is_number(numbers[place], number) {
-            return Some(place);
-        }
-    }
-    None
 }
 
 /// The numbers from a position on, none where it is past the end.
@@ -106,31 +92,30 @@ impl<'a> FieldSpots<'a> {
         self.reading.terms()
     }
 
-    /// The postings of the term of a number, none where it is no word of this field. No term is looked at: where the
-    /// article has the term, its text is that of the first word with its number.
-    fn postings_of(&self, number: u32) -> &'a [Posting]
-        ensures { AreOfKey self.now.field (term_at self.now.terms number) result.now }
+    /// Postings of the field, among which all of the term of a number are: none where the article lacks the term, and
+    /// else those of the lead of its text. No text is looked at.
+    fn postings_near(&self, number: u32) -> &'a [Posting]
+        ensures { AreNear self.now.field (term_at self.now.terms number) result.now }
     {
         if !self.reading.has(number) {
             return &[];
         }
-        let Some(place) = place_of(self.numbers, number) else {
-            return &[];
-        };
-        let word = self.field.words()[place].as_str();
-        self.field.occurrences(word, lead_of(word))
+        match self.terms().leads().get(number as usize) {
+            Some(lead) => self.field.of_lead(*lead),
+            None => &[],
+        }
     }
 
     /// Raises the flags of the positions at which the term of a number stands. Takes no memory. Cost: where the article
-    /// has the term a walk over the field's words up to the first that is the term's, and, if there is one, a search by
-    /// halves among them and a step for each position; constant where it doesn't.
+    /// has the term a search by halves among the field's words and a step for each of those that begin with the same
+    /// eight bytes; constant where it doesn't.
     pub fn mark_term(&self, number: u32, flags: &mut Vec<u8>)
         requires { length flags.old.items ≡ length self.now.field.1 }
         ensures long { length flags.new.items ≡ length flags.old.items }
         ensures raised { AreRaised flags.old.items flags.new.items
             (λ k. is_at self.now.field k (term_at self.now.terms number)) }
     {
-        mark_all(flags, self.postings_of(number));
+        self.mark_run(&[number], flags);
     }
 
     /// Raises the flags of the positions that the terms of these numbers cover where they stand next to each other, in
@@ -142,7 +127,7 @@ impl<'a> FieldSpots<'a> {
             (λ k. is_covered self.now.field (map (term_at self.now.terms) run.now) k) }
     {
         if let Some(first) = run.first() {
-            mark_runs(self.postings_of(*first), self.numbers, run, flags);
+            mark_runs(self.postings_near(*first), self.numbers, run, flags);
         }
     }
 }

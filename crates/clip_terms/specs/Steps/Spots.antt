@@ -1,5 +1,5 @@
 -- The positions of a field's words, by the numbers of their terms.
-use Rattle.std.specs.Prelude.{◌≡◌, ℕ, Bool, false, ◌&&◌, List, map, length, drop, Option}
+use Rattle.std.specs.Prelude.{◌≡◌, ℕ, Bool, true, false, ◌&&◌, List, map, length, drop, Option}
 use Rattle.std.specs.List.{list_any}
 use Rattle.std.specs.List.Sorted.{IsStrictlySortedBy}
 use Rattle.clip_meaning.specs.Article.{Fields}
@@ -13,10 +13,11 @@ use Rattle.clip_terms.specs.Spots.{FieldValue, SpotsValue}
 use Rattle.clip_terms.specs.Steps.Runs.{begins_with}
 use Rattle.clip_terms.specs.declared.spots.FieldSpots.TheInside.{Inside}
 
--- the postings are those of the key's word among those of the field
-abbrev pub AreOfKey : FieldValue → KeyValue → List (List ℕ × ℕ) → Type 0
-AreOfKey field key found = (test : List ℕ × ℕ → Bool)
-    → list_any test found ≡ list_any (λ p. is_same (Word field.0 p.0) key && test p) (numbered 0 field.1)
+-- The postings are those of the field that pass a test, which those of the key's word pass.
+pub record AreNear (field : FieldValue) (key : KeyValue) (found : List (List ℕ × ℕ)) : Type 0 where
+  pub passes : List ℕ × ℕ → Bool
+  pub of_key : (word : List ℕ) (position : ℕ) → is_same (Word field.0 word) key ≡ true → passes (word, position) ≡ true
+  pub just : (test : List ℕ × ℕ → Bool) → list_any test found ≡ list_any (λ p. passes p && test p) (numbered 0 field.1)
 
 -- a key that the article lacks is that of no word of the field
 abbrev pub IsOfArticle : Fields → FieldValue → Type 0

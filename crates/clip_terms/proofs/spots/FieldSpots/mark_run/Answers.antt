@@ -3,7 +3,7 @@ use Rattle.std.proofs.lemmas.List.{nil_from_length}
 use Rattle.clip_meaning.specs.Steps.Marks.{is_up}
 use Rattle.clip_terms.specs.Terms.{term_at}
 use Rattle.clip_terms.specs.Spots.{SpotsValue, is_covered}
-use Rattle.clip_terms.specs.Steps.Spots.{AreOfKey}
+use Rattle.clip_terms.specs.Steps.Spots.{AreNear}
 use Rattle.clip_terms.proofs.Spotted.{run_postings, none_covered, or_false}
 use Rattle.clip_terms.proofs.spots.FieldSpots.mark_run.Goals as goal
 
@@ -14,8 +14,8 @@ returns-in-Some-clause-raised c k lt =
     let first = c.in-Some.first.now in
     let inside = c.self.inside in
     let holds = c.self.invariant in
-    let found = c.postings_of.result.now in
-    let are : AreOfKey inside.field.now (term_at inside.reading.now.terms first) found = subst (λ (s : SpotsValue). AreOfKey s.field (term_at s.terms first) found) (sym c.self.view_is) c.postings_of.ensures in
+    let found = c.postings_near.result.now in
+    let are : AreNear inside.field.now (term_at inside.reading.now.terms first) found = subst (λ (s : SpotsValue). AreNear s.field (term_at s.terms first) found) (sym c.self.view_is) c.postings_near.ensures in
     c.mark_runs.ensures.raised k lt
     ∙ ap (λ b. old || b) (run_postings inside.reading.now.terms holds.strict inside.field.now inside.numbers.now found run first k c.in-Some.ensures.item.3.0 c.in-Some.ensures.item.1 holds.numbers are)
     ∙ ap (λ (s : SpotsValue). old || is_covered s.field (map (term_at s.terms) run) k) c.self.view_is

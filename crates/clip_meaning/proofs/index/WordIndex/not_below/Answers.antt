@@ -1,19 +1,13 @@
 use Rattle.std.proofs.Common.{sym, subst, rules, of_calls, is_gt}
 use Rattle.std.proofs.lemmas.List.Sorted.{IsPartitionPoint-from_clause}
 use Rattle.clip_words.specs.Order.{bytes_cmp}
-use Rattle.clip_meaning.proofs.Postings.{Sorted, rises, rises-drop, sorted_again, below_first, from_word}
-use Rattle.clip_meaning.proofs.index.WordIndex.from.Goals as goal
+use Rattle.clip_meaning.proofs.Postings.{Sorted, rises, below_first, from_word}
+use Rattle.clip_meaning.proofs.index.WordIndex.not_below.Goals as goal
 
 pub returns-clause-value : goal.returns-clause-value
 returns-clause-value c =
-    let word = c.args.sought.now in
+    let word = c.args.word.now in
     let ps = c.postings-postings.result.now in
     let sorted : Sorted ps = subst Sorted (sym c.postings-postings.ensures.value) c.postings-postings.ensures.sorted in
     let point = IsPartitionPoint-from_clause (λ p. is_gt (bytes_cmp word p.0)) ps c.partition_point-place.result c.partition_point-place.ensures.partitioned (below_first word ps (rises ps sorted)) (λ a r f k. search (rules, of_calls)) in
     from_word word ps c.args.self.now c.split_at.result.1.now c.partition_point-place.result c.postings-postings.ensures.value c.partition_point-place.ensures.bound point c.split_at.ensures.back
-
-pub returns-clause-rest : goal.returns-clause-rest
-returns-clause-rest c =
-    let ps = c.postings-postings.result.now in
-    let sorted : Sorted ps = subst Sorted (sym c.postings-postings.ensures.value) c.postings-postings.ensures.sorted in
-    subst Sorted (sym c.split_at.ensures.back) (sorted_again _ (rises-drop c.partition_point-place.result ps (rises ps sorted)))
