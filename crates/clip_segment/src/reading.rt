@@ -96,14 +96,6 @@ impl<'a> SegmentReading<'a> {
         marks.keep_met(self.needs, &self.seconds);
     }
 
-    /// The seq of the entry at a position from 0, or `None` past the end; the entry is not looked at. Takes no memory.
-    /// Constant time.
-    pub fn seq(&self, position: u32) -> Option<u64>
-        ensures { result ≡ option_map (λ e. e.seq) (slice_get self.now.entries position) }
-    {
-        self.segment.seq(position)
-    }
-
     /// The entry at a position from 0, or `None` past the end. Takes no memory. Constant time.
     pub fn entry(&self, position: u32) -> Option<&'a Arc<Entry>>
         ensures { option_map arc_value (option_copied result) ≡ slice_get self.now.entries position }

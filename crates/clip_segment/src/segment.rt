@@ -178,14 +178,6 @@ impl Segment {
         self.entries.get(position as usize)
     }
 
-    /// The seq of the entry at a position from 0, or `None` past the end; the entry is not looked at. Takes no memory.
-    /// Constant time.
-    pub fn seq(&self, position: u32) -> Option<u64>
-        ensures { result ≡ option_map (λ e. e.seq) (slice_get self.now position) }
-    {
-        self.seqs.get(position as usize).copied()
-    }
-
     /// The position of the entry that has a seq, or `None` where none has it; no entry is looked at. Takes no memory.
     /// Cost: a search by halves, and constant time for a seq above those of all entries.
     pub fn position_of(&self, seq: u64) -> Option<u32>
