@@ -1,5 +1,5 @@
 -- Entries found by their seqs.
-use Rattle.std.proofs.Common.{◌≡◌, ℕ, ◌<◌, ◌≤◌, ◌-◌, subst, List, [], ◌∷◌, length, map, get_or, Some, Result, Ok, Err, slice_get, nat_cmp, sym, ap, ◌∙◌, inl, inr, arith}
+use Rattle.std.proofs.Common.{◌≡◌, ℕ, ◌<◌, ◌≤◌, ◌-◌, subst, List, [], ◌∷◌, length, get_or, Some, Ok, Err, slice_get, nat_cmp, sym, ap, ◌∙◌, inl, inr, arith}
 use Rattle.std.specs.List.Sorted.{IsBinarySearchResult}
 use Rattle.std.proofs.lemmas.Bool.{cases_lt, cases_order}
 use Rattle.std.proofs.lemmas.List.{get_or-map, length-map}

@@ -1,4 +1,4 @@
-use Rattle.std.proofs.Common.{◌≡◌, List, Some, ℕ, slice_get, subst, sym, ap, ◌∙◌}
+use Rattle.std.proofs.Common.{◌≡◌, List, Some, ℕ, slice_get, subst, sym, ◌∙◌}
 use Rattle.clip_model.specs.History.{Registered}
 use Rattle.clip_segment.specs.Segment.{seqs_of}
 use Rattle.clip_segment.specs.Steps.SegmentView.{entries_of}
