@@ -5,6 +5,7 @@ from __future__ import annotations
 import os
 import resource
 import subprocess
+import time
 from pathlib import Path
 from random import Random
 from typing import Callable
@@ -19,6 +20,7 @@ from pressclip_service.replies import CHANGES, kind_of
 from .inputs import Source, joined, with_long_lines
 from .judge import KEEP, Due, folder, need, replies_of_engine, same
 from .keep_runs import Client, Keep, changes_in, command, dump_of, kill_engines, run_keep
+from .processes import PATIENCE_SECONDS
 
 KEEP_KILLS = 60
 ENGINE_KILLS = 40
@@ -134,20 +136,44 @@ def a_second_one_is_refused() -> None:
 
 
 def a_journal_stays_short() -> None:
-    """What is replaced again and again is rewritten; what is dumped registers the same."""
-    lines = [b'{"op":"register","queries":[{"id":"q%d","query":"w%d","listener":"mail"}]}' % (n % 10, n % 7)
-             for n in range(6_000)]
+    """What is replaced again and again is rewritten, while lines pour in or soon after; what is dumped registers the
+    same."""
+    lines = [replacing(number) for number in range(6_000)]
     asked = b"".join(b'{"op":"show","id":"q%d"}\n' % n for n in range(10))
     with folder() as name:
         journal = Path(name)
-        status, _, told = run_keep(journal, joined(lines), "--rewrite-above", "100")
-        need(status == 0, told)
-        size = (journal / "journal").stat().st_size
-        need(size < len(joined(lines)) * 2 // 3, f"the journal has {size} bytes")
-        need(changes_in(journal) == 6_000, "the count of changes is lost")
-        due = replies_of_engine(joined(lines) + asked).splitlines()[6_000:]
+        kept = Keep(journal, "--rewrite-above", "100")
+        for line in lines:
+            kept.send(line)
+        left = len(lines)
+        while left > 0:
+            replies = kept.wait_for_replies()
+            need(bool(replies), kept.told())
+            left -= len(replies)
+        go_on_until_short(kept, journal, lines)
+        kept.close()
+        need(kept.status == 0, kept.last_words)
+        need(changes_in(journal) == len(lines), "the count of changes is lost")
+        due = replies_of_engine(joined(lines) + asked).splitlines()[len(lines):]
         shown = replies_of_engine(dump_of(journal) + asked).splitlines()[-10:]
         need([reply.split(b",")[1] for reply in due] == [reply.split(b",")[1] for reply in shown], "another dump")
+
+
+def replacing(number: int) -> bytes:
+    """A line that registers one of ten queries, in the place of what it was."""
+    return b'{"op":"register","queries":[{"id":"q%d","query":"w%d","listener":"mail"}]}' % (number % 10, number % 7)
+
+
+def go_on_until_short(kept: Keep, journal: Path, lines: list[bytes]) -> None:
+    """Sends further lines one by one until the journal has fewer bytes than 300 of them: ten queries live, and a
+    hundred entries before it is rewritten. How fast that goes is for the machine to say."""
+    start = time.monotonic()
+    while (size := (journal / "journal").stat().st_size) >= len(joined(lines[:300])):
+        need(time.monotonic() - start < PATIENCE_SECONDS, f"the journal has {size} bytes")
+        lines.append(replacing(len(lines)))
+        kept.send(lines[-1])
+        need(len(kept.wait_for_replies()) == 1, kept.told())
+        time.sleep(0.01)
 
 
 def a_full_disk_ends_it() -> None:
