@@ -3,11 +3,11 @@ use Rattle.std.proofs.Common.{◌≡◌, ◌++◌, ◌≤◌, ◌-◌, List, All
 use Rattle.std.proofs.lemmas.List.{drop-append-le, take-append-le, take_all, length-append, length-drop}
 use Rattle.std.proofs.Math.Seq.{drop-append_seam}
 use Rattle.clip_meaning.specs.Article.{ArticleValue}
-use Rattle.clip_meaning.specs.Hits.{HitValue, hits}
+use Rattle.clip_meaning.specs.Hits.{HitValue}
 use Rattle.clip_match.specs.declared.held.Held.{Held}
 use Rattle.clip_match.specs.declared.held.HitPlaces.{HitPlaces}
 use Rattle.clip_match.specs.declared.held.HitsFound.{HitsFound}
-use Rattle.clip_match.specs.Steps.Held.{StandAt, AreItsHits, HasItsHits}
+use Rattle.clip_match.specs.Steps.Held.{StandAt, HasItsHits}
 
 -- they stand where they stood when others are added
 stand_still : (all more found : List HitValue) (places : HitPlaces) → StandAt all found places → StandAt (all ++ more) found places

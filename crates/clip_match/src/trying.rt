@@ -126,12 +126,13 @@ fn add_entries<'a>(
     Ok(())
 }
 
-/// Adds the entries of a segment at these positions, and their hits to those of others.
+/// Adds the entries of a segment at these positions, and their hits to those of others. `flags` is room for a flag for
+/// each word of a field.
 fn add_with_hits<'a>(
-    alloc: Global,
     reading: &SegmentReading<'a>,
     spots: &SegmentSpots<'_>,
     positions: &[u32],
+    flags: &mut Vec<u8>,
     all_hits: &mut Vec<Hit>,
     held: &mut Vec<Held<'a>>,
 ) -> Result<(), NoMemory>
@@ -142,13 +143,12 @@ fn add_with_hits<'a>(
         All (HasItsHits HitsFound.AtOnce reading.now.article (map hit_value all_hits.old.items)) held.old.items
         → All (HasItsHits HitsFound.AtOnce reading.now.article (map hit_value all_hits.new.items)) held.new.items) }
 {
-    let mut flags = Vec::new(alloc);
     for position in positions {
         let Some(registered) = reading.entry(*position) else {
             continue;
         };
         let start = all_hits.len();
-        spots.add_hits(*position, &mut flags, all_hits)?;
+        spots.add_hits(*position, flags, all_hits)?;
         let end = all_hits.len();
         held.push(Held::of(registered, Some(HitPlaces { start, end })))?;
     }
@@ -156,12 +156,14 @@ fn add_with_hits<'a>(
 }
 
 /// Adds the entries of a segment at these positions, and, where hits are found at once, theirs to those of others.
-/// Where the words of the article stand is only found out where there is a position and hits are wanted.
+/// Where the words of the article stand is only found out where there is a position and hits are wanted. `flags` is room
+/// for a flag for each word of a field.
 fn add_held<'a>(
     alloc: Global,
     reading: &SegmentReading<'a>,
     positions: &[u32],
     hits: HitsFound,
+    flags: &mut Vec<u8>,
     all_hits: &mut Vec<Hit>,
     held: &mut Vec<Held<'a>>,
 ) -> Result<(), NoMemory>
@@ -178,7 +180,7 @@ fn add_held<'a>(
         HitsFound::WhenAsked => add_entries(reading, positions, held),
         HitsFound::AtOnce => {
             let spots = reading.spots(alloc)?;
-            add_with_hits(alloc, reading, &spots, positions, all_hits, held)
+            add_with_hits(reading, &spots, positions, flags, all_hits, held)
         }
     }
 }
@@ -216,6 +218,7 @@ pub(crate) fn judge_candidates<'a>(
     let mut stack = Vec::new(alloc);
     let mut asked = 0;
     let mut held = Vec::new(alloc);
+    let mut flags = Vec::new(alloc);
     let mut all_hits = Vec::new(alloc);
     let segments = view.segments();
     for (place, segment) in segments.iter().enumerate() {
@@ -223,7 +226,15 @@ pub(crate) fn judge_candidates<'a>(
         asked += candidates_in(alloc, view, place, &reading, &mut positions)?;
         keep_possible(&reading, &positions, &mut possible)?;
         keep_holding(&reading, &possible, &mut stack, &mut holding)?;
-        add_held(alloc, &reading, &holding, hits, &mut all_hits, &mut held)?;
+        add_held(
+            alloc,
+            &reading,
+            &holding,
+            hits,
+            &mut flags,
+            &mut all_hits,
+            &mut held,
+        )?;
     }
     Ok(Judged {
         asked,
