@@ -26,7 +26,7 @@ pub fn register_from(alloc: Global, from: u64, end: u64) -> Result<Command> {
 }
 
 /// What becomes of one query.
-#[derive(Clone, Copy, Debug, PartialEq, Eq)]
+#[derive(Clone, Copy, PartialEq, Eq)]
 pub enum Change {
     /// It is registered.
     Register,

@@ -21,7 +21,7 @@ use std::time::{Duration, Instant};
 const ARTICLE_WORDS: u64 = 20;
 
 /// Whether the merger is told of commits.
-#[derive(Clone, Copy, Debug, PartialEq, Eq)]
+#[derive(Clone, Copy, PartialEq, Eq)]
 pub enum Merger {
     /// It is nudged after each.
     Nudged,
@@ -30,7 +30,7 @@ pub enum Merger {
 }
 
 /// How long calls took.
-#[derive(Clone, Copy, Debug)]
+#[derive(Clone, Copy)]
 pub struct Times {
     count: u64,
     total: Duration,
@@ -72,7 +72,7 @@ impl Times {
 }
 
 /// What the reader measured: its looks, and the matches at them.
-#[derive(Clone, Copy, Debug)]
+#[derive(Clone, Copy)]
 pub struct Looks {
     /// The looks.
     pub looks: Times,
@@ -81,7 +81,7 @@ pub struct Looks {
 }
 
 /// What was measured.
-#[derive(Clone, Copy, Debug)]
+#[derive(Clone, Copy)]
 pub struct Report {
     /// The commits.
     pub commits: Times,

@@ -18,13 +18,24 @@ use std::marker::Model;
 
 /// One caller's place at a desk, seen as the longest history that it got and the commands that were committed with it.
 /// It has the right to add entries of its caller to the desk's history, which nothing else has.
-#[derive(Drop)]
 pub struct Seat {
     end: ReaderEnd,
     seen_history: SeenHistory,
     tag: u64,
     callers: u32,
     right: Right,
+}
+
+impl Drop for Seat {
+    fn drop(self) {
+        let Seat {
+            end: _,
+            seen_history: _,
+            tag: _,
+            callers: _,
+            right: _,
+        } = self;
+    }
 }
 
 impl Model for Seat {

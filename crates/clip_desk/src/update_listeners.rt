@@ -13,9 +13,14 @@ use std::marker::Model;
 /// unmarked one has heard all that was told, and a marked one some first events of it.
 ///
 /// Seen as what each has heard, and its mark.
-#[derive(Drop)]
 pub struct UpdateListeners<L: UpdateListener> {
     parts: Vec<(L, bool)>,
+}
+
+impl<L: UpdateListener> Drop for UpdateListeners<L> {
+    fn drop(self) {
+        let UpdateListeners { parts: _ } = self;
+    }
 }
 
 impl<L: UpdateListener> Model for UpdateListeners<L> {

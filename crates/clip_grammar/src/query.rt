@@ -28,7 +28,7 @@ pub enum Bound {
 ///
 /// Texts are shared, but for the ends of ranges. Dropping recurses along the tree: in a query that was read 66 levels
 /// at most, which are the outermost group, 64 groups in parentheses and a leaf.
-#[derive(Debug, Drop)]
+#[derive(Debug)]
 pub enum Query {
     /// The word is among the field's words.
     Term {
@@ -55,4 +55,21 @@ pub enum Query {
     All,
     /// Clauses, each with how it counts, in the order in which they are written.
     Group(Vec<(Occur, Query)>),
+}
+
+impl Drop for Query {
+    fn drop(self) {
+        match self {
+            Query::Term { field: _, word: _ } => {}
+            Query::Phrase { field: _, words: _ } => {}
+            Query::Prefix { field: _, front: _ } => {}
+            Query::Span {
+                field: _,
+                low: _,
+                high: _,
+            } => {}
+            Query::All => {}
+            Query::Group(_) => {}
+        }
+    }
 }

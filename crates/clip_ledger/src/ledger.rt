@@ -13,10 +13,16 @@ use std::alloc::Global;
 use std::marker::Model;
 
 /// What was delivered; seen as its rows, in the order of posting.
-#[derive(Debug, Drop)]
+#[derive(Debug)]
 pub struct Ledger {
     alloc: Global,
     rows: Vec<Row>,
+}
+
+impl Drop for Ledger {
+    fn drop(self) {
+        let Ledger { alloc: _, rows: _ } = self;
+    }
 }
 
 impl Model for Ledger {

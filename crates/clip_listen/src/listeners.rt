@@ -80,12 +80,17 @@ fn keep(notes: &mut Vec<Note>, note: Option<Note>) -> Result<(), NoMemory>
 
 /// Listeners by name; no name stands twice. An index has a copy of each name with its place, where there was memory for
 /// one.
-#[derive(Drop)]
 pub struct Listeners {
     parts: Vec<Named>,
     index: Option<Index>,
     ghost once: { IsTrue (distinct (names_of parts.items)) },
     ghost indexed: { ForSome index (λ index. Indexes index 0 (names_of parts.items)) },
+}
+
+impl Drop for Listeners {
+    fn drop(self) {
+        let Listeners { parts: _, index: _ } = self;
+    }
 }
 
 impl Audience for Listeners {

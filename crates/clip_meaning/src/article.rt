@@ -22,9 +22,15 @@ pub(crate) struct Parts {
 /// An article: an id of 1 to 256 bytes, and at most 16 fields, each the words of a text. A `copy` shares all of it.
 ///
 /// Contracts see the id's bytes and a map from the bytes of each field's name to the words of its text.
-#[derive(Debug, Drop)]
+#[derive(Debug)]
 pub struct Article {
     parts: Arc<Parts>,
+}
+
+impl Drop for Article {
+    fn drop(self) {
+        let Article { parts: _ } = self;
+    }
 }
 
 impl Model for Article {

@@ -15,9 +15,14 @@ use std::marker::Model;
 /// A clone shares all blocks, and with them all pieces and items: it takes one counted reference for each 16,384 items.
 /// A write copies just the block and the piece that it touches, each where another list shares it, and is in place
 /// where none does.
-#[derive(Drop)]
 pub struct SharedList<T: Exact> {
     blocks: Parts<T, Block<T>>,
+}
+
+impl<T: Exact> Drop for SharedList<T> {
+    fn drop(self) {
+        let SharedList { blocks: _ } = self;
+    }
 }
 
 impl<T: Exact> Model for SharedList<T> {

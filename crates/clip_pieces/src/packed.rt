@@ -9,10 +9,16 @@ use std::marker::Model;
 const MOST_ITEMS: usize = 4_294_967_295;
 
 /// Lists of items that lie one after another in one buffer. Contracts see the list of the lists.
-#[derive(Debug, Drop)]
+#[derive(Debug)]
 pub struct PackedLists<T: Copy> {
     items: Vec<T>,
     ends: Vec<u32>,
+}
+
+impl<T: Copy> Drop for PackedLists<T> {
+    fn drop(self) {
+        let PackedLists { items: _, ends: _ } = self;
+    }
 }
 
 impl<T: Copy> Model for PackedLists<T> {

@@ -14,10 +14,15 @@ use std::sync::Arc;
 ///
 /// A clone shares all pieces: it takes one counted reference for each 1,048,576 flags. A write copies just the block
 /// and the piece that it touches, each where another list shares it, and is in place where none does.
-#[derive(Drop)]
 pub struct SharedFlags {
     words: SharedList<u64>,
     len: usize,
+}
+
+impl Drop for SharedFlags {
+    fn drop(self) {
+        let SharedFlags { words: _, len: _ } = self;
+    }
 }
 
 impl Model for SharedFlags {

@@ -24,12 +24,23 @@ const MOST_PLACE: usize = 4_294_967_295;
 
 /// Plans of queries in one buffer, in the order in which they were added. Contracts see each as its marks over the
 /// numbers of terms.
-#[derive(Debug, Drop)]
+#[derive(Debug)]
 pub struct Plans {
     pub(crate) steps: PackedLists<Step>,
     pub(crate) runs: PackedLists<u32>,
     pub(crate) queries: Vec<Query>,
     pub(crate) firsts: Vec<FirstWords>,
+}
+
+impl Drop for Plans {
+    fn drop(self) {
+        let Plans {
+            steps: _,
+            runs: _,
+            queries: _,
+            firsts: _,
+        } = self;
+    }
 }
 
 impl Model for Plans {

@@ -15,9 +15,14 @@ use std::marker::Model;
 /// A draft that is within the limits of an article. Its texts are not cut into words yet, which any thread may do.
 ///
 /// Contracts see it as the article that it is.
-#[derive(Drop)]
 pub struct JudgedDraft {
     draft: Draft,
+}
+
+impl Drop for JudgedDraft {
+    fn drop(self) {
+        let JudgedDraft { draft: _ } = self;
+    }
 }
 
 impl Model for JudgedDraft {

@@ -26,11 +26,20 @@ use std::marker::Model;
 use std::sync::Arc;
 
 /// Four neighbouring segments that are to be one, and which of their entries were live when the job was begun.
-#[derive(Drop)]
 pub struct MergeJob {
     pub(crate) alloc: Global,
     pub(crate) sources: Vec<Arc<Segment>>,
     pub(crate) live: Arc<Live>,
+}
+
+impl Drop for MergeJob {
+    fn drop(self) {
+        let MergeJob {
+            alloc: _,
+            sources: _,
+            live: _,
+        } = self;
+    }
 }
 
 impl Model for MergeJob {

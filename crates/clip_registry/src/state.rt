@@ -23,13 +23,24 @@ use std::sync::Arc;
 
 /// The segments with the live flags of their entries, the history, the registered queries and how many commands each
 /// caller gave. A clone shares all but the lists of segments and of their flags and the counts of commands.
-#[derive(Drop)]
 pub struct State {
     pub(crate) segments: Vec<Arc<Segment>>,
     pub(crate) log: Log,
     pub(crate) roster: Roster,
     counts: Vec<u64>,
     pub(crate) live: Vec<Shared<SharedFlags>>,
+}
+
+impl Drop for State {
+    fn drop(self) {
+        let State {
+            segments: _,
+            log: _,
+            roster: _,
+            counts: _,
+            live: _,
+        } = self;
+    }
 }
 
 impl Model for State {

@@ -27,11 +27,21 @@ use std::sync::Arc;
 pub const MOST_POSITIONS: usize = 4_294_967_295;
 
 /// Entries in the order of their seqs, with an index over their queries.
-#[derive(Debug, Drop)]
+#[derive(Debug)]
 pub struct Segment {
     entries: Vec<Arc<Entry>>,
     seqs: Vec<u64>,
     index: Index,
+}
+
+impl Drop for Segment {
+    fn drop(self) {
+        let Segment {
+            entries: _,
+            seqs: _,
+            index: _,
+        } = self;
+    }
 }
 
 impl Model for Segment {

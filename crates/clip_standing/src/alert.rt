@@ -15,12 +15,22 @@ use std::sync::{Arc, ArcStr};
 
 /// A query holds of an article. It shares both, so that to make one copies no text, and what it is of stays in memory
 /// as long as it does. Where its hits were found when it was made, it keeps them.
-#[derive(Debug, Drop)]
+#[derive(Debug)]
 pub struct Alert {
     standing: Arc<Standing>,
     article: Article,
     found: Option<FoundHits>,
     ghost found_are: { AreFound standing.value article found } by { one_way_found standing.value article found },
+}
+
+impl Drop for Alert {
+    fn drop(self) {
+        let Alert {
+            standing: _,
+            article: _,
+            found: _,
+        } = self;
+    }
 }
 
 impl Alert {

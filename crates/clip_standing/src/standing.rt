@@ -76,7 +76,6 @@ impl From<QueryFault> for StandingFault {
 /// is the segment that it is listed in; after that none is kept until hits are asked for, since a query's tree takes
 /// far more memory than its text. Its texts are shared by clones. No reader but `query`, `take_query` and `hits_in`
 /// takes memory, and each other takes constant time.
-#[derive(Drop)]
 pub struct Standing {
     id: ArcStr,
     text: ArcStr,
@@ -84,6 +83,18 @@ pub struct Standing {
     fresh: FreshSlot,
     kept: OnceBox<Reading>,
     ghost reading: { KeptReading (arc_str_bytes text) } by { one_tree_of _ },
+}
+
+impl Drop for Standing {
+    fn drop(self) {
+        let Standing {
+            id: _,
+            text: _,
+            listener: _,
+            fresh: _,
+            kept: _,
+        } = self;
+    }
 }
 
 impl Model for Standing {

@@ -23,12 +23,23 @@ pub const MOST_TERMS: usize = 4_294_967_295;
 ///
 /// The leads and the short lengths of their texts stand beside them, by which most are told apart without a look at
 /// them, and where the words and the fronts of each field stand.
-#[derive(Debug, Drop)]
+#[derive(Debug)]
 pub struct Terms {
     keys: Vec<Key>,
     leads: Vec<u64>,
     lengths: Vec<u8>,
     parts: Vec<FieldPart>,
+}
+
+impl Drop for Terms {
+    fn drop(self) {
+        let Terms {
+            keys: _,
+            leads: _,
+            lengths: _,
+            parts: _,
+        } = self;
+    }
 }
 
 impl Model for Terms {

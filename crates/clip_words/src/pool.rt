@@ -16,10 +16,19 @@ const MOST_KEPT_BYTES: usize = 64;
 /// text of its own, so that prose takes few allocations: most of its words are common ones.
 ///
 /// It keeps at most 4,096 words of at most 64 bytes each. What it gives does not depend on what it keeps.
-#[derive(Debug, Drop)]
+#[derive(Debug)]
 pub struct WordPool {
     words: Vec<Option<ArcStr>>,
     places: usize,
+}
+
+impl Drop for WordPool {
+    fn drop(self) {
+        let WordPool {
+            words: _,
+            places: _,
+        } = self;
+    }
 }
 
 /// The place of a word: by the hash FNV-1a of its bytes.

@@ -15,7 +15,7 @@ returns-in_default-clause-due c =
     let unknown = any_is c.args.merge _ _ _ c.deref.ensures.value c.place_of.ensures ∙ ap is_some c.in_default.is in
     subst (λ s. IsDueTo s (event.Install c.args.merge) event.Unknown) c.self.view_is (due_unknown (tracer_inside c.self.inside) (event.Install c.args.merge) (ap not unknown))
 
-there : (c : goal.After-drop-remove-2) → Stands c.args.merge c.in-Some.place c.index.result.now c.self.inside.merges.items
+there : (c : goal.After-drop-remove) → Stands c.args.merge c.in-Some.place c.index.result.now c.self.inside.merges.items
 there c = stands c.args.merge c.in-Some.place c.index.result.now _ _ _ c.deref.ensures.value c.place_of.ensures c.in-Some.is c.index.ensures
 
 pub invariant_of-self-2 : goal.invariant_of-self-2
@@ -33,7 +33,7 @@ returns-clause-due c =
     (elim c.match-branch-3.branch [ in-Done w ↦ inl (ap answer_of w.answer-is) | in-Stale w ↦ inr (ap answer_of w.answer-is) ]))
 
 -- an installed merge keeps the history
-history : (c : goal.After-drop-remove-2) → c.install.new.self.history ≡ c.self.inside.registrar.history
+history : (c : goal.After-drop-remove) → c.install.new.self.history ≡ c.self.inside.registrar.history
 history c = elim c.match-branch-3.branch [
   | in-Done w ↦ (c.in_ok-install.ensures.done (ap Ok w.in-Done.is)).history
   | in-Stale w ↦ ap (λ (r : RegistryState). r.history) (c.in_ok-install.ensures.unchanged (λ e. let stale = w.in-Stale.is in cc (e, stale)))

@@ -1,0 +1,47 @@
+//! Tests of all crates by their public calls: worked examples, limits, each call that takes memory once, pieces of a
+//! batch in threads, callers, merges and purges of a shared desk, update listeners, runs with workers over devices in
+//! memory, traces, and the command line.
+#![tactic(auto)]
+
+#[cfg(test)]
+mod command_line;
+#[cfg(test)]
+mod desk;
+#[cfg(test)]
+mod extract;
+#[cfg(test)]
+mod hits;
+#[cfg(test)]
+mod index;
+#[cfg(test)]
+mod ledger;
+#[cfg(test)]
+mod listen;
+#[cfg(test)]
+mod lists;
+#[cfg(test)]
+mod making;
+#[cfg(test)]
+mod many;
+#[cfg(test)]
+mod meaning;
+#[cfg(test)]
+mod merge;
+#[cfg(test)]
+mod pieces;
+#[cfg(test)]
+mod registry;
+#[cfg(test)]
+mod runs;
+#[cfg(test)]
+mod script;
+#[cfg(test)]
+mod segment;
+#[cfg(test)]
+mod showing;
+#[cfg(test)]
+mod syntax;
+#[cfg(test)]
+mod updates;
+#[cfg(test)]
+mod words;

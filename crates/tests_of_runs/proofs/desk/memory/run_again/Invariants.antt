@@ -1,5 +1,0 @@
-use Rattle.clip_desk.specs.Locked.{IsSeatOf}
-use Rattle.tests_of_runs.proofs.desk.memory.run_again.Given as goal
-
-abbrev pub invariant-loop : goal.invariant-loop
-invariant-loop g l = IsSeatOf g.N.DeskName.book g.N.DeskName.callers l.seat

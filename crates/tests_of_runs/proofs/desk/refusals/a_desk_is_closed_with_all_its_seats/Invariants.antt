@@ -1,6 +1,0 @@
-use Rattle.clip_desk.specs.Updates.{all_heard}
-use Rattle.tests_of_runs.proofs.desk.refusals.a_desk_is_closed_with_all_its_seats.Given as goal
-
--- the desk whose parts were just made
-abbrev pub ghosts-run_close : goal.ghosts-run_close
-ghosts-run_close g a = record { book = a.parts.book; callers = a.parts.callers; keeps = a.parts.keeps; heard_before = all_heard a.parts.updates }

@@ -1,8 +1,0 @@
--- A folder may be handed over.
-use denote.Param.Send.{sendable}
-use denote.Param.Sent.{Sends}
-use Rattle.clip_listen.proofs.Sent.{style_folder_send}
-use Rattle.tests_of_runs.proofs.runs.heard.each_listener_hears_its_own_alerts_and_the_ledger_has_a_row_for_each.OwnLists as own
-
-pub sends-part-1-1 : Sends own.part-1-1
-sends-part-1-1 = search (sendable, style_folder_send)
