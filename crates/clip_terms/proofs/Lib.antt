@@ -8,6 +8,7 @@ pub mod NumberedKeys
 pub mod Numbers
 pub mod PastFronts
 pub mod PlacedWords
+pub mod RaisedFlags
 pub mod ReadingOf
 pub mod Runs
 pub mod Spotted

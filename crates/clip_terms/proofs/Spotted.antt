@@ -4,10 +4,10 @@ use Rattle.std.specs.List.{list_any, starts_with}
 use Rattle.std.specs.List.Sorted.{IsStrictlySortedBy}
 use Rattle.std.specs.Cmp.{eq_by_cmp_equiv}
 use Rattle.std.specs.FinMap as finite
-use Rattle.std.proofs.lemmas.Bool.{leb-true, ltb-true, le-leb, lt-ltb, le-ltb, and_parts, and_from, false_from_ne_true, false≢true, true≢false}
+use Rattle.std.proofs.lemmas.Bool.{leb-true, ltb-true, ltb-false, le-leb, lt-ltb, le-ltb, and_parts, and_from, false_from_ne_true, false≢true, true≢false}
 use Rattle.std.proofs.lemmas.List.{length-map, get_or-map, drop-map}
 use Rattle.std.proofs.lemmas.List.Folds.{list_any_at}
-use Rattle.std.proofs.lemmas.Option.{slice_get_past}
+use Rattle.std.proofs.lemmas.Option.{slice_get_past, unwrap_or-slice_get}
 use Rattle.std.proofs.lemmas.Slice.Eq.{bytes_eq-Decides}
 use Rattle.clip_grammar.proofs.Booleans.{same_answer}
 use Rattle.clip_meaning.specs.Article.{Fields}
@@ -22,6 +22,7 @@ use Rattle.clip_extract.proofs.Order.{key_cmp_total, same_itself, same_key}
 use Rattle.clip_terms.specs.Reading.{stands_in}
 use Rattle.clip_terms.specs.Terms.{term_at, number_of}
 use Rattle.clip_terms.specs.Spots.{FieldValue, is_at, covers_from, is_covered}
+use Rattle.clip_terms.specs.Steps.Leads.{heading, IsPart}
 use Rattle.clip_terms.specs.Steps.Runs.{begins_with}
 use Rattle.clip_terms.specs.Steps.Spots.{AreNear, IsOfArticle, covers_at}
 use Rattle.clip_terms.proofs.Runs.{begins, lacks}
@@ -66,6 +67,23 @@ none_past field terms n past = subst (λ key. AreNear field key []) (sym (ap (λ
     no_word : (ws : List (List ℕ)) → list_any (λ w. is_same (Word field.0 w) Any) ws ≡ false
     no_word [] = refl
     no_word (w ∷ ws) = no_word ws
+
+-- a term that stands outside of the range of the field's words is that of no word of it
+pub none_of_field : (field : FieldValue) (terms : List KeyValue) (start end n : ℕ) → IsPart terms (heading (Word field.0 [])) start end → (start ≤ n → n < end → ⊥) → AreNear field (term_at terms n) []
+none_of_field field terms start end n part outside = by_length (nat_lt n (length terms)) refl
+  where
+    no_word : n < length terms → (ws : List (List ℕ)) → list_any (λ w. is_same (Word field.0 w) (term_at terms n)) ws ≡ false
+    no_word lt [] = refl
+    no_word lt (w ∷ ws) =
+        let here : is_same (Word field.0 w) (term_at terms n) ≡ false =
+        false_from_ne_true (is_same (Word field.0 w) (term_at terms n)) (λ same.
+        let placed = part.all n Any lt (ap heading (sym (unwrap_or-slice_get terms n Any) ∙ sym (same_key (Word field.0 w) (term_at terms n) same))) in
+        outside placed.0 placed.1) in
+        ap (λ b. b || list_any (λ v. is_same (Word field.0 v) (term_at terms n)) ws) here ∙ no_word lt ws
+
+    by_length : (b : Bool) → nat_lt n (length terms) ≡ b → AreNear field (term_at terms n) []
+    by_length true e = none_near field (term_at terms n) (no_word (ltb-true n (length terms) e) field.1)
+    by_length false e = none_past field terms n (omega (arith, ltb-false n (length terms) e))
 
 -- the postings of the lead of its text are near a key
 pub lead_near : (field : FieldValue) (key : KeyValue) (lead : ℕ) (found : List (List ℕ × ℕ)) → IsLead (text_of key) lead

@@ -1,6 +1,7 @@
 -- What the proofs of this crate go through, and private fields as contracts see them; no public clause cites it.
 pub mod Asking
 pub mod FieldTerms
+pub mod Flags
 pub mod Fronts
 pub mod KeysByField
 pub mod Leads

@@ -5,6 +5,7 @@ ghost use Rattle.std.specs.Prelude.{◌≡◌};
 
 mod asking;
 mod field_terms;
+mod flags;
 mod heads;
 mod leads;
 mod likely;
@@ -16,6 +17,7 @@ mod terms;
 
 pub use asking::Asking;
 pub use field_terms::FieldTerms;
+pub use flags::FieldFlags;
 pub use heads::{Head, merged};
 pub use reading::Reading;
 pub use spots::FieldSpots;

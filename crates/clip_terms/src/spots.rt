@@ -1,5 +1,5 @@
 //! Where the words of a field stand, by the numbers of their terms.
-ghost use Rattle.std.specs.Prelude.{◌≡◌, map, length, drop};
+ghost use Rattle.std.specs.Prelude.{◌≡◌, false, [], map, length, drop};
 ghost use Rattle.std.specs.List.{list_any};
 ghost use Rattle.clip_meaning.specs.Steps.Marks.{AreRaised};
 ghost use Rattle.clip_extract.specs.Covering.{field_keys};
@@ -7,18 +7,21 @@ ghost use Rattle.clip_terms.specs.Spots.{is_at, is_covered, spots_among};
 ghost use Rattle.clip_terms.specs.Terms.{number_of, term_at};
 ghost use Rattle.clip_terms.specs.Steps.Spots.{AreNear, IsOfArticle, covers_at};
 
+use crate::flags::FieldFlags;
 use crate::reading::{Reading, starts_with};
 use crate::terms::Terms;
-use clip_meaning::{Field, Posting, mark_run};
+use clip_meaning::{Field, Posting};
 use std::marker::Model;
+use std::ops::Range;
 
-/// One field of an article that is asked by the numbers of terms, with the numbers of its words. Contracts see the terms
-/// and the field.
+/// One field of an article that is asked by the numbers of terms, with the numbers of its words, and which numbers are
+/// those of words of this field. Contracts see the terms and the field.
 #[derive(Drop)]
 pub struct FieldSpots<'a> {
     reading: &'a Reading<'a>,
     field: &'a Field,
     numbers: &'a [Option<u32>],
+    range: Range<usize>,
 }
 
 impl<'a> Model for FieldSpots<'a> {
@@ -46,21 +49,22 @@ fn numbers_from(numbers: &[Option<u32>], position: usize) -> &[Option<u32>]
 }
 
 /// Raises the flags of a run's positions at those of the postings where its numbers stand.
-fn mark_runs(postings: &[Posting], numbers: &[Option<u32>], run: &[u32], flags: &mut Vec<u8>)
-    ensures long { length flags.new.items ≡ length flags.old.items }
-    ensures raised { AreRaised flags.old.items flags.new.items
+fn mark_runs(postings: &[Posting], numbers: &[Option<u32>], run: &[u32], flags: &mut FieldFlags)
+    ensures long { length flags.new ≡ length flags.old }
+    ensures raised { AreRaised flags.old flags.new
         (λ k. list_any (covers_at run.now numbers.now k) postings.now) }
 {
     for posting in postings {
         let position = posting.position();
         if starts_with(numbers_from(numbers, position), run) {
-            mark_run(flags, position, run.len());
+            flags.raise(position, run.len());
         }
     }
 }
 
 impl<'a> FieldSpots<'a> {
-    /// A field of the article of a reading, of which these are the numbers of the words, in the order of the text.
+    /// A field of the article of a reading, of which these are the numbers of the words, in the order of the text. Cost:
+    /// a search by halves among the fields of the terms.
     pub(crate) fn of(
         reading: &'a Reading<'a>,
         field: &'a Field,
@@ -70,11 +74,14 @@ impl<'a> FieldSpots<'a> {
         requires among { IsOfArticle reading.now.article.fields field.now }
         ensures { result ≡ spots_among reading.now.terms field.now }
     {
-        reading.terms().order_law();
+        let terms = reading.terms();
+        terms.order_law();
+        let (range, _) = terms.ranges_of(field.name());
         FieldSpots {
             reading,
             field,
             numbers,
+            range,
         }
     }
 
@@ -92,11 +99,22 @@ impl<'a> FieldSpots<'a> {
         self.reading.terms()
     }
 
-    /// Postings of the field, among which all of the term of a number are: none where the article lacks the term, and
-    /// else those of the lead of its text. No text is looked at.
+    /// Whether the term of a number is a word of a field of this name.
+    fn is_of_field(&self, number: u32) -> bool
+        ensures { result ≡ false → AreNear self.now.field (term_at self.now.terms number) [] }
+    {
+        let number = number as usize;
+        self.range.start <= number && number < self.range.end
+    }
+
+    /// Postings of the field, among which all of the term of a number are: none where the term is of another field or
+    /// the article lacks it, and else those of the lead of its text. No text is looked at.
     fn postings_near(&self, number: u32) -> &'a [Posting]
         ensures { AreNear self.now.field (term_at self.now.terms number) result.now }
     {
+        if !self.is_of_field(number) {
+            return &[];
+        }
         if !self.reading.has(number) {
             return &[];
         }
@@ -106,13 +124,13 @@ impl<'a> FieldSpots<'a> {
         }
     }
 
-    /// Raises the flags of the positions at which the term of a number stands. Takes no memory. Cost: where the article
-    /// has the term a search by halves among the field's words and a step for each of those that begin with the same
-    /// eight bytes; constant where it doesn't.
-    pub fn mark_term(&self, number: u32, flags: &mut Vec<u8>)
-        requires { length flags.old.items ≡ length self.now.field.1 }
-        ensures long { length flags.new.items ≡ length flags.old.items }
-        ensures raised { AreRaised flags.old.items flags.new.items
+    /// Raises the flags of the positions at which the term of a number stands. Takes no memory. Cost: where the term is
+    /// of this field and the article has it a search by halves among the field's words and a step for each of those that
+    /// begin with the same eight bytes; constant where it isn't or doesn't.
+    pub fn mark_term(&self, number: u32, flags: &mut FieldFlags)
+        requires { length flags.old ≡ length self.now.field.1 }
+        ensures long { length flags.new ≡ length flags.old }
+        ensures raised { AreRaised flags.old flags.new
             (λ k. is_at self.now.field k (term_at self.now.terms number)) }
     {
         self.mark_run(&[number], flags);
@@ -121,9 +139,9 @@ impl<'a> FieldSpots<'a> {
     /// Raises the flags of the positions that the terms of these numbers cover where they stand next to each other, in
     /// order; no numbers cover none. Takes no memory. Cost: as of `mark_term` for the first of them, and at each of its
     /// positions a step for each number.
-    pub fn mark_run(&self, run: &[u32], flags: &mut Vec<u8>)
-        ensures long { length flags.new.items ≡ length flags.old.items }
-        ensures raised { AreRaised flags.old.items flags.new.items
+    pub fn mark_run(&self, run: &[u32], flags: &mut FieldFlags)
+        ensures long { length flags.new ≡ length flags.old }
+        ensures raised { AreRaised flags.old flags.new
             (λ k. is_covered self.now.field (map (term_at self.now.terms) run.now) k) }
     {
         if let Some(first) = run.first() {

@@ -1,5 +1,5 @@
 -- The positions of a field's words, by the numbers of their terms.
-use Rattle.std.specs.Prelude.{◌≡◌, ℕ, Bool, true, false, ◌&&◌, List, map, length, drop, Option}
+use Rattle.std.specs.Prelude.{◌≡◌, ℕ, Bool, true, false, ◌&&◌, List, [], map, length, drop, Option}
 use Rattle.std.specs.List.{list_any}
 use Rattle.std.specs.List.Sorted.{IsStrictlySortedBy}
 use Rattle.clip_meaning.specs.Article.{Fields}
@@ -10,6 +10,7 @@ use Rattle.clip_extract.specs.Covering.{field_keys}
 use Rattle.clip_terms.specs.Reading.{has_key}
 use Rattle.clip_terms.specs.Terms.{number_of}
 use Rattle.clip_terms.specs.Spots.{FieldValue, SpotsValue}
+use Rattle.clip_terms.specs.Steps.Leads.{heading, IsPart}
 use Rattle.clip_terms.specs.Steps.Runs.{begins_with}
 use Rattle.clip_terms.specs.declared.spots.FieldSpots.TheInside.{Inside}
 
@@ -33,8 +34,10 @@ covers_at run numbers position posting =
 abbrev pub spots_value : Inside → SpotsValue
 spots_value spots = record { terms = spots.reading.now.terms; field = spots.field.now }
 
--- The terms are in order, each once, each word's number stands at its position, and the field is one of the article's.
+-- The terms are in order, each once; each word's number stands at its position; the field is one of the article's; and
+-- the range is that of the terms which are words of it.
 pub record AreSpots (spots : Inside) : Type 0 where
   pub strict : IsStrictlySortedBy key_cmp spots.reading.now.terms
   pub numbers : spots.numbers.now ≡ map (number_of spots.reading.now.terms) (field_keys spots.field.now)
   pub among : IsOfArticle spots.reading.now.article.fields spots.field.now
+  pub part : IsPart spots.reading.now.terms (heading (Word spots.field.now.0 [])) spots.range.start spots.range.end

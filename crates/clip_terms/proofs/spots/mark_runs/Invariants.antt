@@ -6,6 +6,6 @@ use Rattle.clip_terms.proofs.spots.mark_runs.Given as goal
 
 abbrev pub invariant-loop-posting : goal.invariant-loop-posting
 invariant-loop-posting l = record {
-  long : length l.flags.items ≡ length l.fn.flags.items;
-  raised : (k : ℕ) → k < length l.fn.flags.items → (is_up (get_or l.flags.items k 0) || list_any (covers_at l.run l.numbers k) (drop l.posting-index l.postings)) ≡ (is_up (get_or l.fn.flags.items k 0) || list_any (covers_at l.run l.numbers k) l.postings);
+  long : length l.flags ≡ length l.fn.flags;
+  raised : (k : ℕ) → k < length l.fn.flags → (is_up (get_or l.flags k 0) || list_any (covers_at l.run l.numbers k) (drop l.posting-index l.postings)) ≡ (is_up (get_or l.fn.flags k 0) || list_any (covers_at l.run l.numbers k) l.postings);
 }

@@ -9,7 +9,7 @@ use Rattle.clip_terms.proofs.spots.FieldSpots.mark_run.Goals as goal
 
 pub returns-in-Some-clause-raised : goal.returns-in-Some-clause-raised
 returns-in-Some-clause-raised c k lt =
-    let old = is_up (get_or c.args.flags.now.items k 0) in
+    let old = is_up (get_or c.args.flags.now k 0) in
     let run = c.args.run.now in
     let first = c.in-Some.first.now in
     let inside = c.self.inside in
@@ -22,7 +22,7 @@ returns-in-Some-clause-raised c k lt =
 
 pub returns-in_default-clause-raised : goal.returns-in_default-clause-raised
 returns-in_default-clause-raised c k lt =
-    let old = is_up (get_or c.args.flags.now.items k 0) in
+    let old = is_up (get_or c.args.flags.now k 0) in
     let value = c.args.self.now in
     let none : c.args.run.now ≡ [] = nil_from_length c.args.run.now (omega (arith, c.in_default.ensures.item)) in
     sym (ap (λ run. old || is_covered value.field (map (term_at value.terms) run) k) none ∙ ap (λ b. old || b) (none_covered value.field k) ∙ or_false old)

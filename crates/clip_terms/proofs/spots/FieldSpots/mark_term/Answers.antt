@@ -6,7 +6,7 @@ use Rattle.clip_terms.proofs.spots.FieldSpots.mark_term.Goals as goal
 
 pub returns-clause-raised : goal.returns-clause-raised
 returns-clause-raised c k lt =
-    let old = is_up (get_or c.args.flags.now.items k 0) in
+    let old = is_up (get_or c.args.flags.now k 0) in
     let value = c.args.self.now in
     c.mark_run.ensures.raised k lt
     ∙ ap (λ b. old || b) (one_at value.field (term_at value.terms c.args.number) k (omega (arith, lt, c.requires)))
