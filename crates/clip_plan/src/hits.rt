@@ -9,8 +9,8 @@ ghost use Rattle.clip_terms.specs.Spots.{spots_among};
 ghost use Rattle.clip_plan.specs.Plan.{decoded, plan_of};
 
 use crate::plans::Plans;
-use clip_meaning::{DOWN, Hit, add_raised};
-use clip_terms::FieldSpots;
+use clip_meaning::Hit;
+use clip_terms::{FieldFlags, FieldSpots};
 use clip_words::NoMemory;
 
 /// Adds the hits in one field of the query of the plan at a place. `flags` is room for a flag of each of its words.
@@ -18,7 +18,7 @@ fn add_hits_in(
     plans: &Plans,
     place: usize,
     spots: &FieldSpots,
-    flags: &mut Vec<u8>,
+    flags: &mut FieldFlags,
     found: &mut Vec<Hit>,
 ) -> Result<(), NoMemory>
     ensures { OnOk result ((tree : Tree)
@@ -26,10 +26,9 @@ fn add_hits_in(
         → map hit_value found.new.items ≡ map hit_value found.old.items ++ hits_in tree spots.now.field) }
 {
     let field = spots.field();
-    flags.clear();
-    flags.resize(field.words().len(), DOWN)?;
+    flags.restart(field.words().len())?;
     plans.mark_hits(place, spots, flags);
-    add_raised(field.name(), flags, found)
+    flags.add_hits(field.name(), found)
 }
 
 impl Plans {
@@ -44,7 +43,7 @@ impl Plans {
         &self,
         place: usize,
         spots: &[FieldSpots],
-        flags: &mut Vec<u8>,
+        flags: &mut FieldFlags,
         found: &mut Vec<Hit>,
     ) -> Result<(), NoMemory>
         ensures { OnOk result ((tree : Tree) (terms : List KeyValue) (fields : Fields)

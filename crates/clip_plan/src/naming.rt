@@ -11,9 +11,9 @@ ghost use Rattle.clip_plan.specs.Steps.Naming.{excluded_before, mark_asks, mark_
 use crate::plans::Plans;
 use crate::step::Step;
 use clip_grammar::query::{Occur, Query};
-use clip_meaning::{Field, mark};
+use clip_meaning::Field;
 use clip_pieces::PackedLists;
-use clip_terms::FieldSpots;
+use clip_terms::{FieldFlags, FieldSpots};
 
 /// Whether a clause asks for what its child names.
 fn asks(occur: Occur) -> bool
@@ -59,15 +59,15 @@ fn excluded_before(step: Step, excluded: usize) -> usize
 }
 
 /// Raises the flags of the words of a field that the query of a place names; past the last one none.
-fn mark_query(queries: &[Query], place: usize, field: &Field, flags: &mut Vec<u8>)
-    requires { length flags.old.items ≡ length field.now.1 }
-    ensures long { length flags.new.items ≡ length flags.old.items }
-    ensures raised { AreRaised flags.old.items flags.new.items
+fn mark_query(queries: &[Query], place: usize, field: &Field, flags: &mut FieldFlags)
+    requires { length flags.old ≡ length field.now.1 }
+    ensures long { length flags.new ≡ length flags.old }
+    ensures raised { AreRaised flags.old flags.new
         (λ k. is_named (unwrap_or (slice_get (map tree_of queries.now) place) Tree.All) field.now.0 field.now.1
         (get_or field.now.1 k [], k)) }
 {
     if let Some(query) = queries.get(place) {
-        mark(query, field, flags);
+        flags.raise_named(query, field);
     }
 }
 
@@ -77,11 +77,11 @@ fn mark_leaf(
     queries: &[Query],
     step: Step,
     spots: &FieldSpots,
-    flags: &mut Vec<u8>,
+    flags: &mut FieldFlags,
 )
-    requires { length flags.old.items ≡ length spots.now.field.1 }
-    ensures long { length flags.new.items ≡ length flags.old.items }
-    ensures raised { AreRaised flags.old.items flags.new.items
+    requires { length flags.old ≡ length spots.now.field.1 }
+    ensures long { length flags.new ≡ length flags.old }
+    ensures raised { AreRaised flags.old flags.new
         (λ k. mark_names spots.now.field k (meant runs.now (map tree_of queries.now) spots.now.terms step)) }
 {
     match step {
@@ -100,11 +100,11 @@ fn mark_step(
     step: Step,
     excluded: usize,
     spots: &FieldSpots,
-    flags: &mut Vec<u8>,
+    flags: &mut FieldFlags,
 )
-    requires { length flags.old.items ≡ length spots.now.field.1 }
-    ensures long { length flags.new.items ≡ length flags.old.items }
-    ensures raised { AreRaised flags.old.items flags.new.items
+    requires { length flags.old ≡ length spots.now.field.1 }
+    ensures long { length flags.new ≡ length flags.old }
+    ensures raised { AreRaised flags.old flags.new
         (λ k. step_names spots.now.field k (meant runs.now (map tree_of queries.now) spots.now.terms step) excluded) }
 {
     if step_asks(step) && excluded == 0 {
@@ -119,13 +119,13 @@ fn mark_by(
     runs: &PackedLists<u32>,
     queries: &[Query],
     spots: &FieldSpots,
-    flags: &mut Vec<u8>,
+    flags: &mut FieldFlags,
 )
-    requires { length flags.old.items ≡ length spots.now.field.1 }
-    ensures long { length flags.new.items ≡ length flags.old.items }
+    requires { length flags.old ≡ length spots.now.field.1 }
+    ensures long { length flags.new ≡ length flags.old }
     ensures raised { (tree : Tree)
         → map (meant runs.now (map tree_of queries.now) spots.now.terms) steps.now ≡ plan_of tree
-        → AreRaised flags.old.items flags.new.items
+        → AreRaised flags.old flags.new
         (λ k. is_named tree spots.now.field.0 spots.now.field.1 (get_or spots.now.field.1 k [], k)) }
 {
     let mut excluded = 0;
@@ -141,15 +141,15 @@ impl Plans {
     /// Raises the flags of the words of a field that the query of the plan at a place names, where the plan's numbers
     /// are those of the field's terms. Past the last plan it raises none.
     ///
-    /// Takes no memory. Cost: a step for each leaf and group of the query; a term that the article has costs a search by
-    /// halves among the field's words and a step for each place where it stands, and a phrase a look at each place of
-    /// its first word.
-    pub fn mark_hits(&self, place: usize, spots: &FieldSpots, flags: &mut Vec<u8>)
-        requires { length flags.old.items ≡ length spots.now.field.1 }
-        ensures long { length flags.new.items ≡ length flags.old.items }
+    /// Takes no memory. Cost: a step for each leaf and group of the query; a term of the field that the article has costs
+    /// a search by halves among the field's words and a step for each place where it stands, and a phrase a look at each
+    /// place of its first word.
+    pub fn mark_hits(&self, place: usize, spots: &FieldSpots, flags: &mut FieldFlags)
+        requires { length flags.old ≡ length spots.now.field.1 }
+        ensures long { length flags.new ≡ length flags.old }
         ensures raised { (tree : Tree)
             → decoded spots.now.terms (unwrap_or (slice_get self.now place) []) ≡ plan_of tree
-            → AreRaised flags.old.items flags.new.items
+            → AreRaised flags.old flags.new
             (λ k. is_named tree spots.now.field.0 spots.now.field.1 (get_or spots.now.field.1 k [], k)) }
     {
         mark_by(

@@ -17,21 +17,17 @@ returns c =
     let field = c.args.spots.now.field in
     let count = length c.words.result.now in
     let words : count ≡ length field.1 = sym (length-map c.words.result.now arc_str_bytes) ∙ ap length c.words.ensures ∙ ap (λ (f : List ℕ × List (List ℕ)). length f.1) c.field-field.ensures in
-    let none : count - 0 ≡ count = omega arith in
-    let start : c.resize.new.self.items ≡ replicate count 0 =
-    c.in_ok-resize.ensures.items
-    ∙ (λ i. take count (c.clear.ensures.items i) ++ replicate (count - c.clear.ensures.len i) 0)
-    ∙ ap (λ (xs : List ℕ). xs ++ replicate (count - 0) 0) (take-nil count)
-    ∙ ap (λ m. replicate m 0) none in
-    let started : length c.resize.new.self.items ≡ count = ap length start ∙ length-replicate count 0 in
-    let down : (k : ℕ) → k < count → is_up (get_or c.resize.new.self.items k 0) ≡ false = λ k lt. ap (λ xs. is_up (get_or xs k 0)) start ∙ ap is_up (get_or-replicate count k 0 0 lt) in
-    let long : length c.mark_hits.new.flags.items ≡ length field.1 = c.mark_hits.ensures.long ∙ started ∙ words in
-    let up : (tree : Tree) → decoded c.args.spots.now.terms (unwrap_or (slice_get c.args.plans.now c.args.place) []) ≡ plan_of tree → (k : ℕ) → k < length field.1 → is_up (get_or c.mark_hits.new.flags.items k 0) ≡ is_named tree field.0 field.1 (get_or field.1 k [], k) =
+    let flags = c.restart.new.self in
+    let start : flags ≡ replicate count 0 = c.in_ok-restart.ensures in
+    let started : length flags ≡ count = ap length start ∙ length-replicate count 0 in
+    let down : (k : ℕ) → k < count → is_up (get_or flags k 0) ≡ false = λ k lt. ap (λ xs. is_up (get_or xs k 0)) start ∙ ap is_up (get_or-replicate count k 0 0 lt) in
+    let long : length c.mark_hits.new.flags ≡ length field.1 = c.mark_hits.ensures.long ∙ started ∙ words in
+    let up : (tree : Tree) → decoded c.args.spots.now.terms (unwrap_or (slice_get c.args.plans.now c.args.place) []) ≡ plan_of tree → (k : ℕ) → k < length field.1 → is_up (get_or c.mark_hits.new.flags k 0) ≡ is_named tree field.0 field.1 (get_or field.1 k [], k) =
     λ tree plan k lt.
     c.mark_hits.ensures.raised tree plan k (omega (arith, lt, started, words))
     ∙ ap (λ b. b || is_named tree field.0 field.1 (get_or field.1 k [], k)) (down k (omega (arith, lt, words))) in
     let name : arc_str_bytes c.name.result.now ≡ field.0 = c.name.ensures ∙ ap (λ (f : List ℕ × List (List ℕ)). f.0) c.field-field.ensures in
-    on_each (λ (tree : Tree). decoded c.args.spots.now.terms (unwrap_or (slice_get c.args.plans.now c.args.place) []) ≡ plan_of tree) c.add_raised.result (map hit_value c.add_raised.new.found.items) (map hit_value c.args.found.now.items)
-    (raised (arc_str_bytes c.name.result.now) c.deref.result.now) (λ tree. hits_in tree field)
-    (λ tree plan. (λ i. raised (name i) (c.deref.ensures.value i)) ∙ raised_hits (is_named tree field.0 field.1) field.0 field.1 c.mark_hits.new.flags.items long (up tree plan))
-    c.add_raised.ensures
+    on_each (λ (tree : Tree). decoded c.args.spots.now.terms (unwrap_or (slice_get c.args.plans.now c.args.place) []) ≡ plan_of tree) c.add_hits.result (map hit_value c.add_hits.new.found.items) (map hit_value c.args.found.now.items)
+    (raised (arc_str_bytes c.name.result.now) c.mark_hits.new.flags) (λ tree. hits_in tree field)
+    (λ tree plan. ap (λ n. raised n c.mark_hits.new.flags) name ∙ raised_hits (is_named tree field.0 field.1) field.0 field.1 c.mark_hits.new.flags long (up tree plan))
+    c.add_hits.ensures

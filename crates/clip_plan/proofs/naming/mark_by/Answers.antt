@@ -15,7 +15,7 @@ loop-left-init c =
       few = omega arith;
       long = refl;
       counted = counted_none runs queries terms c.args.steps.now _ (omega arith);
-      raised = λ k lt. raised_none runs queries terms c.args.steps.now c.args.spots.now.field k _ (is_up (get_or c.args.flags.now.items k 0)) (omega arith);
+      raised = λ k lt. raised_none runs queries terms c.args.steps.now c.args.spots.now.field k _ (is_up (get_or c.args.flags.now k 0)) (omega arith);
     }
 
 pub loop-left-preserved : goal.loop-left-preserved
