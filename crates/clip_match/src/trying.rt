@@ -16,7 +16,7 @@ use clip_plan::Tally;
 use clip_registry::View;
 use clip_segment::{SegmentReading, SegmentSpots};
 use clip_standing::Entry;
-use clip_terms::Asking;
+use clip_terms::{Asking, FieldFlags};
 use clip_words::NoMemory;
 use std::alloc::Global;
 
@@ -126,13 +126,16 @@ fn add_entries<'a>(
     Ok(())
 }
 
+/// Room for so many hits is made at once for each query that holds.
+const HITS_FOR_A_QUERY: usize = 2;
+
 /// Adds the entries of a segment at these positions, and their hits to those of others. `flags` is room for a flag for
 /// each word of a field.
 fn add_with_hits<'a>(
     reading: &SegmentReading<'a>,
     spots: &SegmentSpots<'_>,
     positions: &[u32],
-    flags: &mut Vec<u8>,
+    flags: &mut FieldFlags,
     all_hits: &mut Vec<Hit>,
     held: &mut Vec<Held<'a>>,
 ) -> Result<(), NoMemory>
@@ -143,6 +146,7 @@ fn add_with_hits<'a>(
         All (HasItsHits HitsFound.AtOnce reading.now.article (map hit_value all_hits.old.items)) held.old.items
         → All (HasItsHits HitsFound.AtOnce reading.now.article (map hit_value all_hits.new.items)) held.new.items) }
 {
+    all_hits.reserve(positions.len().saturating_mul(HITS_FOR_A_QUERY))?;
     for position in positions {
         let Some(registered) = reading.entry(*position) else {
             continue;
@@ -163,7 +167,7 @@ fn add_held<'a>(
     reading: &SegmentReading<'a>,
     positions: &[u32],
     hits: HitsFound,
-    flags: &mut Vec<u8>,
+    flags: &mut FieldFlags,
     all_hits: &mut Vec<Hit>,
     held: &mut Vec<Held<'a>>,
 ) -> Result<(), NoMemory>
@@ -218,7 +222,7 @@ pub(crate) fn judge_candidates<'a>(
     let mut stack = Vec::new(alloc);
     let mut asked = 0;
     let mut held = Vec::new(alloc);
-    let mut flags = Vec::new(alloc);
+    let mut flags = FieldFlags::new(alloc);
     let mut all_hits = Vec::new(alloc);
     let segments = view.segments();
     for (place, segment) in segments.iter().enumerate() {

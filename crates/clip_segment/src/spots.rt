@@ -9,7 +9,7 @@ ghost use Rattle.clip_segment.specs.Segment.{trees_of};
 use crate::segment::Segment;
 use clip_meaning::Hit;
 use clip_plan::Plans;
-use clip_terms::{FieldSpots, Reading};
+use clip_terms::{FieldFlags, FieldSpots, Reading};
 use clip_words::NoMemory;
 use std::alloc::Global;
 use std::marker::Model;
@@ -68,7 +68,7 @@ impl<'a> SegmentSpots<'a> {
     pub fn add_hits(
         &self,
         position: u32,
-        flags: &mut Vec<u8>,
+        flags: &mut FieldFlags,
         found: &mut Vec<Hit>,
     ) -> Result<(), NoMemory>
         ensures { OnOk result ((entry : Registered) → slice_get self.now.entries position ≡ Some entry

@@ -1,7 +1,6 @@
-use Rattle.std.proofs.Common.{◌≡◌, ◌∙◌, ◌||◌, ◌++◌, ◌-◌, ◌<◌, ℕ, [], List, ap, sym, arith, false, get_or, length, map, replicate, take}
+use Rattle.std.proofs.Common.{◌≡◌, ◌∙◌, ◌||◌, ◌<◌, ℕ, [], List, ap, sym, arith, false, get_or, length, map, replicate}
 use Rattle.std.specs.Prelude.{unwrap_or, slice_get}
 use Rattle.std.specs.Arc.{arc_str_bytes}
-use Rattle.std.proofs.Math.Seq.{take-nil}
 use Rattle.std.proofs.lemmas.List.{get_or-replicate, length-map, length-replicate}
 use Rattle.clip_grammar.specs.Tree.{Tree}
 use Rattle.clip_meaning.specs.Hits.{hit_value, hits_in, is_named}
