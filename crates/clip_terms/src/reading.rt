@@ -212,7 +212,7 @@ impl<'a> Reading<'a> {
 }
 
 /// Whether a place has this number.
-fn is_number(found: Option<u32>, number: u32) -> bool
+pub(crate) fn is_number(found: Option<u32>, number: u32) -> bool
     ensures { result ≡ is_number found number }
 {
     match found {

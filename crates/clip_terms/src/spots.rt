@@ -1,14 +1,15 @@
 //! Where the words of a field stand, by the numbers of their terms.
-ghost use Rattle.std.specs.Prelude.{◌≡◌, false, [], map, length, drop};
+ghost use Rattle.std.specs.Prelude.{◌≡◌, false, [], ◌∷◌, map, length, drop};
 ghost use Rattle.std.specs.List.{list_any};
 ghost use Rattle.clip_meaning.specs.Steps.Marks.{AreRaised};
 ghost use Rattle.clip_extract.specs.Covering.{field_keys};
 ghost use Rattle.clip_terms.specs.Spots.{is_at, is_covered, spots_among};
 ghost use Rattle.clip_terms.specs.Terms.{number_of, term_at};
+ghost use Rattle.clip_terms.specs.Steps.Runs.{begins_with};
 ghost use Rattle.clip_terms.specs.Steps.Spots.{AreNear, IsOfArticle, covers_at};
 
 use crate::flags::FieldFlags;
-use crate::reading::{Reading, starts_with};
+use crate::reading::{Reading, is_number, starts_with};
 use crate::terms::Terms;
 use clip_meaning::{Field, Posting};
 use std::marker::Model;
@@ -45,6 +46,30 @@ fn numbers_from(numbers: &[Option<u32>], position: usize) -> &[Option<u32>]
         &numbers[position..]
     } else {
         &[]
+    }
+}
+
+/// Whether this number stands at a position.
+fn is_at(numbers: &[Option<u32>], position: usize, number: u32) -> bool
+    ensures { result ≡ begins_with (number ∷ []) (drop position numbers.now) }
+{
+    match numbers.get(position) {
+        Some(found) => is_number(*found, number),
+        None => false,
+    }
+}
+
+/// Raises the flags at those of the postings where this number stands.
+fn mark_places(postings: &[Posting], numbers: &[Option<u32>], number: u32, flags: &mut FieldFlags)
+    ensures long { length flags.new ≡ length flags.old }
+    ensures raised { AreRaised flags.old flags.new
+        (λ k. list_any (covers_at (number ∷ []) numbers.now k) postings.now) }
+{
+    for posting in postings {
+        let position = posting.position();
+        if is_at(numbers, position, number) {
+            flags.raise(position, 1);
+        }
     }
 }
 
@@ -133,7 +158,7 @@ impl<'a> FieldSpots<'a> {
         ensures raised { AreRaised flags.old flags.new
             (λ k. is_at self.now.field k (term_at self.now.terms number)) }
     {
-        self.mark_run(&[number], flags);
+        mark_places(self.postings_near(number), self.numbers, number, flags);
     }
 
     /// Raises the flags of the positions that the terms of these numbers cover where they stand next to each other, in
