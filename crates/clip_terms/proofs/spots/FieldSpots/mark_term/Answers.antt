@@ -1,4 +1,4 @@
-use Rattle.std.proofs.Common.{◌≡◌, ◌∙◌, ◌||◌, [], ◌∷◌, ap, subst, sym, arith, get_or, refl}
+use Rattle.std.proofs.Common.{◌∙◌, ◌||◌, [], ◌∷◌, ap, subst, sym, arith, get_or, refl}
 use Rattle.clip_meaning.specs.Steps.Marks.{is_up}
 use Rattle.clip_terms.specs.Terms.{term_at}
 use Rattle.clip_terms.specs.Spots.{SpotsValue, is_covered}
