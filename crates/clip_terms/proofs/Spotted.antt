@@ -16,12 +16,12 @@ use Rattle.clip_meaning.specs.Index.{numbered}
 use Rattle.clip_meaning.specs.Leads.{IsLead, has_lead, lead_of}
 use Rattle.clip_meaning.proofs.Marks.{at_numbered}
 use Rattle.clip_meaning.proofs.Numbered.{rest_dropped}
-use Rattle.clip_extract.specs.Keys.{KeyValue, Any, Word, key_cmp, is_same, text_of}
+use Rattle.clip_extract.specs.Keys.{KeyValue, Any, Word, Front, key_cmp, is_same, text_of}
 use Rattle.clip_extract.specs.Covering.{field_keys}
 use Rattle.clip_extract.proofs.Order.{key_cmp_total, same_itself, same_key}
 use Rattle.clip_terms.specs.Reading.{stands_in}
 use Rattle.clip_terms.specs.Terms.{term_at, number_of}
-use Rattle.clip_terms.specs.Spots.{FieldValue, is_at, covers_from, is_covered}
+use Rattle.clip_terms.specs.Spots.{FieldValue, is_at, covers_from, is_covered, is_word_of}
 use Rattle.clip_terms.specs.Steps.Leads.{heading, IsPart}
 use Rattle.clip_terms.specs.Steps.Runs.{begins_with}
 use Rattle.clip_terms.specs.Steps.Spots.{AreNear, IsOfArticle, covers_at}
@@ -68,22 +68,46 @@ none_past field terms n past = subst (λ key. AreNear field key []) (sym (ap (λ
     no_word [] = refl
     no_word (w ∷ ws) = no_word ws
 
--- a term that stands outside of the range of the field's words is that of no word of it
-pub none_of_field : (field : FieldValue) (terms : List KeyValue) (start end n : ℕ) → IsPart terms (heading (Word field.0 [])) start end → (start ≤ n → n < end → ⊥) → AreNear field (term_at terms n) []
-none_of_field field terms start end n part outside = by_length (nat_lt n (length terms)) refl
-  where
-    no_word : n < length terms → (ws : List (List ℕ)) → list_any (λ w. is_same (Word field.0 w) (term_at terms n)) ws ≡ false
-    no_word lt [] = refl
-    no_word lt (w ∷ ws) =
-        let here : is_same (Word field.0 w) (term_at terms n) ≡ false =
-        false_from_ne_true (is_same (Word field.0 w) (term_at terms n)) (λ same.
-        let placed = part.all n Any lt (ap heading (sym (unwrap_or-slice_get terms n Any) ∙ sym (same_key (Word field.0 w) (term_at terms n) same))) in
-        outside placed.0 placed.1) in
-        ap (λ b. b || list_any (λ v. is_same (Word field.0 v) (term_at terms n)) ws) here ∙ no_word lt ws
+-- a key that is of no word in fields of this name is that of none of their words
+pub not_its_word : (name : List ℕ) (key : KeyValue) → is_word_of name key ≡ false → (w : List ℕ) → is_same (Word name w) key ≡ false
+not_its_word name key other w =
+    false_from_ne_true (is_same (Word name w) key) (λ same.
+    false≢true (sym other ∙ ap (is_word_of name) (sym (same_key (Word name w) key same)) ∙ (bytes_eq-Decides name name).1 refl))
 
-    by_length : (b : Bool) → nat_lt n (length terms) ≡ b → AreNear field (term_at terms n) []
-    by_length true e = none_near field (term_at terms n) (no_word (ltb-true n (length terms) e) field.1)
-    by_length false e = none_past field terms n (omega (arith, ltb-false n (length terms) e))
+pub other_near : (field : FieldValue) (key : KeyValue) → is_word_of field.0 key ≡ false → AreNear field key []
+other_near field key other = none_near field key (no_word field.1)
+  where
+    no_word : (ws : List (List ℕ)) → list_any (λ w. is_same (Word field.0 w) key) ws ≡ false
+    no_word [] = refl
+    no_word (w ∷ ws) = (λ i. not_its_word field.0 key other w i || no_word ws i)
+
+-- a key with the heading of a field's words is of one
+under_heading : (name : List ℕ) (key : KeyValue) → heading key ≡ heading (Word name []) → is_word_of name key ≡ true
+under_heading name Any e = absurd (omega (arith, ap (λ h. h.0) e))
+under_heading name (Word field word) e = (bytes_eq-Decides field name).1 (ap (λ h. h.1) e)
+under_heading name (Front field front) e = absurd (omega (arith, ap (λ h. h.0) e))
+
+heading_of : (name : List ℕ) (key : KeyValue) → is_word_of name key ≡ true → heading key ≡ heading (Word name [])
+heading_of name Any e = absurd (false≢true e)
+heading_of name (Word field word) e = ap (λ f. (1, f)) ((bytes_eq-Decides field name).0 e)
+heading_of name (Front field front) e = absurd (false≢true e)
+
+-- the terms of a part under the heading of a field's words are those that are of one
+pub in_part : (terms : List KeyValue) (name : List ℕ) (start end n : ℕ) → IsPart terms (heading (Word name [])) start end → (nat_le start n && nat_lt n end) ≡ is_word_of name (term_at terms n)
+in_part terms name start end n part =
+    same_answer _ _
+    (λ t.
+    let there = and_parts (nat_le start n) (nat_lt n end) t in
+    under_heading name (term_at terms n)
+    (ap heading (unwrap_or-slice_get terms n Any) ∙ part.just n Any (leb-true start n there.0) (ltb-true n end there.1)))
+    (λ t.
+    let there = part.all n Any (inside t (nat_lt n (length terms)) refl) (ap heading (sym (unwrap_or-slice_get terms n Any)) ∙ heading_of name (term_at terms n) t) in
+    and_from (nat_le start n) (nat_lt n end) (le-leb start n there.0) (lt-ltb n end there.1))
+  where
+    inside : is_word_of name (term_at terms n) ≡ true → (b : Bool) → nat_lt n (length terms) ≡ b → n < length terms
+    inside t true e = ltb-true n (length terms) e
+    inside t false e =
+        absurd (false≢true (sym (ap (λ o. is_word_of name (unwrap_or o Any)) (slice_get_past terms n (ltb-false n (length terms) e))) ∙ t))
 
 -- the postings of the lead of its text are near a key
 pub lead_near : (field : FieldValue) (key : KeyValue) (lead : ℕ) (found : List (List ℕ × ℕ)) → IsLead (text_of key) lead
@@ -135,6 +159,12 @@ run_of_near field key run found near k start (w ∷ words) e =
     ∙ sym from in
     ap (λ b. b || list_any (λ (p : List ℕ × ℕ). near.passes p && covers_from field (key ∷ run) k p.1) (numbered (start + 1) words)) head
     ∙ ap (λ b. covers_from field (key ∷ run) k start || b) (run_of_near field key run found near k (start + 1) words (rest_dropped start field.1 w words e))
+
+-- a run whose first key is of no word in fields of this name covers no position
+pub other_covered : (field : FieldValue) (key : KeyValue) (run : List KeyValue) (k : ℕ) → is_word_of field.0 key ≡ false → is_covered field (key ∷ run) k ≡ false
+other_covered field key run k other =
+    let near : AreNear field key [] = other_near field key other in
+    sym (near.just (λ p. covers_from field (key ∷ run) k p.1) ∙ run_of_near field key run [] near k 0 field.1 refl)
 
 -- a run of one number covers the position that it begins at
 one_within : (start k : ℕ) → is_within start 1 k ≡ nat_eq k start

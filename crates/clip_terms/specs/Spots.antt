@@ -1,11 +1,12 @@
 -- What the numbers of terms say of the positions of a field's words.
-use Rattle.std.specs.Prelude.{ℕ, Bool, ◌&&◌, List, [], length, drop, get_or, refl}
+use Rattle.std.specs.Prelude.{ℕ, Bool, false, ◌&&◌, List, [], length, drop, get_or, refl}
 use Rattle.std.specs.Coded.{Coded, code_by, coded×, coded_list}
 use Rattle.std.specs.List.{list_any, starts_with}
+use Rattle.std.specs.Str.{bytes_eq}
 use Rattle.clip_grammar.specs.TreeCode.{bytes_code}
 use Rattle.clip_meaning.specs.Hits.{is_within}
 use Rattle.clip_meaning.specs.Index.{numbered}
-use Rattle.clip_extract.specs.Keys.{KeyValue, Word, is_same}
+use Rattle.clip_extract.specs.Keys.{KeyValue, Any, Word, Front, is_same}
 use Rattle.clip_extract.specs.Covering.{field_keys}
 use Rattle.clip_terms.specs.Reading.{key_code}
 
@@ -27,6 +28,12 @@ abbrev pub spots_code : Coded SpotsValue
 spots_code =
     code_by (List KeyValue × FieldValue) (coded× (coded_list key_code) (coded× bytes_code (coded_list bytes_code)))
     (λ s. (s.terms, s.field)) (λ p. record { terms = p.0; field = p.1 }) (λ _. refl)
+
+-- the key is of a word in a field of this name
+abbrev pub is_word_of : (name : List ℕ) → KeyValue → Bool
+is_word_of name Any = false
+is_word_of name (Word field word) = bytes_eq field name
+is_word_of name (Front field front) = false
 
 -- the word at the position is the key's
 abbrev pub is_at : FieldValue → (position : ℕ) → KeyValue → Bool

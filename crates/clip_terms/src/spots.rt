@@ -3,7 +3,7 @@ ghost use Rattle.std.specs.Prelude.{◌≡◌, false, [], ◌∷◌, map, length
 ghost use Rattle.std.specs.List.{list_any};
 ghost use Rattle.clip_meaning.specs.Steps.Marks.{AreRaised};
 ghost use Rattle.clip_extract.specs.Covering.{field_keys};
-ghost use Rattle.clip_terms.specs.Spots.{is_at, is_covered, spots_among};
+ghost use Rattle.clip_terms.specs.Spots.{is_at, is_covered, is_word_of, spots_among};
 ghost use Rattle.clip_terms.specs.Terms.{number_of, term_at};
 ghost use Rattle.clip_terms.specs.Steps.Runs.{begins_with};
 ghost use Rattle.clip_terms.specs.Steps.Spots.{AreNear, IsOfArticle, covers_at};
@@ -124,9 +124,10 @@ impl<'a> FieldSpots<'a> {
         self.reading.terms()
     }
 
-    /// Whether the term of a number is a word of a field of this name.
-    fn is_of_field(&self, number: u32) -> bool
-        ensures { result ≡ false → AreNear self.now.field (term_at self.now.terms number) [] }
+    /// Whether the term of a number is of a word in a field of this name, which the article may lack; past the last term
+    /// it isn't. Takes no memory. Constant time.
+    pub fn is_of_field(&self, number: u32) -> bool
+        ensures { result ≡ is_word_of self.now.field.0 (term_at self.now.terms number) }
     {
         let number = number as usize;
         self.range.start <= number && number < self.range.end

@@ -7,8 +7,13 @@ use Rattle.clip_terms.specs.Terms.{term_at}
 use Rattle.clip_terms.specs.Steps.Leads.{AreLeads}
 use Rattle.clip_terms.specs.Steps.Spots.{AreNear}
 use Rattle.clip_terms.proofs.LeadsOfTerms.{lead_at, leads_long}
-use Rattle.clip_terms.proofs.Spotted.{none_near, none_past, lead_near}
+use Rattle.clip_terms.proofs.Spotted.{none_near, none_past, lead_near, other_near}
 use Rattle.clip_terms.proofs.spots.FieldSpots.postings_near.Goals as goal
+
+pub returns-then-not-is_of_field : goal.returns-then-not-is_of_field
+returns-then-not-is_of_field c =
+    let value = c.args.self.now in
+    other_near value.field (term_at value.terms c.args.number) (sym c.is_of_field.ensures ∙ c.if-not-is_of_field.true)
 
 pub returns-then-not-has : goal.returns-then-not-has
 returns-then-not-has c =
