@@ -1,5 +1,5 @@
 -- A plan names the words that its query names.
-use Rattle.std.proofs.Common.{◌≡◌, ℕ, zero, suc, ◌+◌, ◌-◌, ◌<◌, ◌≤◌, ◌==◌, Bool, true, false, cond, ◌&&◌, ◌||◌, List, [], ◌∷◌, ◌++◌, map, length, take, drop, get_or, bytes_eq, refl, sym, ap, ◌∙◌, arith, ne_eqb, append-nil}
+use Rattle.std.proofs.Common.{◌≡◌, ℕ, zero, suc, ◌+◌, ◌-◌, ◌<◌, ◌≤◌, ◌==◌, Bool, true, false, cond, ◌&&◌, ◌||◌, List, [], ◌∷◌, ◌++◌, map, filter, length, take, drop, get_or, bytes_eq, refl, sym, ap, ◌∙◌, arith, ne_eqb, append-nil}
 use Rattle.std.specs.Prelude.{Result, Ok, Err, OnOk}
 use Rattle.std.specs.List.{list_any, starts_with, flat_map}
 use Rattle.std.proofs.lemmas.List.Concat.{flat_map-append}
@@ -9,7 +9,7 @@ use Rattle.clip_grammar.proofs.Booleans.{same_answer}
 use Rattle.clip_grammar.specs.Tree.{Tree, Clauses, none, clause}
 use Rattle.clip_grammar.specs.declared.query.Occur.{Occur}
 use Rattle.clip_grammar.specs.declared.query.Occur.TheVariants.{Must}
-use Rattle.clip_meaning.specs.Hits.{asks, covers, is_named, is_named_by, is_within}
+use Rattle.clip_meaning.specs.Hits.{asks, covers, hits_in, is_named, is_named_by, is_within}
 use Rattle.clip_meaning.specs.Index.{numbered}
 use Rattle.clip_extract.specs.Keys.{KeyValue, Word, is_same}
 use Rattle.clip_terms.specs.Spots.{FieldValue, covers_from, is_covered}
@@ -17,7 +17,7 @@ use Rattle.clip_terms.proofs.Spotted.{at_word, none_covered}
 use Rattle.clip_plan.specs.Plan.{Mark, Leaf, Open, Close, clause_marks, group_marks, plan_of}
 use Rattle.clip_plan.specs.declared.step.Step.{Step}
 use Rattle.clip_plan.specs.Steps.Judging.{meant}
-use Rattle.clip_plan.specs.Steps.Naming.{excluded_before, excluded_at, step_names, marks_name}
+use Rattle.clip_plan.specs.Steps.Naming.{excluded_before, excluded_at, mark_asks, mark_names, step_names, marks_name}
 use Rattle.clip_plan.proofs.AskedKeys.{begins_same}
 
 -- ---- tests
@@ -210,6 +210,33 @@ module _ (runs : List (List ℕ)) (queries : List Tree) (terms : List KeyValue) 
   raised_all field k left tree old now end is plan =
       let first : left ≡ 0 = omega (arith, end) in
       is ∙ ap (λ m. old || marks_name field k (from m) 0) first ∙ ap (λ ms. old || marks_name field k ms 0) plan ∙ ap (λ b. old || b) (plan_named field k tree)
+
+-- ---- plans that name no word of a field
+
+-- a step that names none adds none
+pub skipped : (runs : List (List ℕ)) (queries : List Tree) (terms : List KeyValue) (steps : List Step) (field : FieldValue) (k i : ℕ) (d : Step) → i < length steps → mark_names field k (meant runs queries terms (get_or steps i d)) ≡ false
+    → marks_name field k (map (meant runs queries terms) (drop i steps)) 0 ≡ marks_name field k (map (meant runs queries terms) (drop (i + 1) steps)) 0
+skipped runs queries terms steps field k i d inside unnamed =
+    let mark = meant runs queries terms (get_or steps i d) in
+    let after = map (meant runs queries terms) (drop (i + 1) steps) in
+    ap (λ ss. marks_name field k (map (meant runs queries terms) ss) 0) (drop_more steps i d inside)
+    ∙ ap (λ b. ((mark_asks mark && excluded_at after 0 == 0) && b) || marks_name field k after 0) unnamed
+    ∙ no (mark_asks mark && excluded_at after 0 == 0) (marks_name field k after 0)
+  where
+    no : (a b : Bool) → ((a && false) || b) ≡ b
+    no true b = refl
+    no false b = refl
+
+filter_none : (t : List ℕ × ℕ → Bool) (ws : List (List ℕ)) (n : ℕ) → ((k : ℕ) → t (get_or ws k [], n + k) ≡ false) → filter t (numbered n ws) ≡ []
+filter_none t [] n fails = refl
+filter_none t (w ∷ ws) n fails =
+    ap (λ b. cond b ((w, n) ∷ filter t (numbered (n + 1) ws)) (filter t (numbered (n + 1) ws))) (ap (λ (m : ℕ). t (w, m)) (omega arith) ∙ fails 0)
+    ∙ filter_none t ws (n + 1) (λ k. ap (λ (m : ℕ). t (get_or ws k [], m)) (omega arith) ∙ fails (suc k))
+
+-- a query that names no word of a field has no hit in it
+pub no_hits : (tree : Tree) (field : FieldValue) → ((k : ℕ) → is_named tree field.0 field.1 (get_or field.1 k [], k) ≡ false) → hits_in tree field ≡ []
+no_hits tree field fails =
+    ap (map (λ (w : List ℕ × ℕ). (field.0, w.1))) (filter_none (is_named tree field.0 field.1) field.1 0 (λ k. ap (λ (m : ℕ). is_named tree field.0 field.1 (get_or field.1 k [], m)) (omega arith) ∙ fails k))
 
 -- ---- hits
 

@@ -13,7 +13,8 @@ use clip_meaning::Hit;
 use clip_terms::{FieldFlags, FieldSpots};
 use clip_words::NoMemory;
 
-/// Adds the hits in one field of the query of the plan at a place. `flags` is room for a flag of each of its words.
+/// Adds the hits in one field of the query of the plan at a place. `flags` is room for a flag of each of its words, of
+/// which none is looked at where the query names no word of the field.
 fn add_hits_in(
     plans: &Plans,
     place: usize,
@@ -25,6 +26,9 @@ fn add_hits_in(
         → decoded spots.now.terms (unwrap_or (slice_get plans.now place) []) ≡ plan_of tree
         → map hit_value found.new.items ≡ map hit_value found.old.items ++ hits_in tree spots.now.field) }
 {
+    if !plans.may_name(place, spots) {
+        return Ok(());
+    }
     let field = spots.field();
     flags.restart(field.words().len())?;
     plans.mark_hits(place, spots, flags);

@@ -1,12 +1,12 @@
 //! The words of an article that a plan's query names.
-ghost use Rattle.std.specs.Prelude.{◌≡◌, ℕ, ◌<◌, List, [], map, length, get_or, unwrap_or, slice_get};
+ghost use Rattle.std.specs.Prelude.{◌≡◌, ℕ, ◌<◌, false, List, [], map, length, get_or, unwrap_or, slice_get};
 ghost use Rattle.clip_grammar.specs.Tree.{Tree, tree_of};
 ghost use Rattle.clip_meaning.specs.Hits.{asks, is_named};
 ghost use Rattle.clip_meaning.specs.Steps.Marks.{AreRaised};
 ghost use Rattle.clip_extract.specs.Keys.{KeyValue};
 ghost use Rattle.clip_plan.specs.Plan.{decoded, plan_of};
 ghost use Rattle.clip_plan.specs.Steps.Judging.{meant};
-ghost use Rattle.clip_plan.specs.Steps.Naming.{excluded_before, mark_asks, mark_names, step_names};
+ghost use Rattle.clip_plan.specs.Steps.Naming.{excluded_before, mark_asks, mark_names, marks_name, step_names};
 
 use crate::plans::Plans;
 use crate::step::Step;
@@ -56,6 +56,32 @@ fn excluded_before(step: Step, excluded: usize) -> usize
         }
         Step::Term(_, _) | Step::Pair(_, _, _) | Step::Phrase(_, _) | Step::Query(_, _) => excluded,
     }
+}
+
+/// Whether a step may name a word of a field, whether it asks or not: where this is `false` it names none.
+fn step_may_name(step: Step, spots: &FieldSpots) -> bool
+    ensures { result ≡ false → (runs : List (List ℕ)) (queries : List Tree) (k : ℕ)
+        → mark_names spots.now.field k (meant runs queries spots.now.terms step) ≡ false }
+{
+    match step {
+        Step::Term(_, number) => spots.is_of_field(number),
+        Step::Pair(_, first, _) => spots.is_of_field(first),
+        Step::Phrase(_, _) | Step::Query(_, _) => true,
+        Step::Open | Step::Close(_) => false,
+    }
+}
+
+/// Whether one of these steps may.
+fn may_name(steps: &[Step], spots: &FieldSpots) -> bool
+    ensures { result ≡ false → (runs : List (List ℕ)) (queries : List Tree) (k : ℕ)
+        → marks_name spots.now.field k (map (meant runs queries spots.now.terms) steps.now) 0 ≡ false }
+{
+    for step in steps {
+        if step_may_name(*step, spots) {
+            return true;
+        }
+    }
+    false
 }
 
 /// Raises the flags of the words of a field that the query of a place names; past the last one none.
@@ -138,6 +164,17 @@ fn mark_by(
 }
 
 impl Plans {
+    /// Whether the query of the plan at a place may name a word of a field, where the plan's numbers are those of the
+    /// field's terms: where this is `false` it names none. Takes no memory. Cost: a step for each leaf and group of the
+    /// query up to the first that may.
+    pub(crate) fn may_name(&self, place: usize, spots: &FieldSpots) -> bool
+        ensures { result ≡ false → (tree : Tree)
+            → decoded spots.now.terms (unwrap_or (slice_get self.now place) []) ≡ plan_of tree
+            → (k : ℕ) → is_named tree spots.now.field.0 spots.now.field.1 (get_or spots.now.field.1 k [], k) ≡ false }
+    {
+        may_name(self.steps.get(place), spots)
+    }
+
     /// Raises the flags of the words of a field that the query of the plan at a place names, where the plan's numbers
     /// are those of the field's terms. Past the last plan it raises none.
     ///

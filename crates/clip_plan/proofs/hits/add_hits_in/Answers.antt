@@ -1,4 +1,4 @@
-use Rattle.std.proofs.Common.{◌≡◌, ◌∙◌, ◌||◌, ◌<◌, ℕ, [], List, ap, sym, arith, false, get_or, length, map, replicate}
+use Rattle.std.proofs.Common.{◌≡◌, ◌∙◌, ◌||◌, ◌++◌, ◌<◌, ℕ, [], List, ap, sym, arith, false, get_or, length, map, replicate, append-nil}
 use Rattle.std.specs.Prelude.{unwrap_or, slice_get}
 use Rattle.std.specs.Arc.{arc_str_bytes}
 use Rattle.std.proofs.lemmas.List.{get_or-replicate, length-map, length-replicate}
@@ -7,8 +7,13 @@ use Rattle.clip_meaning.specs.Hits.{hit_value, hits_in, is_named}
 use Rattle.clip_meaning.specs.Steps.Marks.{is_up, raised}
 use Rattle.clip_meaning.proofs.Marks.{raised_hits}
 use Rattle.clip_plan.specs.Plan.{decoded, plan_of}
-use Rattle.clip_plan.proofs.Named.{on_each}
+use Rattle.clip_plan.proofs.Named.{no_hits, on_each}
 use Rattle.clip_plan.proofs.hits.add_hits_in.Goals as goal
+
+pub returns-then-not-may_name : goal.returns-then-not-may_name
+returns-then-not-may_name c = λ tree plan.
+    let before = map hit_value c.args.found.now.items in
+    sym (ap (λ hits. before ++ hits) (no_hits tree c.args.spots.now.field (c.may_name.ensures c.if-not-may_name.true tree plan)) ∙ append-nil before)
 
 -- the flags that are up after the plan was walked through are those of the words that its query names
 pub returns : goal.returns

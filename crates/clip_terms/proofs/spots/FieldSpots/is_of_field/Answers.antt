@@ -1,4 +1,4 @@
-use Rattle.std.proofs.Common.{◌≡◌, ◌&&◌, nat_lt, sym, ap, ◌∙◌}
+use Rattle.std.proofs.Common.{◌&&◌, nat_lt, sym, ap, ◌∙◌}
 use Rattle.std.proofs.lemmas.Bool.{le-leb, lt-leb}
 use Rattle.clip_terms.specs.Spots.{SpotsValue, is_word_of}
 use Rattle.clip_terms.specs.Terms.{term_at}
