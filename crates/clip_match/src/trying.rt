@@ -160,8 +160,8 @@ fn add_with_hits<'a>(
 }
 
 /// Adds the entries of a segment at these positions, and, where hits are found at once, theirs to those of others.
-/// Where the words of the article stand is only found out where there is a position and hits are wanted. `flags` is room
-/// for a flag for each word of a field.
+/// Where the words of the article stand is only found out where there is a position and hits are wanted. `flags` is
+/// room for a flag for each word of a field.
 fn add_held<'a>(
     alloc: Global,
     reading: &SegmentReading<'a>,

@@ -41,8 +41,8 @@ impl Plans {
     /// for each word of a field. Looks at no query's tree but those of prefixes and ranges.
     ///
     /// `NoMemory` where an allocation failed, or where the count of a field's name is at its end; some hits may then
-    /// have been added. Cost: for each field a look at the plan's steps; for each of which the plan may have a word also
-    /// a flag for each of the field's words, and a walk over the steps, as of `mark_hits`.
+    /// have been added. Cost: for each field a look at the plan's steps; for each of which the plan may have a word
+    /// also a flag for each of the field's words, and a walk over the steps, as of `mark_hits`.
     pub fn add_hits(
         &self,
         place: usize,

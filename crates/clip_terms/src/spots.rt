@@ -88,8 +88,8 @@ fn mark_runs(postings: &[Posting], numbers: &[Option<u32>], run: &[u32], flags: 
 }
 
 impl<'a> FieldSpots<'a> {
-    /// A field of the article of a reading, of which these are the numbers of the words, in the order of the text. Cost:
-    /// a search by halves among the fields of the terms.
+    /// A field of the article of a reading, of which these are the numbers of the words, in the order of the text.
+    /// Cost: a search by halves among the fields of the terms.
     pub(crate) fn of(
         reading: &'a Reading<'a>,
         field: &'a Field,
@@ -124,8 +124,8 @@ impl<'a> FieldSpots<'a> {
         self.reading.terms()
     }
 
-    /// Whether the term of a number is of a word in a field of this name, which the article may lack; past the last term
-    /// it isn't. Takes no memory. Constant time.
+    /// Whether the term of a number is of a word in a field of this name, which the article may lack; past the last
+    /// term it isn't. Takes no memory. Constant time.
     pub fn is_of_field(&self, number: u32) -> bool
         ensures { result ≡ is_word_of self.now.field.0 (term_at self.now.terms number) }
     {
@@ -151,8 +151,8 @@ impl<'a> FieldSpots<'a> {
     }
 
     /// Raises the flags of the positions at which the term of a number stands. Takes no memory. Cost: where the term is
-    /// of this field and the article has it a search by halves among the field's words and a step for each of those that
-    /// begin with the same eight bytes; constant where it isn't or doesn't.
+    /// of this field and the article has it a search by halves among the field's words and a step for each of those
+    /// that begin with the same eight bytes; constant where it isn't or doesn't.
     pub fn mark_term(&self, number: u32, flags: &mut FieldFlags)
         requires { length flags.old ≡ length self.now.field.1 }
         ensures long { length flags.new ≡ length flags.old }
