@@ -80,6 +80,19 @@ pub(crate) fn parts_of(alloc: Global, keys: &[Key]) -> Result<Vec<FieldPart>, No
     Ok(parts)
 }
 
+/// The part at a place, if it is that of a field.
+fn part_at<'a>(parts: &'a [FieldPart], place: usize, field: &str) -> Option<&'a FieldPart>
+    ensures part { (terms : List KeyValue) → All (IsFieldPart terms) parts.now
+        → IfSome result (λ part. IsFieldPart terms part.now) }
+    ensures field { IfSome result (λ part. arc_str_bytes part.now.field ≡ field.now) }
+{
+    let part = parts.get(place)?;
+    if part.field.as_str() != field {
+        return None;
+    }
+    Some(part)
+}
+
 /// The part of a field among those in the order of their names, if it is there.
 fn find<'a>(parts: &'a [FieldPart], field: &str) -> Option<&'a FieldPart>
     ensures part { (terms : List KeyValue) → All (IsFieldPart terms) parts.now
@@ -87,11 +100,7 @@ fn find<'a>(parts: &'a [FieldPart], field: &str) -> Option<&'a FieldPart>
     ensures field { IfSome result (λ part. arc_str_bytes part.now.field ≡ field.now) }
 {
     let place = parts.partition_point(|part: &FieldPart| -> bool { part.field.as_str() < field });
-    let part = parts.get(place)?;
-    if part.field.as_str() != field {
-        return None;
-    }
-    Some(part)
+    part_at(parts, place, field)
 }
 
 /// Where the words of a field stand, and its fronts. Searches by halves among the parts, and where the field has none
@@ -115,5 +124,22 @@ pub(crate) fn ranges_of(
             part_of(keys, Key::WORD_RANK, field),
             part_of(keys, Key::FRONT_RANK, field),
         ),
+    }
+}
+
+/// Where the words of a field stand, whose part is likely at this place. Looks there first.
+pub(crate) fn words_of(
+    keys: &[Key],
+    parts: &[FieldPart],
+    field: &str,
+    likely: usize,
+) -> Range<usize>
+    requires sorted { IsStrictlySortedBy key_cmp (map key_of keys.now) }
+    requires parts { All (IsFieldPart (map key_of keys.now)) parts.now }
+    ensures { IsPart (map key_of keys.now) (heading (Word field.now [])) result.start result.end }
+{
+    match part_at(parts, likely, field) {
+        Some(part) => part.words.start..part.words.end,
+        None => ranges_of(keys, parts, field).0,
     }
 }

@@ -195,7 +195,12 @@ impl<'a> Reading<'a> {
         ensures { result
             ≡ spots_among self.now.terms (get_or (finite.entries self.now.article.fields) place ([], [])) }
     {
-        FieldSpots::of(self, &self.article.fields()[place], &self.fields[place])
+        FieldSpots::of(
+            self,
+            &self.article.fields()[place],
+            &self.fields[place],
+            place,
+        )
     }
 
     /// Whether the article has each of the terms of these numbers.

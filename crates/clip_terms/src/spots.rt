@@ -88,12 +88,13 @@ fn mark_runs(postings: &[Posting], numbers: &[Option<u32>], run: &[u32], flags: 
 }
 
 impl<'a> FieldSpots<'a> {
-    /// A field of the article of a reading, of which these are the numbers of the words, in the order of the text.
-    /// Cost: a search by halves among the fields of the terms.
+    /// A field of the article of a reading, of which these are the numbers of the words, in the order of the text, and
+    /// whose place among the fields of the terms is likely this. Cost: that of `Terms::words_of`.
     pub(crate) fn of(
         reading: &'a Reading<'a>,
         field: &'a Field,
         numbers: &'a [Option<u32>],
+        likely: usize,
     ) -> FieldSpots<'a>
         requires numbers { numbers.now ≡ map (number_of reading.now.terms) (field_keys field.now) }
         requires among { IsOfArticle reading.now.article.fields field.now }
@@ -101,12 +102,11 @@ impl<'a> FieldSpots<'a> {
     {
         let terms = reading.terms();
         terms.order_law();
-        let (range, _) = terms.ranges_of(field.name());
         FieldSpots {
             reading,
             field,
             numbers,
-            range,
+            range: terms.words_of(field.name(), likely),
         }
     }
 

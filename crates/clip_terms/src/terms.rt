@@ -9,7 +9,7 @@ use crate::field_terms::FieldTerms;
 use crate::heads::{Head, head_leads, head_lengths, keys_of};
 use crate::leads::{leads_of, lengths_of};
 use crate::numbering::key_numbers;
-use crate::parts::{FieldPart, parts_of, ranges_of};
+use crate::parts::{FieldPart, parts_of, ranges_of, words_of};
 use clip_extract::{Key, sorted};
 use clip_words::NoMemory;
 use std::alloc::Global;
@@ -180,6 +180,14 @@ impl Terms {
         ensures fronts { IsPart self.now (heading (Front field.now [])) result.1.start result.1.end }
     {
         ranges_of(&self.keys, &self.parts, field)
+    }
+
+    /// Where the words of a field stand, which is likely the field of this place among those of the terms. Takes no
+    /// memory. Cost: a comparison with the field of that place, and where it is another one that of `ranges_of`.
+    pub(crate) fn words_of(&self, field: &str, likely: usize) -> Range<usize>
+        ensures { IsPart self.now (heading (Word field.now [])) result.start result.end }
+    {
+        words_of(&self.keys, &self.parts, field, likely)
     }
 
     /// The numbers of other terms, in their order; none of one that is no term here.
