@@ -1,5 +1,5 @@
 //! Flags, one for each word of a field, of which little is read where few are up.
-ghost use Rattle.std.specs.Prelude.{◌≡◌, [], ◌++◌, OnOk, map, length, get_or, replicate};
+ghost use Rattle.std.specs.Prelude.{◌≡◌, [], ◌++◌, OnOk, OnErr, map, length, get_or, replicate};
 ghost use Rattle.std.specs.Arc.{arc_str_bytes};
 ghost use Rattle.clip_grammar.specs.Tree.{tree_of};
 ghost use Rattle.clip_meaning.specs.Hits.{hit_value, is_named, is_within};
@@ -46,7 +46,8 @@ impl FieldFlags {
     ///
     /// `NoMemory` where an allocation failed; there are no flags then. Cost: a byte for each flag.
     pub fn restart(&mut self, count: usize) -> Result<(), NoMemory>
-        ensures { OnOk result (self.new ≡ replicate count 0) }
+        ensures ok { OnOk result (self.new ≡ replicate count 0) }
+        ensures err { OnErr result (self.new ≡ []) }
     {
         self.end = 0;
         self.flags.clear();
