@@ -94,7 +94,7 @@ runs_at_postings g all (y ∷ ys) x ps found k lt is same kept =
     ∙ runs_numbered all all fs f k 0 refl
 
 -- an empty phrase covers nothing
-within_none : (start k : ℕ) → is_within start 0 k ≡ false
+pub within_none : (start k : ℕ) → is_within start 0 k ≡ false
 within_none start k = by_start (nat_le start k) refl
   where
     by_start : (b : Bool) → nat_le start k ≡ b → (b && nat_lt k (start + 0)) ≡ false

@@ -4,7 +4,7 @@ use Rattle.std.specs.List.{list_any, starts_with}
 use Rattle.std.specs.List.Sorted.{IsStrictlySortedBy}
 use Rattle.std.specs.Cmp.{eq_by_cmp_equiv}
 use Rattle.std.specs.FinMap as finite
-use Rattle.std.proofs.lemmas.Bool.{leb-true, ltb-true, ltb-false, le-leb, lt-ltb, le-ltb, and_parts, and_from, false_from_ne_true, false≢true, true≢false}
+use Rattle.std.proofs.lemmas.Bool.{leb-true, ltb-true, ltb-false, le-leb, lt-ltb, and_parts, and_from, false_from_ne_true, false≢true, true≢false}
 use Rattle.std.proofs.lemmas.List.{length-map, get_or-map, drop-map}
 use Rattle.std.proofs.lemmas.List.Folds.{list_any_at}
 use Rattle.std.proofs.lemmas.Option.{slice_get_past, unwrap_or-slice_get}
@@ -14,7 +14,7 @@ use Rattle.clip_meaning.specs.Article.{Fields}
 use Rattle.clip_meaning.specs.Hits.{is_within}
 use Rattle.clip_meaning.specs.Index.{numbered}
 use Rattle.clip_meaning.specs.Leads.{IsLead, has_lead, lead_of}
-use Rattle.clip_meaning.proofs.Marks.{at_numbered}
+use Rattle.clip_meaning.proofs.Marks.{at_numbered, within_none}
 use Rattle.clip_meaning.proofs.Numbered.{rest_dropped}
 use Rattle.clip_extract.specs.Keys.{KeyValue, Any, Word, Front, key_cmp, is_same, text_of}
 use Rattle.clip_extract.specs.Covering.{field_keys}
@@ -208,13 +208,6 @@ module _ (terms : List KeyValue) (strict : IsStrictlySortedBy key_cmp terms) whe
       ∙ run_of_near field (term_at terms n) (map (term_at terms) run) found first k 0 field.1 refl
 
 -- ---- no keys cover no position
-
-within_none : (start k : ℕ) → is_within start 0 k ≡ false
-within_none start k = by_start (nat_le start k) refl
-  where
-    by_start : (b : Bool) → nat_le start k ≡ b → (b && nat_lt k (start + 0)) ≡ false
-    by_start true e = le-ltb k (start + 0) (omega (arith, leb-true start k e))
-    by_start false e = refl
 
 none_covered_in : (field : FieldValue) (k : ℕ) (ps : List (List ℕ × ℕ)) → list_any (λ (p : List ℕ × ℕ). covers_from field [] k p.1) ps ≡ false
 none_covered_in field k [] = refl

@@ -1,5 +1,5 @@
 //! Where the words of a field stand, by the numbers of their terms.
-ghost use Rattle.std.specs.Prelude.{◌≡◌, false, [], ◌∷◌, map, length, drop};
+ghost use Rattle.std.specs.Prelude.{◌≡◌, [], ◌∷◌, map, length, drop};
 ghost use Rattle.std.specs.List.{list_any};
 ghost use Rattle.clip_meaning.specs.Steps.Marks.{AreRaised};
 ghost use Rattle.clip_extract.specs.Covering.{field_keys};
@@ -50,7 +50,7 @@ fn numbers_from(numbers: &[Option<u32>], position: usize) -> &[Option<u32>]
 }
 
 /// Whether this number stands at a position.
-fn is_at(numbers: &[Option<u32>], position: usize, number: u32) -> bool
+fn is_number_at(numbers: &[Option<u32>], position: usize, number: u32) -> bool
     ensures { result ≡ begins_with (number ∷ []) (drop position numbers.now) }
 {
     match numbers.get(position) {
@@ -67,7 +67,7 @@ fn mark_places(postings: &[Posting], numbers: &[Option<u32>], number: u32, flags
 {
     for posting in postings {
         let position = posting.position();
-        if is_at(numbers, position, number) {
+        if is_number_at(numbers, position, number) {
             flags.raise(position, 1);
         }
     }
