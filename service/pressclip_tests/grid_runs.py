@@ -24,7 +24,6 @@ DROPPED_ONE_IN = 8
 KINDS = ("worker", "engine", "gatherer", "tidy", "client", "redis")
 # How often two processes are ended with nothing between.
 TWO_AT_ONCE = 0.2
-PATIENCE_SECONDS = 60.0
 
 
 def free_port() -> int:
@@ -45,9 +44,10 @@ class Redis:
 
     def start(self) -> None:
         """Starts it."""
-        self.process = subprocess.Popen(
-            ["redis-server", "--port", str(self.port), "--bind", "127.0.0.1", "--dir", str(self.folder), "--save", "",
-             "--appendonly", "yes", "--appendfsync", "always"], stdin=subprocess.DEVNULL, stdout=subprocess.DEVNULL)
+        with open(self.folder / "redis.told", "ab") as told:
+            self.process = subprocess.Popen(
+                ["redis-server", "--port", str(self.port), "--bind", "127.0.0.1", "--dir", str(self.folder), "--save",
+                 "", "--appendonly", "yes", "--appendfsync", "always"], stdin=subprocess.DEVNULL, stdout=told)
 
     def kill(self) -> None:
         """Ends it at once."""
@@ -116,7 +116,7 @@ class Grid:
         return found
 
     def told(self) -> str:
-        """What its processes told, and which of them have ended."""
+        """What its processes and Redis told, and which processes have ended."""
         texts = [path.name + ":\n" + path.read_text() for path in sorted(self.folder.glob("*.told"))]
         roles = (*self.workers, *self.others)
         ended = [role.words for role in roles if role.process and role.process.poll() is not None]

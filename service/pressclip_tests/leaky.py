@@ -9,7 +9,8 @@ from random import Random
 
 
 class LeakyWay:
-    """A port of 127.0.0.1 that leads to another one, until it is closed."""
+    """A port of 127.0.0.1 that leads to another one, until it is closed. Where nobody listens at that one yet, a
+    connection is closed at once."""
 
     def __init__(self, port: int, dice: Random, one_in: int) -> None:
         self._target = port
@@ -28,9 +29,13 @@ class LeakyWay:
         while True:
             try:
                 near, _ = self._listener.accept()
-                far = socket.create_connection(("127.0.0.1", self._target))
             except OSError:
                 return
+            try:
+                far = socket.create_connection(("127.0.0.1", self._target))
+            except OSError:
+                near.close()
+                continue
             for start, end, is_answer in ((near, far, False), (far, near, True)):
                 threading.Thread(target=self._carry, args=(start, end, is_answer), daemon=True).start()
 
