@@ -21,6 +21,10 @@ TIMEOUT_SECONDS = 30.0
 # Errors that pass: Redis is loading, has no memory, can't write its file, is a replica, or runs a script.
 _PASSING = ("LOADING", "OOM", "MISCONF", "READONLY", "BUSY", "MASTERDOWN", "TRYAGAIN")
 
+# What Redis is to be set to, the first of each before all.
+_SETTINGS = {"appendonly": ("yes",), "appendfsync": ("always", "everysec"), "aof-load-truncated": ("no",),
+             "maxmemory-policy": ("noeviction",)}
+
 Entry = tuple[Id, Mapping[bytes, bytes]]
 Result = TypeVar("Result")
 
@@ -30,7 +34,7 @@ class RedisRefused(ServiceError):
 
 
 class RequestsLost(ServiceError):
-    """Redis forgot requests that were read from it."""
+    """Redis forgot requests that entered."""
 
 
 def is_passing(error: Exception) -> bool:
@@ -100,6 +104,16 @@ class Store:
             self.do(lambda client: client.hsetnx(self.names.settings, name, value))
         if self.settings() != settings:
             raise ServiceError(f"the grid is there with other settings: {self.settings()}")
+
+    def tell_of_settings(self) -> None:
+        """Tells which settings of Redis are others than a grid needs, as far as Redis says them."""
+        for name, values in _SETTINGS.items():
+            try:
+                found = self.do(lambda client: client.config_get(name)).get(name, values[0])
+            except RedisRefused:
+                return
+            if found not in values:
+                tell(self.program, f"Redis has {name} {found}, and needs {name} {values[0]}: docs/OPERATING.md says why")
 
     def read(self, after: Mapping[str, Id], count: int,
              block: int | None = BLOCK_MILLISECONDS) -> dict[str, list[Entry]]:

@@ -13,7 +13,7 @@ from typing import Sequence
 
 from pressclip_service.engine import command_of
 
-from .judge import GRID, Due, Failed, need
+from .judge import GRID, REDIS, Due, Failed, need
 from .leaky import LeakyWay
 from .processes import ENDED, Spoken, engine_of
 
@@ -42,12 +42,12 @@ class Redis:
         self.process: subprocess.Popen | None = None
         self.start()
 
-    def start(self) -> None:
+    def start(self, *options: str) -> None:
         """Starts it."""
+        command = [str(REDIS), "--dir", str(self.folder), "--", "--port", str(self.port), "--bind", "127.0.0.1",
+                   *options]
         with open(self.folder / "redis.told", "ab") as told:
-            self.process = subprocess.Popen(
-                ["redis-server", "--port", str(self.port), "--bind", "127.0.0.1", "--dir", str(self.folder), "--save",
-                 "", "--appendonly", "yes", "--appendfsync", "always"], stdin=subprocess.DEVNULL, stdout=told)
+            self.process = subprocess.Popen(command, stdin=subprocess.DEVNULL, stdout=told, stderr=told)
 
     def kill(self) -> None:
         """Ends it at once."""

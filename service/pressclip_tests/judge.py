@@ -90,3 +90,4 @@ def folder() -> tempfile.TemporaryDirectory[str]:
 SERVICE = Path(__file__).resolve().parents[1]
 KEEP = SERVICE / "keep"
 GRID = SERVICE / "grid"
+REDIS = SERVICE / "redis"
