@@ -50,6 +50,18 @@ class JournalLocked(ServiceError):
     status = STATUS_LOCKED
 
 
+class BrokenFile(ServiceError):
+    """Redis's file is not what was written, and not at its end alone; nothing was changed."""
+
+    status = STATUS_BROKEN
+
+
+class FileInUse(ServiceError):
+    """Redis's file is torn, and some process has it open; nothing was changed."""
+
+    status = STATUS_LOCKED
+
+
 class NoReader(ServiceError):
     """Nobody reads the replies any more."""
 

@@ -113,7 +113,7 @@ class Store:
             except RedisRefused:
                 return
             if found not in values:
-                tell(self.program, f"Redis has {name} {found}, and needs {name} {values[0]}: docs/OPERATING.md says why")
+                tell(self.program, f"Redis has {name} {found}, and needs {values[0]}: docs/OPERATING.md says why")
 
     def read(self, after: Mapping[str, Id], count: int,
              block: int | None = BLOCK_MILLISECONDS) -> dict[str, list[Entry]]:

@@ -15,7 +15,7 @@ import time
 from pathlib import Path
 from typing import BinaryIO
 
-from .errors import STATUS_BROKEN, STATUS_LOCKED, ServiceError
+from .errors import BrokenFile, FileInUse
 
 FOLDER, MANIFEST = "appendonlydir", "appendonly.aof.manifest"
 CHECK = "redis-check-aof"
@@ -26,18 +26,6 @@ _PART = re.compile(r"^file (\S+) seq \d+ type i", re.MULTILINE)
 _WHOLE_UP_TO = re.compile(r"ok_up_to=(\d+)")
 _NUMBER = re.compile(rb"([*$])(\d{1,12})\r\n")
 _FRONT_OF_A_NUMBER = re.compile(rb"[*$]\d{0,12}\r?|")
-
-
-class BrokenFile(ServiceError):
-    """Redis's file is not what was written, and not at its end alone; nothing was changed."""
-
-    status = STATUS_BROKEN
-
-
-class FileInUse(ServiceError):
-    """Redis's file is torn, and some process has it open; nothing was changed."""
-
-    status = STATUS_LOCKED
 
 
 class _Ends(Exception):
@@ -100,7 +88,9 @@ def last_part(folder: Path) -> Path | None:
 
 def mend(folder: Path) -> int:
     """Cuts off what is torn at the end of the file of a Redis that has ended, and gives how many bytes that were.
-    `BrokenFile` where the file is broken elsewhere, `FileInUse` where it is torn and open still. Reads the file once."""
+
+    `BrokenFile` where the file is broken elsewhere, `FileInUse` where it is torn and open still. Cost: reads the file
+    once."""
     file = last_part(folder)
     if file is None:
         return 0

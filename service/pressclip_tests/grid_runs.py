@@ -24,6 +24,7 @@ DROPPED_ONE_IN = 8
 KINDS = ("worker", "engine", "gatherer", "tidy", "client", "redis")
 # How often two processes are ended with nothing between.
 TWO_AT_ONCE = 0.2
+REDIS_SECONDS = 30.0
 
 
 def free_port() -> int:
@@ -54,6 +55,17 @@ class Redis:
         assert self.process
         self.process.kill()
         self.process.wait()
+
+    def asked(self, *words: str) -> str:
+        """What it answers, by its own client, once it is there."""
+        deadline = time.monotonic() + REDIS_SECONDS
+        while True:
+            done = subprocess.run(["redis-cli", "-p", str(self.port), *words], stdout=subprocess.PIPE,
+                                  stderr=subprocess.PIPE, text=True, check=False)
+            if done.returncode == 0 and not done.stdout.startswith("LOADING"):
+                return done.stdout.strip()
+            need(time.monotonic() < deadline, f"{words}: {done.stdout}{done.stderr}")
+            time.sleep(0.05)
 
 
 class Role:
@@ -142,6 +154,12 @@ class Grid:
 
     def __exit__(self, *_: object) -> None:
         self.close()
+
+
+def end(role: Role | Redis) -> None:
+    """Ends a process, or Redis, by SIGKILL."""
+    role.kill()
+    ENDED.append(role.words[0] if isinstance(role, Role) else "redis")
 
 
 class Chaos:

@@ -10,9 +10,9 @@ from typing import Sequence
 from pressclip_service.errors import STATUS_BROKEN, STATUS_ENGINE, STATUS_LOCKED
 from pressclip_service.torn import is_torn, last_part
 
-from .grid_runs import Grid, Redis, free_port
+from .grid_runs import Grid, Redis, end, free_port
 from .judge import GRID, REDIS, folder, need, same
-from .processes import ENDED, Spoken
+from .processes import Spoken
 
 PATIENCE_SECONDS = 30.0
 # One of the grid's scripts in small: a number, an entry under it, and who made it.
@@ -35,28 +35,10 @@ def fronts_of_commands_are_torn() -> None:
         need(not is_torn(text), f"{text!r} is torn")
 
 
-def asked(redis: Redis, *words: str) -> list[str]:
-    """The lines that Redis answers, by its own client, once it is there."""
-    deadline = time.monotonic() + PATIENCE_SECONDS
-    while True:
-        done = subprocess.run(["redis-cli", "-p", str(redis.port), *words], stdout=subprocess.PIPE,
-                              stderr=subprocess.PIPE, text=True, check=False)
-        if done.returncode == 0 and not done.stdout.startswith("LOADING"):
-            return done.stdout.split()
-        need(time.monotonic() < deadline, f"{words}: {done.stdout}{done.stderr}")
-        time.sleep(0.05)
-
-
-def end(redis: Redis) -> None:
-    """Ends Redis by SIGKILL."""
-    redis.kill()
-    ENDED.append("redis")
-
-
 def file_with(redis: Redis, *clients: str) -> Path:
     """Its file after an entry of each of the clients, and its end."""
     for client in clients:
-        asked(redis, "EVAL", ENTER, "0", client)
+        redis.asked("EVAL", ENTER, "0", client)
     end(redis)
     file = last_part(redis.folder)
     assert file
@@ -76,12 +58,12 @@ def what_is_torn_is_never_done() -> None:
         for text in (*(whole[:place] for place in (*places, *ends)), whole[:places[2]] + bytes(100)):
             file.write_bytes(text)
             redis.start()
-            same(" ".join(asked(redis, "EVAL", ENTER, "0", "third")).encode(), b"2", f"after {text[second:]!r}")
+            need(redis.asked("EVAL", ENTER, "0", "third") == "2", f"another number after {text[second:]!r}")
             end(redis)
             redis.start()
-            need(asked(redis, "GET", "number") == ["2"] and asked(redis, "XLEN", "entries") == ["2"],
-                 f"{asked(redis, 'XRANGE', 'entries', '-', '+')} after {text[second:]!r}")
-            same(" ".join(asked(redis, "HKEYS", "clients")).encode(), b"first third", f"after {text[second:]!r}")
+            need(redis.asked("GET", "number") == "2" and redis.asked("XLEN", "entries") == "2",
+                 f"{redis.asked('XRANGE', 'entries', '-', '+')} after {text[second:]!r}")
+            need(redis.asked("HKEYS", "clients") == "first\nthird", f"other clients after {text[second:]!r}")
             end(redis)
 
 
@@ -119,7 +101,7 @@ def numbers_with_a_gap_end_a_worker() -> None:
     """A number that no request has, as where Redis did a half of what belongs together: told, and not passed over."""
     with folder() as name, Grid(Path(name), 1, 1) as grid:
         same(grid.run("submit", text=b'{"op":"count"}\n'), b'{"count":0,"line":1}\n', "before the gap")
-        asked(grid.redis, "INCR", "pressclip:grid:number")
+        grid.redis.asked("INCR", "pressclip:grid:number")
         client = Spoken(grid.command("submit"))
         client.send(b'{"op":"count"}')
         worker = grid.workers[0].process
@@ -159,11 +141,11 @@ def options_of_ones_own_hold() -> None:
     with folder() as name:
         redis = Redis(Path(name))
         names: Sequence[str] = ("appendonly", "appendfsync", "aof-load-truncated", "maxmemory-policy", "save")
-        found = [asked(redis, "CONFIG", "GET", setting)[1:] for setting in names]
-        need(found == [["yes"], ["always"], ["no"], ["noeviction"], []], f"set {found}")
+        found = [redis.asked("CONFIG", "GET", setting).partition("\n")[2] for setting in names]
+        need(found == ["yes", "always", "no", "noeviction", ""], f"set {found}")
         end(redis)
         redis.start("--appendfsync", "everysec")
-        need(asked(redis, "CONFIG", "GET", "appendfsync") == ["appendfsync", "everysec"], "options do not hold")
+        need(redis.asked("CONFIG", "GET", "appendfsync") == "appendfsync\neverysec", "options do not hold")
         end(redis)
 
 

@@ -14,13 +14,11 @@ from pressclip_service.parts import Heard, match_answer, merged, reply_of
 from pressclip_service.replies import Kind, kind_of
 from pressclip_service.teller import Answer, NotHeld, Teller
 
-from .grid_runs import DEBIAN_PYTHON, Chaos, Grid
+from .grid_runs import DEBIAN_PYTHON, Chaos, Grid, end
 from .inputs import Source, joined
 from .judge import SERVICE, Due, folder, need, same
-from .processes import ENDED
 
 PREFIX = "pressclip:grid:"
-REDIS_SECONDS = 30.0
 KEPT_SECONDS = 30.0
 
 
@@ -172,30 +170,12 @@ def what_was_forgotten_is_told_again() -> None:
         telling.MOST_BYTES_HELD = most
 
 
-def asked(grid: Grid, *words: str) -> str:
-    """What Redis answers, by its own client, once it is there."""
-    command = ["redis-cli", "-p", str(grid.redis.port), *words]
-    deadline = time.monotonic() + REDIS_SECONDS
-    while True:
-        done = subprocess.run(command, stdout=subprocess.PIPE, stderr=subprocess.PIPE, text=True, check=False)
-        if done.returncode == 0 and not done.stdout.startswith("LOADING"):
-            return done.stdout.strip()
-        need(time.monotonic() < deadline, f"{words}: {done.stdout}{done.stderr}")
-        time.sleep(0.1)
-
-
 def wait_until_kept(grid: Grid, count: int) -> None:
     """`Failed` where so many requests are not kept after a while."""
     deadline = time.monotonic() + KEPT_SECONDS
-    while asked(grid, "HGET", PREFIX + "kept", "number") != str(count):
-        need(time.monotonic() < deadline, f"kept: {asked(grid, 'HGETALL', PREFIX + 'kept')}\n{grid.told()}")
+    while grid.redis.asked("HGET", PREFIX + "kept", "number") != str(count):
+        need(time.monotonic() < deadline, f"kept: {grid.redis.asked('HGETALL', PREFIX + 'kept')}\n{grid.told()}")
         time.sleep(0.1)
-
-
-def end(role) -> None:
-    """Ends a process, or Redis, by SIGKILL."""
-    role.kill()
-    ENDED.append("redis" if role.__class__.__name__ == "Redis" else role.words[0])
 
 
 def entered(due: Due) -> int:
@@ -207,7 +187,7 @@ def told_without_a_gatherer(grid: Grid, due: Due) -> None:
     """Has an input answered while nobody keeps anything."""
     end(grid.others[0])
     same(grid.run("submit", "--name", "desk", text=joined(due.lines)), due.text(), "told")
-    need(asked(grid, "EXISTS", PREFIX + "kept", PREFIX + "replies:desk") == "0", "something is kept")
+    need(grid.redis.asked("EXISTS", PREFIX + "kept", PREFIX + "replies:desk") == "0", "something is kept")
 
 
 def kept_once(grid: Grid, due: Due) -> None:
@@ -215,9 +195,9 @@ def kept_once(grid: Grid, due: Due) -> None:
     grid.others[0].start()
     count = entered(due)
     wait_until_kept(grid, count)
-    need(asked(grid, "XLEN", PREFIX + "replies:desk") == str(count), "not each reply is kept once")
+    need(grid.redis.asked("XLEN", PREFIX + "replies:desk") == str(count), "not each reply is kept once")
     same(grid.run("submit", "--name", "desk", text=joined(due.lines)), due.text(), "asked again")
-    need(asked(grid, "HGET", PREFIX + "kept", "number") == str(count), "a line entered twice")
+    need(grid.redis.asked("HGET", PREFIX + "kept", "number") == str(count), "a line entered twice")
 
 
 def redis_ends_between_told_and_kept() -> None:
@@ -243,9 +223,10 @@ def all_end_between_told_and_kept() -> None:
         for role in (*grid.workers, grid.redis):
             end(role)
         grid.redis.start()
-        left = asked(grid, "EXISTS", PREFIX + "answered", *(f"{PREFIX}answers:{s}:{r}" for s in "01" for r in "01"))
+        answers_told = [f"{PREFIX}answers:{s}:{r}" for s in "01" for r in "01"]
+        left = grid.redis.asked("EXISTS", PREFIX + "answered", *answers_told)
         need(left == "0", f"{left} keys of what was only told stand in Redis's file")
-        need(asked(grid, "XLEN", PREFIX + "requests") == str(entered(due)), "requests are lost")
+        need(grid.redis.asked("XLEN", PREFIX + "requests") == str(entered(due)), "requests are lost")
         for role in grid.workers:
             role.start()
         kept_once(grid, due)
@@ -271,8 +252,8 @@ def a_file_is_rewritten_between_told_and_kept() -> None:
     front = Due(due.lines[:250], due.replies[:250], due.changes[:250])
     with folder() as name, Grid(Path(name), 2, 2) as grid:
         told_without_a_gatherer(grid, front)
-        asked(grid, "BGREWRITEAOF")
-        while "aof_rewrite_in_progress:0" not in asked(grid, "INFO", "persistence"):
+        grid.redis.asked("BGREWRITEAOF")
+        while "aof_rewrite_in_progress:0" not in grid.redis.asked("INFO", "persistence"):
             time.sleep(0.05)
         back = b"".join(reply + b"\n" for reply in due.replies[250:] if reply)
         same(grid.run("submit", "--name", "desk", "--from", "251", text=joined(due.lines)), back, "the rest told")
@@ -293,7 +274,7 @@ def what_a_client_missed_is_kept_for_it() -> None:
                 chaos.client.send(due.lines[chaos.sent])
                 chaos.sent += 1
             chaos.client.turn(0.02)
-            broken += int(asked(grid, "CLIENT", "KILL", "TYPE", "pubsub"))
+            broken += int(grid.redis.asked("CLIENT", "KILL", "TYPE", "pubsub"))
             chaos._take(chaos.client.wait_for_replies())
         same(chaos.run([]), due.text(), f"with {broken} connections broken")
         need(broken >= 10, f"only {broken} connections were broken")
@@ -307,7 +288,7 @@ def replies_to_a_forgotten_client_are_not_kept() -> None:
     with folder() as name, Grid(Path(name), 2, 1) as grid:
         same(grid.run("submit", text=joined(due.lines)), due.text(), "a client without a name")
         wait_until_kept(grid, entered(due))
-        need(asked(grid, "KEYS", PREFIX + "replies:*") == "", "replies to it are kept")
+        need(grid.redis.asked("KEYS", PREFIX + "replies:*") == "", "replies to it are kept")
 
 
 TESTS = (lists_are_merged_in_byte_order, replies_are_cut_by_their_bytes, notes_are_merged_by_their_queries,
