@@ -42,6 +42,7 @@ class Redis:
         self.port = free_port()
         self.process: subprocess.Popen | None = None
         self.start()
+        self.asked("PING")
 
     def start(self, *options: str) -> None:
         """Starts it."""
