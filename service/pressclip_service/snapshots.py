@@ -11,7 +11,7 @@ from .errors import ServiceError
 from .live import LiveQueries, even_lines, text_of, value_of
 from .names import CHANGES, CLEAR, DELETE, KIND, LINE, NUMBER, Id, shard_of
 from .scripts import REPLACE
-from .store import Store
+from .store import RequestsLost, Store
 
 _LINES_AT_ONCE = 16
 _REQUESTS_AT_ONCE = 500
@@ -76,9 +76,18 @@ def part_of(kind: bytes, line: bytes, shard: int, shards: int) -> tuple[list[byt
     return (even_lines(queries) if queries else []), queries, []
 
 
+def gap_at(store: Store, shard: int, snapshot: Snapshot, number: int) -> Exception:
+    """What it means that the request of a number does not follow: those that another snapshot has are dropped, and no
+    others are."""
+    if snapshot_of(store, shard) != snapshot:
+        return Replaced()
+    return RequestsLost(f"request {number} is not there, and no snapshot has it: Redis's file was not whole")
+
+
 def live_at(store: Store, shard: int, shards: int, snapshot: Snapshot, target: Id | None) -> tuple[LiveQueries, int]:
     """The shard's live queries behind a request, or behind all that there are, and the number of the last request: its
-    snapshot, and the requests after. `Replaced` where these are not all there any more."""
+    snapshot, and the requests after. `Replaced` where these are not all there any more, `RequestsLost` where they never
+    will be."""
     live = LiveQueries()
     for line in lines_of(store, snapshot):
         live.take(line)
@@ -87,9 +96,9 @@ def live_at(store: Store, shard: int, shards: int, snapshot: Snapshot, target: I
         for place, fields in entries:
             if target is not None and place > target:
                 return live, number
-            if int(fields[NUMBER]) != number + 1:
-                raise Replaced()
             number += 1
+            if int(fields[NUMBER]) != number:
+                raise gap_at(store, shard, snapshot, number)
             if fields[KIND] in CHANGES:
                 for part in part_of(fields[KIND], fields[LINE], shard, shards)[0]:
                     live.take(part)

@@ -21,8 +21,8 @@ from .names import (CHANGES, CLEAR, CLIENT, COUNT, DELETE, KIND, LINE, LINE_NUMB
                     SHOW, Id, Settings, shard_of, worker_name)
 from .parts import Heard, answer_of
 from .replies import Kind, count_in, kind_of
-from .snapshots import Replaced, Snapshot, lines_of, part_of, snapshot_of
-from .store import Entry, RequestsLost, Store
+from .snapshots import Replaced, Snapshot, gap_at, lines_of, part_of, snapshot_of
+from .store import Entry, Store
 from .teller import Answer, NotHeld, Teller
 
 MOST_OWED = 1_024
@@ -121,19 +121,13 @@ class Session:
                 for entry in self.store.read_requests(after, REQUESTS_AT_ONCE):
                     number += 1
                     if int(entry[1][NUMBER]) != number:
-                        raise self._gap_after(snapshot, number)
+                        raise gap_at(self.store, self.shard, snapshot, number)
                     if not self._feed_one(entry):
                         return
                     after = entry[0]
                 self.engine.push_all()
         except Exception as error:
             self.failure = error
-
-    def _gap_after(self, snapshot: Snapshot, number: int) -> Exception:
-        """What it means that the request of a number is not there: those that another snapshot has are dropped."""
-        if snapshot_of(self.store, self.shard) != snapshot:
-            return Replaced()
-        return RequestsLost(f"request {number} is not there, and no snapshot has it: Redis's file was not whole")
 
     def _feed_one(self, entry: Entry) -> bool:
         """Sends the engine its part of a request; False where the session is over."""

@@ -97,8 +97,9 @@ def what_is_broken_elsewhere_is_left() -> None:
         need(mended(redis) == (0, ""), "a whole file was mended")
 
 
-def numbers_with_a_gap_end_a_worker() -> None:
-    """A number that no request has, as where Redis did a half of what belongs together: told, and not passed over."""
+def numbers_with_a_gap_are_told() -> None:
+    """A number that no request has, as where Redis did a half of what belongs together: it ends a worker and a dump,
+    and is not passed over."""
     with folder() as name, Grid(Path(name), 1, 1) as grid:
         same(grid.run("submit", text=b'{"op":"count"}\n'), b'{"count":0,"line":1}\n', "before the gap")
         grid.redis.asked("INCR", "pressclip:grid:number")
@@ -111,6 +112,8 @@ def numbers_with_a_gap_end_a_worker() -> None:
             client.turn(0.05)
         client.kill()
         need(worker.poll() == STATUS_ENGINE and "request 2 is not there" in grid.told(), grid.told())
+        dumped = subprocess.run(grid.command("dump"), stdout=subprocess.PIPE, stderr=subprocess.PIPE, check=False)
+        need(dumped.returncode == STATUS_ENGINE and b"request 2 is not there" in dumped.stderr, f"{dumped}")
 
 
 def told_of(*settings: str) -> bytes:
@@ -150,4 +153,4 @@ def options_of_ones_own_hold() -> None:
 
 
 TESTS = (fronts_of_commands_are_torn, what_is_torn_is_never_done, what_is_broken_elsewhere_is_left,
-         numbers_with_a_gap_end_a_worker, settings_that_lose_something_are_told, options_of_ones_own_hold)
+         numbers_with_a_gap_are_told, settings_that_lose_something_are_told, options_of_ones_own_hold)
