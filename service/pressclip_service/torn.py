@@ -82,7 +82,7 @@ def last_part(folder: Path) -> Path | None:
     manifest = folder / FOLDER / MANIFEST
     if not manifest.exists():
         return None
-    parts = _PART.findall(manifest.read_text())
+    parts = _PART.findall(manifest.read_text(errors="replace"))
     return folder / FOLDER / parts[-1] if parts else None
 
 

@@ -75,14 +75,16 @@ def mended(redis: Redis) -> tuple[int, str]:
 
 
 def what_is_broken_elsewhere_is_left() -> None:
-    """A wrong byte before the last transaction, rubbish behind it, and a torn file that a process has open: each is
-    told and left as it is."""
+    """A wrong byte before the last transaction, rubbish behind it, a half that Redis left before it, and a torn file
+    that a process has open: each is told and left as it is."""
     with folder() as name:
         redis = Redis(Path(name))
         file = file_with(redis, "first", "second")
         whole = file.read_bytes()
         middle = whole.index(b"XADD") - 4
-        for text in (whole[:middle] + b"!" + whole[middle + 1:], whole + b"rubbish"):
+        second = whole.rindex(MULTI)
+        for text in (whole[:middle] + b"!" + whole[middle + 1:], whole + b"rubbish",
+                     whole[:second] + MULTI + SET + whole[second:]):
             file.write_bytes(text)
             status, told = mended(redis)
             need(status == STATUS_BROKEN and "is broken behind byte" in told, f"{status} {told}")
