@@ -71,7 +71,7 @@ pub(crate) fn key_front(text: &str) -> &str
 }
 
 /// Whether a text is a front of one of a field's words: whether the field has the text's key. Takes no memory. Cost: a
-/// search by halves among the field's words.
+/// binary search among the field's words.
 pub fn has_front_key(field: &Field, text: &str) -> bool
     ensures { result ≡ list_any (is_same (Front field.now.0 text.now)) (front_keys field.now) }
 {

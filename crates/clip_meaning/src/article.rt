@@ -67,8 +67,9 @@ impl Article {
         Article::read_sharing(alloc, &mut pool, id, fields)
     }
 
-    /// As `read`, with words that are shared with those of the pool: articles that are read one after another with one
-    /// pool take few allocations, since most of their words stand in one of the last.
+    /// The article of an id and of pairs of a field's name and its text, where it may be one. Its words are shared with
+    /// those of the pool: articles that are read one after another with one pool take few allocations, since most of
+    /// their words stand in one of the last. The cost is that of `read`.
     ///
     /// # Errors
     ///

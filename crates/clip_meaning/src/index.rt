@@ -179,7 +179,7 @@ impl WordIndex {
         &self.postings
     }
 
-    /// The postings of the words of a lead, by a search by halves among the leads and a walk over those that are found.
+    /// The postings of the words of a lead, by a binary search among the leads and a walk over those that are found.
     pub(crate) fn of_lead(&self, lead: u64) -> &[Posting]
         ensures { result.now ≡ filter (has_lead lead) self.now }
     {

@@ -119,7 +119,7 @@ impl Alert {
         }
     }
 
-    /// The same alert once more. It shares the query and the article; hits that were found are not copied, so `hits`
+    /// A copy of the alert. It shares the query and the article; hits that were found are not copied, so `hits`
     /// finds those of the copy anew. Takes constant time.
     ///
     /// `NoMemory` where the count of holders of one of the two is at its end.

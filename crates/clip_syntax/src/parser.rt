@@ -102,7 +102,7 @@ impl Progress {
         }
     }
 
-    /// The same, with this much of the next clause read.
+    /// This progress, with this much of the next clause read.
     fn with_stage(self, stage: Stage) -> Progress
         ensures { result ≡ record self { stage = stage } }
     {
