@@ -114,7 +114,8 @@ pub fn show<R: Wait>(
     publish_here(rt, writer, next)
 }
 
-/// The same, and it is never refused: it tries again, and so waits until a count of holders falls or memory comes.
+/// Publishes a view with what was seen, as `show` does, and is never refused: it tries again, and so waits until a count
+/// of holders falls or memory comes.
 pub fn show_surely<R: Wait>(rt: &R, writer: &mut WriterEnd, view: View, seen_history: SeenHistory)
     requires log { seen_history.seen.log ≡ view.history }
     requires book { seen_history.seen.book ≡ writer.old.desk.shown.value.seen_history.seen.book }
@@ -132,7 +133,7 @@ pub fn show_surely<R: Wait>(rt: &R, writer: &mut WriterEnd, view: View, seen_his
     publish_surely_here(rt, writer, next);
 }
 
-/// The same for any value that goes on from the one before.
+/// Publishes any value that goes on from the one before, and tries again where it is refused.
 fn publish_surely_here<R: Wait>(rt: &R, writer: &mut WriterEnd, next: Published)
     requires { Continues writer.old.desk.shown.value next }
     ensures { writer.new.desk.shown.value ≡ next }
@@ -144,7 +145,7 @@ fn publish_surely_here<R: Wait>(rt: &R, writer: &mut WriterEnd, next: Published)
     )
 }
 
-/// The same for any value that goes on from the one before.
+/// Publishes any value that goes on from the one before. `AllocError` where it is refused, with nothing changed.
 fn publish_here<R: Wait>(rt: &R, writer: &mut WriterEnd, next: Published) -> Result<(), AllocError>
     requires { Continues writer.old.desk.shown.value next }
     ensures { MatchResult result (λ _. writer.new.desk.shown.value ≡ next)

@@ -170,8 +170,8 @@ impl<L: UpdateListener> DeskParts<L> {
         DeskParts::of(rt, Registrar::new(alloc), alloc, tag, callers, updates)
     }
 
-    /// The same parts but for the history, which the desk does not keep: its memory follows what is registered, and
-    /// all its promises are the same but that its history can't be read.
+    /// The parts of a desk, as of `new`, but for the history, which the desk does not keep: its memory follows what is
+    /// registered, and all its promises are those of `new` but that its history can't be read.
     pub fn without_history<R: Wait>(
         rt: &R,
         alloc: Global,

@@ -80,7 +80,7 @@ impl<'a> Held<'a> {
     }
 }
 
-/// The same with the text of its query's id.
+/// An entry whose query holds of an article, with the text of its query's id.
 #[derive(Drop)]
 struct Identified<'a> {
     held: Held<'a>,
@@ -88,7 +88,7 @@ struct Identified<'a> {
     ghost own: { id.now ≡ held.registered.now.standing.id },
 }
 
-/// The same with its query's id and the lead of that.
+/// An entry whose query holds of an article, with its query's id and the first eight bytes of that.
 #[derive(Drop)]
 pub(crate) struct Named<'a> {
     pub(crate) held: Held<'a>,
@@ -119,7 +119,7 @@ fn with_ids<'a>(alloc: Global, held: Vec<Held<'a>>) -> Result<Vec<Identified<'a>
     Ok(found)
 }
 
-/// The same with the leads of the ids.
+/// The entries with the first eight bytes of their queries' ids.
 fn with_leads<'a>(alloc: Global, found: Vec<Identified<'a>>) -> Result<Vec<Named<'a>>, NoMemory>
     ensures { IfOk result (λ named. map (λ n. n.held) named.items ≡ map (λ i. i.held) found.entry.items) }
 {

@@ -82,7 +82,8 @@ pub fn match_article(alloc: Global, view: &View, article: &Article) -> Result<Al
     match_article_finding(alloc, view, article, HitsFound::WhenAsked)
 }
 
-/// As `match_article`; where the hits are found at once, each alert carries its own.
+/// The alerts of an article at a view, those of `match_article`; where the hits are found at once, each alert carries
+/// its own.
 ///
 /// `NoMemory` where an allocation failed, or, where hits are found at once, where the count of a field's name is at its
 /// end. Cost: that of `match_article`; where hits are found at once, in each segment of which a query holds that of
@@ -125,7 +126,8 @@ pub fn match_batch(
     match_batch_finding(alloc, view, articles, HitsFound::WhenAsked)
 }
 
-/// As `match_batch`; where the hits are found at once, each alert carries its own.
+/// The alerts of each article of a batch, those of `match_batch`; where the hits are found at once, each alert carries
+/// its own.
 ///
 /// `NoMemory` as of `match_article_finding`. Cost: that of `match_article_finding` for each article.
 pub fn match_batch_finding(

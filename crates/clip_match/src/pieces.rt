@@ -33,7 +33,7 @@ pub fn match_piece<G: Gate>(
     match_piece_finding(alloc, view, articles, hits, batch, piece, gate)
 }
 
-/// As `match_piece`, with `match_batch_finding` between the gate's two calls.
+/// The alerts of a piece of a batch: `match_batch_finding` between the gate's `enter` and its `leave`.
 ///
 /// `NoMemory` as of `match_article_finding`. Cost: that of `match_batch_finding`, and of the gate.
 pub fn match_piece_finding<G: Gate>(
@@ -79,8 +79,8 @@ pub fn match_pieces<R: Threads + Sync, G: Gate>(
     match_pieces_finding(rt, alloc, view, articles, hits, batch, workers, gate)
 }
 
-/// As `match_pieces`; where the hits are found at once, each alert carries its own: what `match_batch_finding` gives,
-/// whatever the number of workers.
+/// The alerts of each article of a batch, those of `match_batch_finding`, whatever the number of workers: where the hits
+/// are found at once, each alert carries its own.
 ///
 /// `NoMemory` as of `match_article_finding`, after all pieces have ended. Cost: that of `match_batch_finding`, shared
 /// among the pieces, and the start of a thread for each piece but one. It waits for its threads.

@@ -1,5 +1,5 @@
 //! The candidates of an article whose queries hold of it.
-ghost use Rattle.std.specs.Prelude.{◌≡◌, ◌++◌, List, Some, map, filter, length, IfOk, OnOk};
+ghost use Rattle.std.specs.Prelude.{◌≡◌, ◌+◌, ◌<◌, ◌^◌, ◌++◌, List, Some, map, filter, length, IfOk, OnOk};
 ghost use Rattle.std.specs.List.{All, slice_get};
 ghost use Rattle.clip_extract.specs.Covering.{article_keys};
 ghost use Rattle.clip_meaning.specs.Hits.{HitValue, hit_value};
@@ -198,7 +198,91 @@ pub(crate) struct Judged<'a> {
     pub(crate) all_hits: Vec<Hit>,
 }
 
-/// As `holding`, with the hits of those that hold where these are found at once.
+/// Room that the judging of one segment leaves for the next.
+#[derive(Drop)]
+struct Room {
+    positions: Vec<u32>,
+    possible: Vec<u32>,
+    holding: Vec<u32>,
+    stack: Vec<Tally>,
+    flags: FieldFlags,
+}
+
+impl Room {
+    /// Room that takes no memory yet.
+    fn new(alloc: Global) -> Room {
+        Room {
+            positions: Vec::new(alloc),
+            possible: Vec::new(alloc),
+            holding: Vec::new(alloc),
+            stack: Vec::new(alloc),
+            flags: FieldFlags::new(alloc),
+        }
+    }
+
+    /// Leaves in `holding` the positions of those candidates of a segment whose queries hold of the article, and gives
+    /// how many candidates there are.
+    fn judge_segment(
+        &mut self,
+        alloc: Global,
+        view: &View,
+        place: usize,
+        reading: &SegmentReading<'_>,
+    ) -> Result<u64, NoMemory>
+        requires { slice_get view.now.segments place ≡ Some reading.now.entries }
+        ensures asked { IfOk result (λ asked. asked ≡ length
+            (live_with view.now.history (article_keys reading.now.article.fields) reading.now.entries)) }
+        ensures holding { OnOk result (entries_at reading.now.entries self.new.holding.items
+            ≡ filter (λ r. holds r.standing.tree reading.now.article.fields)
+            (live_with view.now.history (article_keys reading.now.article.fields) reading.now.entries)) }
+    {
+        let asked = candidates_in(alloc, view, place, reading, &mut self.positions)?;
+        keep_possible(reading, &self.positions, &mut self.possible)?;
+        keep_holding(reading, &self.possible, &mut self.stack, &mut self.holding)?;
+        Ok(asked)
+    }
+
+    /// Adds those of a segment's entries whose queries hold of the article to what came of the segments before it, and
+    /// how many candidates the segment has.
+    fn try_segment<'a>(
+        &mut self,
+        alloc: Global,
+        view: &View,
+        place: usize,
+        reading: &SegmentReading<'a>,
+        hits: HitsFound,
+        judged: &mut Judged<'a>,
+    ) -> Result<(), NoMemory>
+        requires place { slice_get view.now.segments place ≡ Some reading.now.entries }
+        requires few { judged.old.asked + length
+            (live_with view.now.history (article_keys reading.now.article.fields) reading.now.entries) < 2 ^ 64 }
+        ensures asked { OnOk result (judged.new.asked ≡ judged.old.asked + length
+            (live_with view.now.history (article_keys reading.now.article.fields) reading.now.entries)) }
+        ensures held { OnOk result (map (λ h. h.registered.now) judged.new.held.items
+            ≡ map (λ h. h.registered.now) judged.old.held.items
+            ++ filter (λ r. holds r.standing.tree reading.now.article.fields)
+            (live_with view.now.history (article_keys reading.now.article.fields) reading.now.entries)) }
+        ensures hits { OnOk result (
+            All (HasItsHits hits reading.now.article (map hit_value judged.old.all_hits.items)) judged.old.held.items
+            → All (HasItsHits hits reading.now.article (map hit_value judged.new.all_hits.items))
+            judged.new.held.items) }
+    {
+        judged.asked += self.judge_segment(alloc, view, place, reading)?;
+        add_held(
+            alloc,
+            reading,
+            &self.holding,
+            hits,
+            &mut self.flags,
+            &mut judged.all_hits,
+            &mut judged.held,
+        )
+    }
+}
+
+/// What comes of judging the candidates of an article, which are the live entries whose query has a key in common with
+/// it: how many there are, those whose queries hold of the article, in rising seq, and, where hits are found at once,
+/// the hits of these. `NoMemory` where an allocation failed. Cost: that of `holding`, and of `add_held`.
 pub(crate) fn judge_candidates<'a>(
     alloc: Global,
     view: &'a View,
@@ -216,35 +300,18 @@ pub(crate) fn judge_candidates<'a>(
 {
     covering_law();
     let asking = Asking::of(alloc, article)?;
-    let mut positions = Vec::new(alloc);
-    let mut possible = Vec::new(alloc);
-    let mut holding = Vec::new(alloc);
-    let mut stack = Vec::new(alloc);
-    let mut asked = 0;
-    let mut held = Vec::new(alloc);
-    let mut flags = FieldFlags::new(alloc);
-    let mut all_hits = Vec::new(alloc);
+    let mut room = Room::new(alloc);
+    let mut judged = Judged {
+        asked: 0,
+        held: Vec::new(alloc),
+        all_hits: Vec::new(alloc),
+    };
     let segments = view.segments();
     for (place, segment) in segments.iter().enumerate() {
         let reading = segment.read(alloc, &asking)?;
-        asked += candidates_in(alloc, view, place, &reading, &mut positions)?;
-        keep_possible(&reading, &positions, &mut possible)?;
-        keep_holding(&reading, &possible, &mut stack, &mut holding)?;
-        add_held(
-            alloc,
-            &reading,
-            &holding,
-            hits,
-            &mut flags,
-            &mut all_hits,
-            &mut held,
-        )?;
+        room.try_segment(alloc, view, place, &reading, hits, &mut judged)?;
     }
-    Ok(Judged {
-        asked,
-        held,
-        all_hits,
-    })
+    Ok(judged)
 }
 
 /// Of the candidates of an article, which are the live entries whose query has a key in common with it, how many there

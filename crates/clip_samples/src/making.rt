@@ -38,7 +38,7 @@ pub fn article(alloc: Global, id: &str, fields: &[(&str, &str)]) -> Result<Artic
     Article::read(alloc, id, &pairs(alloc, fields)?)
 }
 
-/// As `article`, with words that are shared with those of a pool.
+/// The article of an id and of fields, or why it is refused, with words that are shared with those of a pool.
 pub fn article_sharing(
     alloc: Global,
     pool: &mut WordPool,

@@ -71,7 +71,7 @@ impl Index {
     /// The index of these queries, of which there are at most `MOST_POSITIONS`.
     ///
     /// `NoMemory` where an allocation failed, and where the queries have more than 4,294,967,295 terms. Cost: an
-    /// extraction of each query's keys and second keys, a sort of these and of the words of all, and a search by halves
+    /// extraction of each query's keys and second keys, a sort of these and of the words of all, and a binary search
     /// for each of them.
     /// No text is copied but ends of ranges.
     pub(crate) fn of(alloc: Global, queries: &[Query]) -> Result<Index, NoMemory>
@@ -91,7 +91,7 @@ impl Index {
     /// a flag for each of its queries; at most `MOST_POSITIONS` flags are set.
     ///
     /// `NoMemory` where an allocation failed, and where the queries have more than 4,294,967,295 terms. Cost: for each
-    /// index a comparison for each term that kept queries of it and of those before it ask for; a search by halves for
+    /// index a comparison for each term that kept queries of it and of those before it ask for; a binary search for
     /// each term; a step for each flag and each position; and for each kept query a step for each word and each leaf.
     /// No key is extracted, and no text is copied but ends of ranges.
     pub(crate) fn select(

@@ -96,7 +96,7 @@ impl Segment {
     ///
     /// `NoMemory` where an allocation failed, and where their queries have more than 4,294,967,295 terms. Cost: the
     /// reading of their texts, an extraction of each query's keys and second keys, a sort of these and of the words of
-    /// all, and a search by halves for each of them. The queries aren't kept.
+    /// all, and a binary search for each of them. The queries aren't kept.
     pub fn build(alloc: Global, entries: Vec<Arc<Entry>>) -> Result<Segment, NoMemory>
         requires short { length entries.items ≤ MOST_POSITIONS }
         requires rising { IsRising (map arc_value entries.items) }
@@ -115,10 +115,10 @@ impl Segment {
     /// segment, with a flag for each of its entries. The seqs of the kept entries rise, and there are at most
     /// `MOST_POSITIONS`.
     ///
-    /// `NoMemory` where an allocation failed, and where the kept queries have more than 4,294,967,295 terms. Cost: a
-    /// sort of the terms that kept queries ask for, each once for each segment; a search by halves for each term; a
-    /// step for each flag and each position under a term; and for each kept query a step for each word and each leaf.
-    /// No query is looked at and no text is copied but ends of ranges.
+    /// `NoMemory` where an allocation failed, and where the kept queries have more than 4,294,967,295 terms. Cost: that
+    /// of `Index::select`, so a comparison for each term of each segment and of those before it; a step for each flag
+    /// and each position under a term; and for each kept query a step for each word and each leaf. No query is looked at
+    /// and no text is copied but ends of ranges.
     pub fn select(
         alloc: Global,
         segments: &[Arc<Segment>],
@@ -189,7 +189,7 @@ impl Segment {
     }
 
     /// The position of the entry that has a seq, or `None` where none has it; no entry is looked at. Takes no memory.
-    /// Cost: a search by halves, and constant time for a seq above those of all entries.
+    /// Cost: a binary search, and constant time for a seq above those of all entries.
     pub fn position_of(&self, seq: u64) -> Option<u32>
         ensures there { IfSome result (λ position. slice_get (seqs_of self.now) position ≡ Some seq) }
         ensures nowhere { result ≡ None → (position : ℕ) → slice_get (seqs_of self.now) position ≡ Some seq → ⊥ }

@@ -10,10 +10,13 @@ use Rattle.clip_match.proofs.trying.judge_candidates.Given as goal
 
 abbrev pub invariant-loop-place : goal.invariant-loop-place
 invariant-loop-place l = record {
-  asked : l.asked + length (live_with l.view.history (article_keys l.article.fields) (all_entries (map arc_value (drop l.place l.segments))))
+  asked : l.judged.asked + length (live_with l.view.history (article_keys l.article.fields)
+      (all_entries (map arc_value (drop l.place l.segments))))
       ≡ length (live_with l.view.history (article_keys l.article.fields) (all_entries (map arc_value l.segments)));
-  held : map (λ h. h.registered.now) l.held.items
-      ++ filter (λ r. holds r.standing.tree l.article.fields) (live_with l.view.history (article_keys l.article.fields) (all_entries (map arc_value (drop l.place l.segments))))
-      ≡ filter (λ r. holds r.standing.tree l.article.fields) (live_with l.view.history (article_keys l.article.fields) (all_entries (map arc_value l.segments)));
-  hits : All (HasItsHits l.hits l.article (map hit_value l.all_hits.items)) l.held.items;
+  held : map (λ h. h.registered.now) l.judged.held.items
+      ++ filter (λ r. holds r.standing.tree l.article.fields) (live_with l.view.history
+      (article_keys l.article.fields) (all_entries (map arc_value (drop l.place l.segments))))
+      ≡ filter (λ r. holds r.standing.tree l.article.fields) (live_with l.view.history
+      (article_keys l.article.fields) (all_entries (map arc_value l.segments)));
+  hits : All (HasItsHits l.hits l.article (map hit_value l.judged.all_hits.items)) l.judged.held.items;
 }
