@@ -13,14 +13,13 @@ from redis.exceptions import TimeoutError as TimedOut
 
 from .errors import ServiceError, tell
 from .names import Id, Names, Settings
+from .troubles import is_passing, words_of
 from .wire import Channel, Wire
 
+REDIS_VARIABLE = "PRESSCLIP_REDIS"
 PAUSE_SECONDS = 0.1
 BLOCK_MILLISECONDS = 1_000
 TIMEOUT_SECONDS = 30.0
-# Errors that pass: Redis is loading, has no memory, can't write its file, is a replica, or runs a script.
-_PASSING = ("LOADING", "OOM", "MISCONF", "READONLY", "BUSY", "MASTERDOWN", "TRYAGAIN")
-
 # What Redis is to be set to, the first of each before all.
 _SETTINGS = {"appendonly": ("yes",), "appendfsync": ("always", "everysec"), "aof-load-truncated": ("no",),
              "maxmemory-policy": ("noeviction",)}
@@ -37,9 +36,14 @@ class RequestsLost(ServiceError):
     """Redis forgot requests that entered."""
 
 
-def is_passing(error: Exception) -> bool:
-    """Whether the same call may go well later."""
-    return isinstance(error, (Unreachable, TimedOut)) or str(error).startswith(_PASSING)
+def pool_of(url: str) -> redis.ConnectionPool:
+    """Connections to the Redis of a URL. Where it is to show a certificate, that has to be of the name in the URL."""
+    checked = {"ssl_check_hostname": True} if url.startswith("rediss:") and "ssl_cert_reqs=" not in url else {}
+    try:
+        return redis.ConnectionPool.from_url(url, socket_timeout=TIMEOUT_SECONDS, socket_connect_timeout=5.0,
+                                             health_check_interval=0, **checked)
+    except ValueError as error:
+        raise ServiceError(f"Redis can't be found by its URL: {error}") from None
 
 
 def entries_of(raw: Sequence) -> list[Entry]:
@@ -53,8 +57,7 @@ class Store:
     def __init__(self, url: str, grid: str, program: str) -> None:
         self.names = Names(grid)
         self.program = program
-        self._pool = redis.ConnectionPool.from_url(url, socket_timeout=TIMEOUT_SECONDS, socket_connect_timeout=5.0,
-                                                   health_check_interval=0)
+        self._pool = pool_of(url)
         self._redis = redis.Redis(connection_pool=self._pool)
         self._wires = threading.local()
         self.last_read = Id(0, 0)
@@ -73,9 +76,9 @@ class Store:
                 return result
             except (Unreachable, TimedOut, ResponseError) as error:
                 if not is_passing(error):
-                    raise RedisRefused(f"Redis refuses: {error}") from error
+                    raise RedisRefused(f"Redis refuses: {words_of(error)}") from error
                 if not was_gone:
-                    tell(self.program, f"waiting for Redis: {error}")
+                    tell(self.program, f"waiting for Redis: {words_of(error)}")
                 was_gone = True
                 time.sleep(PAUSE_SECONDS)
 
