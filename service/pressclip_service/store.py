@@ -2,6 +2,7 @@
 
 from __future__ import annotations
 
+import secrets
 import threading
 import time
 from typing import Callable, Mapping, Sequence, TypeVar
@@ -13,6 +14,7 @@ from redis.exceptions import TimeoutError as TimedOut
 
 from .errors import ServiceError, tell
 from .names import Id, Names, Settings
+from .scripts import SETTINGS
 from .troubles import is_passing, words_of
 from .wire import Channel, Wire
 
@@ -20,6 +22,8 @@ REDIS_VARIABLE = "PRESSCLIP_REDIS"
 PAUSE_SECONDS = 0.1
 BLOCK_MILLISECONDS = 1_000
 TIMEOUT_SECONDS = 30.0
+# So long a role waits for a grid that another is about to make.
+MADE_SECONDS = 10.0
 # What Redis is to be set to, the first of each before all.
 _SETTINGS = {"appendonly": ("yes",), "appendfsync": ("always", "everysec"), "aof-load-truncated": ("no",),
              "maxmemory-policy": ("noeviction",)}
@@ -34,6 +38,16 @@ class RedisRefused(ServiceError):
 
 class RequestsLost(ServiceError):
     """Redis forgot requests that entered."""
+
+
+class NoGrid(ServiceError):
+    """The grid was never made, or is gone from Redis."""
+
+    @staticmethod
+    def gone(grid: str) -> NoGrid:
+        """It was there before."""
+        return NoGrid(f"the grid {grid} is gone from Redis, as after FLUSHALL or with an empty folder, or was made anew"
+                      " since: make it with 'grid init', and register its queries again")
 
 
 def pool_of(url: str) -> redis.ConnectionPool:
@@ -60,7 +74,9 @@ class Store:
         self._pool = pool_of(url)
         self._redis = redis.Redis(connection_pool=self._pool)
         self._wires = threading.local()
+        # The last request that is known here.
         self.last_read = Id(0, 0)
+        self._is_told_gone = False
         self._shas: dict[str, str] = {}
 
     def do(self, call: Callable[[redis.Redis], Result]) -> Result:
@@ -71,13 +87,15 @@ class Store:
                 if was_gone:
                     self._see_that_nothing_is_lost()
                 result = call(self._redis)
-                if was_gone:
+                if was_gone and self._is_told_gone:
+                    self._is_told_gone = False
                     tell(self.program, "Redis is back")
                 return result
             except (Unreachable, TimedOut, ResponseError) as error:
                 if not is_passing(error):
                     raise RedisRefused(f"Redis refuses: {words_of(error)}") from error
-                if not was_gone:
+                if not self._is_told_gone:
+                    self._is_told_gone = True
                     tell(self.program, f"waiting for Redis: {words_of(error)}")
                 was_gone = True
                 time.sleep(PAUSE_SECONDS)
@@ -86,7 +104,8 @@ class Store:
         # Looked at before Redis is asked, since another thread may read on meanwhile.
         last_read = self.last_read
         if last_read > Id(0, 0) and self.last_id(self._redis) < last_read:
-            raise RequestsLost("Redis came back without requests that it had given out; its file is not synced always")
+            raise RequestsLost("Redis came back without requests that it had given out: its file is an older one, or is"
+                               " not synced always")
 
     def last_id(self, client: redis.Redis) -> Id:
         """The id of the last request that ever entered."""
@@ -95,18 +114,26 @@ class Store:
         return Id.of(client.xinfo_stream(self.names.requests)["last-generated-id"])
 
     def settings(self) -> Settings:
-        """What the grid is made of, after a wait where it was not made yet."""
-        while not (found := self.do(lambda client: client.hgetall(self.names.settings))):
+        """What the grid is made of, after a short wait where it was not made yet; `NoGrid` where it never was."""
+        deadline = None
+        while (found := self._settings()) is None:
+            if deadline is None:
+                deadline = time.monotonic() + MADE_SECONDS
+                tell(self.program, f"waiting for the grid {self.names.grid} to be made")
+            if time.monotonic() > deadline:
+                raise NoGrid(f"there is no grid {self.names.grid} in this Redis: make it with 'grid init --shards N'")
             time.sleep(PAUSE_SECONDS)
-        return Settings(int(found[b"shards"]), int(found[b"replicas"]), int(found[b"limit"]))
+        return found
 
     def make(self, settings: Settings) -> None:
         """Makes the grid, where it is not there; `ServiceError` where it is there with other settings."""
-        fields = {"shards": settings.shards, "replicas": settings.replicas, "limit": settings.limit}
-        for name, value in fields.items():
-            self.do(lambda client: client.hsetnx(self.names.settings, name, value))
-        if self.settings() != settings:
-            raise ServiceError(f"the grid is there with other settings: {self.settings()}")
+        found = self._settings(settings.shards, settings.replicas, settings.limit)
+        if found != settings:
+            raise ServiceError(f"the grid is there with other settings: {found}")
+
+    def _settings(self, *wanted: int) -> Settings | None:
+        [found] = self.scripted(SETTINGS, [([self.names.settings], [secrets.token_hex(8), *wanted])])
+        return Settings(*map(int, found[:3]), mark=found[3]) if found else None
 
     def tell_of_settings(self) -> None:
         """Tells which settings of Redis are others than a grid needs, as far as Redis says them."""
@@ -133,13 +160,33 @@ class Store:
             self.last_read = max(self.last_read, found[-1][0])
         return found
 
+    def trim(self, key: str, count: int) -> None:
+        """Drops the oldest entries of a stream, of which about so many stay."""
+        self.do(lambda client: client.xtrim(key, maxlen=count, approximate=True))
+
     def positions(self, key: str) -> dict[str, Id]:
         """The positions in a hash."""
         return {name.decode(): Id.of(text) for name, text in self.do(lambda client: client.hgetall(key)).items()}
 
+    def requests_between(self, after: Id, up_to: Id) -> list[Entry]:
+        """The requests behind one and up to another, which clients wait for and are few therefore."""
+        if after >= up_to:
+            return []
+        [found] = self.do(lambda _: self._ask([["XRANGE", self.names.requests, f"({after.text()}", up_to.text()]]))
+        return entries_of(found)
+
+    def now(self) -> float:
+        """Seconds by Redis's clock."""
+        seconds, microseconds = self.do(lambda client: client.time())
+        return float(seconds) + float(microseconds) / 1e6
+
     def kept(self) -> Id:
         """Up to which request all replies are kept."""
         return Id.of(self.do(lambda client: client.hget(self.names.kept, "at")))
+
+    def kept_number(self) -> int:
+        """How many requests are there up to that one."""
+        return int(self.do(lambda client: client.hget(self.names.kept, "number")) or 0)
 
     def hear(self, channel: str) -> Channel:
         """A connection that hears what is told on a channel from now on."""

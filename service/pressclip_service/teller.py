@@ -50,7 +50,7 @@ class Teller:
         self._front = [worker_name(shard, replica), shard]
         # Up to there Redis has the answers, as far as it said; up to there they are kept, or were let go.
         self._told = Id(0, 0)
-        self._dropped = after
+        self._dropped = self._taken = after
         self._held: deque[Answer] = deque()
         self._waiting: deque[Answer] = deque()
         self._bytes = 0
@@ -62,8 +62,11 @@ class Teller:
 
     def tell(self, answers: Sequence[Answer] = ()) -> None:
         """Tells answers, and before them those that Redis forgot; `NotHeld` where these are not here any more. What an
-        earlier life told is held alone."""
+        earlier life told is held alone, and an answer that is given twice is taken once."""
         for answer in answers:
+            if answer.place <= self._taken:
+                continue
+            self._taken = answer.place
             (self._held if answer.place <= self._told else self._waiting).append(answer)
             self._bytes += _size(answer)
         is_done = False

@@ -12,7 +12,8 @@ from redis.exceptions import TimeoutError as TimedOut
 # The first words of errors that pass, and what they say; python3-redis makes classes of some and drops their words.
 _PASSING = {"OOM": "it has no memory left: its `maxmemory` is reached", "MISCONF": "it can't write its file",
             "BUSY": "a script runs in it", "MASTERDOWN": "it is a replica that lost its master",
-            "NOREPLICAS": "too few replicas follow it", "TRYAGAIN": "it moves its keys"}
+            "NOREPLICAS": "too few replicas follow it", "TRYAGAIN": "it moves its keys",
+            "UNBLOCKED": "it began to follow another Redis"}
 _PASSING_CLASSES: dict[type[RedisError], str] = {BusyLoadingError: "it reads its file still",
                                                  ReadOnlyError: "it is a replica and takes no writes"}
 _WITHOUT_PASSWORD = ("it wants a password, or another one: write it into the URL in PRESSCLIP_REDIS, as"

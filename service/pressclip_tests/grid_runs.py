@@ -25,6 +25,7 @@ KINDS = ("worker", "engine", "gatherer", "tidy", "client", "redis")
 # How often two processes are ended with nothing between.
 TWO_AT_ONCE = 0.2
 REDIS_SECONDS = 30.0
+ROLE_SECONDS = 300.0
 
 
 def free_port() -> int:
@@ -74,7 +75,7 @@ class Role:
 
     def __init__(self, grid: Grid, *words: str) -> None:
         self.words = words
-        self.command = [*grid.command(*words), "--", *command_of([], workers=0)]
+        self.command = [*grid.command(*words), "--", *grid.engine]
         self.told = open(grid.folder / ("-".join(words).replace("/", "") + ".told"), "ab")
         self.process: subprocess.Popen | None = None
         self.start()
@@ -95,8 +96,9 @@ class Grid:
     """Redis, the workers, the gatherer and what tidies."""
 
     def __init__(self, folder: Path, shards: int, replicas: int, *, limit: int = 1_000_000, after: int = 150,
-                 leaks: Random | None = None) -> None:
+                 leaks: Random | None = None, words: Sequence[str] = ()) -> None:
         self.folder = folder
+        self.engine = [*command_of([], workers=0), *words]
         self.redis = Redis(folder)
         self.way = LeakyWay(self.redis.port, leaks, DROPPED_ONE_IN) if leaks else None
         self.run("init", "--shards", str(shards), "--replicas", str(replicas), "--limit", str(limit))
@@ -114,8 +116,16 @@ class Grid:
 
     def run(self, *words: str, text: bytes = b"") -> bytes:
         """What a role that ends by itself prints."""
-        return subprocess.run(self.command(*words, "--", *command_of([], workers=0)), input=text,
-                              stdout=subprocess.PIPE, check=True).stdout
+        return self.ended(*words, text=text, check=True).stdout
+
+    def ended(self, *words: str, text: bytes = b"", check: bool = False) -> subprocess.CompletedProcess[bytes]:
+        """A role that ends by itself, with its status and what it printed and told."""
+        return subprocess.run(self.command(*words, "--", *self.engine), input=text, stdout=subprocess.PIPE,
+                              stderr=None if check else subprocess.PIPE, check=check, timeout=ROLE_SECONDS)
+
+    def client(self, *words: str) -> Spoken:
+        """A client that is spoken to line by line."""
+        return Spoken([*self.command("submit", *words), "--", *self.engine])
 
     def requests(self) -> list[tuple[str, int, bytes]]:
         """All requests in the stream in order: client, number of the line, and the line."""
