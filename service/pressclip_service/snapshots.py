@@ -64,7 +64,11 @@ def lines_of(store: Store, snapshot: Snapshot) -> Iterator[bytes]:
         place += len(lines)
 
 
-def part_of(kind: bytes, line: bytes, shard: int, shards: int) -> tuple[list[bytes], list[dict], list[str]]:
+# The lines for a shard's engine, and the queries and the ids that they name.
+Part = tuple[list[bytes], list[dict[str, str]], list[str]]
+
+
+def part_of(kind: bytes, line: bytes, shard: int, shards: int) -> Part:
     """What is a shard's own of a change: the lines for it, none where it has no part, and the queries and the ids that
     they name."""
     if kind == CLEAR:

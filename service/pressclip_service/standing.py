@@ -82,8 +82,7 @@ class Standings:
 
     def _owing(self, place: Id) -> list[Standing]:
         """The workers whose turn a request is and that have not answered it."""
-        at = place.text()
-        entries = self._store.do(lambda client: client.xrange(self._store.names.requests, at, at))
+        entries = self._store.requests_between(place.before(), place)
         if not entries:
             return []
         replica = int(entries[0][1].get(NUMBER, b"0")) % self._settings.replicas

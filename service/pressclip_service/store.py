@@ -5,7 +5,7 @@ from __future__ import annotations
 import secrets
 import threading
 import time
-from typing import Callable, Mapping, Sequence, TypeVar
+from typing import Any, Callable, Mapping, Sequence, TypeVar
 
 import redis
 from redis.exceptions import ConnectionError as Unreachable
@@ -52,7 +52,7 @@ class NoGrid(ServiceError):
 
 def pool_of(url: str) -> redis.ConnectionPool:
     """Connections to the Redis of a URL. Where it is to show a certificate, that has to be of the name in the URL."""
-    checked = {"ssl_check_hostname": True} if url.startswith("rediss:") and "ssl_cert_reqs=" not in url else {}
+    checked: dict[str, Any] = {"ssl_check_hostname": True} if url.startswith("rediss:") and "ssl_cert_reqs=" not in url else {}
     try:
         return redis.ConnectionPool.from_url(url, socket_timeout=TIMEOUT_SECONDS, socket_connect_timeout=5.0,
                                              health_check_interval=0, **checked)
@@ -60,7 +60,7 @@ def pool_of(url: str) -> redis.ConnectionPool:
         raise ServiceError(f"Redis can't be found by its URL: {error}") from None
 
 
-def entries_of(raw: Sequence) -> list[Entry]:
+def entries_of(raw: Sequence[Any]) -> list[Entry]:
     """Entries of a stream as Redis gave them."""
     return [(Id.of(key), dict(zip(fields[::2], fields[1::2]))) for key, fields in raw]
 
@@ -77,9 +77,9 @@ class Store:
         # The last request that is known here.
         self.last_read = Id(0, 0)
         self._is_told_gone = False
-        self._shas: dict[str, str] = {}
+        self._shas: dict[str, bytes] = {}
 
-    def do(self, call: Callable[[redis.Redis], Result]) -> Result:
+    def do(self, call: Callable[[redis.Redis[bytes]], Result]) -> Result:
         """The result of the call, which is made again until Redis answers."""
         was_gone = False
         while True:
@@ -107,7 +107,7 @@ class Store:
             raise RequestsLost("Redis came back without requests that it had given out: its file is an older one, or is"
                                " not synced always")
 
-    def last_id(self, client: redis.Redis) -> Id:
+    def last_id(self, client: redis.Redis[bytes]) -> Id:
         """The id of the last request that ever entered."""
         if not client.exists(self.names.requests):
             return Id(0, 0)
@@ -133,24 +133,27 @@ class Store:
 
     def _settings(self, *wanted: int) -> Settings | None:
         [found] = self.scripted(SETTINGS, [([self.names.settings], [secrets.token_hex(8), *wanted])])
-        return Settings(*map(int, found[:3]), mark=found[3]) if found else None
+        if not found:
+            return None
+        shards, replicas, limit, mark = found
+        return Settings(int(shards), int(replicas), int(limit), mark)
 
     def tell_of_settings(self) -> None:
         """Tells which settings of Redis are others than a grid needs, as far as Redis says them."""
         for name, values in _SETTINGS.items():
             try:
-                found = self.do(lambda client: client.config_get(name)).get(name, values[0])
+                found = self.asked("CONFIG", "GET", name)
             except RedisRefused:
                 return
-            if found not in values:
-                tell(self.program, f"Redis has {name} {found}, and needs {values[0]}: docs/OPERATING.md says why")
+            if found and found[1].decode() not in values:
+                tell(self.program, f"Redis has {name} {found[1].decode()}, and needs {values[0]}: docs/OPERATING.md says why")
 
     def read(self, after: Mapping[str, Id], count: int,
              block: int | None = BLOCK_MILLISECONDS) -> dict[str, list[Entry]]:
         """The next entries of some streams, after a wait where there are none; none where that was too long."""
         words = ["XREAD", "COUNT", count, *(() if block is None else ("BLOCK", block)), "STREAMS", *after]
         words += [place.text() for place in after.values()]
-        [found] = self.do(lambda _: self._ask([words]))
+        found = self.asked(*words)
         return {key.decode(): entries_of(raw) for key, raw in found or ()}
 
     def read_requests(self, after: Id, count: int, block: int | None = BLOCK_MILLISECONDS) -> list[Entry]:
@@ -162,7 +165,7 @@ class Store:
 
     def trim(self, key: str, count: int) -> None:
         """Drops the oldest entries of a stream, of which about so many stay."""
-        self.do(lambda client: client.xtrim(key, maxlen=count, approximate=True))
+        self.asked("XTRIM", key, "MAXLEN", "~", count)
 
     def positions(self, key: str) -> dict[str, Id]:
         """The positions in a hash."""
@@ -172,12 +175,11 @@ class Store:
         """The requests behind one and up to another, which clients wait for and are few therefore."""
         if after >= up_to:
             return []
-        [found] = self.do(lambda _: self._ask([["XRANGE", self.names.requests, f"({after.text()}", up_to.text()]]))
-        return entries_of(found)
+        return entries_of(self.asked("XRANGE", self.names.requests, f"({after.text()}", up_to.text()))
 
     def now(self) -> float:
         """Seconds by Redis's clock."""
-        seconds, microseconds = self.do(lambda client: client.time())
+        seconds, microseconds = self.asked("TIME")
         return float(seconds) + float(microseconds) / 1e6
 
     def kept(self) -> Id:
@@ -199,9 +201,14 @@ class Store:
         """This thread's own connection."""
         if not hasattr(self._wires, "own"):
             self._wires.own = Wire(self._pool)
-        return self._wires.own
+        own: Wire = self._wires.own
+        return own
 
-    def _ask(self, calls: Sequence[Sequence[object]]) -> list:
+    def asked(self, *words: object) -> Any:
+        """What Redis answers to one call, as it says it."""
+        return self.do(lambda _: self._ask([words]))[0]
+
+    def _ask(self, calls: Sequence[Sequence[object]]) -> list[Any]:
         """What Redis answers to the calls; the first error is raised."""
         results = self._wire.ask(calls)
         for result in results:
@@ -209,15 +216,16 @@ class Store:
                 raise result
         return results
 
-    def scripted(self, script: str, calls: Sequence[tuple[Sequence[str], Sequence[object]]]) -> list:
+    def scripted(self, script: str, calls: Sequence[tuple[Sequence[str], Sequence[object]]]) -> list[Any]:
         """The results of calls of a script, each with keys and arguments. All are made again where one has to be."""
-        def call(client: redis.Redis) -> list:
+        def call(_: redis.Redis[bytes]) -> list[Any]:
             sha = self._shas.get(script)
             if sha is None:
-                sha = self._shas[script] = client.script_load(script)
+                [sha] = self._ask([["SCRIPT", "LOAD", script]])
+                self._shas[script] = sha
             try:
                 return self._ask([["EVALSHA", sha, len(keys), *keys, *arguments] for keys, arguments in calls])
             except NoScriptError:
-                del self._shas[script]
+                self._shas.pop(script, None)
                 raise Unreachable("Redis was started anew and has no scripts") from None
         return self.do(call)

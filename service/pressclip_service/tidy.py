@@ -68,7 +68,6 @@ class Tidier:
 
     def _trim(self, up_to: Id) -> None:
         """Drops requests before a place; that one itself may stay."""
-        requests = self.store.names.requests
-        dropped = self.store.do(lambda client: client.xtrim(requests, minid=up_to.text(), approximate=False))
+        dropped = self.store.asked("XTRIM", self.store.names.requests, "MINID", up_to.text())
         if dropped:
             tell(self.store.program, f"snapshots stand at {up_to.text()}; {dropped} requests dropped")

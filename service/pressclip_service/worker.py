@@ -9,6 +9,7 @@ from __future__ import annotations
 
 from typing import Sequence
 
+from .ends import Ends
 from .engine import Engine
 from .errors import EngineDied, ServiceError, tell
 from .names import Settings
@@ -16,8 +17,6 @@ from .session import Place, Session, TakesOver
 from .snapshots import Replaced
 from .store import Store
 from .teller import NotHeld
-
-MOST_DEATHS_IN_A_ROW = 5
 
 
 def _answer(store: Store, settings: Settings, place: Place, engine: Engine) -> None:
@@ -29,21 +28,21 @@ def _answer(store: Store, settings: Settings, place: Place, engine: Engine) -> N
 
 
 def work(store: Store, shard: int, replica: int, command: Sequence[str]) -> None:
-    """Answers for a shard and a replica, with one engine after another where they end. `EngineDied` where six in a row
-    ended and none of them came further than those before."""
+    """Answers for a shard and a replica, with one engine after another where they end. `EngineFailed` where six in a
+    row ended and none of them came further than those before."""
     settings = store.settings()
     if not (0 <= shard < settings.shards and 0 <= replica < settings.replicas):
         raise ServiceError(f"there is no shard {shard} with a replica {replica} in this grid: {settings}")
     place = Place(shard, replica, settings.replicas)
-    deaths, furthest = 0, place.furthest
+    ends, furthest = Ends(), place.furthest
     while True:
         try:
             _answer(store, settings, place, Engine(command))
         except (Replaced, NotHeld, TakesOver) as why:
             tell(store.program, f"{why}; it begins anew")
         except EngineDied as error:
-            deaths = deaths + 1 if place.furthest == furthest else 1
+            if place.furthest > furthest:
+                ends.replied()
             furthest = place.furthest
-            if deaths > MOST_DEATHS_IN_A_ROW:
-                raise
+            ends.ended(str(error))
             tell(store.program, f"{error}; another one is built")

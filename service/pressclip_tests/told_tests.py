@@ -270,12 +270,10 @@ def what_a_client_missed_is_kept_for_it() -> None:
         chaos = Chaos(grid, due, source.dice, "desk")
         broken = 0
         while chaos.answered < 500:
-            while chaos.sent < min(len(due.lines), chaos.answered + 40):
-                chaos.client.send(due.lines[chaos.sent])
-                chaos.sent += 1
+            chaos.feed(40)
             chaos.client.turn(0.02)
             broken += int(grid.redis.asked("CLIENT", "KILL", "TYPE", "pubsub"))
-            chaos._take(chaos.client.wait_for_replies())
+            chaos.take(chaos.client.wait_for_replies())
         same(chaos.run([]), due.text(), f"with {broken} connections broken")
         need(broken >= 10, f"only {broken} connections were broken")
         grid.needs_all()

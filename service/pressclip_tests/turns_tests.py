@@ -147,15 +147,6 @@ def the_status_says_who_is_where() -> None:
         client.kill()
 
 
-def goes_on_to(chaos: Chaos, count: int) -> None:
-    """Has so many lines of an input answered."""
-    while chaos.answered < count:
-        while chaos.sent < min(len(chaos.due.lines), chaos.answered + 20):
-            chaos.client.send(chaos.due.lines[chaos.sent])
-            chaos.sent += 1
-        chaos._take(chaos.client.wait_for_replies())
-
-
 def kept_once(grid: Grid, due: Due) -> None:
     """`Failed` where not each reply of an input is kept once, after a while."""
     count = sum(1 for reply in due.replies if reply is not None and b'"refused":' not in reply[:40])
@@ -171,12 +162,12 @@ def one_of_two_replicas_is_enough() -> None:
     due = Due.of(source.lines(900))
     with folder() as name, Grid(Path(name), 2, 2) as grid:
         chaos = Chaos(grid, due, source.dice, "desk")
-        goes_on_to(chaos, 200)
+        chaos.goes_on_to(200)
         for away, other in ((1, 0), (0, 1)):
             for shard in (0, 1):
                 end(grid.workers[2 * shard + away])
             start = time.monotonic()
-            goes_on_to(chaos, chaos.answered + 150)
+            chaos.goes_on_to(chaos.answered + 150)
             need(time.monotonic() - start < 30, f"{time.monotonic() - start:.1f} s without a replica\n{grid.told()}")
             for shard in (0, 1):
                 role = grid.workers[2 * shard + away]
@@ -198,13 +189,13 @@ def a_replica_that_hangs_loses_its_turns() -> None:
     due = Due.of([line for line in source.lines(700) if not line.startswith(b'{"op":"p')])
     with folder() as name, Grid(Path(name), 1, 2) as grid:
         chaos = Chaos(grid, due, source.dice, "desk")
-        goes_on_to(chaos, 200)
+        chaos.goes_on_to(200)
         worker = grid.workers[1].process
         engine = engine_of(worker.pid) if worker else None
         need(engine is not None, "no engine runs")
         os.kill(engine or 0, signal.SIGSTOP)
         try:
-            goes_on_to(chaos, 400)
+            chaos.goes_on_to(400)
             need("answers for 0:1, which is away" in grid.told(), grid.told())
         finally:
             os.kill(engine or 0, signal.SIGCONT)
@@ -250,6 +241,40 @@ def a_replica_that_never_was_is_replaced() -> None:
         same(grid.run("submit", text=joined(lines)), Due.of(lines).text(), "one replica of three")
 
 
-TESTS = (what_a_client_waits_for_is_told, a_reader_that_stops_is_told, a_grid_that_was_never_made_is_told,
+# An engine that takes a second to begin, and ends at one line.
+FRAGILE = """#!/usr/bin/python3
+import os, subprocess, sys, time
+time.sleep(1.1)
+engine = subprocess.Popen(sys.argv[1:], stdin=subprocess.PIPE)
+for line in sys.stdin.buffer:
+    if b"poison" in line:
+        engine.kill()
+        os._exit(3)
+    engine.stdin.write(line)
+    engine.stdin.flush()
+"""
+
+
+def a_worker_ends_where_its_engine_always_does() -> None:
+    """An engine that ends at one line each time is built six times, however long that takes, and no more."""
+    with folder() as name, Grid(Path(name), 1, 1) as grid:
+        fragile = Path(name) / "fragile"
+        fragile.write_text(FRAGILE)
+        fragile.chmod(0o755)
+        end(grid.workers[0])
+        grid.workers[0].command[-len(grid.engine):] = [str(fragile), *grid.engine]
+        grid.workers[0].start()
+        client = grid.client()
+        answers(client, COUNT, b'{"count":0,"line":1}')
+        client.send(b'{"op":"match","articles":[{"id":"poison","fields":{}}]}')
+        client.turn(1)
+        worker = grid.workers[0].process
+        wait_until(lambda: worker is not None and worker.poll() == 1, grid.told)
+        told = told_by(grid.workers[0])
+        need(told.count("another one is built") == 5 and "has ended 6 times in a row" in told, told)
+        client.kill()
+
+
+TESTS = (a_worker_ends_where_its_engine_always_does, what_a_client_waits_for_is_told, a_reader_that_stops_is_told, a_grid_that_was_never_made_is_told,
          the_status_says_who_is_where, one_of_two_replicas_is_enough, a_replica_that_hangs_loses_its_turns,
          turns_are_taken_in_place, a_replica_that_never_was_is_replaced)
