@@ -11,11 +11,16 @@ from typing import Sequence
 from pressclip_service.lines import is_blank
 from pressclip_service.replies import Kind, kind_of, renumbered
 
-from .grid_runs import Chaos, Grid, Request
+from .grid_runs import Chaos, Grid
 from .inputs import Source, joined
 from .judge import Due, folder, need, replies_of_engine, same
 from .leaky import BAD_DAY
+from .turns_tests import wait_until
 
+PREFIX = "pressclip:grid:"
+# Where the replies of a stream stand, and the numbers of their lines.
+PLACES = ("local found = {} for _, entry in ipairs(redis.call('XRANGE', KEYS[1], '-', '+')) do"
+          " found[#found + 1] = string.gsub(entry[1], '-', ' ') .. ' ' .. entry[2][2] end return found")
 WINDOW = 40
 PATIENCE_SECONDS = 120.0
 
@@ -26,7 +31,6 @@ class Crowd:
     def __init__(self, grid: Grid, inputs: Sequence[list[bytes]], dice: Random) -> None:
         self.grid = grid
         self.dice = dice
-        self.order: list[Request] = []
         self.desks = [Chaos(grid, unknown(lines), dice, f"desk{number}") for number, lines in enumerate(inputs)]
 
     def run(self, places: Sequence[int]) -> None:
@@ -41,8 +45,6 @@ class Crowd:
                 desk.feed(WINDOW)
                 desk.client.turn(0.01)
                 desk.count(desk.client.replies())
-            if self.answered // 100 > before // 100:
-                self.follow()
             moved = moved if self.answered == before else time.monotonic()
             need(time.monotonic() - moved < PATIENCE_SECONDS, self.told())
         for desk in self.desks:
@@ -63,24 +65,31 @@ class Crowd:
         """What the clients and all else told."""
         return "\n".join([*(desk.client.told() for desk in self.desks), self.grid.told()])
 
-    def follow(self) -> None:
-        """Notes the order in which lines entered, before requests are dropped; `Failed` where one was missed."""
-        self.order += self.grid.requests(self.order[-1].place if self.order else "")
-        numbers = [request.number for request in self.order]
-        need(numbers == list(range(1, len(numbers) + 1)), "requests are missed or doubled")
+    def order(self) -> list[tuple[Chaos, int]]:
+        """The lines that entered, in their order, by client and number: as their replies are kept, all of them."""
+        asked = self.grid.redis.asked
+        wait_until(lambda: asked("HGET", PREFIX + "kept", "number") == asked("GET", PREFIX + "number"), self.told)
+        found = []
+        for desk in self.desks:
+            for line in asked("EVAL", PLACES, "1", f"{PREFIX}replies:{desk.name}").splitlines():
+                milliseconds, sequence, number = map(int, line.split(" "))
+                found.append((milliseconds, sequence, desk, number))
+        found.sort(key=lambda each: each[:2])
+        need(len(found) == int(asked("GET", PREFIX + "number")), "a request without a reply that is kept, or with two")
+        return [(desk, number) for _, _, desk, number in found]
 
     def judge(self) -> None:
         """`Failed` where a client has other replies than are due, or not each line entered once."""
-        self.follow()
-        replies = replies_of_engine(joined([request.line for request in self.order])).splitlines()
+        order = self.order()
+        replies = replies_of_engine(joined([desk.due.lines[number - 1] for desk, number in order])).splitlines()
         due = {desk.name: dict(enumerate(Due.of(desk.due.lines).replies, 1)) for desk in self.desks}
         for desk in self.desks:
             entered = [number for number, reply in due[desk.name].items()
                        if reply is not None and kind_of(reply) is not Kind.REFUSED]
-            need([request.line_number for request in self.order if request.client == desk.name] == entered,
+            need([number for other, number in order if other is desk] == entered,
                  f"not each line of {desk.name} entered once")
-        for request, reply in zip(self.order, replies):
-            due[request.client][request.line_number] = renumbered(reply, request.line_number)
+        for (desk, number), reply in zip(order, replies):
+            due[desk.name][number] = renumbered(reply, number)
         for desk in self.desks:
             same(desk.text(), joined([reply for reply in due[desk.name].values() if reply is not None]), desk.name)
 
@@ -94,7 +103,7 @@ def with_processes_ended(shards: int, replicas: int, lines: int, kills: int, is_
     """Three inputs at once, with processes of all kinds ended by SIGKILL at random places."""
     inputs = [Source(160 + number).lines(lines) for number in range(3)]
     dice = Random(shards)
-    with folder() as name, Grid(Path(name), shards, replicas, after=400, leaks=Random(2) if is_bad_day else None,
+    with folder() as name, Grid(Path(name), shards, replicas, after=150, leaks=Random(2) if is_bad_day else None,
                                 faults=BAD_DAY) as grid:
         crowd = Crowd(grid, inputs, dice)
         crowd.run(dice.sample(range(1, 3 * lines - 60), kills))

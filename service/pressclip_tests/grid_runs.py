@@ -76,12 +76,10 @@ class Redis:
 
 
 class Request(NamedTuple):
-    """A request as it stands in the stream: its place, client, number of the line, own number, and the line."""
+    """A request as it stands in the stream: the client, the number of the line, and the line."""
 
-    place: str
     client: str
     line_number: int
-    number: int
     line: bytes
 
 
@@ -142,15 +140,13 @@ class Grid:
         """A client that is spoken to line by line."""
         return Spoken([*self.command("submit", *words), "--", *self.engine])
 
-    def requests(self, after: str = "") -> list[Request]:
-        """All requests in the stream in order, or those behind one."""
-        start = f"({after}" if after else "-"
-        lines = self.redis.asked_raw("XRANGE", "pressclip:grid:requests", start, "+").split(b"\n")
+    def requests(self) -> list[Request]:
+        """All requests in the stream in order."""
+        lines = self.redis.asked_raw("XRANGE", "pressclip:grid:requests", "-", "+").split(b"\n")
         found = []
         for at in range(0, len(lines) - 10, 11):
             fields = dict(zip(lines[at + 1:at + 11:2], lines[at + 2:at + 11:2]))
-            found.append(Request(lines[at].decode(), fields[b"c"].decode(), int(fields[b"n"]), int(fields[b"m"]),
-                                 fields[b"l"]))
+            found.append(Request(fields[b"c"].decode(), int(fields[b"n"]), fields[b"l"]))
         return found
 
     def told(self) -> str:
