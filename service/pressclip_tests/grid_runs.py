@@ -113,6 +113,7 @@ class Grid:
         self.folder = folder
         self.engine = [*command_of([], workers=0), *words]
         self.redis = Redis(folder)
+        self._clients: list[Spoken] = []
         self.way = LeakyWay(self.redis.port, leaks, faults) if leaks else None
         self.run("init", "--shards", str(shards), "--replicas", str(replicas), "--limit", str(limit))
         self.workers = [Role(self, "worker", "--shard", str(shard), "--replica", str(replica))
@@ -137,8 +138,10 @@ class Grid:
                               stderr=None if check else subprocess.PIPE, check=check, timeout=ROLE_SECONDS)
 
     def client(self, *words: str) -> Spoken:
-        """A client that is spoken to line by line."""
-        return Spoken([*self.command("submit", *words), "--", *self.engine])
+        """A client that is spoken to line by line, and is ended with the grid."""
+        client = Spoken([*self.command("submit", *words), "--", *self.engine])
+        self._clients.append(client)
+        return client
 
     def requests(self) -> list[Request]:
         """All requests in the stream in order."""
@@ -164,6 +167,9 @@ class Grid:
 
     def close(self) -> None:
         """Ends all of it."""
+        for client in self._clients:
+            client.process.kill()
+            client.process.wait()
         for role in (*self.workers, *self.others):
             role.kill()
             role.told.close()
@@ -201,8 +207,7 @@ class Chaos:
     def _client(self) -> Spoken:
         """A client that prints what is not printed yet, of the whole input."""
         self.sent = 0
-        return Spoken(self.grid.command("submit", "--name", self.name, "--from", str(self.answered + 1), "--",
-                                        *command_of([], workers=0)))
+        return self.grid.client("--name", self.name, "--from", str(self.answered + 1))
 
     def run(self, places: Sequence[int]) -> bytes:
         """The replies to the whole input."""

@@ -29,22 +29,17 @@ def a_second_life_shuts_the_first_out() -> None:
     """Two programs under one name: what the first sends once the second began does not enter, and is answered with an
     error. By hand: the query is there still."""
     with folder() as name, Grid(Path(name), 2, 1) as grid:
-        first, second = grid.client("--name", "desk"), None
-        try:
-            first.send(REGISTER)
-            need(first.wait_for_replies() == [b'{"line":1,"registered":1}'], "no reply to the first program")
-            second = grid.client("--name", "desk")
-            for line, due in ((REGISTER, b'{"line":1,"registered":1}'), (COUNT, b'{"count":1,"line":2}')):
-                second.send(line)
-                need(second.wait_for_replies() == [due], "another reply to the second program")
-            first.send(CLEAR)
-            ends_with(first, "another program submits under the name desk")
-            second.send(COUNT)
-            need(second.wait_for_replies() == [b'{"count":1,"line":3}'], "the query was cleared")
-        finally:
-            for client in (first, second):
-                if client:
-                    client.process.kill()
+        first = grid.client("--name", "desk")
+        first.send(REGISTER)
+        need(first.wait_for_replies() == [b'{"line":1,"registered":1}'], "no reply to the first program")
+        second = grid.client("--name", "desk")
+        for line, due in ((REGISTER, b'{"line":1,"registered":1}'), (COUNT, b'{"count":1,"line":2}')):
+            second.send(line)
+            need(second.wait_for_replies() == [due], "another reply to the second program")
+        first.send(CLEAR)
+        ends_with(first, "another program submits under the name desk")
+        second.send(COUNT)
+        need(second.wait_for_replies() == [b'{"count":1,"line":3}'], "the query was cleared")
 
 
 def another_input_is_refused(grid: Grid, lines: list[bytes], number: int) -> None:
