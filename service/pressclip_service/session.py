@@ -62,7 +62,7 @@ class Owed:
 
 
 class TakesOver(Exception):
-    """A replica is away whose requests are to be answered, and the engine has changes that came behind them."""
+    """A replica is away whose requests are to be answered, and the engine has changes that are no earlier."""
 
 
 class Place:
@@ -103,6 +103,7 @@ class Session:
         # Up to there an earlier life has answered, so that requests behind it may be dropped.
         self.answered = max(self.kept, store.positions(store.names.answered).get(place.name, Id(0, 0)))
         self.is_behind = True
+        self.is_at_end = False
         self.state = State.LOADING
         # The last request that was done, by its number, and the last change that the engine was sent.
         self.number = 0
@@ -156,16 +157,15 @@ class Session:
             self.place.turns.see(self.signs.give(self.number, self.state))
 
     def _see_state(self) -> None:
-        """Sees whether the engine is where the stream ended, and whether it owes a reply for long."""
-        if self.end is None:
-            return
-        is_stuck = bool(self.owed) and time.monotonic() - self.replied > STUCK_SECONDS
-        if is_stuck and self.state is not State.STUCK:
-            tell(self.store.program, f"the engine owes a reply for {STUCK_SECONDS:.0f} s, behind request {self.number}")
-        if is_stuck:
+        """Sees whether the engine came to where the stream ended, and whether it owes a reply for long."""
+        end = self.end
+        if end is not None and (not self.owed or self.owed[0].place > end):
+            self.is_at_end = True
+        if not self.owed or time.monotonic() - self.replied <= STUCK_SECONDS:
+            self.state = State.READY if self.is_at_end else State.LOADING
+        elif self.state is not State.STUCK:
             self.state = State.STUCK
-        elif self.state is not State.LOADING or not self.owed or self.owed[0].place > self.end:
-            self.state = State.READY
+            tell(self.store.program, f"the engine owes a reply for {STUCK_SECONDS:.0f} s, behind request {self.number}")
 
     def _feed(self, requests: Requests) -> None:
         """Reads requests and sends the engine its parts, in a thread of its own."""
@@ -193,14 +193,14 @@ class Session:
 
     def _take_over(self, replica: int, up_to: Id) -> None:
         """Answers the requests of a replica that nobody answered, of those that were read. `TakesOver` where the engine
-        has changes behind the first of them."""
+        has changes from the first of them on."""
         name = self.place.of(replica)
         self.store.do(lambda client: client.hdel(self.store.names.needs, name))
         answered = max(self.store.kept(), self.store.positions(self.store.names.answered).get(name, Id(0, 0)))
         entries = [entry for entry in self.store.requests_between(answered, up_to)
                    if is_request(entry) and int(entry[1][NUMBER]) % self.settings.replicas == replica]
-        if entries and self.changed > entries[0][0]:
-            raise TakesOver(f"requests of {name}, which is away, came before changes that the engine has")
+        if entries and self.changed >= entries[0][0]:
+            raise TakesOver(f"requests of {name}, which is away, are no later than changes that the engine has")
         self.tellers = {**self.tellers, replica: Teller(self.store, self.place.shard, replica, answered)}
         self.mine = self.mine | {replica}
         for entry in entries:

@@ -40,6 +40,7 @@ TRIMMED_AFTER = 1_000
 STALLED_SECONDS = 0.2
 # A client without a name is forgotten so long after its end.
 NAMELESS_SECONDS = 600.0
+FORGET_SECONDS = 5.0
 STATUS_TERMINATED = 128 + signal.SIGTERM
 
 
@@ -310,4 +311,7 @@ def submit(store: Store, name: str | None, command: Sequence[str], options: Opti
     try:
         Submitter(store, client, Probe(command), replace(options, life=NAMELESS_SECONDS)).run()
     finally:
-        forget(store, client)
+        # Where Redis is away its name goes with its life.
+        forgetting = threading.Thread(target=forget, args=(store, client), daemon=True)
+        forgetting.start()
+        forgetting.join(FORGET_SECONDS)

@@ -12,7 +12,6 @@ from .errors import tell
 from .lives import Life
 
 TOLD_AFTER_SECONDS = 5.0
-TOLD_AGAIN_SECONDS = 30.0
 LOOK_SECONDS = 1.0
 
 
@@ -64,8 +63,9 @@ class Watch:
         self._waits = waits
         self._fail = fail
         self._renewed = time.monotonic()
+        # What was told last, and after how many seconds of it there is something to tell again.
         self._told: _Wait | None = None
-        self._told_at = 0.0
+        self._next = TOLD_AFTER_SECONDS
         threading.Thread(target=self._run, daemon=True).start()
 
     def _run(self) -> None:
@@ -83,10 +83,15 @@ class Watch:
         self._life.renew()
 
     def _look(self) -> None:
-        """Tells what is waited for, where that is long; and sees that the grid is there still."""
+        """Tells what is waited for, once that is long and each time it is twice as long; and sees that the grid is
+        there still."""
         wait = self._waits.longest()
-        if wait is None or (wait == self._told and time.monotonic() - self._told_at < TOLD_AGAIN_SECONDS):
+        if wait is None:
             return
-        self._renew()
-        tell(self._program, f"waiting for {wait.words()}")
-        self._told, self._told_at = wait, time.monotonic()
+        if wait != self._told:
+            self._told, self._next = wait, TOLD_AFTER_SECONDS
+        waited = time.monotonic() - wait.since
+        if waited >= self._next:
+            self._next = 2 * waited
+            self._renew()
+            tell(self._program, f"waiting for {wait.words()}")

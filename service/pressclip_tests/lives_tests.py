@@ -114,6 +114,17 @@ def a_nameless_client_is_forgotten() -> None:
         wait_until_forgotten(grid, known)
 
 
+def a_nameless_client_ends_without_redis() -> None:
+    """SIGTERM ends it within seconds where Redis is away, and it is forgotten later."""
+    with folder() as name, Grid(Path(name), 1, 1) as grid:
+        client = grid.client()
+        client.send(COUNT)
+        need(client.wait_for_replies() == [b'{"count":0,"line":1}'], "no reply")
+        grid.redis.kill()
+        client.process.send_signal(signal.SIGTERM)
+        need(client.process.wait(15) == 143, f"status {client.process.returncode}")
+
+
 def a_life_is_renewed() -> None:
     """A name with a life of two seconds lives for as long as its program does, and goes after it."""
     with folder() as name, Grid(Path(name), 2, 1) as grid:
@@ -141,4 +152,4 @@ def a_forgotten_name_is_told() -> None:
 
 
 TESTS = (a_second_life_shuts_the_first_out, another_input_under_a_name_is_refused, another_long_input_is_refused,
-         a_nameless_client_is_forgotten, a_life_is_renewed, a_forgotten_name_is_told)
+         a_nameless_client_is_forgotten, a_nameless_client_ends_without_redis, a_life_is_renewed, a_forgotten_name_is_told)
