@@ -52,7 +52,8 @@ class NoGrid(ServiceError):
 
 def pool_of(url: str) -> redis.ConnectionPool:
     """Connections to the Redis of a URL. Where it is to show a certificate, that has to be of the name in the URL."""
-    checked: dict[str, Any] = {"ssl_check_hostname": True} if url.startswith("rediss:") and "ssl_cert_reqs=" not in url else {}
+    is_checked = url.startswith("rediss:") and "ssl_cert_reqs=" not in url
+    checked: dict[str, Any] = {"ssl_check_hostname": True} if is_checked else {}
     try:
         return redis.ConnectionPool.from_url(url, socket_timeout=TIMEOUT_SECONDS, socket_connect_timeout=5.0,
                                              health_check_interval=0, **checked)
@@ -146,7 +147,8 @@ class Store:
             except RedisRefused:
                 return
             if found and found[1].decode() not in values:
-                tell(self.program, f"Redis has {name} {found[1].decode()}, and needs {values[0]}: docs/OPERATING.md says why")
+                tell(self.program, f"Redis has {name} {found[1].decode()}, and needs {values[0]}: docs/OPERATING.md says"
+                                   " why")
 
     def read(self, after: Mapping[str, Id], count: int,
              block: int | None = BLOCK_MILLISECONDS) -> dict[str, list[Entry]]:

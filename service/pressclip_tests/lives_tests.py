@@ -152,4 +152,5 @@ def a_forgotten_name_is_told() -> None:
 
 
 TESTS = (a_second_life_shuts_the_first_out, another_input_under_a_name_is_refused, another_long_input_is_refused,
-         a_nameless_client_is_forgotten, a_nameless_client_ends_without_redis, a_life_is_renewed, a_forgotten_name_is_told)
+         a_nameless_client_is_forgotten, a_nameless_client_ends_without_redis, a_life_is_renewed,
+         a_forgotten_name_is_told)

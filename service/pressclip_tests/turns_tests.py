@@ -288,6 +288,7 @@ def a_worker_ends_where_its_engine_always_does() -> None:
         client.kill()
 
 
-TESTS = (a_worker_ends_where_its_engine_always_does, what_a_client_waits_for_is_told, a_reader_that_stops_is_told, a_grid_that_was_never_made_is_told,
-         the_status_says_who_is_where, one_of_two_replicas_is_enough, a_replica_that_hangs_loses_its_turns,
-         turns_are_taken_in_place, a_change_is_not_done_twice, a_replica_that_never_was_is_replaced)
+TESTS = (a_worker_ends_where_its_engine_always_does, what_a_client_waits_for_is_told, a_reader_that_stops_is_told,
+         a_grid_that_was_never_made_is_told, the_status_says_who_is_where, one_of_two_replicas_is_enough,
+         a_replica_that_hangs_loses_its_turns, turns_are_taken_in_place, a_change_is_not_done_twice,
+         a_replica_that_never_was_is_replaced)
