@@ -147,8 +147,8 @@ class Store:
             except RedisRefused:
                 return
             if found and found[1].decode() not in values:
-                tell(self.program, f"Redis has {name} {found[1].decode()}, and needs {values[0]}: docs/OPERATING.md says"
-                                   " why")
+                has = f"Redis has {name} {found[1].decode()}"
+                tell(self.program, f"{has}, and needs {values[0]}: docs/OPERATING.md says why")
 
     def read(self, after: Mapping[str, Id], count: int,
              block: int | None = BLOCK_MILLISECONDS) -> dict[str, list[Entry]]:

@@ -8,18 +8,25 @@ from __future__ import annotations
 
 from collections import deque
 from itertools import islice
-from typing import TYPE_CHECKING, NamedTuple, Sequence
+from typing import Any, NamedTuple, Protocol, Sequence
 
-from .names import Id, worker_name
+from .names import Id, Names, worker_name
 from .scripts import TELL
 
-if TYPE_CHECKING:
-    from .store import Store
 
 TOLD_AT_ONCE = 256
 # So many bytes are held, each answer with what is told beside it; there are more where nothing is kept for long.
 MOST_BYTES_HELD = 64 << 20
 BYTES_BESIDE = 256
+
+
+class Scripted(Protocol):
+    """What runs scripts for a grid, as a `Store` does."""
+
+    names: Names
+
+    def scripted(self, script: str, calls: Sequence[tuple[Sequence[str], Sequence[object]]], /) -> list[Any]:
+        """The results of calls of a script, each with keys and arguments."""
 
 
 class NotHeld(Exception):
@@ -45,7 +52,7 @@ def _size(answer: Answer) -> int:
 class Teller:
     """The answers of one worker behind a request, in the order of the requests."""
 
-    def __init__(self, store: Store, shard: int, replica: int, after: Id) -> None:
+    def __init__(self, store: Scripted, shard: int, replica: int, after: Id) -> None:
         self._store = store
         self._front = [worker_name(shard, replica), shard]
         # Up to there Redis has the answers, as far as it said; up to there they are kept, or were let go.

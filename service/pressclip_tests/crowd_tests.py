@@ -103,8 +103,7 @@ def with_processes_ended(shards: int, replicas: int, lines: int, kills: int, is_
     """Three inputs at once, with processes of all kinds ended by SIGKILL at random places."""
     inputs = [Source(160 + number).lines(lines) for number in range(3)]
     dice = Random(shards)
-    with folder() as name, Grid(Path(name), shards, replicas, after=150, leaks=Random(2) if is_bad_day else None,
-                                faults=BAD_DAY) as grid:
+    with folder() as name, Grid(Path(name), shards, replicas, faults=BAD_DAY if is_bad_day else None) as grid:
         crowd = Crowd(grid, inputs, dice)
         crowd.run(dice.sample(range(1, 3 * lines - 60), kills))
         crowd.judge()

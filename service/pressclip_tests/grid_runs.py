@@ -19,8 +19,6 @@ from .processes import ENDED, Spoken, engine_of
 
 DEBIAN_PYTHON = "/usr/bin/python3"
 WINDOW = 60
-# In a grid with leaks so few of Redis's answers are dropped.
-LEAKS = Faults(dropped=8)
 KINDS = ("worker", "engine", "gatherer", "tidy", "client", "redis")
 # How often two processes are ended with nothing between.
 TWO_AT_ONCE = 0.2
@@ -98,6 +96,10 @@ class Role:
         self.process = subprocess.Popen(self.command, stdin=subprocess.DEVNULL, stdout=subprocess.DEVNULL,
                                         stderr=self.told)
 
+    def status(self) -> int | None:
+        """The status with which it ended; None while it goes on."""
+        return self.process.poll() if self.process else None
+
     def kill(self) -> None:
         """Ends it at once."""
         assert self.process
@@ -108,13 +110,16 @@ class Role:
 class Grid:
     """Redis, the workers, the gatherer and what tidies."""
 
+    # What stands behind the engine's command.
+    words: Sequence[str] = ()
+
     def __init__(self, folder: Path, shards: int, replicas: int, *, limit: int = 1_000_000, after: int = 150,
-                 leaks: Random | None = None, faults: Faults = LEAKS, words: Sequence[str] = ()) -> None:
+                 faults: Faults | None = None) -> None:
         self.folder = folder
-        self.engine = [*command_of([], workers=0), *words]
+        self.engine = [*command_of([], workers=0), *self.words]
         self.redis = Redis(folder)
         self._clients: list[Spoken] = []
-        self.way = LeakyWay(self.redis.port, leaks, faults) if leaks else None
+        self.way = LeakyWay(self.redis.port, faults) if faults else None
         self.run("init", "--shards", str(shards), "--replicas", str(replicas), "--limit", str(limit))
         self.workers = [Role(self, "worker", "--shard", str(shard), "--replica", str(replica))
                         for shard in range(shards) for replica in range(replicas)]

@@ -16,6 +16,7 @@ from .grid_runs import Chaos, Grid
 from .inputs import Source, joined, with_long_lines
 from .judge import Due, folder, need, replies_of_engine, same
 from .keep_runs import dump_of, run_keep
+from .leaky import LEAKS
 from .processes import children_of, engine_of
 
 SHAPES = ((1, 1), (2, 1), (3, 2), (8, 1))
@@ -80,7 +81,7 @@ def answers_of_redis_are_lost() -> None:
     """Connections that break between what Redis did and its answer: all is done once, whoever asks again."""
     source = Source(90)
     due = Due.of(source.lines(800))
-    with folder() as name, Grid(Path(name), 2, 2, after=1_000_000, leaks=Random(1)) as grid:
+    with folder() as name, Grid(Path(name), 2, 2, after=1_000_000, faults=LEAKS) as grid:
         chaos = Chaos(grid, due, source.dice, "desk")
         same(chaos.run([]), due.text(), "with answers of Redis lost")
         entered = [place + 1 for place, reply in enumerate(due.replies)

@@ -15,13 +15,15 @@ from random import Random
 class Faults:
     """Of how many blocks of bytes one is dropped with its connection, delayed, or delivered late; None for no such."""
 
+    seed: int
     dropped: int
     delayed: int | None = None
     late: int | None = None
 
 
-# What a network does on a bad day.
-BAD_DAY = Faults(dropped=30, delayed=5, late=12)
+# So few of Redis's answers are dropped, and what a network does on a bad day.
+LEAKS = Faults(1, dropped=8)
+BAD_DAY = Faults(2, dropped=30, delayed=5, late=12)
 MOST_DELAYED_SECONDS = 0.1
 LATE_SECONDS = (0.1, 1.5)
 
@@ -30,9 +32,9 @@ class LeakyWay:
     """A port of 127.0.0.1 that leads to another one, until it is closed. Where nobody listens at that one yet, a
     connection is closed at once."""
 
-    def __init__(self, port: int, dice: Random, faults: Faults) -> None:
+    def __init__(self, port: int, faults: Faults) -> None:
         self._target = port
-        self._dice = dice
+        self._dice = Random(faults.seed)
         self._faults = faults
         self._listener = socket.create_server(("127.0.0.1", 0))
         self.port: int = self._listener.getsockname()[1]

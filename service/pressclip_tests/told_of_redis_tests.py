@@ -86,6 +86,12 @@ def hits_are_put_together() -> None:
          b'"line":5,"notes":[]}', "two shards with hits")
 
 
+class GridWithHits(Grid):
+    """A grid whose engines show hits."""
+
+    words = ("hits",)
+
+
 def hits_go_through_a_grid() -> None:
     """A grid whose engines show hits answers as one of them: on the example, and on a random input with articles that
     have no fields."""
@@ -93,7 +99,7 @@ def hits_go_through_a_grid() -> None:
     nothing = b'{"op":"match","articles":[{"id":"a","fields":{}},{"id":"b","fields":{}}]}'
     lines = [line if number % 40 else nothing for number, line in enumerate(source.lines(500))]
     due = subprocess.run([program(), "run", "0", "hits"], input=joined(lines), stdout=subprocess.PIPE, check=True)
-    with folder() as name, Grid(Path(name), 3, 1, words=["hits"]) as grid:
+    with folder() as name, GridWithHits(Path(name), 3, 1) as grid:
         example = (DATA / "hits.jsonl").read_bytes()
         same(grid.run("submit", text=example), (DATA / "hits.hits").read_bytes(), "the example with hits")
         grid.run("submit", text=b'{"op":"clear"}\n')
@@ -120,11 +126,9 @@ def a_replica_is_told_and_waited_for() -> None:
 
 def need_ended(role: Role, words: str) -> None:
     """`Failed` where a role doesn't end with status 1 and these words, after a while."""
-    process = role.process
-    assert process
     told = Path(role.told.name)
-    wait_until(lambda: process.poll() is not None, lambda: f"{role.words} goes on: {told.read_text()}")
-    need(process.returncode == 1 and words in told.read_text(), f"{process.returncode} {told.read_text()}")
+    wait_until(lambda: role.status() is not None, lambda: f"{role.words} goes on: {told.read_text()}")
+    need(role.status() == 1 and words in told.read_text(), f"{role.status()} {told.read_text()}")
 
 
 def an_emptied_redis_is_told() -> None:
