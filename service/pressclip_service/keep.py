@@ -6,7 +6,7 @@ import select
 import time
 from collections import deque
 from dataclasses import dataclass
-from typing import Iterator, Mapping, Sequence
+from typing import Callable, Iterator, Mapping, Sequence
 
 from .ends import Ends
 from .engine import Engine
@@ -193,7 +193,7 @@ class Keeper:
         """Waits for the process that writes the journal anew, if one is at work; drops it where an end is asked for."""
         self.patience.begin()
         while self.rewriter.ended is not None and not self.termination.is_asked:
-            ready = self._ready_of({self.rewriter.ended: select.POLLIN}, "waits until the journal is written anew")
+            ready = self._ready_of({self.rewriter.ended: select.POLLIN}, lambda: "waits until the journal is rewritten")
             if self.rewriter.ended in ready:
                 self.rewriter.finish()
         self.rewriter.drop()
@@ -208,7 +208,7 @@ class Keeper:
         if self.input.has_ended and not self.engine.unsent and not self.engine.closed:
             self.engine.close_input()
             return
-        ready = self._ready_of(self._awaited(), f"waits for the engine's reply to {self.owed.first_name()}")
+        ready = self._ready_of(self._awaited(), lambda: f"waits for the engine's reply to {self.owed.first_name()}")
         if self.engine.output in ready:
             self._take_replies()
             self.patience.begin()
@@ -229,7 +229,7 @@ class Keeper:
             awaited[self.rewriter.ended] = select.POLLIN
         return awaited
 
-    def _ready_of(self, awaited: Mapping[int, int], what: str) -> set[int]:
+    def _ready_of(self, awaited: Mapping[int, int], what: Callable[[], str]) -> set[int]:
         """Those descriptors at which there is something to do, after a wait; where that is long, what it is for is
         told. None where a signal came."""
         poll = select.poll()
@@ -240,7 +240,7 @@ class Keeper:
         found = poll.poll(None if is_idle else 1_000 * self.patience.seconds_left())
         ready = {descriptor for descriptor, _ in found}
         if not ready:
-            self.patience.look(what)
+            self.patience.look(what())
         if self.termination.woken in ready:
             self.termination.take()
         return ready

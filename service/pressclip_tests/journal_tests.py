@@ -16,10 +16,11 @@ from pressclip_service.new_journal import write_live
 from .inputs import Source, joined
 from .judge import folder, need, replies_of_engine, same
 from .keep_runs import Keep, changes_in, dump_of, run_keep
-from .processes import PATIENCE_SECONDS
+from .processes import ENDED, PATIENCE_SECONDS
 
 COUNT = b'{"op":"count"}\n'
 QUERIES = 5_000
+TAKEN_OVER = 8
 SHOWN = b"".join(b'{"op":"show","id":"q%d"}\n' % number for number in (0, 1_023, 1_024, 2_500, QUERIES - 1))
 
 
@@ -205,6 +206,33 @@ def a_journal_of_form_1_that_is_not_whole() -> None:
         is_refused(journal, live[:-3], "cut off in the last record of live queries")
 
 
+def ended_while_it_is_taken_over() -> None:
+    """`keep` ended by SIGKILL somewhere in its first start over a journal of form 1 with a torn end: the queries and
+    the count of changes stay, and the torn bytes stand in the journal or in a file beside it."""
+    lines = [registering(start, 10) for start in range(0, 10_000, 10)]
+    torn = frame_of_form_1(2, len(lines) - 2, registering(0, 20_000))[:-1]
+    whole = of_form_1(lines, 0)
+    dice = Random(33)
+    with folder() as name:
+        journal = Path(name)
+        file = journal / "journal"
+        file.write_bytes(whole + torn)
+        dumped = dump_of(journal)
+        for _ in range(TAKEN_OVER):
+            file.write_bytes(whole + torn)
+            for aside in journal.glob("journal.torn.*"):
+                aside.unlink()
+            kept = Keep(journal)
+            kept.turn(dice.uniform(0.1, 0.4))
+            kept.kill()
+            ENDED.append("keep")
+            same(dump_of(journal), dumped, "the dump")
+            need(changes_in(journal) == len(lines) - 2, f"{changes_in(journal)} changes")
+            beside = [aside.read_bytes() for aside in journal.glob("journal.torn.*")]
+            need(file.read_bytes() == whole + torn or torn in beside, "the torn bytes are gone")
+        need(run_keep(journal, COUNT)[:2] == (0, b'{"count":10000,"line":1}\n'), "another count")
+
+
 def a_journal_of_a_later_form_is_left_alone() -> None:
     """A form that is not known is status 3, and said."""
     with folder() as name:
@@ -232,4 +260,4 @@ def random_changes_are_chained() -> None:
 
 TESTS = (a_rewritten_journal_is_whole_or_broken, what_came_meanwhile_is_whole_too, records_of_two_journals_do_not_mix,
          what_was_cut_off_is_kept, a_journal_of_form_1_is_taken_over, a_journal_of_form_1_that_is_not_whole,
-         a_journal_of_a_later_form_is_left_alone, random_changes_are_chained)
+         ended_while_it_is_taken_over, a_journal_of_a_later_form_is_left_alone, random_changes_are_chained)
