@@ -184,10 +184,18 @@ class Keeper:
         """Serves the input to its end, or until an end is asked for."""
         while not self._is_done():
             self._turn()
-        self.engine.wait()
+        self._end_engine()
         self._end_rewriting()
         if self.input.failure:
             raise self.input.failure
+
+    def _end_engine(self) -> None:
+        """Waits until the engine has ended with its input."""
+        self.patience.begin()
+        ended = {self.engine.output: select.POLLIN}
+        while self.engine.output not in self._ready_of(ended, lambda: "waits for the engine's end"):
+            pass
+        self.engine.wait()
 
     def _end_rewriting(self) -> None:
         """Waits for the process that writes the journal anew, if one is at work; drops it where an end is asked for."""
