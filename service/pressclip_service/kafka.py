@@ -132,7 +132,10 @@ class Source:
 
 def connect(program: str, place: Place, command: Sequence[str], is_over: Callable[[], bool]) -> None:
     """Answers the requests of a topic until the work is over; what was read by then is answered, its offset kept."""
-    source = Source(program, place)
+    try:
+        source = Source(program, place)
+    except KafkaException as error:
+        raise KafkaFailed(f"librdkafka refuses its settings: {error.args[0].str()}") from error
     if not source.open(is_over):
         return
     bridge = Bridge(program, command, lambda own: Replies(place, source.consumer, own))

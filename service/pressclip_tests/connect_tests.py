@@ -2,8 +2,8 @@
 
 from __future__ import annotations
 
+import getpass
 import json
-import os
 import shutil
 import signal
 import socket
@@ -94,13 +94,16 @@ class Kafka:
 class Mosquitto:
     """A broker of MQTT on a port of its own, which can be ended and started again."""
 
-    def __init__(self, into: Path) -> None:
-        self._config = into / "mosquitto.conf"
+    def __init__(self, into: Path, *, settings: Sequence[str] = ("allow_anonymous true",),
+                 words: Sequence[str] = ()) -> None:
+        """A broker with further settings, and words by which its clients are let in."""
+        self._config, self._words = into / "mosquitto.conf", words
         with socket.socket() as taken:
             taken.bind(("127.0.0.1", 0))
             self.port = str(taken.getsockname()[1])
-        self._config.write_text(f"listener {self.port} 127.0.0.1\nallow_anonymous true\npersistence true\n"
-                                f"persistence_location {into}/\nlog_type none\nuser {os.environ.get('USER', 'root')}\n")
+        self._config.write_text("\n".join((
+            f"listener {self.port} 127.0.0.1", "persistence true", f"persistence_location {into}/", "log_type none",
+            f"user {getpass.getuser()}", *settings, "")))
         self.start()
         # The session in which the broker holds replies until they are asked for.
         self._client("sub", "-c", "-i", "reader", "-t", "replies", "-E")
@@ -127,14 +130,14 @@ class Mosquitto:
         told = self._client("sub", "-c", "-i", "reader", "-t", "replies", "-C", str(count), "-W", "20", is_needed=False)
         return told.decode().splitlines()
 
-    def connect(self, command: Sequence[str]) -> Connect:
+    def connect(self, command: Sequence[str], *options: str) -> Connect:
         """A process that is connected to it, once it reads."""
-        connect = Connect("mqtt", ["--broker", f"127.0.0.1:{self.port}", "--client", "desk"], command)
+        connect = Connect("mqtt", ["--broker", f"127.0.0.1:{self.port}", "--client", "desk", *options], command)
         connect.hears("reads requests as desk")
         return connect
 
     def _client(self, kind: str, *words: str, given: bytes = b"", is_needed: bool = True) -> bytes:
-        done = subprocess.run([f"mosquitto_{kind}", "-p", self.port, "-q", "1", *words], input=given,
+        done = subprocess.run([f"mosquitto_{kind}", "-p", self.port, "-q", "1", *self._words, *words], input=given,
                               stdout=subprocess.PIPE, check=is_needed)
         return done.stdout
 
@@ -264,11 +267,11 @@ def nothing_is_lost_by_ends_with_mqtt() -> None:
             broker.put(pairs(count)[count:])
             broker.stop()
             broker.start()
-            replies: list[str] = []
-            while got := broker.get(2 * count):
-                replies += got
-                if '"a59"' in replies[-1]:
-                    break
+            replies = broker.get(2 * count)
+            while '"a59"' not in "".join(replies):
+                more = broker.get(1)
+                need(bool(more), f"after {len(replies)} replies no more come, and one to the last article is due")
+                replies += more
             all_alerts_came(replies, count)
             connect.ends(0)
         finally:
@@ -282,6 +285,51 @@ def connected(broker: Mosquitto, command: Sequence[str]) -> Connect:
         time.sleep(1)
         if connect.process.poll() != LOCKED:
             return connect
+
+
+def guarded(into: Path) -> Mosquitto:
+    """A broker with a certificate of its own, for those who know a password."""
+    subprocess.run(["openssl", "req", "-x509", "-newkey", "ec", "-pkeyopt", "ec_paramgen_curve:P-256", "-nodes",
+                    "-days", "2", "-subj", "/CN=127.0.0.1", "-addext", "subjectAltName=IP:127.0.0.1",
+                    "-keyout", into / "key", "-out", into / "certificate"], check=True, stderr=subprocess.DEVNULL)
+    subprocess.run(["mosquitto_passwd", "-b", "-c", into / "users", "desk", "secret"], check=True,
+                   stderr=subprocess.DEVNULL)
+    settings = (f"certfile {into}/certificate", f"keyfile {into}/key", f"password_file {into}/users",
+                "allow_anonymous false")
+    words = ("-h", "127.0.0.1", "--cafile", f"{into}/certificate", "-u", "desk", "-P", "secret")
+    return Mosquitto(into, settings=settings, words=words)
+
+
+def mqtt_asks_for_a_password_and_speaks_tls() -> None:
+    """With both the request is answered, and with another password the broker's refusal is told."""
+    with folder() as name:
+        broker = guarded(Path(name))
+        try:
+            (Path(name) / "password").write_text("secret\n")
+            options = ["--user", "desk", "--authorities", f"{name}/certificate", "--password-file", f"{name}/password"]
+            connect = broker.connect(["cat"], *options)
+            broker.put([b"one"])
+            need(broker.get(1) == ["one"], "another reply")
+            connect.ends(0)
+            (Path(name) / "password").write_text("another\n")
+            connect = Connect("mqtt", ["--broker", f"127.0.0.1:{broker.port}", "--client", "desk", *options], ["cat"])
+            need("the broker refuses the connection" in connect.ends(1, None), connect.told())
+        finally:
+            broker.stop()
+
+
+def settings_of_kafka_are_handed_on() -> None:
+    """Those of a file are taken, and one that there is not is refused by its name."""
+    with folder() as name, Kafka() as kafka:
+        settings = Path(name) / "settings"
+        settings.write_text("# of the desk\n\nclient.id = desk\n")
+        connect = kafka.connect(["cat"], "--settings", str(settings))
+        kafka.put(b"one")
+        need(kafka.ask("get", "replies", 1) == ["one"], "another reply")
+        connect.ends(0)
+        for line, why in (("no.such=1", "no.such"), ("client.id", "no NAME=VALUE: client.id")):
+            settings.write_text(line + "\n")
+            need(why in kafka.connect(["cat"], "--settings", str(settings)).ends(1, None), line)
 
 
 def what_is_waited_for_is_told() -> None:
@@ -307,4 +355,5 @@ TESTS: tuple[Callable[[], None], ...] = (
     kafka_is_answered_at_once_and_in_order, an_offset_stands_behind_kept_replies_alone,
     a_topic_of_four_partitions_is_refused, an_offset_that_kafka_has_no_longer_is_told,
     nothing_is_lost_by_ends_with_kafka, mqtt_is_answered_at_once_and_in_order, nothing_is_lost_by_ends_with_mqtt,
-    what_is_waited_for_is_told, a_command_hands_its_status_on)
+    mqtt_asks_for_a_password_and_speaks_tls, settings_of_kafka_are_handed_on, what_is_waited_for_is_told,
+    a_command_hands_its_status_on)
