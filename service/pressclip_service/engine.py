@@ -7,16 +7,19 @@ import os
 import select
 import shutil
 import subprocess
+from hashlib import sha256
 from pathlib import Path
-from typing import Iterable, Iterator, Sequence
+from typing import Callable, Iterable, Iterator, Sequence
 
 from .errors import EngineDied, EngineFailed
 from .lines import BLOCK_BYTES, LineCutter
+from .signals import held_back_from_children
 
 PROGRAM = "pressclip"
 _BUILT = Path(__file__).resolve().parents[2] / "crates" / PROGRAM / "out" / PROGRAM
 _PIPE_BYTES = 1 << 20
 _WRITTEN_AT_ONCE = 1 << 18
+_TURN_SECONDS = 0.5
 # How the GNU C library hands out memory: small pieces, of which an article has some two for each word, are kept at hand
 # when they come back, and what is large lies in large pages. A library that doesn't know these words passes over them.
 _MEMORY = "glibc.malloc.tcache_count=500:glibc.malloc.hugetlb=1"
@@ -37,6 +40,23 @@ def command_of(words: Sequence[str], workers: int | None = None) -> list[str]:
     return list(words)
 
 
+def need_program(command: Sequence[str]) -> None:
+    """`EngineFailed` where the command's program is not there, or may not be run."""
+    if shutil.which(command[0]):
+        return
+    if command[0] == str(_BUILT):
+        raise EngineFailed(f"there is no engine at {_BUILT}: run ./build, or have PRESSCLIP name the program")
+    raise EngineFailed(f"the engine {command[0]} can't be started: there is no such program")
+
+
+def mark_of(command: Sequence[str]) -> str:
+    """What tells the command's program from another: its path and the digest of its file. Cost: reads that file."""
+    path = shutil.which(command[0])
+    if path is None:
+        return f"{command[0]}, which is not there: run ./build"
+    return f"{path} (SHA-256 {sha256(Path(path).read_bytes()).hexdigest()})"
+
+
 def environment() -> dict[str, str]:
     """The environment of an engine: ours, which also says how memory is handed out where it didn't."""
     return {"GLIBC_TUNABLES": _MEMORY, **os.environ}
@@ -54,9 +74,11 @@ class Engine:
     """One process. Writes never wait: what its pipe has no room for stands in `unsent`."""
 
     def __init__(self, command: Sequence[str]) -> None:
+        need_program(command)
         try:
-            self._process = subprocess.Popen(command, stdin=subprocess.PIPE, stdout=subprocess.PIPE, bufsize=0,
-                                             env=environment())
+            with held_back_from_children():
+                self._process = subprocess.Popen(command, stdin=subprocess.PIPE, stdout=subprocess.PIPE, bufsize=0,
+                                                 env=environment())
         except OSError as error:
             raise EngineFailed(f"the engine {command[0]} can't be started: {error.strerror}") from error
         assert self._process.stdin and self._process.stdout
@@ -126,9 +148,10 @@ class Engine:
                 except OSError:
                     pass
 
-    def exchange(self, lines: Iterable[bytes]) -> Iterator[bytes]:
-        """The replies to the lines, none of which may be blank; `EngineFailed` where it ends before it gave them. Lines
-        are taken as the engine takes them, so that few are held at a time."""
+    def exchange(self, lines: Iterable[bytes], each_turn: Callable[[], None] = lambda: None) -> Iterator[bytes]:
+        """The replies to the lines, none of which may be blank; `EngineDied` where it ends before it gave them. Lines
+        are taken as the engine takes them, so that few are held at a time. `each_turn` is called now and then, also
+        while the engine says nothing."""
         source = iter(lines)
         owed, more = 0, True
         while more or owed or self.unsent:
@@ -141,7 +164,8 @@ class Engine:
             self.push()
             if not owed:
                 continue
-            readable, _, _ = select.select([self.output], [self.input] if self.unsent else [], [])
+            readable, _, _ = select.select([self.output], [self.input] if self.unsent else [], [], _TURN_SECONDS)
+            each_turn()
             if readable:
                 replies = self.read()
                 if replies is None:

@@ -3,8 +3,9 @@
 from __future__ import annotations
 
 import os
-import sys
 from typing import Callable
+
+from .streams import ERRORS, hold_standard_streams, write_waiting
 
 STATUS_ENDED = 0
 STATUS_ENGINE = 1
@@ -44,6 +45,12 @@ class StorageFailed(ServiceError):
     status = STATUS_STORAGE
 
 
+class InputFailed(ServiceError):
+    """Standard input can't be read."""
+
+    status = STATUS_STORAGE
+
+
 class JournalLocked(ServiceError):
     """Another process has the journal open."""
 
@@ -71,13 +78,15 @@ class NoReader(ServiceError):
 def tell(program: str, text: str) -> None:
     """A line on standard error, which may be closed."""
     try:
-        print(f"{program}: {text}", file=sys.stderr, flush=True)
+        write_waiting(ERRORS, f"{program}: {text}\n".encode(errors="backslashreplace"))
     except OSError:
         pass
 
 
 def ending(program: str, work: Callable[[], int]) -> int:
-    """The status of the work; an expected error is told in one line."""
+    """The status of a command's work; an expected error is told in one line. Standard streams that are closed are
+    stood in for first."""
+    hold_standard_streams()
     try:
         return work()
     except ServiceError as error:
@@ -87,13 +96,22 @@ def ending(program: str, work: Callable[[], int]) -> int:
         return STATUS_INTERRUPTED
 
 
+def read_block(descriptor: int, most: int) -> bytes | None:
+    """What is there to read, up to so many bytes; none at its end, and None where nothing is there yet. `InputFailed`
+    where it can't be read."""
+    try:
+        return os.read(descriptor, most)
+    except BlockingIOError:
+        return None
+    except OSError as error:
+        raise InputFailed(f"standard input can't be read: {error.strerror}; what was read before is answered") from None
+
+
 def write_all(descriptor: int, text: bytes) -> None:
     """Writes the whole text and waits where nobody takes it yet; `NoReader` where nobody ever will."""
-    left = memoryview(text)
-    while left:
-        try:
-            left = left[os.write(descriptor, left):]
-        except BrokenPipeError:
-            raise NoReader("nobody reads the replies: standard output is closed") from None
-        except OSError as error:
-            raise NoReader(f"the replies can't be written: {error.strerror}") from error
+    try:
+        write_waiting(descriptor, text)
+    except BrokenPipeError:
+        raise NoReader("nobody reads the replies: standard output is closed") from None
+    except OSError as error:
+        raise NoReader(f"the replies can't be written: {error.strerror}") from error

@@ -2,28 +2,26 @@
 
 from __future__ import annotations
 
-import os
 import select
-import subprocess
-import sys
 import time
 from collections import deque
 from dataclasses import dataclass
-from pathlib import Path
-from typing import Iterator, Sequence
+from typing import Iterator, Mapping, Sequence
 
+from .ends import Ends
 from .engine import Engine
-from .errors import EngineDied, EngineFailed, StorageFailed, tell, write_all
-from .journal import Journal, NotReplaced
+from .errors import EngineDied, EngineFailed, InputFailed, StorageFailed, read_block, tell, write_all
+from .journal import Journal
 from .lines import BLOCK_BYTES, LineCutter, is_blank
-from .replies import CHANGES, Kind, count_in, kind_of, number_of, renumbered
+from .patience import Patience
+from .replies import CHANGES, count_in, kind_of, number_of, renumbered
+from .rewriting import Rewriter
+from .signals import Terminated, Termination
+from .streams import INPUT, OUTPUT
 
 NAME = "service/keep"
 MOST_LINES_IN_FLIGHT = 4_096
 MOST_BYTES_IN_FLIGHT = 8 << 20
-MOST_DEATHS_IN_A_ROW = 5
-LIFE_SECONDS = 1.0
-INPUT, OUTPUT = 0, 1
 _COUNT = b'{"op":"count"}'
 
 
@@ -34,168 +32,232 @@ class Owed:
     number: int
     line: bytes
 
+    def name(self) -> str:
+        """What a person is told of it."""
+        return f"line {self.number}" if self.number else "the question how many queries are live"
 
-class Rewriting:
-    """A process that writes a shorter journal beside the journal, up to a place."""
 
-    def __init__(self, journal: Journal, script: Path) -> None:
-        self.journal = journal
-        self.start = journal.end
-        self.new = journal.begin_new()
-        command = [sys.executable, str(script), "--journal", str(journal.folder), "--write-live", str(self.start),
-                   "--descriptor", str(self.new)]
+class InFlight:
+    """The lines that the engine owes replies, in order."""
+
+    def __init__(self) -> None:
+        self._owed: deque[Owed] = deque()
+        self._bytes = 0
+
+    def __len__(self) -> int:
+        return len(self._owed)
+
+    def has_room(self) -> bool:
+        """Whether more lines may be read."""
+        return len(self._owed) < MOST_LINES_IN_FLIGHT and self._bytes < MOST_BYTES_IN_FLIGHT
+
+    def add(self, owed: Owed) -> None:
+        """Adds a line."""
+        self._owed.append(owed)
+        self._bytes += len(owed.line)
+
+    def first_name(self) -> str:
+        """What a person is told of the line that is answered next, or of none."""
+        return self._owed[0].name() if self._owed else "no line"
+
+    def take(self) -> Owed:
+        """Takes the line that is answered next out."""
+        owed = self._owed.popleft()
+        self._bytes -= len(owed.line)
+        return owed
+
+    def asked_again(self) -> list[bytes]:
+        """The lines to ask another engine, without questions of our own, which are dropped."""
+        self._owed = deque(owed for owed in self._owed if owed.number)
+        self._bytes = sum(len(owed.line) for owed in self._owed)
+        return [owed.line for owed in self._owed]
+
+
+class Input:
+    """Standard input as numbered lines. `failure` says why it can't be read further, where that is why it ended."""
+
+    def __init__(self) -> None:
+        self.has_ended = False
+        self.failure: InputFailed | None = None
+        self._cutter = LineCutter()
+        self._number = 0
+
+    def take(self) -> list[Owed]:
+        """The lines of one read, of which blank ones only count."""
         try:
-            self._process = subprocess.Popen(command, stdin=subprocess.DEVNULL, stdout=subprocess.DEVNULL,
-                                             pass_fds=[self.new])
-        except OSError as error:
-            journal.drop_new(self.new)
-            raise NotReplaced(error.strerror) from error
-        self.ended = os.pidfd_open(self._process.pid)
+            block = read_block(INPUT, BLOCK_BYTES)
+        except InputFailed as failure:
+            self.failure = failure
+            self.end()
+            return []
+        if block is None:
+            return []
+        self.has_ended = not block
+        lines = self._cutter.feed(block) if block else self._cutter.end()
+        first = self._number + 1
+        self._number += len(lines)
+        return [Owed(number, line) for number, line in enumerate(lines, first) if not is_blank(line)]
 
-    def finish(self) -> None:
-        """Puts the new journal in place once it is written; `NotReplaced` where it was not."""
-        status = self._process.wait()
-        os.close(self.ended)
-        if status != 0:
-            self.journal.drop_new(self.new)
-            raise NotReplaced(f"the process that writes it ended with status {status}")
-        try:
-            self.journal.put_in_place(self.new, self.start)
-        except NotReplaced:
-            self.journal.drop_new(self.new)
-            raise
+    def end(self) -> None:
+        """Reads no more. A line of which only a part was read is none."""
+        self.has_ended = True
 
 
-class Size:
-    """How many entries the journal has, and at least how many queries are live."""
+class Starter:
+    """Starts engines, each with all that the journal has."""
 
-    def __init__(self, floor: int) -> None:
-        self.floor = floor
-        self.entries = 0
-        self.at_least = 0
+    def __init__(self, journal: Journal, command: Sequence[str], rewriter: Rewriter, termination: Termination) -> None:
+        self.ends = Ends()
+        self._journal = journal
+        self._command = command
+        self._rewriter = rewriter
+        self._termination = termination
 
-    def follow(self, kind: Kind, count: int) -> None:
-        """Follows the reply to a change. A register may replace, so it leaves at least as many live as before."""
-        self.entries += max(count, 1) if kind is not Kind.CLEARED else 1
-        if kind is Kind.DELETED:
-            self.at_least = max(0, self.at_least - count)
-        elif kind is Kind.CLEARED:
-            self.at_least = 0
+    def started(self, has_to: bool) -> Engine:
+        """Another engine, after a few attempts where it ends too early. `Terminated` where an end is asked for before
+        it has all, unless it has to go on."""
+        while True:
+            engine = Engine(self._command)
+            try:
+                self._replay(engine, has_to)
+                return engine
+            except EngineDied as error:
+                engine.kill()
+                self.ended(str(error))
+            except BaseException:
+                engine.kill()
+                raise
 
-    def may_be_rewritten(self) -> bool:
-        """Whether it may be more than twice the live queries, as far as this is known."""
-        return self.entries > max(self.floor, 2 * self.at_least)
+    def ended(self, why: str) -> None:
+        """Tells that an engine ended; `EngineFailed` where it did so too often with no reply between."""
+        self.ends.ended(why)
+        tell(NAME, f"{why}; it is started again")
+
+    def _replay(self, engine: Engine, has_to: bool) -> None:
+        self._rewriter.begin()
+        start = time.monotonic()
+        patience = Patience(NAME)
+        count = 0
+
+        def look() -> None:
+            if self._termination.is_asked and not has_to:
+                raise Terminated()
+            patience.look(f"replays the journal, {count} lines so far")
+
+        for reply in engine.exchange(self._kept_lines(), look):
+            kind = kind_of(reply)
+            if kind not in CHANGES:
+                raise EngineFailed(f"the engine refuses what it accepted before: {reply[:200]!r}")
+            self._rewriter.size.follow(kind, count_in(reply))
+            count += 1
+        if count:
+            tell(NAME, f"replayed {count} lines of the journal in {time.monotonic() - start:.1f} s")
+
+    def _kept_lines(self) -> Iterator[bytes]:
+        for frame in self._journal.frames():
+            yield from frame.lines()
 
 
 class Keeper:
     """Lines in, replies out, and each accepted change in the journal before its reply."""
 
-    def __init__(self, journal: Journal, command: Sequence[str], script: Path, floor: int) -> None:
+    def __init__(self, journal: Journal, command: Sequence[str], rewriter: Rewriter, termination: Termination) -> None:
         self.journal = journal
-        self.command = command
-        self.script = script
-        self.size = Size(floor)
-        self.cutter = LineCutter()
-        self.number = 0
-        self.owed: deque[Owed] = deque()
-        self.bytes_owed = 0
-        self.input_ended = False
-        self.is_counting = False
-        self.rewriting: Rewriting | None = None
+        self.rewriter = rewriter
+        self.termination = termination
+        self.input = Input()
+        self.owed = InFlight()
         self.live_told: int | None = None
-        self.deaths = 0
-        self.engine = self._started()
+        self.patience = Patience(NAME)
+        self.starter = Starter(journal, command, rewriter, termination)
+        self._begin(self.starter.started(has_to=False))
 
-    def _started(self) -> Engine:
-        """A new engine that has what the journal has, after a few attempts where it ends too early."""
-        while True:
-            self.started = time.monotonic()
-            engine = Engine(self.command)
-            try:
-                self._replay(engine)
-                return engine
-            except EngineDied as error:
-                engine.kill()
-                self._count_death(str(error))
-
-    def _replay(self, engine: Engine) -> None:
-        self.size.entries = self.size.at_least = 0
-        self.is_counting = False
-        start = time.monotonic()
-        count = 0
-        for reply in engine.exchange(self._kept_lines()):
-            kind = kind_of(reply)
-            if kind not in CHANGES:
-                raise EngineFailed(f"the engine refuses what it accepted before: {reply[:200]!r}")
-            self.size.follow(kind, count_in(reply))
-            count += 1
-        if count:
-            tell(NAME, f"replayed {count} lines of the journal in {time.monotonic() - start:.1f} s")
+    def _begin(self, engine: Engine) -> None:
+        """Goes on with an engine that has what the journal has."""
+        self.engine = engine
         self.expected = engine.sent
-
-    def _count_death(self, why: str) -> None:
-        """Tells that the engine ended; `EngineFailed` where it did so too often with nothing done between."""
-        if time.monotonic() - self.started > LIFE_SECONDS:
-            self.deaths = 0
-        self.deaths += 1
-        if self.deaths > MOST_DEATHS_IN_A_ROW:
-            raise EngineFailed(f"{why}, {self.deaths} times in a row; what was answered is kept")
-        tell(NAME, f"{why}; it is started again")
-
-    def _kept_lines(self) -> Iterator[bytes]:
-        for frame in self.journal.frames():
-            yield from frame.lines()
+        self.live_told = None
+        for line in self.owed.asked_again():
+            engine.send(line)
 
     def run(self) -> None:
-        """Serves the input to its end."""
+        """Serves the input to its end, or until an end is asked for."""
         while not self._is_done():
             self._turn()
         self.engine.wait()
-        while self.rewriting:
-            self._finish_rewriting()
+        self._end_rewriting()
+        if self.input.failure:
+            raise self.input.failure
+
+    def _end_rewriting(self) -> None:
+        """Waits for the process that writes the journal anew, if one is at work; drops it where an end is asked for."""
+        self.patience.begin()
+        while self.rewriter.ended is not None and not self.termination.is_asked:
+            ready = self._ready_of({self.rewriter.ended: select.POLLIN}, "waits until the journal is written anew")
+            if self.rewriter.ended in ready:
+                self.rewriter.finish()
+        self.rewriter.drop()
 
     def _is_done(self) -> bool:
-        return self.input_ended and not self.owed and self.engine.closed
+        return self.input.has_ended and not self.owed and self.engine.closed
 
     def _turn(self) -> None:
         """Waits for something to do, and does it."""
-        if self.input_ended and not self.engine.unsent and not self.engine.closed:
+        if self.termination.is_asked:
+            self.input.end()
+        if self.input.has_ended and not self.engine.unsent and not self.engine.closed:
             self.engine.close_input()
             return
-        poll = select.poll()
-        poll.register(self.engine.output, select.POLLIN)
-        if self.engine.unsent:
-            poll.register(self.engine.input, select.POLLOUT)
-        if self._has_room():
-            poll.register(INPUT, select.POLLIN)
-        if self.rewriting:
-            poll.register(self.rewriting.ended, select.POLLIN)
-        ready = {descriptor for descriptor, _ in poll.poll()}
+        ready = self._ready_of(self._awaited(), f"waits for the engine's reply to {self.owed.first_name()}")
         if self.engine.output in ready:
             self._take_replies()
-        if INPUT in ready and self._has_room():
+            self.patience.begin()
+        if INPUT in ready and self._has_room() and not self.termination.is_asked:
             self._take_input()
         self.engine.push()
-        if self.rewriting and self.rewriting.ended in ready:
-            self._finish_rewriting()
+        if self.rewriter.ended in ready:
+            self.rewriter.finish()
+
+    def _awaited(self) -> dict[int, int]:
+        """The descriptors at which there may be something to do, and of which kind."""
+        awaited = {self.engine.output: select.POLLIN}
+        if self.engine.unsent:
+            awaited[self.engine.input] = select.POLLOUT
+        if self._has_room():
+            awaited[INPUT] = select.POLLIN
+        if self.rewriter.ended is not None:
+            awaited[self.rewriter.ended] = select.POLLIN
+        return awaited
+
+    def _ready_of(self, awaited: Mapping[int, int], what: str) -> set[int]:
+        """Those descriptors at which there is something to do, after a wait; where that is long, what it is for is
+        told. None where a signal came."""
+        poll = select.poll()
+        poll.register(self.termination.woken, select.POLLIN)
+        for descriptor, events in awaited.items():
+            poll.register(descriptor, events)
+        is_idle = INPUT in awaited and not self.owed
+        found = poll.poll(None if is_idle else 1_000 * self.patience.seconds_left())
+        ready = {descriptor for descriptor, _ in found}
+        if not ready:
+            self.patience.look(what)
+        if self.termination.woken in ready:
+            self.termination.take()
+        return ready
 
     def _has_room(self) -> bool:
-        return (not self.input_ended and len(self.owed) < MOST_LINES_IN_FLIGHT
-                and self.bytes_owed < MOST_BYTES_IN_FLIGHT)
+        return not self.input.has_ended and self.owed.has_room()
 
     def _take_input(self) -> None:
-        """Reads lines and sends them on; blank ones only count."""
-        block = os.read(INPUT, BLOCK_BYTES)
-        self.input_ended = not block
-        for line in self.cutter.feed(block) if block else self.cutter.end():
-            self.number += 1
-            if not is_blank(line):
-                self._ask(self.number, line)
+        """Reads lines and sends them on."""
+        for owed in self.input.take():
+            self._ask(owed)
 
-    def _ask(self, number: int, line: bytes) -> None:
-        self.owed.append(Owed(number, line))
-        self.bytes_owed += len(line)
-        self.engine.send(line)
+    def _ask(self, owed: Owed) -> None:
+        if not self.owed:
+            self.patience.begin()
+        self.owed.add(owed)
+        self.engine.send(owed.line)
 
     def _take_replies(self) -> None:
         """Takes what the engine answered: changes into the journal, and then the replies out."""
@@ -203,9 +265,6 @@ class Keeper:
         if replies is None:
             self._restart()
             return
-        if not replies:
-            return
-        self.deaths = 0
         out: list[bytes] = []
         changes: list[bytes] = []
         before_changes = 0
@@ -215,10 +274,11 @@ class Keeper:
             if owed.number == 0:
                 self.live_told = count_in(reply)
                 continue
+            self.starter.ends.replied()
             if kind in CHANGES:
                 before_changes = before_changes if changes else len(out)
                 changes.append(owed.line)
-                self.size.follow(kind, count_in(reply))
+                self.rewriter.size.follow(kind, count_in(reply))
             out.append(reply if owed.number == self.expected else renumbered(reply, owed.number))
         self._hand_out(out, changes, before_changes)
 
@@ -227,9 +287,7 @@ class Keeper:
         self.expected += 1
         if not self.owed or number_of(reply) != self.expected:
             raise EngineFailed(f"the engine answered out of turn: {reply[:200]!r}")
-        owed = self.owed.popleft()
-        self.bytes_owed -= len(owed.line)
-        return owed
+        return self.owed.take()
 
     def _hand_out(self, out: list[bytes], changes: list[bytes], before_changes: int) -> None:
         """Syncs the changes and writes the replies; where the changes can't be kept, those before the first alone."""
@@ -241,53 +299,19 @@ class Keeper:
                 raise
         self._write(out)
         if self.live_told is not None:
-            self._counted(self.live_told)
-        if not self.rewriting and not self.is_counting and not self.engine.closed and self.size.may_be_rewritten():
-            self.is_counting = True
-            self._ask(0, _COUNT)
+            live, self.live_told = self.live_told, None
+            self.rewriter.counted(live)
+        if not self.engine.closed and self.rewriter.needs_count():
+            self.rewriter.count_asked()
+            self._ask(Owed(0, _COUNT))
 
     def _write(self, out: list[bytes]) -> None:
         if out:
             write_all(OUTPUT, b"\n".join(out) + b"\n")
 
-    def _counted(self, live: int) -> None:
-        """Has the journal rewritten, where it is too long for so many live queries."""
-        self.is_counting = False
-        self.live_told = None
-        self.size.at_least = live
-        if self.rewriting or not self.size.may_be_rewritten():
-            return
-        try:
-            self.rewriting = Rewriting(self.journal, self.script)
-        except (NotReplaced, StorageFailed) as error:
-            self._not_rewritten(error)
-            return
-        self.live_at_start, self.entries_at_start = live, self.size.entries
-
-    def _finish_rewriting(self) -> None:
-        rewriting, self.rewriting = self.rewriting, None
-        assert rewriting
-        try:
-            rewriting.finish()
-        except NotReplaced as error:
-            self._not_rewritten(error)
-            return
-        self.size.entries += self.live_at_start - self.entries_at_start
-
-    def _not_rewritten(self, error: Exception) -> None:
-        """Tells it, and waits until the journal is twice as long before it tries again."""
-        tell(NAME, f"the journal could not be made shorter: {error}; it is as it was")
-        self.size.floor = 2 * self.size.entries
-
     def _restart(self) -> None:
         """Starts the engine anew where it ended too early, with all that it had, and asks again what it owes."""
         status = self.engine.wait()
         self.engine.kill()
-        self._count_death(f"the engine ended with status {status}")
-        owed = [line for line in self.owed if line.number]
-        self.owed.clear()
-        self.bytes_owed = 0
-        self.live_told = None
-        self.engine = self._started()
-        for line in owed:
-            self._ask(line.number, line.line)
+        self.starter.ended(f"the engine ended with status {status}")
+        self._begin(self.starter.started(has_to=len(self.owed) > 0))

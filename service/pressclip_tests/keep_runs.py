@@ -5,6 +5,7 @@ from __future__ import annotations
 import os
 import signal
 import subprocess
+import sys
 from pathlib import Path
 from random import Random
 from typing import Callable, Sequence
@@ -12,21 +13,27 @@ from typing import Callable, Sequence
 from pressclip_service.engine import command_of
 
 from .judge import KEEP, Due, need
-from .processes import ENDED, Spoken
+from .processes import ENDED, PATIENCE_SECONDS, Spoken
 
+STAND_IN = Path(__file__).resolve().parent / "stand_in.py"
 MOST_OWED = 40
 
 
-def command(journal: Path, *options: str) -> list[str]:
-    """The command of `keep`, with an engine without threads."""
-    return [str(KEEP), "--journal", str(journal), *options, "--", *command_of([], workers=0)]
+def command(journal: Path, *options: str, engine: Sequence[str] = ()) -> list[str]:
+    """The command of `keep`, with an engine without threads where no other one is named."""
+    return [str(KEEP), "--journal", str(journal), *options, "--", *(engine or command_of([], workers=0))]
 
 
-def run_keep(journal: Path, text: bytes, *options: str,
+def stand_in(seconds: float, word: str) -> list[str]:
+    """The command of a stand-in for an engine, which takes so long for a line and ends at one with the word."""
+    return [sys.executable, str(STAND_IN), str(seconds), word]
+
+
+def run_keep(journal: Path, text: bytes, *options: str, engine: Sequence[str] = (),
              before: Callable[[], None] | None = None) -> tuple[int, bytes, str]:
     """Status, replies and what was told, of a run over a whole input."""
-    done = subprocess.run(command(journal, *options), input=text, stdout=subprocess.PIPE, stderr=subprocess.PIPE,
-                          preexec_fn=before, check=False)
+    done = subprocess.run(command(journal, *options, engine=engine), input=text, stdout=subprocess.PIPE,
+                          stderr=subprocess.PIPE, preexec_fn=before, timeout=PATIENCE_SECONDS, check=False)
     return done.returncode, done.stdout, done.stderr.decode()
 
 
@@ -43,8 +50,9 @@ def changes_in(journal: Path) -> int:
 class Keep(Spoken):
     """A process of `keep`."""
 
-    def __init__(self, journal: Path, *options: str, before: Callable[[], None] | None = None) -> None:
-        super().__init__(command(journal, *options), before)
+    def __init__(self, journal: Path, *options: str, engine: Sequence[str] = (),
+                 before: Callable[[], None] | None = None) -> None:
+        super().__init__(command(journal, *options, engine=engine), before)
 
 
 class Client:

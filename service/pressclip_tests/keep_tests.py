@@ -3,7 +3,9 @@
 from __future__ import annotations
 
 import os
+import re
 import resource
+import shutil
 import subprocess
 import time
 from pathlib import Path
@@ -12,14 +14,17 @@ from typing import Callable
 from unittest import mock
 
 from pressclip_service import keep
-from pressclip_service.engine import command_of
-from pressclip_service.frames import frames_of
-from pressclip_service.journal import Journal, Reading
+from pressclip_service.engine import command_of, program
+from pressclip_service.frames import FORM
+from pressclip_service.journal import Journal
+from pressclip_service.reading import Reading
 from pressclip_service.replies import CHANGES, kind_of
+from pressclip_service.rewriting import Rewriter
+from pressclip_service.signals import Termination
 
 from .inputs import Source, joined, with_long_lines
-from .judge import KEEP, Due, folder, need, replies_of_engine, same
-from .keep_runs import Client, Keep, changes_in, command, dump_of, kill_engines, run_keep
+from .judge import KEEP, SERVICE, Due, folder, need, replies_of_engine, same
+from .keep_runs import Client, Keep, changes_in, dump_of, kill_engines, run_keep, stand_in
 from .processes import PATIENCE_SECONDS
 
 KEEP_KILLS = 60
@@ -88,7 +93,7 @@ def a_torn_end_is_left_out() -> None:
     """The last record cut anywhere, or with zeros or rubbish in it, is told and left out."""
     with folder() as name:
         journal, whole = a_journal(name, 40)
-        last = list(frames_of(whole))[-1]
+        last = list(FORM.frames(whole))[-1]
         kept = last.number
         dice = Random(7)
         torn = [whole[:dice.randrange(last.start + 1, last.end)] for _ in range(12)]
@@ -107,7 +112,7 @@ def a_broken_middle_ends_it() -> None:
     """A wrong byte anywhere before the last record, a record too few or twice: status 3, nothing changed."""
     with folder() as name:
         journal, whole = a_journal(name, 40)
-        frames = list(frames_of(whole))
+        frames = list(FORM.frames(whole))
         dice = Random(8)
         broken = []
         for _ in range(40):
@@ -227,13 +232,87 @@ def a_journal_that_cannot_be_written() -> None:
 
 
 def an_engine_that_never_starts() -> None:
-    """A program that is not there, and one that ends at once."""
+    """A program that is not there makes no journal, and one that ends at once is tried six times: status 1."""
     with folder() as name:
-        for words in (["/nowhere/pressclip", "run"], ["false"]):
-            done = subprocess.run([*command(Path(name))[:3], "--", *words], input=b"", stdout=subprocess.PIPE,
-                                  stderr=subprocess.PIPE, check=False)
-            need(done.stdout == b"", "a reply")
-        need(done.returncode in (0, 1), done.stderr.decode())
+        journal = Path(name) / "j"
+        for words in (["/nowhere/pressclip", "run"], ["/dev/null"]):
+            status, replies, told = run_keep(journal, b'{"op":"count"}\n', engine=words)
+            need((status, replies) == (1, b"") and "can't be started" in told, f"{status} {told}")
+            need(not journal.exists(), "a journal was made")
+        status, replies, told = run_keep(journal, b'{"op":"count"}\n', engine=["false"])
+        need((status, replies) == (1, b"") and told.count("is started again") == 5, f"{status} {told}")
+
+
+def a_checkout_without_its_program() -> None:
+    """Where nothing is built yet: status 1, what to do, and no journal."""
+    with folder() as name:
+        top = Path(name)
+        shutil.copytree(SERVICE, top / "service", ignore=shutil.ignore_patterns("__pycache__", "*_tests"))
+        environment = {word: value for word, value in os.environ.items() if word != "PRESSCLIP"}
+        done = subprocess.run([str(top / "service" / "keep"), "--journal", str(top / "j")], stdin=subprocess.DEVNULL,
+                              capture_output=True, env=environment, check=False)
+        need(done.returncode == 1 and b"run ./build" in done.stderr, done.stderr.decode())
+        need(not (top / "j").exists(), "a journal was made")
+
+
+def an_engine_that_ends_at_one_line() -> None:
+    """An engine whose replay takes over a second and that ends at one line each time: six ends with no reply between
+    them, and status 1. A line that was answered before is answered, and kept."""
+    lines = [b'{"op":"register","queries":[{"id":"q%d","query":"tea"}]}' % number for number in range(4)]
+    with folder() as name:
+        status, _, told = run_keep(Path(name), joined(lines), engine=stand_in(0.0, "poison"))
+        need(status == 0, told)
+        text = joined([lines[0], b'{"op":"register","queries":[{"id":"poison","query":"tea"}]}', lines[1]])
+        status, replies, told = run_keep(Path(name), text, engine=stand_in(0.3, "poison"))
+        need((status, replies) == (1, b'{"line":1,"registered":1}\n'), f"{status} {replies!r} {told}")
+        need(told.count("it is started again") == 5 and "6 times in a row with no reply" in told, told)
+        need(changes_in(Path(name)) == 5, "another count of changes")
+
+
+def mask_nothing() -> None:
+    """Has files made with just the mode that is asked for."""
+    os.umask(0)
+
+
+def files_are_for_their_owner_alone() -> None:
+    """Folders are made with mode 0700 and files with 0600, also what is rewritten and what was torn."""
+    with folder() as name:
+        journal = Path(name) / "a" / "b" / "c"
+        text = joined([replacing(number) for number in range(300)])
+        status, _, told = run_keep(journal, text, "--rewrite-above", "20", before=mask_nothing)
+        need(status == 0, told)
+        with open(journal / "journal", "ab") as file:
+            file.write(b"torn")
+        status, _, told = run_keep(journal, b"", before=mask_nothing)
+        need(status == 0, told)
+        modes = {str(path.relative_to(name)): oct(path.stat().st_mode & 0o777) for path in Path(name).rglob("*")}
+        files = {f"a/b/c/{word}": "0o600" for word in ("journal", "lock", "journal.torn.1")}
+        need(modes == {"a": "0o700", "a/b": "0o700", "a/b/c": "0o700", **files}, f"{modes}")
+
+
+def each_new_folder_is_synced_in_its_parent() -> None:
+    """What holds a new folder's name is synced, for each one that is made, before the journal takes a change."""
+    synced = []
+    sync = os.fsync
+
+    def noted_sync(descriptor: int) -> None:
+        sync(descriptor)
+        synced.append(os.readlink(f"/proc/self/fd/{descriptor}"))
+
+    with folder() as name, mock.patch.object(os, "fsync", noted_sync):
+        top = Path(name).resolve()
+        Journal(top / "a" / "b" / "c").close()
+        for made in (top, top / "a", top / "a" / "b", top / "a" / "b" / "c"):
+            need(str(made) in synced, f"{made} is not synced: {synced}")
+
+
+def versions_are_told() -> None:
+    """`--version` says what the service is, which form its journal has, and which engine it finds."""
+    digest = subprocess.run(["sha256sum", program()], stdout=subprocess.PIPE, check=True).stdout.split()[0].decode()
+    done = subprocess.run([str(KEEP), "--version"], stdout=subprocess.PIPE, check=True)
+    told = done.stdout.decode().splitlines()
+    need(len(told) == 3 and re.fullmatch(r"service/keep \d+\.\d+", told[0]) is not None, f"{told}")
+    need(told[1].startswith("journal form 2;") and told[2] == f"engine {program()} (SHA-256 {digest})", f"{told}")
 
 
 def a_reply_follows_its_sync() -> None:
@@ -256,7 +335,8 @@ def a_reply_follows_its_sync() -> None:
         journal = Journal(Path(name) / "j")
         with mock.patch.object(os, "fdatasync", noted_sync), mock.patch.object(keep, "INPUT", file.fileno()), \
                 mock.patch.object(keep, "write_all", noted_write):
-            keep.Keeper(journal, command_of([], workers=0), KEEP, 10_000).run()
+            rewriter = Rewriter(keep.NAME, journal, KEEP, 10_000)
+            keep.Keeper(journal, command_of([], workers=0), rewriter, Termination()).run()
         journal.close()
         for count, size in answered:
             need(changes_up_to(journal.path, size) >= count, "a reply before its sync")
@@ -276,4 +356,6 @@ def changes_up_to(path: Path, size: int) -> int:
 
 TESTS = (answers_as_the_engine, goes_on_after_its_end, ended_at_random_places, its_engine_ended,
          a_reply_follows_its_sync, a_torn_end_is_left_out, a_broken_middle_ends_it, a_second_one_is_refused,
-         a_journal_stays_short, a_full_disk_ends_it, a_journal_that_cannot_be_written, an_engine_that_never_starts)
+         a_journal_stays_short, a_full_disk_ends_it, a_journal_that_cannot_be_written, an_engine_that_never_starts,
+         a_checkout_without_its_program, an_engine_that_ends_at_one_line, files_are_for_their_owner_alone,
+         each_new_folder_is_synced_in_its_parent, versions_are_told)

@@ -70,8 +70,8 @@ class Spoken:
 
     def told(self) -> str:
         """What was told on standard error so far."""
-        self._told.seek(0)
-        return self._told.read().decode()
+        size = os.fstat(self._told.fileno()).st_size
+        return os.pread(self._told.fileno(), size, 0).decode()
 
     def engine(self) -> int | None:
         """The number of the engine that is its child."""
