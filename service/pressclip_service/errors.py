@@ -64,7 +64,7 @@ class BrokenFile(ServiceError):
 
 
 class FileInUse(ServiceError):
-    """Redis's file is torn, and some process has it open; nothing was changed."""
+    """Another process has Redis's folder, or its file open; nothing was changed."""
 
     status = STATUS_LOCKED
 

@@ -9,7 +9,9 @@ from __future__ import annotations
 
 import time
 
+from .names import GATHERER
 from .scripts import KEEP
+from .signs import Signs, State
 from .store import Store
 
 PAUSE_SECONDS = 0.25
@@ -19,8 +21,12 @@ MOST_BYTES = 4 << 20
 
 def gather(store: Store) -> None:
     """Keeps replies as they are told; ends by an error alone."""
-    most = max(1, MOST_ANSWERS // store.settings().shards)
+    settings = store.settings()
+    signs = Signs(store, settings, GATHERER)
+    most = max(1, MOST_ANSWERS // settings.shards)
     while True:
+        if signs.is_due:
+            signs.give(store.kept_number(), State.READY)
         [has_more] = store.scripted(KEEP, [([store.names.prefix], [most, MOST_BYTES])])
         if not has_more:
             time.sleep(PAUSE_SECONDS)

@@ -7,13 +7,13 @@ so where nothing comes for a while, or a line entered in an earlier life, the re
 from __future__ import annotations
 
 from collections import deque
-from typing import NamedTuple
+from typing import Mapping, NamedTuple, Sequence
 
 from redis.exceptions import ConnectionError as Unreachable
 from redis.exceptions import TimeoutError as TimedOut
 
 from .errors import ServiceError
-from .names import KIND, LINE_NUMBER, Id
+from .names import KIND, KINDS, LINE_NUMBER, Id
 from .parts import reply_of
 from .store import BLOCK_MILLISECONDS, Store
 
@@ -37,15 +37,21 @@ class Kept(NamedTuple):
         return reply_of(self.kind, self.line_number, self.parts)
 
 
+def _is_reply(fields: Mapping[bytes, bytes], shards: Sequence[bytes]) -> bool:
+    """Whether an entry of a stream of replies is one."""
+    return (fields.keys() >= {LINE_NUMBER, KIND, *shards} and fields[LINE_NUMBER].isdigit()
+            and fields[KIND] in KINDS)
+
+
 class Hearing:
     """The replies to one client."""
 
     def __init__(self, store: Store, client: str, shards: int) -> None:
         self._store = store
-        self._shards = shards
+        self._shards = [b"%d" % shard for shard in range(shards)]
         self._replies = store.names.replies(client)
         self._channel = store.hear(store.names.told(client))
-        self._told: dict[bytes, tuple[bytes, dict[int, bytes]]] = {}
+        self._told: dict[bytes, tuple[bytes, dict[bytes, bytes]]] = {}
         self.kept: deque[Kept] = deque()
         self.read_to = Id(0, 0)
 
@@ -53,10 +59,10 @@ class Hearing:
         """The reply to a line that entered as this request, once; None where it did not come yet."""
         name = place.text().encode()
         kind, parts = self._told.get(name, (b"", {}))
-        if len(parts) == self._shards:
+        if len(parts) == len(self._shards):
             del self._told[name]
             self.read_to = max(self.read_to, place)
-            return reply_of(kind, number, [parts[shard] for shard in range(self._shards)])
+            return reply_of(kind, number, [parts[shard] for shard in self._shards])
         while self.kept and self.kept[0].place < place:
             self.kept.popleft()
         return self._next_kept(number)
@@ -98,18 +104,23 @@ class Hearing:
         return count > 0
 
     def _take(self, message: bytes) -> None:
+        """Takes an answer of a shard; what is none is passed over."""
         front, _, text = message.partition(b"\n")
-        place, shard, kind = front.split(b" ")
+        place, _, rest = front.partition(b" ")
+        shard, _, kind = rest.partition(b" ")
+        if shard not in self._shards or kind not in KINDS:
+            return
         if place not in self._told:
             if len(self._told) == MOST_HELD:
                 del self._told[next(iter(self._told))]
             self._told[place] = kind, {}
-        self._told[place][1][int(shard)] = text
+        self._told[place][1][shard] = text
 
     def _read(self, block: int | None) -> None:
-        """Takes replies that are kept."""
+        """Takes replies that are kept; what is none is passed over."""
         found = self._store.read({self._replies: self.read_to}, REPLIES_AT_ONCE, block)
         for place, fields in found.get(self._replies, []):
-            parts = [fields[b"%d" % shard] for shard in range(self._shards)]
-            self.kept.append(Kept(place, int(fields[LINE_NUMBER]), fields[KIND], parts))
             self.read_to = place
+            if _is_reply(fields, self._shards):
+                parts = [fields[shard] for shard in self._shards]
+                self.kept.append(Kept(place, int(fields[LINE_NUMBER]), fields[KIND], parts))

@@ -4,7 +4,7 @@ from __future__ import annotations
 
 import json
 import math
-from typing import Iterable, Iterator, Sequence
+from typing import Any, Iterable, Iterator, Mapping, Sequence
 
 from .lines import MOST_LINE_BYTES
 
@@ -13,9 +13,10 @@ MOST_LISTED = 1_024
 _FEW = 16
 
 
-def value_of(line: bytes) -> dict:
+def value_of(line: bytes) -> dict[str, Any]:
     """The JSON object of a line that the engine accepted."""
-    return json.loads(line.decode())
+    value: dict[str, Any] = json.loads(line.decode())
+    return value
 
 
 def text_of(value: object) -> bytes:
@@ -39,7 +40,7 @@ def register_lines(items: Iterable[bytes]) -> Iterator[bytes]:
         yield front + b",".join(held) + back
 
 
-def even_lines(queries: Sequence[dict]) -> list[bytes]:
+def even_lines(queries: Sequence[Mapping[str, str]]) -> list[bytes]:
     """One line that registers these queries, or two with a half each.
 
     An engine merges four neighbouring segments whose lengths lie between the same two powers of 4. Parts of like
@@ -53,13 +54,13 @@ def even_lines(queries: Sequence[dict]) -> list[bytes]:
     return [_registering(queries[:count // 2]), _registering(queries[count // 2:])]
 
 
-def _registering(queries: Sequence[dict]) -> bytes:
+def _registering(queries: Sequence[Mapping[str, str]]) -> bytes:
     return text_of({"op": "register", "queries": queries})
 
 
 def _is_near_a_power(count: int) -> bool:
     """Whether a power of 4 is less than a square root of 2 times as large, or as small."""
-    power = 4 ** round(math.log(count, 4))
+    power: int = 4 ** round(math.log(count, 4))
     return power * power < 2 * count * count and count * count < 2 * power * power
 
 
@@ -67,7 +68,7 @@ class LiveQueries:
     """The registered queries, by id, each as its listing."""
 
     def __init__(self) -> None:
-        self.by_id: dict[str, dict] = {}
+        self.by_id: dict[str, dict[str, str]] = {}
 
     def take(self, line: bytes) -> None:
         """Follows an accepted change."""

@@ -3,15 +3,19 @@
 from __future__ import annotations
 
 import zlib
-from dataclasses import dataclass
+from dataclasses import dataclass, field
 from typing import NamedTuple
 
 # Kinds of requests, as they stand in the stream.
 REGISTER, DELETE, CLEAR, PURGE, COUNT, SHOW, MATCH, FULL = b"r", b"d", b"c", b"p", b"n", b"s", b"m", b"f"
 CHANGES = frozenset({REGISTER, DELETE, CLEAR})
 
+KINDS = CHANGES | {PURGE, COUNT, SHOW, MATCH, FULL}
+
 # Fields of a request: the client, the number of the line in its input, the request's number, its kind, and the line.
 CLIENT, LINE_NUMBER, NUMBER, KIND, LINE = b"c", b"n", b"m", b"k", b"l"
+# Beside LINE_NUMBER a client's line that entered has its digest.
+DIGEST = b"d"
 # Beside LINE_NUMBER and KIND a reply that is kept has under each shard's number the shard's answer.
 
 
@@ -40,11 +44,16 @@ class Id(NamedTuple):
 
 @dataclass(frozen=True)
 class Settings:
-    """What a grid is made of; it stays as it is for the grid's life."""
+    """What a grid is made of; it stays as it is for the grid's life. By its mark it is known from one that was made
+    later under its name."""
 
     shards: int
     replicas: int
     limit: int
+    mark: bytes = field(default=b"", compare=False)
+
+    def __str__(self) -> str:
+        return f"shards {self.shards}, replicas {self.replicas}, limit {self.limit}"
 
 
 @dataclass(frozen=True)
@@ -63,7 +72,7 @@ class Names:
 
     @property
     def settings(self) -> str:
-        """A hash: shards, replicas, limit."""
+        """A hash: shards, replicas, limit, and the mark of the grid."""
         return self._key("settings")
 
     @property
@@ -75,6 +84,27 @@ class Names:
     def clients(self) -> str:
         """A hash: of each client the number of the last line that entered, and its checksum."""
         return self._key("clients")
+
+    @property
+    def lives(self) -> str:
+        """A hash: of each client the life that has its name."""
+        return self._key("lives")
+
+    @property
+    def over(self) -> str:
+        """A sorted set: the clients, by when their life is over, in milliseconds of Redis's clock."""
+        return self._key("over")
+
+    @property
+    def signs(self) -> str:
+        """A hash: of each role its last sign of life: when it was, at which request, and in which state. It stands in
+        memory alone."""
+        return self._key("signs")
+
+    @property
+    def number(self) -> str:
+        """How many requests ever entered."""
+        return self._key("number")
 
     @property
     def answered(self) -> str:
@@ -108,6 +138,10 @@ class Names:
         """The channel on which workers tell a client their answers."""
         return self._key("told", client)
 
+    def lines(self, client: str) -> str:
+        """The stream of the lines of a client that entered: the number and the digest of each."""
+        return self._key("lines", client)
+
     def replies(self, client: str) -> str:
         """The stream of the replies to a client that are kept."""
         return self._key("replies", client)
@@ -117,8 +151,12 @@ class Names:
         return self._key("snapshot", shard, version)
 
 
+# Under which names those two stand that are no workers.
+GATHERER, TIDIER = "gather", "tidy"
+
+
 def worker_name(shard: int, replica: int) -> str:
-    """Under which name a worker's positions stand."""
+    """Under which name a worker's positions and signs stand."""
     return f"{shard}:{replica}"
 
 

@@ -1,12 +1,13 @@
 """Answers of shards, and how the parts of a reply are put together, mostly by their bytes alone.
 
 The answer to a change or a count is a number. That to a `show` is the query's text as JSON from the shard of its id,
-and nothing from another. That to a `match` is the list of alerts as the engine wrote it, without its brackets; where
-listeners said something there follow a line feed and, as JSON, for each article what they said, each with the place of
-its query in the article's list.
+and nothing from another. That to a `match` is the list of alerts as the engine wrote it, without its brackets, with
+hits where the engine shows them; where listeners said something there follow a line feed and, as JSON, for each article
+what they said, each with the place of its query in the article's list.
 
-A quotation mark inside a text is written with a backslash, so `]},{"article":`, `,"queries":[` and `],"line":` occur
-where members stand and nowhere else; and where there is no backslash at all, `","` stands between two ids.
+A quotation mark inside a text is written with a backslash, so `]},{"article":`, `,"queries":[`, `,"hits":[` and
+`],"line":` occur where members stand and nowhere else; and where there is no backslash at all, `","` stands between two
+ids. A hit has no bracket in it, so `],[` stands between the hits of two queries.
 """
 
 from __future__ import annotations
@@ -14,6 +15,7 @@ from __future__ import annotations
 import json
 from heapq import merge
 from itertools import chain
+from operator import itemgetter
 from typing import Sequence
 
 from .errors import EngineFailed
@@ -33,7 +35,7 @@ class Heard:
     def __init__(self) -> None:
         self.names: set[str] = set()
 
-    def register(self, queries: Sequence[dict]) -> None:
+    def register(self, queries: Sequence[dict[str, str]]) -> None:
         """Follows a register of these queries."""
         for listing in queries:
             if "listener" in listing:
@@ -45,14 +47,14 @@ class Heard:
         """Follows a delete of these ids."""
         self.names.difference_update(ids)
 
-    def notes_by_place(self, found: Sequence[str], notes: Sequence[str], said: int) -> list[list]:
+    def notes_by_place(self, found: Sequence[str], notes: Sequence[str], said: int) -> list[list[object]]:
         """The notes of an article's alerts, from a place in the list of notes on, each with the place of its query."""
         if not self.names:
             return []
         places = [place for place, name in enumerate(found) if name in self.names]
         return [[place, note] for place, note in zip(places, notes[said:])]
 
-    def notes_by_article(self, alerts: Sequence[Sequence[str]], notes: Sequence[str]) -> list[list]:
+    def notes_by_article(self, alerts: Sequence[Sequence[str]], notes: Sequence[str]) -> list[list[list[object]]]:
         """The notes of each article, by the ids of the queries that hold of it."""
         said = 0
         articles = []
@@ -66,11 +68,13 @@ class Heard:
 
 def _listed(ids: bytes) -> list[str]:
     """The ids of a list without its brackets."""
-    return json.loads(b"[%b]" % ids)
+    found: list[str] = json.loads(b"[%b]" % ids)
+    return found
 
 
 def _articles(alerts: bytes) -> list[tuple[bytes, bytes]]:
-    """Of a list of alerts without its brackets: each article's id as JSON, and its queries, without brackets too."""
+    """Of a list of alerts without its brackets: each article's id as JSON, with the hits where there are any, and its
+    queries, without brackets too."""
     if not alerts:
         return []
     found = []
@@ -84,8 +88,6 @@ def match_answer(reply: bytes, heard: Heard) -> bytes:
     """A shard's answer, from its engine's reply to a match."""
     end = reply.index(_AFTER_ALERTS)
     alerts = reply[len(_ALERTS):end]
-    if _HITS in alerts:
-        raise EngineFailed("the engine shows hits, which a grid does not put together")
     notes = reply[reply.index(_NOTES, end) + len(_NOTES):-1]
     if notes == b"[]":
         return alerts
@@ -118,6 +120,30 @@ def merged(lists: Sequence[bytes]) -> bytes:
     return b'"%b"' % '","'.join(names).encode("latin-1")
 
 
+def _with_hits(fronts: Sequence[bytes], lists: Sequence[bytes]) -> tuple[bytes, bytes]:
+    """One list of hits and one of ids, in the byte order of the ids, from lists in that order, all without brackets."""
+    found: list[tuple[str, bytes]] = []
+    for front, ids in zip(fronts, lists):
+        names = _listed(ids)
+        hits = front.partition(_HITS)[2][1:-2].split(b"],[") if names else []
+        if len(hits) != len(names):
+            raise EngineFailed(f"the engine gave hits of {len(hits)} queries where {len(names)} hold")
+        found += zip(names, hits)
+    found.sort(key=itemgetter(0))
+    return b",".join(b"[%b]" % hits for _, hits in found), _ENCODER.encode([name for name, _ in found])[1:-1].encode()
+
+
+def _alert(found: Sequence[tuple[bytes, bytes]]) -> bytes:
+    """The alert of an article, from the shards' alerts of it."""
+    fronts, lists = [front for front, _ in found], [ids for _, ids in found]
+    has_hits = _HITS in fronts[0]
+    if any((_HITS in front) != has_hits for front in fronts):
+        raise EngineFailed("some engines of the grid show hits and some do not: start all workers with one command")
+    if not has_hits:
+        return b'{"article":%b,"queries":[%b]}' % (fronts[0], merged(lists))
+    return b'{"article":%b,"hits":[%b],"queries":[%b]}' % (fronts[0].partition(_HITS)[0], *_with_hits(fronts, lists))
+
+
 def _notes(shards: Sequence[Sequence[tuple[bytes, bytes]]], said: Sequence[bytes]) -> bytes:
     """What listeners said, in the order of the articles and of their queries' ids, by what each shard's did."""
     if not any(said):
@@ -139,8 +165,7 @@ def _matched(number: int, parts: Sequence[bytes]) -> bytes:
     shards = [_articles(alerts) for alerts, _, _ in cut]
     if any(len(articles) != len(shards[0]) for articles in shards):
         raise EngineFailed("the shards answered for different numbers of articles")
-    alerts = b",".join(b'{"article":%b,"queries":[%b]}' % (found[0][0], merged([ids for _, ids in found]))
-                       for found in zip(*shards))
+    alerts = b",".join(map(_alert, zip(*shards)))
     return b'{"alerts":[%b],"line":%d,"notes":%b}' % (alerts, number, _notes(shards, [said for _, _, said in cut]))
 
 

@@ -9,89 +9,51 @@ from __future__ import annotations
 
 import os
 import select
+import signal
+import sys
 import threading
 import time
 import zlib
 from collections import deque
-from dataclasses import dataclass
+from dataclasses import dataclass, replace
 from typing import Sequence
 
-from .engine import Engine
-from .errors import EngineDied, ServiceError, tell, write_all
+from .earlier import EarlierLines, digest_of
+from .errors import tell, write_all
 from .hearing import Hearing
 from .lines import BLOCK_BYTES, LineCutter, is_blank
-from .live import value_of
-from .names import CLEAR, COUNT, DELETE, MATCH, PURGE, REGISTER, SHOW, Id, shard_of
+from .lives import Life, forget
+from .names import Id
+from .probe import Probe, ids_by_shard, kind_of_line
 from .replies import Kind, kind_of, renumbered
 from .scripts import ENTER
-from .store import Store
+from .standing import Standings
+from .store import RequestsLost, Store
+from .waits import Waits, Watch
 
 INPUT, OUTPUT = 0, 1
 LINES_AT_ONCE = 32
 MOST_LINES_IN_FLIGHT = 1_024
 MOST_BYTES_IN_FLIGHT = 16 << 20
 TRIMMED_AFTER = 1_000
-PROBE_BYTES = 64 << 20
-MOST_DEATHS_IN_A_ROW = 5
-_CLEAR = b'{"op":"clear"}'
-_KINDS = {Kind.REGISTERED: REGISTER, Kind.DELETED: DELETE, Kind.CLEARED: CLEAR, Kind.COUNTED: COUNT}
+# An input that gives no line for so long may come from who waits for replies.
+STALLED_SECONDS = 0.2
+# A client without a name is forgotten so long after its end.
+NAMELESS_SECONDS = 600.0
+FORGET_SECONDS = 5.0
+STATUS_TERMINATED = 128 + signal.SIGTERM
 
 
-class Probe:
-    """An engine that judges lines, and forgets what it took."""
+@dataclass(frozen=True)
+class Options:
+    """How a client submits: the line from which on replies are printed (None for the first of its input), whether its
+    input begins behind the last line that entered, how many printed replies are kept, and how many seconds its name
+    lives behind its end."""
 
-    def __init__(self, command: Sequence[str]) -> None:
-        self._command = command
-        self._engine = Engine(command)
-        self._taken = 0
-
-    def judge(self, lines: Sequence[bytes]) -> list[bytes]:
-        """Its replies to the lines, none of which is blank."""
-        for attempt in range(MOST_DEATHS_IN_A_ROW):
-            try:
-                self._renew()
-                clears = [_CLEAR] if any(b"register" in line for line in lines) else []
-                self._taken += sum(map(len, lines)) if clears else 0
-                replies = list(self._engine.exchange([*lines, *clears]))[:len(lines)]
-                if not clears and any(kind_of(reply) is Kind.REGISTERED for reply in replies):
-                    list(self._engine.exchange([_CLEAR]))
-                return replies
-            except EngineDied:
-                time.sleep(0.01 * attempt)
-                self._taken = PROBE_BYTES
-        raise EngineDied(f"the probe ended {MOST_DEATHS_IN_A_ROW} times in a row")
-
-    def _renew(self) -> None:
-        """Begins with another engine where this one has taken much, since an engine keeps its history."""
-        if self._taken >= PROBE_BYTES:
-            self._engine.kill()
-            self._engine = Engine(self._command)
-            self._taken = 0
-
-
-def kind_of_line(reply: bytes) -> bytes:
-    """The kind of a line, by the probe's reply to it."""
-    if reply.startswith(b'{"alerts":'):
-        return MATCH
-    kind = _KINDS.get(kind_of(reply))
-    if kind is None:
-        return PURGE if reply.endswith(b',"purged":true}') else SHOW
-    return kind
-
-
-def ids_by_shard(kind: bytes, line: bytes, shards: int) -> list[object]:
-    """What the script is told of the ids that a change names: shard, how many, each once."""
-    if kind not in (REGISTER, DELETE):
-        return []
-    value = value_of(line)
-    named = value["ids"] if kind == DELETE else [listing["id"] for listing in value["queries"]]
-    by_shard: dict[int, list[bytes]] = {}
-    for name in dict.fromkeys(named):
-        by_shard.setdefault(shard_of(name, shards), []).append(name.encode())
-    told: list[object] = []
-    for shard, names in by_shard.items():
-        told += [shard, len(names), *names]
-    return told
+    first: int | None
+    goes_on: bool
+    kept: int
+    life: float
 
 
 @dataclass
@@ -110,44 +72,65 @@ class Slot:
 class Submitter:
     """One input, under one name."""
 
-    def __init__(self, store: Store, client: str, probe: Probe, first: int | None, goes_on: bool, kept: int) -> None:
+    def __init__(self, store: Store, client: str, probe: Probe, options: Options) -> None:
         self.store = store
         self.client = client
         self.probe = probe
-        self.kept = kept
-        self.shards = store.settings().shards
-        self.hearing = Hearing(store, client, self.shards)
-        told = store.do(lambda redis: redis.hget(store.names.clients, client))
-        last, _, checksum = (told or b"0:0").partition(b":")
-        self.entered = self.entered_before = int(last)
-        self.checksum = int(checksum)
-        self.number = self.entered_before if goes_on else 0
-        self.first = first if first is not None else self.number + 1
-        self.goes_on = goes_on
+        self.kept = options.kept
+        self.settings = store.settings()
+        self.hearing = Hearing(store, client, self.settings.shards)
+        self.life = Life(store, self.settings, client, options.life)
+        self.entered = self.entered_before = self.life.entered.number
+        self.earlier = EarlierLines(store, client, self.life.entered)
+        self.goes_on = options.goes_on
+        self.number = self.entered_before if options.goes_on else 0
+        self.first = options.first if options.first is not None else self.number + 1
         self.cutter = LineCutter()
         self.slots: deque[Slot] = deque()
         self.bytes_in_flight = 0
         self.changed = threading.Condition()
+        # Nothing is printed before the lines that entered in earlier lives are compared, as far as the input has them.
+        self.compared = threading.Event()
         self.input_ended = False
         self.failure: Exception | None = None
         self.printed = 0
+        self.waits = Waits()
 
     def run(self) -> None:
         """Submits the input to its end, and prints each reply."""
         printer = threading.Thread(target=self._print, daemon=True)
         printer.start()
+        Watch(self.store.program, self.life, self.waits, self._fail)
         while not self.input_ended:
-            readable, _, _ = select.select([INPUT], [], [], 1.0)
-            if self.failure:
-                raise self.failure
+            self._need_no_failure()
+            if self.number >= self.entered_before:
+                self.compared.set()
+            readable, _, _ = select.select([INPUT], [], [], 1.0 if self.compared.is_set() else STALLED_SECONDS)
             if readable:
-                block = os.read(INPUT, BLOCK_BYTES)
-                lines = self.cutter.feed(block) if block else self.cutter.end()
-                for at in range(0, len(lines), LINES_AT_ONCE):
-                    self._take(lines[at:at + LINES_AT_ONCE])
-                if not block:
-                    self._end()
-        printer.join()
+                self._take_block(os.read(INPUT, BLOCK_BYTES))
+            else:
+                self.compared.set()
+        self.compared.set()
+        while printer.is_alive():
+            printer.join(1.0)
+            self._need_no_failure()
+        self._need_no_failure()
+
+    def _take_block(self, block: bytes) -> None:
+        """Takes what the input gave, or its end."""
+        lines = self.cutter.feed(block) if block else self.cutter.end()
+        for at in range(0, len(lines), LINES_AT_ONCE):
+            self._take(lines[at:at + LINES_AT_ONCE])
+        if not block:
+            self._end()
+
+    def _fail(self, error: Exception) -> None:
+        """Ends the work, from whichever thread sees that it can't go on."""
+        with self.changed:
+            self.failure = self.failure or error
+            self.changed.notify_all()
+
+    def _need_no_failure(self) -> None:
         if self.failure:
             raise self.failure
 
@@ -158,16 +141,18 @@ class Submitter:
 
     def _take(self, lines: list[bytes]) -> None:
         """Judges lines, and lets those enter that are not refused."""
-        numbered = []
+        numbered: list[tuple[int, bytes, bool | None]] = []
         for line in lines:
             self.number += 1
-            self._compare(line)
-            needed = self.number > self.entered_before or self.number >= self.first
-            if needed and not is_blank(line):
-                numbered.append((self.number, line))
+            is_earlier = self.number <= self.entered_before
+            has_entered = self.earlier.has(self.number, line) if is_earlier else None
+            if (not is_earlier or self.number >= self.first) and not is_blank(line):
+                numbered.append((self.number, line, has_entered))
         slots, calls = [], []
-        for (number, line), reply in zip(numbered, self.probe.judge([line for _, line in numbered])):
+        for (number, line, has_entered), reply in zip(numbered, self._judged([line for _, line, _ in numbered])):
             is_refused = kind_of(reply) is Kind.REFUSED
+            if has_entered is False and not is_refused:
+                raise self.earlier.is_another(number)
             answered = renumbered(reply, number) if is_refused else None
             slots.append(Slot(number, len(line), answered, number >= self.first, number <= self.entered_before))
             if number > self.entered_before and not is_refused:
@@ -175,24 +160,24 @@ class Submitter:
         self._wait_for_room(slots)
         self._enter(calls, [slot for slot in slots if slot.reply is None and not slot.is_earlier])
 
-    def _compare(self, line: bytes) -> None:
-        """`ServiceError` where the last line that entered under this name was another."""
-        if self.number == self.entered_before and not self.goes_on and zlib.crc32(line) != self.checksum:
-            raise ServiceError(f"line {self.number} is another than the one that entered under the name {self.client}")
+    def _judged(self, lines: list[bytes]) -> list[bytes]:
+        """The probe's replies to lines."""
+        with self.waits.on("the engine that judges lines before they enter, which owes a reply"):
+            return self.probe.judge(lines)
 
     def _call(self, number: int, line: bytes, kind: bytes) -> tuple[list[str], list[object]]:
         before, self.entered = self.entered, number
-        return ([self.store.names.prefix], [self.client, number, before, zlib.crc32(line), kind, line,
-                                            *ids_by_shard(kind, line, self.shards)])
+        return ([self.store.names.prefix], [self.client, number, before, zlib.crc32(line), kind, line, self.life.mark,
+                                            digest_of(line), *ids_by_shard(kind, line, self.settings.shards)])
 
     def _wait_for_room(self, slots: list[Slot]) -> None:
         """Owes the lines their replies, once not too many are owed."""
         with self.changed:
             while (len(self.slots) > MOST_LINES_IN_FLIGHT or self.bytes_in_flight > MOST_BYTES_IN_FLIGHT) \
                     and not self.failure:
+                self.compared.set()
                 self.changed.wait(1.0)
-            if self.failure:
-                raise self.failure
+            self._need_no_failure()
             self.slots.extend(slots)
             self.bytes_in_flight += sum(slot.size for slot in slots)
             self.changed.notify_all()
@@ -201,24 +186,29 @@ class Submitter:
         """Lets lines enter, and notes as which requests they did."""
         if not calls:
             return
-        entered = self.store.scripted(ENTER, calls)
-        if b"gap" in entered:
-            raise ServiceError(f"another program submits under the name {self.client}")
+        places = self.store.scripted(ENTER, calls)
         with self.changed:
-            for slot, place in zip(slots, entered):
+            for slot, place in zip(slots, places):
+                if place == b"gap":
+                    raise RequestsLost(f"Redis forgot lines of {self.client} that entered: its file is an older one, or"
+                                       " is not synced always")
+                if place.startswith(b"life "):
+                    raise self.life.lost_to(place[len(b"life "):].decode())
                 slot.is_earlier = place == b"seen"
                 slot.place = None if slot.is_earlier else Id.of(place)
+                self.store.last_read = max(self.store.last_read, slot.place or Id(0, 0))
             self.changed.notify_all()
 
     def _print(self) -> None:
         """Prints replies in the order of the lines, in a thread of its own."""
         try:
+            self.compared.wait()
             self._print_earlier()
             while self._is_owed():
                 self._print_arrived()
                 self._wait()
         except Exception as error:
-            self.failure = error
+            self._fail(error)
 
     def _is_owed(self) -> bool:
         """Whether a reply is owed, after a wait for lines; False at the end."""
@@ -232,6 +222,7 @@ class Submitter:
         if not self.slots:
             return
         oldest = self.slots[0]
+        self.waits.begin("reply", oldest.number, lambda: self._waited_for(oldest))
         if oldest.is_earlier:
             self.hearing.wait_for_kept()
         elif oldest.place is not None:
@@ -239,6 +230,16 @@ class Submitter:
         elif oldest.reply is None:
             with self.changed:
                 self.changed.wait_for(lambda: oldest.place is not None or oldest.is_earlier, 0.1)
+
+    def _waited_for(self, slot: Slot) -> str:
+        """Whom the reply to a line waits for."""
+        if slot.place is None and not slot.is_earlier:
+            return f"Redis to take line {slot.number}"
+        return f"the reply to line {slot.number}: {Standings(self.store, self.settings).waited_for(slot.place)}"
+
+    def _write(self, text: bytes) -> None:
+        with self.waits.on("whoever reads the replies"):
+            write_all(OUTPUT, text)
 
     def _print_earlier(self) -> None:
         """Where the input goes on behind an earlier one: prints the replies of that one from the first on, as far as
@@ -251,7 +252,7 @@ class Submitter:
             while kept:
                 earlier = kept.popleft()
                 if earlier.line_number >= self.first:
-                    write_all(OUTPUT, earlier.reply() + b"\n")
+                    self._write(earlier.reply() + b"\n")
                 if earlier.line_number >= self.entered_before:
                     return
 
@@ -277,7 +278,8 @@ class Submitter:
             size += slot.size
         if not done:
             return
-        write_all(OUTPUT, b"".join(out))
+        self.waits.end("reply")
+        self._write(b"".join(out))
         with self.changed:
             for _ in range(done):
                 self.slots.popleft()
@@ -290,22 +292,26 @@ class Submitter:
         self.printed += done
         if self.printed >= TRIMMED_AFTER:
             self.printed = 0
-            key = self.store.names.replies(self.client)
-            self.store.do(lambda redis: redis.xtrim(key, maxlen=self.kept, approximate=True))
+            for key in (self.store.names.replies(self.client), self.store.names.lines(self.client)):
+                self.store.trim(key, self.kept)
 
 
-def forget(store: Store, client: str) -> None:
-    """Forgets a client, and its replies; none are kept for it from here on."""
-    store.do(lambda redis: redis.hdel(store.names.clients, client))
-    store.do(lambda redis: redis.delete(store.names.replies(client)))
+def _end_by_signal(*_: object) -> None:
+    sys.exit(STATUS_TERMINATED)
 
 
-def submit(store: Store, name: str | None, command: Sequence[str], first: int | None, goes_on: bool, kept: int) -> None:
+def submit(store: Store, name: str | None, command: Sequence[str], options: Options) -> None:
     """Submits standard input; without a name under one of its own, which is forgotten at the end."""
-    client = name or f"nameless-{os.getpid()}-{time.time_ns()}"
+    if name:
+        Submitter(store, name, Probe(command), options).run()
+        tell(store.program, f"submitted as {name}")
+        return
+    signal.signal(signal.SIGTERM, _end_by_signal)
+    client = f"nameless-{os.getpid()}-{time.time_ns()}"
     try:
-        Submitter(store, client, Probe(command), first, goes_on, kept).run()
+        Submitter(store, client, Probe(command), replace(options, life=NAMELESS_SECONDS)).run()
     finally:
-        if not name:
-            forget(store, client)
-    tell(store.program, f"submitted as {client}") if name else None
+        # Where Redis is away its name goes with its life.
+        forgetting = threading.Thread(target=forget, args=(store, client), daemon=True)
+        forgetting.start()
+        forgetting.join(FORGET_SECONDS)

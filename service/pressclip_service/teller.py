@@ -8,18 +8,25 @@ from __future__ import annotations
 
 from collections import deque
 from itertools import islice
-from typing import TYPE_CHECKING, NamedTuple, Sequence
+from typing import Any, NamedTuple, Protocol, Sequence
 
-from .names import Id, worker_name
+from .names import Id, Names, worker_name
 from .scripts import TELL
 
-if TYPE_CHECKING:
-    from .store import Store
 
 TOLD_AT_ONCE = 256
 # So many bytes are held, each answer with what is told beside it; there are more where nothing is kept for long.
 MOST_BYTES_HELD = 64 << 20
 BYTES_BESIDE = 256
+
+
+class Scripted(Protocol):
+    """What runs scripts for a grid, as a `Store` does."""
+
+    names: Names
+
+    def scripted(self, script: str, calls: Sequence[tuple[Sequence[str], Sequence[object]]], /) -> list[Any]:
+        """The results of calls of a script, each with keys and arguments."""
 
 
 class NotHeld(Exception):
@@ -45,12 +52,12 @@ def _size(answer: Answer) -> int:
 class Teller:
     """The answers of one worker behind a request, in the order of the requests."""
 
-    def __init__(self, store: Store, shard: int, replica: int, after: Id) -> None:
+    def __init__(self, store: Scripted, shard: int, replica: int, after: Id) -> None:
         self._store = store
         self._front = [worker_name(shard, replica), shard]
         # Up to there Redis has the answers, as far as it said; up to there they are kept, or were let go.
         self._told = Id(0, 0)
-        self._dropped = after
+        self._dropped = self._taken = after
         self._held: deque[Answer] = deque()
         self._waiting: deque[Answer] = deque()
         self._bytes = 0
@@ -62,8 +69,11 @@ class Teller:
 
     def tell(self, answers: Sequence[Answer] = ()) -> None:
         """Tells answers, and before them those that Redis forgot; `NotHeld` where these are not here any more. What an
-        earlier life told is held alone."""
+        earlier life told is held alone, and an answer that is given twice is taken once."""
         for answer in answers:
+            if answer.place <= self._taken:
+                continue
+            self._taken = answer.place
             (self._held if answer.place <= self._told else self._waiting).append(answer)
             self._bytes += _size(answer)
         is_done = False

@@ -5,13 +5,16 @@ from __future__ import annotations
 import time
 
 from .errors import tell
-from .names import Id, worker_name
+from .lives import forget_what_is_over
+from .names import TIDIER, Id, worker_name
+from .signs import Signs, State
 from .snapshots import Replaced, live_at, replace, snapshot_of
 from .store import PAUSE_SECONDS, Store
 
 
 class Tidier:
-    """Makes snapshots once enough requests were answered, and then drops what nobody needs."""
+    """Makes snapshots once enough requests were answered, and then drops what nobody needs; forgets clients whose life
+    is over."""
 
     def __init__(self, store: Store, after: int) -> None:
         self.store = store
@@ -22,10 +25,20 @@ class Tidier:
 
     def run(self) -> None:
         """Tidies whenever the stream is long enough; ends by an error alone."""
+        signs = Signs(self.store, self.settings, TIDIER)
         while True:
+            if signs.is_due:
+                signs.give(min(snapshot_of(self.store, shard).number for shard in range(self.settings.shards)),
+                           State.READY)
+                self.forget()
             if self.store.do(lambda client: client.xlen(self.store.names.requests)) > self.after:
                 self.tidy()
             time.sleep(PAUSE_SECONDS * 5)
+
+    def forget(self) -> None:
+        """Forgets clients whose life is over."""
+        for name in forget_what_is_over(self.store):
+            tell(self.store.program, f"forgets {name}, whose life is over")
 
     def passed(self) -> Id:
         """Up to which request all have answered, all replies are kept, and nobody needs the stream."""
@@ -55,7 +68,6 @@ class Tidier:
 
     def _trim(self, up_to: Id) -> None:
         """Drops requests before a place; that one itself may stay."""
-        requests = self.store.names.requests
-        dropped = self.store.do(lambda client: client.xtrim(requests, minid=up_to.text(), approximate=False))
+        dropped = self.store.asked("XTRIM", self.store.names.requests, "MINID", up_to.text())
         if dropped:
             tell(self.store.program, f"snapshots stand at {up_to.text()}; {dropped} requests dropped")

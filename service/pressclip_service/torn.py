@@ -7,6 +7,7 @@ the next transaction when the file is read once more. So the whole front is cut 
 
 from __future__ import annotations
 
+import errno
 import fcntl
 import os
 import re
@@ -17,7 +18,7 @@ from typing import BinaryIO
 
 from .errors import BrokenFile, FileInUse
 
-FOLDER, MANIFEST = "appendonlydir", "appendonly.aof.manifest"
+FOLDER, MANIFEST, LOCK = "appendonlydir", "appendonly.aof.manifest", "service-redis.lock"
 CHECK = "redis-check-aof"
 # The grid's own transactions have some 4 MB at most.
 MOST_BYTES_TORN = 64 << 20
@@ -86,14 +87,32 @@ def last_part(folder: Path) -> Path | None:
     return folder / FOLDER / parts[-1] if parts else None
 
 
+def lock_folder(folder: Path) -> None:
+    """Has a folder to itself, as long as this process or what it becomes lives; waits a little for whoever ends still.
+    `FileInUse` where another process has it."""
+    held = os.open(folder / LOCK, os.O_RDWR | os.O_CREAT | os.O_CLOEXEC, 0o600)
+    deadline = time.monotonic() + PATIENCE_SECONDS
+    while True:
+        try:
+            fcntl.flock(held, fcntl.LOCK_EX | fcntl.LOCK_NB)
+            break
+        except BlockingIOError:
+            if time.monotonic() > deadline:
+                raise FileInUse(f"another service/redis has the folder {folder}; two would break its file") from None
+        time.sleep(0.05)
+    os.set_inheritable(held, True)
+
+
 def mend(folder: Path) -> int:
     """Cuts off what is torn at the end of the file of a Redis that has ended, and gives how many bytes that were.
 
-    `BrokenFile` where the file is broken elsewhere, `FileInUse` where it is torn and open still. Cost: reads the file
+    `BrokenFile` where the file is broken elsewhere, `FileInUse` where another process has it open. Cost: reads the file
     once."""
     file = last_part(folder)
-    if file is None:
+    if file is None or not file.exists():
         return 0
+    with open(file, "r+b") as opened:
+        _have_alone(file, opened, needs_proof=False)
     done = subprocess.run([CHECK, str(file)], stdin=subprocess.DEVNULL, stdout=subprocess.PIPE,
                           stderr=subprocess.STDOUT, check=False)
     if done.returncode == 0:
@@ -117,14 +136,17 @@ def _cut(file: Path, end: int) -> int:
     return len(rest)
 
 
-def _have_alone(file: Path, opened: BinaryIO) -> None:
-    """Has the file to itself until it is closed; waits a little for whoever reads it still."""
+def _have_alone(file: Path, opened: BinaryIO, needs_proof: bool = True) -> None:
+    """Has the file to itself until it is closed; waits a little for whoever reads it still. A file system that can't
+    say who else has it open is believed where no proof is needed."""
     deadline = time.monotonic() + PATIENCE_SECONDS
     while True:
         try:
             fcntl.fcntl(opened, fcntl.F_SETLEASE, fcntl.F_WRLCK)
             return
         except OSError as error:
+            if not needs_proof and error.errno not in (errno.EAGAIN, errno.EBUSY):
+                return
             if time.monotonic() > deadline:
-                raise FileInUse(f"{file} is torn, and another process may have it open: {error.strerror}") from error
+                raise FileInUse(f"another process may have {file} open: {error.strerror}") from error
         time.sleep(0.05)

@@ -3,6 +3,7 @@
 from __future__ import annotations
 
 import ctypes
+import os
 import signal
 import subprocess
 import sys
@@ -13,7 +14,7 @@ from typing import Sequence
 
 from .errors import tell
 from .names import Settings
-from .store import Store
+from .store import REDIS_VARIABLE, Store
 
 PAUSE_SECONDS = 0.2
 _PR_SET_PDEATHSIG = 1
@@ -25,7 +26,7 @@ class Part:
 
     name: str
     command: list[str]
-    process: subprocess.Popen | None = None
+    process: subprocess.Popen[bytes] | None = None
 
 
 def _end_with_parent() -> None:
@@ -35,7 +36,8 @@ def _end_with_parent() -> None:
 
 def parts_of(script: Path, options: Sequence[str], settings: Settings, tidy_after: int,
              engine: Sequence[str]) -> list[Part]:
-    """What a grid is made of beside Redis and its clients."""
+    """What a grid is made of beside Redis and its clients. Where Redis is stands in the environment of all, since its
+    URL may have a password."""
     front = [sys.executable, str(script), *options]
     parts = [Part("gather", [*front, "gather"]), Part("tidy", [*front, "tidy", "--after", str(tidy_after)])]
     for shard in range(settings.shards):
@@ -53,8 +55,9 @@ def _stop(*_: object) -> None:
     raise Stopped()
 
 
-def keep_up(store: Store, parts: Sequence[Part]) -> None:
-    """Starts all parts, and again whichever ends, until a signal ends the whole."""
+def keep_up(store: Store, url: str, parts: Sequence[Part]) -> None:
+    """Starts all parts, and again whichever ends, until a signal ends the whole. They find Redis by the URL."""
+    environment = {**os.environ, REDIS_VARIABLE: url}
     signal.signal(signal.SIGTERM, _stop)
     signal.signal(signal.SIGINT, _stop)
     try:
@@ -64,7 +67,7 @@ def keep_up(store: Store, parts: Sequence[Part]) -> None:
                     tell(store.program, f"{part.name} ended with status {part.process.returncode} and is started again")
                     part.process = None
                 if part.process is None:
-                    part.process = subprocess.Popen(part.command, stdin=subprocess.DEVNULL,
+                    part.process = subprocess.Popen(part.command, stdin=subprocess.DEVNULL, env=environment,
                                                     preexec_fn=_end_with_parent)
             time.sleep(PAUSE_SECONDS)
     except Stopped:

@@ -2,7 +2,7 @@
 
 from __future__ import annotations
 
-from typing import Sequence
+from typing import Any, Sequence
 
 import redis
 from redis.exceptions import ResponseError
@@ -18,9 +18,10 @@ class Wire:
     """One connection, of one thread; it is made where it is needed, and made anew where it broke."""
 
     def __init__(self, pool: redis.ConnectionPool) -> None:
-        self._connection = pool.connection_class(**pool.connection_kwargs)
+        # Its types know texts alone, and it takes bytes as well.
+        self._connection: Any = pool.connection_class(**pool.connection_kwargs)
 
-    def ask(self, calls: Sequence[Sequence[object]]) -> list:
+    def ask(self, calls: Sequence[Sequence[object]]) -> list[Any]:
         """What Redis answers to the calls, which are sent together; an error stands in its place."""
         try:
             self._connection.send_packed_command([b"".join(map(packed, calls))], check_health=False)
@@ -31,7 +32,8 @@ class Wire:
 
     def _answer(self) -> object:
         try:
-            return self._connection.read_response()
+            answer: object = self._connection.read_response()
+            return answer
         except ResponseError as error:
             return error
 
@@ -41,7 +43,7 @@ class Channel:
     not heard."""
 
     def __init__(self, pool: redis.ConnectionPool, name: str) -> None:
-        self._connection = pool.connection_class(**pool.connection_kwargs)
+        self._connection: Any = pool.connection_class(**pool.connection_kwargs)
         self._subscribe = [packed(["SUBSCRIBE", name])]
         self._is_open = False
 
@@ -56,7 +58,8 @@ class Channel:
         try:
             if not self._is_open:
                 self.open()
-            return self._connection.read_response()[2] if self._connection.can_read(seconds) else None
+            told: bytes | None = self._connection.read_response()[2] if self._connection.can_read(seconds) else None
+            return told
         except BaseException:
             self._is_open = False
             self._connection.disconnect()

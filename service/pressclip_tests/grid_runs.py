@@ -9,29 +9,29 @@ import subprocess
 import time
 from pathlib import Path
 from random import Random
-from typing import Sequence
+from typing import NamedTuple, Sequence
 
 from pressclip_service.engine import command_of
 
 from .judge import GRID, REDIS, Due, Failed, need
-from .leaky import LeakyWay
+from .leaky import Faults, LeakyWay
 from .processes import ENDED, Spoken, engine_of
 
 DEBIAN_PYTHON = "/usr/bin/python3"
 WINDOW = 60
-# In a grid with leaks so few of Redis's answers are dropped.
-DROPPED_ONE_IN = 8
 KINDS = ("worker", "engine", "gatherer", "tidy", "client", "redis")
 # How often two processes are ended with nothing between.
 TWO_AT_ONCE = 0.2
 REDIS_SECONDS = 30.0
+ROLE_SECONDS = 300.0
 
 
 def free_port() -> int:
     """A port of this machine that nobody uses."""
     with socket.socket() as found:
         found.bind(("127.0.0.1", 0))
-        return found.getsockname()[1]
+        port: int = found.getsockname()[1]
+        return port
 
 
 class Redis:
@@ -40,7 +40,7 @@ class Redis:
     def __init__(self, folder: Path) -> None:
         self.folder = folder
         self.port = free_port()
-        self.process: subprocess.Popen | None = None
+        self.process: subprocess.Popen[bytes] | None = None
         self.start()
         self.asked("PING")
 
@@ -59,14 +59,26 @@ class Redis:
 
     def asked(self, *words: str) -> str:
         """What it answers, by its own client, once it is there."""
+        return self.asked_raw(*words).decode().strip()
+
+    def asked_raw(self, *words: str) -> bytes:
+        """The same as bytes, with the line feed behind it."""
         deadline = time.monotonic() + REDIS_SECONDS
         while True:
-            done = subprocess.run(["redis-cli", "-p", str(self.port), *words], stdout=subprocess.PIPE,
-                                  stderr=subprocess.PIPE, text=True, check=False)
-            if done.returncode == 0 and not done.stdout.startswith("LOADING"):
-                return done.stdout.strip()
-            need(time.monotonic() < deadline, f"{words}: {done.stdout}{done.stderr}")
+            done = subprocess.run(["redis-cli", "--raw", "-p", str(self.port), *words], stdout=subprocess.PIPE,
+                                  stderr=subprocess.PIPE, check=False)
+            if done.returncode == 0 and not done.stdout.startswith(b"LOADING"):
+                return done.stdout
+            need(time.monotonic() < deadline, f"{words}: {done.stdout!r}{done.stderr!r}")
             time.sleep(0.05)
+
+
+class Request(NamedTuple):
+    """A request as it stands in the stream: the client, the number of the line, and the line."""
+
+    client: str
+    line_number: int
+    line: bytes
 
 
 class Role:
@@ -74,15 +86,19 @@ class Role:
 
     def __init__(self, grid: Grid, *words: str) -> None:
         self.words = words
-        self.command = [*grid.command(*words), "--", *command_of([], workers=0)]
+        self.command = [*grid.command(*words), "--", *grid.engine]
         self.told = open(grid.folder / ("-".join(words).replace("/", "") + ".told"), "ab")
-        self.process: subprocess.Popen | None = None
+        self.process: subprocess.Popen[bytes] | None = None
         self.start()
 
     def start(self) -> None:
         """Starts it."""
         self.process = subprocess.Popen(self.command, stdin=subprocess.DEVNULL, stdout=subprocess.DEVNULL,
                                         stderr=self.told)
+
+    def status(self) -> int | None:
+        """The status with which it ended; None while it goes on."""
+        return self.process.poll() if self.process else None
 
     def kill(self) -> None:
         """Ends it at once."""
@@ -94,11 +110,16 @@ class Role:
 class Grid:
     """Redis, the workers, the gatherer and what tidies."""
 
+    # What stands behind the engine's command.
+    words: Sequence[str] = ()
+
     def __init__(self, folder: Path, shards: int, replicas: int, *, limit: int = 1_000_000, after: int = 150,
-                 leaks: Random | None = None) -> None:
+                 faults: Faults | None = None) -> None:
         self.folder = folder
+        self.engine = [*command_of([], workers=0), *self.words]
         self.redis = Redis(folder)
-        self.way = LeakyWay(self.redis.port, leaks, DROPPED_ONE_IN) if leaks else None
+        self._clients: list[Spoken] = []
+        self.way = LeakyWay(self.redis.port, faults) if faults else None
         self.run("init", "--shards", str(shards), "--replicas", str(replicas), "--limit", str(limit))
         self.workers = [Role(self, "worker", "--shard", str(shard), "--replica", str(replica))
                         for shard in range(shards) for replica in range(replicas)]
@@ -114,18 +135,26 @@ class Grid:
 
     def run(self, *words: str, text: bytes = b"") -> bytes:
         """What a role that ends by itself prints."""
-        return subprocess.run(self.command(*words, "--", *command_of([], workers=0)), input=text,
-                              stdout=subprocess.PIPE, check=True).stdout
+        return self.ended(*words, text=text, check=True).stdout
 
-    def requests(self) -> list[tuple[str, int, bytes]]:
-        """All requests in the stream in order: client, number of the line, and the line."""
-        printed = subprocess.run(["redis-cli", "-p", str(self.redis.port), "--raw", "XRANGE",
-                                  "pressclip:grid:requests", "-", "+"], stdout=subprocess.PIPE, check=True).stdout
-        lines = printed.split(b"\n")
+    def ended(self, *words: str, text: bytes = b"", check: bool = False) -> subprocess.CompletedProcess[bytes]:
+        """A role that ends by itself, with its status and what it printed and told."""
+        return subprocess.run(self.command(*words, "--", *self.engine), input=text, stdout=subprocess.PIPE,
+                              stderr=None if check else subprocess.PIPE, check=check, timeout=ROLE_SECONDS)
+
+    def client(self, *words: str) -> Spoken:
+        """A client that is spoken to line by line, and is ended with the grid."""
+        client = Spoken([*self.command("submit", *words), "--", *self.engine])
+        self._clients.append(client)
+        return client
+
+    def requests(self) -> list[Request]:
+        """All requests in the stream in order."""
+        lines = self.redis.asked_raw("XRANGE", "pressclip:grid:requests", "-", "+").split(b"\n")
         found = []
         for at in range(0, len(lines) - 10, 11):
             fields = dict(zip(lines[at + 1:at + 11:2], lines[at + 2:at + 11:2]))
-            found.append((fields[b"c"].decode(), int(fields[b"n"]), fields[b"l"]))
+            found.append(Request(fields[b"c"].decode(), int(fields[b"n"]), fields[b"l"]))
         return found
 
     def told(self) -> str:
@@ -143,6 +172,9 @@ class Grid:
 
     def close(self) -> None:
         """Ends all of it."""
+        for client in self._clients:
+            client.process.kill()
+            client.process.wait()
         for role in (*self.workers, *self.others):
             role.kill()
             role.told.close()
@@ -180,34 +212,54 @@ class Chaos:
     def _client(self) -> Spoken:
         """A client that prints what is not printed yet, of the whole input."""
         self.sent = 0
-        return Spoken(self.grid.command("submit", "--name", self.name, "--from", str(self.answered + 1), "--",
-                                        *command_of([], workers=0)))
+        return self.grid.client("--name", self.name, "--from", str(self.answered + 1))
 
     def run(self, places: Sequence[int]) -> bytes:
         """The replies to the whole input."""
         left = sorted(places)
-        while self.answered < len(self.due.lines):
-            while self.sent < min(len(self.due.lines), self.answered + WINDOW):
-                self.client.send(self.due.lines[self.sent])
-                self.sent += 1
+        while not self.is_done:
+            self.feed(WINDOW)
             if left and self.answered >= left[0]:
                 left.pop(0)
-                self._end_one()
+                self.end_one()
                 if left and self.dice.random() < TWO_AT_ONCE:
                     left.pop(0)
-                    self._end_one()
+                    self.end_one()
                 continue
-            self._take(self.client.wait_for_replies())
+            self.take(self.client.wait_for_replies())
         self.client.close()
+        return self.text()
+
+    @property
+    def is_done(self) -> bool:
+        """Whether the whole input is answered."""
+        return self.answered == len(self.due.lines)
+
+    def text(self) -> bytes:
+        """The replies so far."""
         return b"".join(reply + b"\n" for reply in self.got)
 
-    def _take(self, replies: list[bytes]) -> None:
+    def feed(self, ahead: int) -> None:
+        """Sends lines, so many at most that are not answered."""
+        while self.sent < min(len(self.due.lines), self.answered + ahead):
+            self.client.send(self.due.lines[self.sent])
+            self.sent += 1
+
+    def goes_on_to(self, count: int, ahead: int = 20) -> None:
+        """Has so many lines answered."""
+        while self.answered < count:
+            self.feed(ahead)
+            self.take(self.client.wait_for_replies())
+
+    def take(self, replies: list[bytes]) -> None:
+        """Counts replies; `Failed` where there are none."""
         if not replies:
             raise Failed(f"no reply to line {self.answered + 1}; the client told {self.client.told()}\n"
                          f"{self.grid.told()}")
-        self._count(replies)
+        self.count(replies)
 
-    def _count(self, replies: list[bytes]) -> None:
+    def count(self, replies: list[bytes]) -> None:
+        """Counts replies, and lines that have none."""
         for reply in replies:
             self.got.append(reply)
             self._pass_blank()
@@ -218,13 +270,13 @@ class Chaos:
         while self.answered < len(self.due.lines) and self.due.replies[self.answered] is None:
             self.answered += 1
 
-    def _end_one(self) -> None:
+    def end_one(self) -> None:
         """Ends a process of some kind by SIGKILL, and starts it again."""
         kind = self._next_kind()
         self.client.turn(self.dice.choice([0, 0.005, 0.02]))
         if kind == "client":
             self.client.kill()
-            self._count(self.client.replies())
+            self.count(self.client.replies())
             self.client = self._client()
         elif kind == "redis":
             self.grid.redis.kill()

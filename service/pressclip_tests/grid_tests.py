@@ -16,6 +16,7 @@ from .grid_runs import Chaos, Grid
 from .inputs import Source, joined, with_long_lines
 from .judge import Due, folder, need, replies_of_engine, same
 from .keep_runs import dump_of, run_keep
+from .leaky import LEAKS
 from .processes import children_of, engine_of
 
 SHAPES = ((1, 1), (2, 1), (3, 2), (8, 1))
@@ -80,12 +81,12 @@ def answers_of_redis_are_lost() -> None:
     """Connections that break between what Redis did and its answer: all is done once, whoever asks again."""
     source = Source(90)
     due = Due.of(source.lines(800))
-    with folder() as name, Grid(Path(name), 2, 2, after=1_000_000, leaks=Random(1)) as grid:
+    with folder() as name, Grid(Path(name), 2, 2, after=1_000_000, faults=LEAKS) as grid:
         chaos = Chaos(grid, due, source.dice, "desk")
         same(chaos.run([]), due.text(), "with answers of Redis lost")
         entered = [place + 1 for place, reply in enumerate(due.replies)
                    if reply is not None and kind_of(reply) is not Kind.REFUSED]
-        need([number for _, number, _ in grid.requests()] == entered, "not each line entered once")
+        need([request.line_number for request in grid.requests()] == entered, "not each line entered once")
         need(grid.way is not None and grid.way.dropped > 50, "too few answers were lost")
         grid.needs_all()
 
@@ -96,15 +97,9 @@ def redis_gone_for_ten_seconds() -> None:
     due = Due.of(source.lines(400))
     with folder() as name, Grid(Path(name), 2, 1) as grid:
         chaos = Chaos(grid, due, source.dice, "desk")
-        while chaos.answered < 200:
-            while chaos.sent < chaos.answered + 20:
-                chaos.client.send(due.lines[chaos.sent])
-                chaos.sent += 1
-            chaos._take(chaos.client.wait_for_replies())
+        chaos.goes_on_to(200)
         grid.redis.kill()
-        while chaos.sent < chaos.answered + 60:
-            chaos.client.send(due.lines[chaos.sent])
-            chaos.sent += 1
+        chaos.feed(60)
         end = time.monotonic() + 10
         while time.monotonic() < end:
             chaos.client.turn(0.5)
@@ -223,10 +218,10 @@ def clients_at_once() -> None:
                 running[client] = subprocess.Popen(grid.command("submit", "--name", client), stdin=file, stdout=out)
         need(all(process.wait(120) == 0 for process in running.values()), grid.told())
         order = grid.requests()
-        replies = replies_of_engine(joined([line for _, _, line in order])).splitlines()
+        replies = replies_of_engine(joined([request.line for request in order])).splitlines()
         due: dict[str, list[bytes]] = {client: [] for client in inputs}
-        for (client, number, _), reply in zip(order, replies):
-            due[client].append(renumbered(reply, number))
+        for request, reply in zip(order, replies):
+            due[request.client].append(renumbered(reply, request.line_number))
         for client in inputs:
             got = Path(name, f"{client}.out").read_bytes().splitlines()
             same(joined([reply for reply in got if b'"refused":' not in reply[:40]]), joined(due[client]), client)

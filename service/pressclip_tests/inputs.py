@@ -47,7 +47,7 @@ class Source:
         parts = [dice.choice(["", "", "+", "-"]) + dice.choice(WORDS) for _ in range(dice.randint(1, most))]
         return " ".join(parts) if dice.random() < 0.9 else dice.choice(WORDS)[:1] + "*"
 
-    def listing(self) -> dict:
+    def listing(self) -> dict[str, str]:
         """A query as a register lists it."""
         listing = {"id": self.id(), "query": self.text(3)}
         if self.dice.random() < 0.5:
@@ -64,7 +64,7 @@ class Source:
         return dumped({"ids": [self.id() for _ in range(self.dice.randint(0, 4))] * self.dice.choice([1, 1, 2]),
                        "op": "delete"}, self.dice)
 
-    def article(self) -> dict:
+    def article(self) -> dict[str, object]:
         """An article, in one field or in two."""
         words = " ".join(self.dice.choices(WORDS, k=self.dice.randint(0, 12)))
         fields = {"text": words} if self.dice.random() < 0.8 else {"text": words, "title": "W1 w2"}

@@ -67,7 +67,7 @@ class Due:
         return _written(value)
 
 
-def _written(value: dict) -> bytes:
+def _written(value: dict[str, object]) -> bytes:
     return json.dumps(value, ensure_ascii=False, separators=(",", ":")).encode()
 
 

@@ -22,7 +22,7 @@ from segments import segments_after
 REQUESTS = 400
 
 
-def queries(names: Sequence[str]) -> list[dict]:
+def queries(names: Sequence[str]) -> list[dict[str, str]]:
     """Queries under these ids."""
     return [{"id": name, "query": "tea"} for name in names]
 

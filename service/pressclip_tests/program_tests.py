@@ -37,7 +37,8 @@ def hits_are_shown_where_the_words_ask() -> None:
 
 def other_words_are_refused() -> None:
     """With what there is on standard error, status 2, and nothing read."""
-    for words in ([], ["run", "hits", "4"], ["run", "65", "hits"], ["trace", "hits"], ["hits"]):
+    refused: list[list[str]] = [[], ["run", "hits", "4"], ["run", "65", "hits"], ["trace", "hits"], ["hits"]]
+    for words in refused:
         done = run(words, b'{"op":"count"}\n')
         need(done.returncode == 2, f"{words} ended with status {done.returncode}")
         same(done.stderr, USAGE, f"{words} on standard error")

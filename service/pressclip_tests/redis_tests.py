@@ -92,7 +92,7 @@ def what_is_broken_elsewhere_is_left() -> None:
         file.write_bytes(whole[:-9])
         with open(file, "ab"):
             status, told = mended(redis)
-            need(status == STATUS_LOCKED and "is torn" in told, f"{status} {told}")
+            need(status == STATUS_LOCKED and "another process may have" in told, f"{status} {told}")
             need(file.read_bytes() == whole[:-9], "a file that is open was changed")
         status, told = mended(redis)
         need(status == 0 and "are cut off" in told and file.read_bytes() == whole[:whole.rindex(MULTI)], told)

@@ -116,13 +116,13 @@ class Memory:
         """Loses what was only told."""
         self.answers, self.told = [], b"0-0"
 
-    def scripted(self, _: str, calls: Sequence[tuple[Sequence[str], Sequence[object]]]) -> list:
+    def scripted(self, _: str, calls: Sequence[tuple[Sequence[str], Sequence[object]]]) -> list[list[bytes]]:
         """Tells answers behind the place that is named, where that is the last one."""
-        _, _, before, after, *told = calls[0][1]
+        _, _, before, after, *told = map(str, calls[0][1])
         if before == self.told.decode():
             need(all(Id.of(place.encode()) > Id.of(self.told) for place in told[::6]), f"told twice: {told}")
-            self.answers += [str(place) for place in told[::6]]
-            self.told = str(after).encode()
+            self.answers += told[::6]
+            self.told = after.encode()
         return [[self.told, self.kept]]
 
 
@@ -220,8 +220,9 @@ def all_end_between_told_and_kept() -> None:
     due = Due.of(source.lines(400))
     with folder() as name, Grid(Path(name), 2, 2) as grid:
         told_without_a_gatherer(grid, due)
-        for role in (*grid.workers, grid.redis):
+        for role in grid.workers:
             end(role)
+        end(grid.redis)
         grid.redis.start()
         answers_told = [f"{PREFIX}answers:{s}:{r}" for s in "01" for r in "01"]
         left = grid.redis.asked("EXISTS", PREFIX + "answered", *answers_told)
@@ -270,12 +271,10 @@ def what_a_client_missed_is_kept_for_it() -> None:
         chaos = Chaos(grid, due, source.dice, "desk")
         broken = 0
         while chaos.answered < 500:
-            while chaos.sent < min(len(due.lines), chaos.answered + 40):
-                chaos.client.send(due.lines[chaos.sent])
-                chaos.sent += 1
+            chaos.feed(40)
             chaos.client.turn(0.02)
             broken += int(grid.redis.asked("CLIENT", "KILL", "TYPE", "pubsub"))
-            chaos._take(chaos.client.wait_for_replies())
+            chaos.take(chaos.client.wait_for_replies())
         same(chaos.run([]), due.text(), f"with {broken} connections broken")
         need(broken >= 10, f"only {broken} connections were broken")
         grid.needs_all()
