@@ -3,18 +3,18 @@
 from __future__ import annotations
 
 import json
-import os
 import re
+import select
 from collections import Counter
 from dataclasses import dataclass
 from enum import Enum
 from typing import Sequence
 
-from .errors import tell, write_all
+from .errors import NoReader, read_block, tell, write_all
 from .lines import BLOCK_BYTES, LineCutter, is_blank
+from .streams import INPUT, OUTPUT, can_write
 
 NAME = "service/articles"
-INPUT, OUTPUT = 0, 1
 MOST_LINE_BYTES = 16 << 20
 MOST_FIELDS = 16
 _PART = re.compile(r"([A-Za-z_][A-Za-z0-9_]{0,63})=((?:\.[^.]+)+)")
@@ -172,8 +172,13 @@ class Mapper:
 
 def serve(mapper: Mapper) -> None:
     """Maps standard input to standard output, to its end; what came whole is handed on before more is awaited."""
+    if not can_write(OUTPUT):
+        raise NoReader("nobody reads the lines: standard output is closed")
     cutter = LineCutter(MOST_LINE_BYTES)
-    while block := os.read(INPUT, BLOCK_BYTES):
+    while (block := read_block(INPUT, BLOCK_BYTES)) != b"":
+        if block is None:
+            select.select([INPUT], [], [])
+            continue
         write_all(OUTPUT, b"".join(mapper.line(line) + b"\n" for line in cutter.feed(block)))
     write_all(OUTPUT, b"".join(mapper.line(line) + b"\n" for line in cutter.end()))
     mapper.tell_counts()

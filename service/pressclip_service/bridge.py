@@ -10,12 +10,12 @@ from dataclasses import dataclass, field
 from typing import Callable, Iterator, Protocol, Sequence
 
 from .engine import environment, widen
-from .errors import EngineFailed, ServiceError, tell
+from .errors import EngineFailed, ServiceError
 from .lines import BLOCK_BYTES, LineCutter, is_blank
+from .patience import Patience
 
 MOST_LINES_IN_FLIGHT = 4_096
 MOST_BYTES_IN_FLIGHT = 8 << 20
-SILENT_SECONDS = 5.0
 TURN_SECONDS = 0.05
 
 
@@ -59,22 +59,6 @@ class Outlet(Protocol):
 
     def serve(self) -> None:
         """Hears what was kept by now, where no other thread does."""
-
-
-class Waiting:
-    """Tells what is waited for, once in each wait, where it lasts some seconds."""
-
-    def __init__(self, program: str) -> None:
-        self._program = program
-        self._since, self._progress, self._is_told = time.monotonic(), 0, False
-
-    def look(self, what: str, progress: int = 0) -> None:
-        """Looks at what is waited for, if anything, and at how much was done so far: more of it ends a wait."""
-        if not what or progress != self._progress:
-            self._since, self._progress, self._is_told = time.monotonic(), progress, False
-        elif not self._is_told and time.monotonic() - self._since > SILENT_SECONDS:
-            self._is_told = True
-            tell(self._program, f"waits for {what}")
 
 
 class Bridge:
@@ -168,11 +152,15 @@ class Bridge:
                 self._changed.wait(TURN_SECONDS)
 
     def _watch(self) -> None:
-        """Tells who is waited for, as long as there is a bridge."""
-        waiting = Waiting(self.program)
+        """Tells who is waited for, as long as there is a bridge; what is done meanwhile ends a wait."""
+        patience, done = Patience(self.program), 0
         while True:
             time.sleep(TURN_SECONDS)
-            waiting.look(self.owes(), self._done)
+            owes = self.owes()
+            if not owes or done != self._done:
+                patience.begin()
+                done = self._done
+            patience.look(f"waits for {owes}")
 
     def _settle(self) -> None:
         """Tells the outlet of each message at the front whose replies are kept."""

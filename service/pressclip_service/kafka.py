@@ -8,8 +8,9 @@ from typing import Any, Callable, Sequence
 from confluent_kafka import (OFFSET_BEGINNING, Consumer, KafkaError, KafkaException,  # type: ignore[import]
                              Producer, TopicPartition)
 
-from .bridge import Bridge, Message, Waiting, lines_of
+from .bridge import Bridge, Message, lines_of
 from .errors import ServiceError, tell
+from .patience import Patience
 
 PARTITION = 0
 TURN_SECONDS = 0.2
@@ -96,7 +97,7 @@ class Source:
 
     def open(self, is_over: Callable[[], bool]) -> bool:
         """Waits for Kafka, and goes to where the group stands; whether it is there before the work is over."""
-        waiting = Waiting(self._program)
+        patience = Patience(self._program)
         while not is_over():
             try:
                 topic = self.consumer.list_topics(self._place.requests, timeout=1).topics[self._place.requests]
@@ -104,7 +105,7 @@ class Source:
                 (kept,) = self.consumer.committed([TopicPartition(self._place.requests, PARTITION)], timeout=1)
             except KafkaException:
                 self.consumer.poll(0)
-                waiting.look(f"Kafka at {self._place.brokers}: {self._last_error}")
+                patience.look(f"waits for Kafka at {self._place.brokers}: {self._last_error}")
                 continue
             start = kept.offset if kept.offset >= 0 else OFFSET_BEGINNING
             self.consumer.assign([TopicPartition(self._place.requests, PARTITION, start)])

@@ -9,8 +9,9 @@ from typing import Any, Callable, Sequence
 
 from paho.mqtt import client as mqtt
 
-from .bridge import Bridge, Message, Waiting, lines_of
+from .bridge import Bridge, Message, lines_of
 from .errors import ServiceError, tell
+from .patience import Patience
 
 USUAL_PORT = 1883
 USUAL_TLS_PORT = 8883
@@ -83,7 +84,7 @@ class Source:
 
     def __init__(self, program: str, place: Place) -> None:
         self._program, self._place = program, place
-        self._waiting = Waiting(program)
+        self._patience = Patience(program)
         self._client = place.opened(place.client, is_kept=True)
         self._client.on_connect = self._subscribe
         self._client.on_subscribe = self._look_at_grant
@@ -114,11 +115,12 @@ class Source:
             try:
                 self._client.reconnect()
             except OSError as error:
-                self._waiting.look(f"MQTT at {self._place.host}:{self._place.port}: {error.strerror or error}")
+                where = f"{self._place.host}:{self._place.port}"
+                self._patience.look(f"waits for MQTT at {where}: {error.strerror or error}")
                 threading.Event().wait(PAUSE_SECONDS)
                 return
             self._is_connected = True
-            self._waiting.look("")
+        self._patience.begin()
         self._is_connected = self._client.loop(TURN_SECONDS) == mqtt.MQTT_ERR_SUCCESS
 
     def close(self) -> None:

@@ -7,6 +7,7 @@ import subprocess
 from typing import Callable
 
 from .judge import SERVICE, need, replies_of_engine, same
+from .streams_tests import run_closed
 
 ARTICLES = SERVICE / "articles"
 MAPPING = ("id=.url", "title=.headline", "text=.body.plain")
@@ -97,7 +98,14 @@ def other_mappings_are_refused() -> None:
         need(done.returncode == 2 and why in done.stderr.decode() and not done.stdout, f"{words}: {done}")
 
 
+def closed_streams_are_told() -> None:
+    """An input that can't be read is no end of it, and an output that nobody reads is no success."""
+    for closed, due in ((0, 4), (1, 6)):
+        status, _, told = run_closed([str(ARTICLES), "id=.url"], closed)
+        need(status == due and b"Traceback" not in told, f"stream {closed}: status {status} and {told!r}")
+
+
 TESTS: tuple[Callable[[], None], ...] = (
     each_line_has_a_line_in_its_place, nulls_and_lists_are_told_and_counted,
     nulls_and_lists_are_refused_where_that_is_asked_for, a_line_comes_before_more_is_awaited,
-    other_mappings_are_refused)
+    other_mappings_are_refused, closed_streams_are_told)
