@@ -5,15 +5,16 @@
         for found in monitor.match({"id": "a1", "fields": {"text": "Tea prices rise"}}):
             print(found.query)
 
-A `Monitor` is used by one thread at a time.
+A `Monitor` may be used by many threads: one of their calls is done after another. It can't be copied.
 """
 
 from __future__ import annotations
 
 import ctypes
+import threading
 from ctypes import POINTER, Structure, byref, c_bool, c_char_p, c_int, c_size_t, c_uint64, c_void_p
 from types import TracebackType
-from typing import Mapping, NamedTuple
+from typing import Any, Mapping, NamedTuple, NoReturn
 
 from ._library import load
 
@@ -97,11 +98,30 @@ def _found(result: c_void_p) -> list[Found]:
 
 
 class Monitor:
-    """An engine. With `hits`, replies and matches show where in an article a query holds."""
+    """An engine. With `hits`, replies and matches show where in an article a query holds.
+
+    Threads may share it: a call waits until that of another thread is over. A signal handler of the thread that is in a
+    call may make calls too, since what one of them answers lies outside the engine.
+    """
+
+    _engine: c_void_p
+    _lock: threading.RLock
+
+    def __new__(cls, *arguments: Any, **named: Any) -> Monitor:
+        """A monitor without an engine, which `__init__` opens."""
+        monitor = super().__new__(cls)
+        monitor._engine, monitor._lock = c_void_p(), threading.RLock()
+        return monitor
 
     def __init__(self, hits: bool = False) -> None:
-        self._engine = c_void_p()
-        _well(_LIBRARY.pressclip_open(hits, byref(self._engine)))
+        """Opens the engine; called again, it ends the one before. `Refused` with `memory`."""
+        with self._lock:
+            self.close()
+            _well(_LIBRARY.pressclip_open(hits, byref(self._engine)))
+
+    def __reduce__(self) -> NoReturn:
+        """Refuses `copy.copy`, `copy.deepcopy` and `pickle`."""
+        raise TypeError("a Monitor can't be copied: its engine has one owner")
 
     def __enter__(self) -> Monitor:
         return self
@@ -115,7 +135,7 @@ class Monitor:
 
     def close(self) -> None:
         """Ends the engine. Every other call is refused after it, by the word `closed`."""
-        if getattr(self, "_engine", None):
+        with self._lock:
             _LIBRARY.pressclip_close(byref(self._engine))
 
     def register(self, id: str, query: str, listener: str | None = None) -> None:
@@ -124,31 +144,35 @@ class Monitor:
         `Refused` with `limit`, `query`, `listener`, `full` or `memory`.
         """
         name, text, heard = id.encode(), query.encode(), None if listener is None else listener.encode()
-        _well(_LIBRARY.pressclip_register(self._engine, name, len(name), text, len(text), heard, len(heard or b"")))
+        with self._lock:
+            _well(_LIBRARY.pressclip_register(self._engine, name, len(name), text, len(text), heard, len(heard or b"")))
 
     def delete(self, id: str) -> bool:
         """Takes a query out, and says whether there was one. `Refused` with `limit`, `full` or `memory`."""
         name, deleted = id.encode(), c_uint64()
-        _well(_LIBRARY.pressclip_delete(self._engine, name, len(name), byref(deleted)))
+        with self._lock:
+            _well(_LIBRARY.pressclip_delete(self._engine, name, len(name), byref(deleted)))
         return deleted.value == 1
 
     def count(self) -> int:
         """How many queries are registered."""
         count = c_uint64()
-        _well(_LIBRARY.pressclip_count(self._engine, byref(count)))
+        with self._lock:
+            _well(_LIBRARY.pressclip_count(self._engine, byref(count)))
         return count.value
 
-    def match(self, article: Mapping) -> list[Found]:
+    def match(self, article: Mapping[str, Any]) -> list[Found]:
         """The queries that hold of `{"id": .., "fields": {name: text, ..}}`, in the byte order of their ids.
 
         `Refused` with `limit` or `memory`.
         """
         id = article["id"].encode()
         pairs = [(name.encode(), text.encode()) for name, text in article["fields"].items()]
-        fields = (_Field * max(1, len(pairs)))(*[(name, len(name), text, len(text)) for name, text in pairs])
+        fields = (_Field * max(1, len(pairs)))(*[_Field(name, len(name), text, len(text)) for name, text in pairs])
         result = c_void_p()
-        _well(_LIBRARY.pressclip_match(self._engine, id, len(id), fields, len(pairs), byref(result)))
         try:
+            with self._lock:
+                _well(_LIBRARY.pressclip_match(self._engine, id, len(id), fields, len(pairs), byref(result)))
             return _found(result)
         finally:
             _LIBRARY.pressclip_result_free(result)
@@ -159,8 +183,9 @@ class Monitor:
         `Refused` with `feed`, `lines` or `memory`; refusals by the protocol are replies.
         """
         reply, length = c_void_p(), c_size_t()
-        _well(_LIBRARY.pressclip_line(self._engine, line, len(line), byref(reply), byref(length)))
         try:
+            with self._lock:
+                _well(_LIBRARY.pressclip_line(self._engine, line, len(line), byref(reply), byref(length)))
             return _copied(reply, length)
         finally:
             _LIBRARY.pressclip_free(reply)
