@@ -48,7 +48,7 @@ def a_closed_output_is_no_reader() -> None:
         journal = Path(name) / "j"
         for closed in ((1,), (1, 2), (0, 1, 2)):
             status, _, told = run_keep(journal, DUMPED, before=closing(*closed))
-            need(status == 6 and (2 in closed or "standard output is closed" in told), f"{closed}: {status} {told}")
+            need(status == 6 and (2 in closed or "is not open for writing" in told), f"{closed}: {status} {told}")
             need(not journal.exists(), f"{closed}: a journal was made")
         need(run_keep(journal, DUMPED)[1] == REGISTERED, "no reply")
         for word in ("--dump", "--changes", "--version"):
