@@ -10,6 +10,7 @@ pub mod PastFronts
 pub mod PlacedWords
 pub mod RaisedFlags
 pub mod ReadingOf
+pub mod Repeating
 pub mod Runs
 pub mod Spotted
 pub mod Strict

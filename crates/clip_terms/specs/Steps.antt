@@ -10,6 +10,7 @@ pub mod Numbers
 pub mod Parts
 pub mod Places
 pub mod Reading
+pub mod Repeats
 pub mod Runs
 pub mod Sought
 pub mod Spots

@@ -12,6 +12,7 @@ mod likely;
 mod numbering;
 mod parts;
 mod reading;
+mod repeats;
 mod spots;
 mod terms;
 
