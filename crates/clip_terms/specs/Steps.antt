@@ -1,5 +1,6 @@
 -- What the proofs of this crate go through, and private fields as contracts see them; no public clause cites it.
 pub mod Asking
+pub mod FieldNumbers
 pub mod FieldTerms
 pub mod Flags
 pub mod Fronts

@@ -4,11 +4,13 @@
 ghost use Rattle.std.specs.Prelude.{◌≡◌};
 
 mod asking;
+mod field_numbers;
 mod field_terms;
 mod flags;
 mod heads;
 mod leads;
 mod likely;
+mod matching;
 mod numbering;
 mod parts;
 mod reading;

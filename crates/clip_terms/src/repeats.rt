@@ -1,9 +1,13 @@
 //! A search for a run of numbers that takes a step for each number of it and for each word, whatever repeats.
-ghost use Rattle.std.specs.Prelude.{◌≡◌, ℕ, true, false, ◌+◌, ◌^◌, ◌<◌, ◌≤◌, Option, None, MatchOption, length, get_or, slice_index, drop};
+ghost use Rattle.std.specs.Prelude.{◌≡◌, ℕ, false, ◌+◌, ◌^◌, ◌<◌, ◌≤◌, None, MatchOption};
+ghost use Rattle.std.specs.Prelude.{length, get_or, slice_index, drop};
+ghost use Rattle.clip_meaning.specs.Steps.Marks.{AreRaised};
 ghost use Rattle.clip_terms.specs.Steps.Runs.{is_number, begins_with};
+ghost use Rattle.clip_terms.specs.Steps.FieldNumbers.{is_covered_from};
 ghost use Rattle.clip_terms.specs.Steps.Repeats.{Returns, NoneBelow, AreRepeats, Moves, Agree, IsNext};
 
-use crate::reading::is_number;
+use crate::flags::FieldFlags;
+use crate::matching::is_number;
 
 /// The most spans of a run. Each has a longer period than the two before it together, so these are enough for a run of
 /// 2^32 numbers; the beginnings of a longer one are taken for shorter ones.
@@ -30,6 +34,9 @@ pub(crate) struct Aligned {
     pub(crate) start: usize,
     pub(crate) kept: usize,
 }
+
+/// At the start of the words, where nothing is known.
+pub(crate) const AT_START: Aligned = Aligned { start: 0, kept: 0 };
 
 /// A run, and which of its beginnings repeat: those of the spans, of all that are shorter than a length.
 #[derive(Debug, Drop)]
@@ -197,5 +204,23 @@ impl<'a> Repeats<'a> {
             at = self.moved(at);
         }
         None
+    }
+
+    /// Raises the flags of the positions that the run covers where it stands among numbers. Takes no memory. Cost: a
+    /// step for each number, times the logarithm of the run's length at most; no flag is raised twice.
+    pub(crate) fn mark(&self, numbers: &[Option<u32>], flags: &mut FieldFlags)
+        requires repeats { AreRepeats self.now }
+        requires some { 0 < length self.now.run.now }
+        ensures long { length flags.new ≡ length flags.old }
+        ensures raised { AreRaised flags.old flags.new (λ k. is_covered_from self.now.run.now k 0 numbers.now) }
+    {
+        let mut at = AT_START;
+        let mut end = 0;
+        while let Some(found) = self.next_from(numbers, at) {
+            let start = found.start.max(end);
+            end = found.start + self.run.len();
+            flags.raise(start, end - start);
+            at = self.moved(found);
+        }
     }
 }

@@ -1,5 +1,8 @@
 -- How the beginnings of a run repeat, by which a search moves it on.
-use Rattle.std.specs.Prelude.{◌≡◌, ℕ, ◌+◌, ◌-◌, ◌<◌, ◌≤◌, true, false, List, get_or, length, slice_index, Option, None, drop}
+use Rattle.std.specs.Prelude.{◌≡◌, ℕ, ◌+◌, ◌-◌, ◌<◌, ◌≤◌, true, false, ◌||◌, List, get_or, length, slice_index, Option, None, drop}
+use Rattle.clip_meaning.specs.Hits.{is_within}
+use Rattle.clip_meaning.specs.Steps.Marks.{is_up}
+use Rattle.clip_terms.specs.Steps.FieldNumbers.{is_covered_from}
 use Rattle.clip_terms.specs.Steps.Runs.{is_number, begins_with}
 use Rattle.clip_terms.specs.declared.repeats.Aligned.{Aligned}
 use Rattle.clip_terms.specs.declared.repeats.Span.{Span}
@@ -59,3 +62,14 @@ pub record IsNext (run : List ℕ) (numbers : List (Option ℕ)) (at found : Ali
   pub whole : found.kept ≡ length run
   pub agree : Agree run numbers found
   pub nowhere : NowhereIn run numbers at.start found.start
+
+-- The flags are those of before, and those of a run's positions where it stands before a position; from there on all are
+-- up before an end.
+pub record AreMarked (run : List ℕ) (numbers : List (Option ℕ)) (old new : List ℕ) (start end : ℕ) : Type 0 where
+  pub long : length new ≡ length old
+  pub kept : (k : ℕ) → k < length old → is_up (get_or old k 0) ≡ true → is_up (get_or new k 0) ≡ true
+  pub just : (k : ℕ) → k < length old → is_up (get_or new k 0) ≡ true → (is_up (get_or old k 0) || is_covered_from run k 0 numbers) ≡ true
+  pub done : (k p : ℕ) → k < length old → p < start → begins_with run (drop p numbers) ≡ true → is_within p (length run) k ≡ true
+      → is_up (get_or new k 0) ≡ true
+  pub beyond : (k : ℕ) → k < length old → start ≤ k → k < end → is_up (get_or new k 0) ≡ true
+  pub bound : end ≤ start + length run
