@@ -2,7 +2,7 @@
 use Rattle.std.proofs.Common.{◌≡◌, ℕ, zero, suc, ◌<◌, ◌≤◌, List, [], ◌∷◌, ◌++◌, map, length, slice_get, Some, unwrap_or, refl, sym, ap, ◌∙◌, subst, arith, append_assoc, length-append}
 use Rattle.std.specs.List.{All}
 use Rattle.std.proofs.lemmas.List.{append-nil, length-map, map-append, map_push, length_push}
-use Rattle.std.proofs.lemmas.List.Elements.{All-nil, All-head, All-tail, All-push, All-weaker}
+use Rattle.std.proofs.lemmas.List.Elements.{All-nil, All-cons, All-append, All-head, All-tail, All-push, All-weaker}
 use Rattle.clip_grammar.specs.Tree.{Tree, tree_of}
 use Rattle.clip_grammar.specs.declared.query.Occur.{Occur}
 use Rattle.clip_grammar.specs.declared.query.Query.{Query}
@@ -53,7 +53,7 @@ place_kept m n k l (step.Term occur number) a b h = tt
 place_kept m n k l (step.Pair occur first second) a b h = tt
 place_kept m n k l (step.Phrase occur place) a b h = omega arith
 place_kept m n k l (step.Query occur place) a b h = omega arith
-place_kept m n k l step.Open a b h = tt
+place_kept m n k l (step.Open occur inside) a b h = tt
 place_kept m n k l (step.Close occur) a b h = tt
 
 pub places_kept : (m n k l : ℕ) (steps : List Step) → m ≤ k → n ≤ l → All (HasPlace m n) steps → All (HasPlace k l) steps
@@ -66,7 +66,7 @@ mark_kept runs new_runs queries new_queries (step.Pair occur first second) g a h
 mark_kept runs new_runs queries new_queries (step.Phrase occur place) g a h = ap (λ o. Leaf occur (Run (unwrap_or o []))) (get_kept runs new_runs place g h)
 mark_kept runs new_runs queries new_queries (step.Query occur place) g a h =
     ap (λ o. Leaf occur (Is (unwrap_or o Tree.All))) (get_kept (map tree_of queries) (map tree_of new_queries) place (trees_grow a) (rw length-map h))
-mark_kept runs new_runs queries new_queries step.Open g a h = refl
+mark_kept runs new_runs queries new_queries (step.Open occur inside) g a h = refl
 mark_kept runs new_runs queries new_queries (step.Close occur) g a h = refl
 
 pub marks_kept : (runs new_runs : List (List ℕ)) (queries new_queries : List Query) (steps : List Step) → Grows runs new_runs → Grows queries new_queries → All (HasPlace (length runs) (length queries)) steps
@@ -84,6 +84,18 @@ stand_kept terms runs new_runs queries new_queries steps marks g a h = record {
   decode = ap (decoded terms) (marks_kept runs new_runs queries new_queries steps g a h.places) ∙ h.decode;
 }
 
+-- steps behind others
+stand_append : (terms : List KeyValue) (runs : List (List ℕ)) (queries : List Query) (xs ys : List Step) (ms ns : List (Mark KeyValue)) → StandFor terms runs queries xs ms → StandFor terms runs queries ys ns
+    → StandFor terms runs queries (xs ++ ys) (ms ++ ns)
+stand_append terms runs queries xs ys ms ns f g =
+    let mark = mark_of runs (map tree_of queries) in
+    record {
+      places = All-append (HasPlace (length runs) (length queries)) xs ys f.places g.places;
+      decode =
+          ap (decoded terms) (map-append mark xs ys) ∙ map-append (named (term_at terms)) (map mark xs) (map mark ys)
+          ∙ ap (λ l. l ++ decoded terms (map mark ys)) f.decode ∙ ap (λ l. ms ++ l) g.decode;
+    }
+
 -- ---- adding
 
 -- nothing
@@ -91,25 +103,23 @@ pub adds_nothing : (terms : List KeyValue) (runs new_runs : List (List ℕ)) (qu
 adds_nothing terms runs new_runs queries new_queries steps g a = record {
   runs_grow = g;
   queries_grow = a;
-  stand = λ marks h. subst (StandFor terms new_runs new_queries steps) (sym (append-nil marks)) (stand_kept terms runs new_runs queries new_queries steps marks g a h);
+  added = [];
+  behind = sym (append-nil steps);
+  stand = record { places = All-nil (HasPlace (length new_runs) (length new_queries)); decode = refl };
 }
 
 -- a step
 pub adds_step : (terms : List KeyValue) (runs : List (List ℕ)) (queries : List Query) (steps new : List Step) (s : Step) (m : Mark KeyValue) → new ≡ steps ++ s ∷ [] → HasPlace (length runs) (length queries) s
     → named (term_at terms) (mark_of runs (map tree_of queries) s) ≡ m → Adds terms runs queries steps runs queries new (m ∷ [])
-adds_step terms runs queries steps new s m e place is = record {
-  runs_grow = grows_not runs;
-  queries_grow = grows_not queries;
-  stand = λ marks h. record {
-    places = subst (All (HasPlace (length runs) (length queries))) (sym e) (All-push (HasPlace (length runs) (length queries)) steps s h.places place);
-    decode =
-        ap (λ l. decoded terms (map (mark_of runs (map tree_of queries)) l)) e
-        ∙ ap (decoded terms) (map_push (mark_of runs (map tree_of queries)) steps s)
-        ∙ map_push (named (term_at terms)) (map (mark_of runs (map tree_of queries)) steps) (mark_of runs (map tree_of queries) s)
-        ∙ ap (λ ms. ms ++ named (term_at terms) (mark_of runs (map tree_of queries) s) ∷ []) h.decode
-        ∙ ap (λ x. marks ++ x ∷ []) is;
-  };
-}
+adds_step terms runs queries steps new s m e place is =
+    let P = HasPlace (length runs) (length queries) in
+    record {
+      runs_grow = grows_not runs;
+      queries_grow = grows_not queries;
+      added = s ∷ [];
+      behind = e;
+      stand = record { places = All-cons P s [] place (All-nil P); decode = ap (λ x. x ∷ []) is };
+    }
 
 -- one after the other
 pub adds_then : (terms : List KeyValue) (runs₀ runs₁ runs₂ : List (List ℕ)) (queries₀ queries₁ queries₂ : List Query) (steps₀ steps₁ steps₂ : List Step) (ms ns : List (Mark KeyValue))
@@ -117,8 +127,22 @@ pub adds_then : (terms : List KeyValue) (runs₀ runs₁ runs₂ : List (List �
 adds_then terms runs₀ runs₁ runs₂ queries₀ queries₁ queries₂ steps₀ steps₁ steps₂ ms ns f g = record {
   runs_grow = grows_then f.runs_grow g.runs_grow;
   queries_grow = grows_then f.queries_grow g.queries_grow;
-  stand = λ marks h. subst (StandFor terms runs₂ queries₂ steps₂) (append_assoc marks ms ns) (g.stand (marks ++ ms) (f.stand marks h));
+  added = f.added ++ g.added;
+  behind = g.behind ∙ ap (λ l. l ++ g.added) f.behind ∙ append_assoc steps₀ f.added g.added;
+  stand = stand_append terms runs₂ queries₂ f.added g.added ms ns (stand_kept terms runs₁ runs₂ queries₁ queries₂ f.added ms g.runs_grow g.queries_grow f.stand) g.stand;
 }
+
+-- the same steps, behind others
+pub adds_behind : {terms : List KeyValue} {runs new_runs : List (List ℕ)} {queries new_queries : List Query} {steps new_steps : List Step} {more : List (Mark KeyValue)} (f : Adds terms runs queries steps new_runs new_queries new_steps more) (others : List Step)
+    → Adds terms runs queries others new_runs new_queries (others ++ f.added) more
+adds_behind f others = record { runs_grow = f.runs_grow; queries_grow = f.queries_grow; added = f.added; behind = refl; stand = f.stand }
+
+-- as many steps as marks
+pub as_many : {terms : List KeyValue} {runs new_runs : List (List ℕ)} {queries new_queries : List Query} {steps new_steps : List Step} {more : List (Mark KeyValue)} (f : Adds terms runs queries steps new_runs new_queries new_steps more)
+    → length f.added ≡ length more
+as_many {terms} {runs} {new_runs} {queries} {new_queries} {steps} {new_steps} {more} f =
+    let mark = mark_of new_runs (map tree_of new_queries) in
+    sym (length-map f.added mark) ∙ sym (length-map (map mark f.added) (named (term_at terms))) ∙ ap length f.stand.decode
 
 -- ---- leaves
 
@@ -150,12 +174,10 @@ adds_query terms runs queries new_queries steps new occur q place more at e =
 
 -- ---- plans, with one more
 
-nothing_stands : (terms : List KeyValue) (runs : List (List ℕ)) (queries : List Query) (steps : List Step) → steps ≡ [] → StandFor terms runs queries steps []
-nothing_stands terms runs queries steps e = subst (λ (l : List Step). StandFor terms runs queries l []) (sym e) (record { places = All-nil (HasPlace (length runs) (length queries)); decode = refl })
-
 steps_stand : {terms : List KeyValue} {runs new_runs : List (List ℕ)} {queries new_queries : List Query} {steps new_steps : List Step} {marks : List (Mark KeyValue)} → steps ≡ []
     → Adds terms runs queries steps new_runs new_queries new_steps marks → StandFor terms new_runs new_queries new_steps marks
-steps_stand {terms = terms} {runs = runs} {queries = queries} {steps = steps} e added = added.stand [] (nothing_stands terms runs queries steps e)
+steps_stand {terms} {runs} {new_runs} {queries} {new_queries} {steps} {new_steps} {marks} e f =
+    subst (λ (l : List Step). StandFor terms new_runs new_queries l marks) (sym (f.behind ∙ ap (λ l. l ++ f.added) e)) f.stand
 
 abbrev AllPlaced : List (List ℕ) → List Query → List (List Step) → Type 0
 AllPlaced runs queries plans = All (All (HasPlace (length runs) (length queries))) plans
