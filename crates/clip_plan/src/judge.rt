@@ -97,7 +97,7 @@ impl Tally {
 
     /// How many steps are passed at a step: all of a clause that changes nothing.
     fn passed(self, step: Step) -> usize
-        ensures few { result ≤ 4294967297 }
+        ensures few { result < 9223372036854775808 }
         ensures is { (runs : List (List ℕ)) (queries : List Tree) (terms : List KeyValue)
             → result ≡ passed self (meant runs queries terms step) }
     {
@@ -154,8 +154,8 @@ fn step_holds(runs: &PackedLists<u32>, queries: &[Query], step: Step, reading: &
     }
 }
 
-/// The tally of the group that is open after the step of a place, where `held` is whether what it asks is so. The groups
-/// around that one are on the stack.
+/// The tally of the group that is open after the step of a place, where `held` is whether what it asks is so. The
+/// groups around that one are on the stack.
 fn tally_after(
     step: Step,
     held: bool,
@@ -165,7 +165,8 @@ fn tally_after(
 ) -> Result<Tally, NoMemory>
     requires { place < 9223372036854775807 }
     ensures { IfOk result (λ next. (runs : List (List ℕ)) (queries : List Tree) (terms : List KeyValue)
-        → (next, reverse stack.new.items) ≡ marked place (meant runs queries terms step) held top (reverse stack.old.items)) }
+        → (next, reverse stack.new.items)
+        ≡ marked place (meant runs queries terms step) held top (reverse stack.old.items)) }
 {
     match step {
         Step::Open(_, inside) => {
@@ -257,10 +258,10 @@ impl Plans {
     /// Whether the query of the plan at a place holds of the article that is read, where the plan's numbers are those
     /// of the reading's terms. `stack` is room for the groups that are open.
     ///
-    /// `NoMemory` where the room had to grow and an allocation failed. Cost: a step for each leaf and group that is come
-    /// to, and for a phrase what `Reading::has_run` takes. What is left of a group is passed in one step once a clause
-    /// keeps it from holding, and a clause that may hold is passed in one, and not asked, once its group has a clause
-    /// that must hold or one that does.
+    /// `NoMemory` where the room had to grow and an allocation failed. Cost: a step for each leaf and group that it
+    /// comes to, and for a phrase what `Reading::has_run` takes. What is left of a group is passed in one step once a
+    /// clause keeps it from holding, and a clause that may hold is passed in one, and not asked, once its group has a
+    /// clause that must hold or one that does.
     pub fn judge(
         &self,
         place: usize,

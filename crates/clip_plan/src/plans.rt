@@ -210,7 +210,8 @@ fn add_leaf(
 fn end_group(occur: Occur, opening: usize, steps: &mut Vec<Step>) -> Result<(), NoMemory>
     requires { opening < length steps.old.items }
     ensures { OnOk result (steps.new.items
-        ≡ set steps.old.items opening (step.Open occur (length steps.old.items - opening - 1)) ++ step.Close occur ∷ []) }
+        ≡ set steps.old.items opening (step.Open occur (length steps.old.items - opening - 1))
+        ++ step.Close occur ∷ []) }
 {
     let inside = kept_place(steps.len() - opening - 1)?;
     steps[opening] = Step::Open(occur, inside);

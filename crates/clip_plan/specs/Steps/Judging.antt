@@ -92,14 +92,15 @@ pub record Left (Then : List (Mark KeyValue) → ℕ → Tally → Type 0) (fiel
   pub are : marks ≡ group_marks clauses ++ others
   pub end : Then others (place + length (group_marks clauses)) (counted_all top (verdicts clauses fields))
 
--- At these marks the group that is open ends, at the place that its tally has; behind its end go on those around it, and
--- in the end the outermost holds or does not.
+-- At these marks the group that is open ends, at the place that its tally has; behind its end those around it go on,
+-- and in the end the outermost holds or does not.
 abbrev pub Ends : Fields → (holds : Bool) → (around : List Tally) → List (Mark KeyValue) → (place : ℕ) → Tally → Type 0
 Ends fields holds [] marks place top = (marks ≡ []) × (top.end ≡ place) × (tally_holds top ≡ holds)
 Ends fields holds (next ∷ around) marks place top =
     (occur : Occur) × (others : List (Mark KeyValue)) × (marks ≡ Close occur ∷ others) × (top.end ≡ place)
     × Left (Ends fields holds around) fields others (place + 1) (counted next occur (tally_holds top))
 
--- From a place on, the marks of these steps lead to whether the query holds.
-abbrev pub LeadTo : Fields → (holds : Bool) → List (Mark KeyValue) → (place : ℕ) → Tally → (around : List Tally) → Type 0
+-- From a place on, the marks of a plan lead to whether its query holds.
+abbrev pub LeadTo : Fields → (holds : Bool) → List (Mark KeyValue) → (place : ℕ) → Tally → (around : List Tally)
+    → Type 0
 LeadTo fields holds marks place top around = Left (Ends fields holds around) fields (drop place marks) place top
