@@ -16,11 +16,12 @@ use std::thread::Threads;
 use std::{fs, io};
 
 /// The examples: of each the requests stand in NAME.jsonl, and the replies in NAME.out.
-const EXAMPLES: [&str; 19] = [
+const EXAMPLES: [&str; 20] = [
     "alerts",
     "changes",
     "clippings",
     "cut_lines",
+    "deep_queries",
     "exclusion",
     "fields",
     "folding",
@@ -39,7 +40,7 @@ const EXAMPLES: [&str; 19] = [
 ];
 
 /// The examples that are run with hits: of each the replies stand in NAME.hits.
-const WITH_HITS: [&str; 2] = ["hits", "random_queries"];
+const WITH_HITS: [&str; 3] = ["deep_queries", "hits", "random_queries"];
 
 /// The traces, in files of the same kind.
 const TRACES: [&str; 8] = [
