@@ -16,11 +16,12 @@ use std::thread::Threads;
 use std::{fs, io};
 
 /// The examples: of each the requests stand in NAME.jsonl, and the replies in NAME.out.
-const EXAMPLES: [&str; 20] = [
+const EXAMPLES: [&str; 21] = [
     "alerts",
     "changes",
     "clippings",
     "cut_lines",
+    "deep_queries",
     "exclusion",
     "fields",
     "folding",
@@ -40,7 +41,7 @@ const EXAMPLES: [&str; 20] = [
 ];
 
 /// The examples that are run with hits: of each the replies stand in NAME.hits.
-const WITH_HITS: [&str; 3] = ["hits", "random_phrases", "random_queries"];
+const WITH_HITS: [&str; 4] = ["deep_queries", "hits", "random_phrases", "random_queries"];
 
 /// The traces, in files of the same kind.
 const TRACES: [&str; 8] = [
