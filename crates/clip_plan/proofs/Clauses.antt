@@ -77,7 +77,7 @@ pub child_nodes : (query : Query) (v : Vec (Occur × Query) Global) (cs : List (
     → nodes (tree_of c.1) < nodes (tree_of query)
 child_nodes query v cs i c group items lt is =
     let whole : nodes (tree_of query) ≡ clause_nodes (trees cs) + 1 = ap nodes (ap tree_of group ∙ tree_of_group v)
-        ∙ ap (λ l. clause_nodes (trees l) + 1) (sym items) in
+    ∙ ap (λ l. clause_nodes (trees l) + 1) (sym items) in
     omega (arith, whole, smaller cs i c lt is)
 
 -- ---- what is added
@@ -87,24 +87,24 @@ pub clause_added : {terms : List KeyValue} {runs₀ runs₁ runs₂ : List (List
     {queries₀ queries₁ queries₂ : List Query} {steps₀ steps₁ steps₂ : List Step} (cs : List (Occur × Query)) (i : ℕ)
     (c : Occur × Query) → i < length cs → c ≡ get_or cs i c
     → Adds terms runs₀ queries₀ steps₀ runs₁ queries₁ steps₁ (group_marks (trees (take i cs)))
-        → Adds terms runs₁ queries₁ steps₁ runs₂ queries₂ steps₂ (clause_marks c.0 (tree_of c.1))
+    → Adds terms runs₁ queries₁ steps₁ runs₂ queries₂ steps₂ (clause_marks c.0 (tree_of c.1))
     → Adds terms runs₀ queries₀ steps₀ runs₂ queries₂ steps₂ (group_marks (trees (take (i + 1) cs)))
 clause_added {terms} {runs₀} {runs₁} {runs₂} {queries₀} {queries₁} {queries₂} {steps₀} {steps₁} {steps₂} cs i c lt is
     f g =
     subst (Adds terms runs₀ queries₀ steps₀ runs₂ queries₂ steps₂) (sym (next_marks cs i c lt is))
     (adds_then terms runs₀ runs₁ runs₂ queries₀ queries₁ queries₂ steps₀ steps₁ steps₂
-        (group_marks (trees (take i cs))) (clause_marks c.0 (tree_of c.1)) f g)
+    (group_marks (trees (take i cs))) (clause_marks c.0 (tree_of c.1)) f g)
 
 -- all clauses of a plan
 pub plan_added : {terms : List KeyValue} {runs new_runs : List (List ℕ)} {queries new_queries : List Query}
     {steps new : List Step} (query : Query) (v : Vec (Occur × Query) Global) (cs : List (Occur × Query)) (i : ℕ)
     → query ≡ Group v → cs ≡ v.items → length cs ≤ i
     → Adds terms runs queries steps new_runs new_queries new (group_marks (trees (take i cs)))
-        → Adds terms runs queries steps new_runs new_queries new (plan_of (tree_of query))
+    → Adds terms runs queries steps new_runs new_queries new (plan_of (tree_of query))
 plan_added {terms} {runs} {new_runs} {queries} {new_queries} {steps} {new} query v cs i group items le f =
     subst (Adds terms runs queries steps new_runs new_queries new)
     (all_marks cs i le ∙ ap (λ l. group_marks (trees l)) items
-        ∙ sym (ap plan_of (ap tree_of group ∙ tree_of_group v))) f
+    ∙ sym (ap plan_of (ap tree_of group ∙ tree_of_group v))) f
 
 -- Steps behind a group's beginning, put between its beginning and its end: at the place of the first stands then how
 -- many they are.
@@ -112,7 +112,7 @@ pub group_ended : {terms : List KeyValue} {runs new_runs : List (List ℕ)} {que
     {front most : List Step} {more : List (Mark KeyValue)} (occur : Occur) (first : Step) (count : ℕ)
     (new : List Step)
     → Adds terms runs queries (front ++ first ∷ []) new_runs new_queries most more → count ≡ length more
-        → new ≡ set most (length front) (step.Open occur count) ++ step.Close occur ∷ []
+    → new ≡ set most (length front) (step.Open occur count) ++ step.Close occur ∷ []
     → Adds terms runs queries front new_runs new_queries new (Open occur (length more) ∷ more ++ Close occur ∷ [])
 group_ended {terms} {runs} {new_runs} {queries} {new_queries} {front} {most} {more} occur first count new f many e =
     let opening = step.Open occur count in
@@ -121,19 +121,19 @@ group_ended {terms} {runs} {new_runs} {queries} {new_queries} {front} {most} {mo
     ap (λ l. set l (length front) opening) (f.behind ∙ append_assoc front (first ∷ []) f.added)
     ∙ set-append_seam front first f.added opening ∙ sym (append_assoc front (opening ∷ []) f.added) in
     adds_then terms runs runs new_runs queries queries new_queries front opened new (Open occur (length more) ∷ [])
-        (more ++ Close occur ∷ [])
+    (more ++ Close occur ∷ [])
     (adds_step terms runs queries front opened opening (Open occur (length more)) refl tt (ap (Open occur) many))
     (adds_then terms runs new_runs new_runs queries new_queries new_queries opened (opened ++ f.added) new more
-        (Close occur ∷ [])
+    (Close occur ∷ [])
     (adds_behind f opened)
     (adds_step terms new_runs new_queries (opened ++ f.added) new (step.Close occur) (Close occur)
-        (e ∙ ap (λ l. l ++ step.Close occur ∷ []) laid) tt refl))
+    (e ∙ ap (λ l. l ++ step.Close occur ∷ []) laid) tt refl))
 
 -- how many steps stand behind a group's beginning
 pub inside_count : {terms : List KeyValue} {runs new_runs : List (List ℕ)} {queries new_queries : List Query}
     {most : List Step} {more : List (Mark KeyValue)} (front : List Step) (first : Step)
     → Adds terms runs queries (front ++ first ∷ []) new_runs new_queries most more
-        → length most ≡ length front + 1 + length more
+    → length most ≡ length front + 1 + length more
 inside_count {more = more} front first f =
     omega (arith, ap length f.behind, length-append (front ++ first ∷ []) f.added, length_push front first, as_many f)
 
@@ -142,15 +142,15 @@ pub group_added : {terms : List KeyValue} {runs new_runs : List (List ℕ)} {que
     {steps most : List Step} (query : Query) (v : Vec (Occur × Query) Global) (cs : List (Occur × Query)) (i : ℕ)
     (occur : Occur) (first : Step) (count : ℕ) (new : List Step) → query ≡ Group v → cs ≡ v.items → length cs ≤ i
     → Adds terms runs queries (steps ++ first ∷ []) new_runs new_queries most (group_marks (trees (take i cs)))
-        → length steps + 1 + count ≡ length most
+    → length steps + 1 + count ≡ length most
     → new ≡ set most (length steps) (step.Open occur count) ++ step.Close occur ∷ []
-        → Adds terms runs queries steps new_runs new_queries new (clause_marks occur (tree_of query))
+    → Adds terms runs queries steps new_runs new_queries new (clause_marks occur (tree_of query))
 group_added {terms} {runs} {new_runs} {queries} {new_queries} {steps} {most} query v cs i occur first count new group
     items le f many e =
     subst (Adds terms runs queries steps new_runs new_queries new)
     (ap (λ ms. Open occur (length ms) ∷ ms ++ Close occur ∷ [])
-        (all_marks cs i le ∙ ap (λ l. group_marks (trees l)) items)
-        ∙ sym (ap (clause_marks occur) (ap tree_of group ∙ tree_of_group v)))
+    (all_marks cs i le ∙ ap (λ l. group_marks (trees l)) items)
+    ∙ sym (ap (clause_marks occur) (ap tree_of group ∙ tree_of_group v)))
     (group_ended occur first count new f (omega (arith, inside_count steps first f, many)) e)
 
 -- a group that was ended, if its end was added
@@ -158,9 +158,9 @@ pub group_closed : {T E : Type 0} (r : Result T E) {terms : List KeyValue} {runs
     {queries new_queries : List Query} (steps most : List Step) (query : Query) (v : Vec (Occur × Query) Global)
     (cs : List (Occur × Query)) (i : ℕ) (occur : Occur) (first : Step) (opening : ℕ) (new : List Step)
     → query ≡ Group v → cs ≡ v.items → length cs ≤ i → opening ≡ length steps
-        → Adds terms runs queries (steps ++ first ∷ []) new_runs new_queries most (group_marks (trees (take i cs)))
+    → Adds terms runs queries (steps ++ first ∷ []) new_runs new_queries most (group_marks (trees (take i cs)))
     → OnOk r (new ≡ set most opening (step.Open occur (length most - opening - 1)) ++ step.Close occur ∷ [])
-        → OnOk r (Adds terms runs queries steps new_runs new_queries new (clause_marks occur (tree_of query)))
+    → OnOk r (Adds terms runs queries steps new_runs new_queries new (clause_marks occur (tree_of query)))
 group_closed r steps most query v cs i occur first opening new group items le at f =
     on_ok_weaker r (λ e. group_added query v cs i occur first (length most - length steps - 1) new group items le f
     (omega (arith, inside_count steps first f))

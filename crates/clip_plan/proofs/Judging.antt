@@ -138,9 +138,14 @@ module _ (fields : Fields) (verdict : Bool) where
       → tally_holds t ≡ tally_holds u → Ends fields verdict around marks place t
       → Ends fields verdict around marks place u
   ends_same [] marks place t u e h f = (f.0, sym e ∙ f.1, sym h ∙ f.2)
-  ends_same (next ∷ around) marks place t u e h f =
-      (f.0, f.1, f.2, sym e ∙ f.3, subst (λ b. Left (Ends fields verdict around) fields f.1 (place + 1)
-          (counted next f.0 b)) h f.4)
+  ends_same (next ∷ around) marks place t u e h f = (
+    f.0,
+    f.1,
+    f.2,
+    sym e ∙ f.3,
+    subst (λ b. Left (Ends fields verdict around) fields f.1 (place + 1)
+        (counted next f.0 b)) h f.4,
+  )
 
   ends_end : (around : List Tally) (marks : List (Mark KeyValue)) (place : ℕ) (t : Tally)
       → Ends fields verdict around marks place t → t.end ≡ place
@@ -172,8 +177,8 @@ module _ (fields : Fields) (verdict : Bool) where
       (place : ℕ) (top : Tally) (held : Bool) (cs : Clauses) → leaf_holds fields a ≡ held
       → Leaf occur asks ∷ ms ≡ Leaf o a ∷ (group_marks cs ++ others)
       → Ends fields verdict around others (place + suc (length (group_marks cs)))
-          (counted_all (counted top o held) (verdicts cs fields))
-          → Left (Ends fields verdict around) fields ms (place + 1) (counted top occur (leaf_holds fields asks))
+      (counted_all (counted top o held) (verdicts cs fields))
+      → Left (Ends fields verdict around) fields ms (place + 1) (counted top occur (leaf_holds fields asks))
   leaf_first around occur o asks a ms others place top held cs so is end =
       let same : o ≡ occur = cc in
       let one : a ≡ asks = cc in
@@ -192,22 +197,22 @@ module _ (fields : Fields) (verdict : Bool) where
   leaf_by : (around : List Tally) (occur : Occur) (asks : Asks KeyValue) (ms others : List (Mark KeyValue))
       (place : ℕ) (top : Tally) (clauses : Clauses) → Leaf occur asks ∷ ms ≡ group_marks clauses ++ others
       → Ends fields verdict around others (place + length (group_marks clauses))
-          (counted_all top (verdicts clauses fields)) → Left (Ends fields verdict around) fields ms (place + 1)
-          (counted top occur (leaf_holds fields asks))
+      (counted_all top (verdicts clauses fields)) → Left (Ends fields verdict around) fields ms (place + 1)
+      (counted top occur (leaf_holds fields asks))
   leaf_by around occur asks ms others place top none is end = absurd
       (no_leaf around occur asks others ms (place + 0) top end is)
   leaf_by around occur asks ms others place top (clause o (Tree.Term field word) cs) is end =
       leaf_first around occur o asks (Has (Word field word)) ms others place top
-          (holds (Tree.Term field word) fields) cs (has_word_key fields field word) is end
+      (holds (Tree.Term field word) fields) cs (has_word_key fields field word) is end
   leaf_by around occur asks ms others place top (clause o (Tree.Phrase field words) cs) is end =
       leaf_first around occur o asks (Run (map (Word field) words)) ms others place top
-          (holds (Tree.Phrase field words) fields) cs (has_word_run fields field words) is end
+      (holds (Tree.Phrase field words) fields) cs (has_word_run fields field words) is end
   leaf_by around occur asks ms others place top (clause o (Tree.Prefix field front) cs) is end =
       leaf_first around occur o asks (Is (Tree.Prefix field front)) ms others place top
-          (holds (Tree.Prefix field front) fields) cs refl is end
+      (holds (Tree.Prefix field front) fields) cs refl is end
   leaf_by around occur asks ms others place top (clause o (Tree.Span field low high) cs) is end =
       leaf_first around occur o asks (Is (Tree.Span field low high)) ms others place top
-          (holds (Tree.Span field low high) fields) cs refl is end
+      (holds (Tree.Span field low high) fields) cs refl is end
   leaf_by around occur asks ms others place top (clause o Tree.All cs) is end =
       leaf_first around occur o asks (Is Tree.All) ms others place top true cs refl is end
   leaf_by around occur asks ms others place top (clause o (Tree.Group inner) cs) is end = absurd
@@ -235,10 +240,10 @@ module _ (fields : Fields) (verdict : Bool) where
   group_first : (around : List Tally) (occur o : Occur) (inside : ℕ) (ms others : List (Mark KeyValue)) (place : ℕ)
       (top : Tally) (inner cs : Clauses)
       → Open occur inside ∷ ms ≡ Open o (length (group_marks inner)) ∷
-          (((group_marks inner ++ Close o ∷ []) ++ group_marks cs) ++ others)
+      (((group_marks inner ++ Close o ∷ []) ++ group_marks cs) ++ others)
       → Ends fields verdict around others (place + suc
-          (length ((group_marks inner ++ Close o ∷ []) ++ group_marks cs)))
-          (counted_all (counted top o (group_holds (verdicts inner fields))) (verdicts cs fields))
+      (length ((group_marks inner ++ Close o ∷ []) ++ group_marks cs)))
+      (counted_all (counted top o (group_holds (verdicts inner fields))) (verdicts cs fields))
       → GroupFirst around occur inside ms place top
   group_first around occur o inside ms others place top inner cs is end =
       let same : o ≡ occur = cc in
@@ -253,16 +258,20 @@ module _ (fields : Fields) (verdict : Bool) where
             ∙ append_assoc (group_marks inner) (Close o ∷ group_marks cs) others
             ∙ ap (λ x. group_marks inner ++ Close x ∷ (group_marks cs ++ others)) same;
         end = ends_moved around others _ (place + 1 + length (group_marks inner) + 1 + length (group_marks cs)) _ _
-            (omega (arith, length-append (group_marks inner ++ Close o ∷ []) (group_marks cs), length_push
-                (group_marks inner) (Close o)))
+            (omega (
+              arith,
+              length-append (group_marks inner ++ Close o ∷ []) (group_marks cs),
+              length_push
+                  (group_marks inner) (Close o),
+            ))
             (ap (λ x. counted_all (counted top x (group_holds (verdicts inner fields))) (verdicts cs fields)) same)
-                end;
+            end;
       }
 
   group_by : (around : List Tally) (occur : Occur) (inside : ℕ) (ms others : List (Mark KeyValue)) (place : ℕ)
       (top : Tally) (clauses : Clauses) → Open occur inside ∷ ms ≡ group_marks clauses ++ others
       → Ends fields verdict around others (place + length (group_marks clauses))
-          (counted_all top (verdicts clauses fields)) → GroupFirst around occur inside ms place top
+      (counted_all top (verdicts clauses fields)) → GroupFirst around occur inside ms place top
   group_by around occur inside ms others place top none is end = absurd
       (no_open around occur inside others ms (place + 0) top end is)
   group_by around occur inside ms others place top (clause o (Tree.Group inner) cs) is end = group_first around occur
@@ -321,7 +330,7 @@ module _ (fields : Fields) (verdict : Bool) where
     others = g.others;
     are =
         ap (λ l. drop (inside + 1) l) g.are ∙ ap (λ n. drop (n + 1)
-            (group_marks g.inner ++ Close occur ∷ (group_marks g.cs ++ g.others))) g.many
+        (group_marks g.inner ++ Close occur ∷ (group_marks g.cs ++ g.others))) g.many
         ∙ drop-append-add (group_marks g.inner) (Close occur ∷ (group_marks g.cs ++ g.others)) 1;
     end = ends_moved around g.others _ (place + (inside + 2) + length (group_marks g.cs)) _ _ (omega (arith, g.many))
         (ap (λ t. counted_all t (verdicts g.cs fields))
@@ -333,7 +342,7 @@ module _ (fields : Fields) (verdict : Bool) where
   close_by : (around : List Tally) (occur : Occur) (ms others : List (Mark KeyValue)) (place : ℕ) (top : Tally)
       (clauses : Clauses) → Close occur ∷ ms ≡ group_marks clauses ++ others
       → Ends fields verdict around others (place + length (group_marks clauses))
-          (counted_all top (verdicts clauses fields)) → Ends fields verdict around (Close occur ∷ ms) place top
+      (counted_all top (verdicts clauses fields)) → Ends fields verdict around (Close occur ∷ ms) place top
   close_by around occur ms others place top none is end = subst (λ l. Ends fields verdict around l place top)
       (sym is) (ends_moved around others (place + 0) place top top (omega arith) refl end)
   close_by around occur ms others place top (clause o (Tree.Group inner) cs) is end = absurd
@@ -363,7 +372,7 @@ module _ (fields : Fields) (verdict : Bool) where
       let tail : at.1 ≡ ms = close_tail occur at.0 ms at.1 at.2 in
       subst (λ l. Left (Ends fields verdict around) fields l (place + 1) (counted next occur (tally_holds top))) tail
       (subst (λ o. Left (Ends fields verdict around) fields at.1 (place + 1) (counted next o (tally_holds top))) same
-          at.4)
+      at.4)
     where
       close_occur : (occur o : Occur) (ms ns : List (Mark KeyValue)) → Close occur ∷ ms ≡ Close o ∷ ns → o ≡ occur
       close_occur occur o ms ns e = cc
@@ -376,7 +385,7 @@ module _ (fields : Fields) (verdict : Bool) where
   mark_counted : (around : List Tally) (mark : Mark KeyValue) (ms : List (Mark KeyValue)) (place : ℕ) (top : Tally)
       → Left (Ends fields verdict around) fields (mark ∷ ms) place top
       → Left (Ends fields verdict (marked place mark (mark_holds fields mark) top around).1) fields ms (place + 1)
-          (marked place mark (mark_holds fields mark) top around).0
+      (marked place mark (mark_holds fields mark) top around).0
   mark_counted around (Leaf occur asks) ms place top f = leaf_counted around occur asks ms place top f
   mark_counted around (Open occur inside) ms place top f = group_entered around occur inside ms place top
       (group_of around occur inside ms place top f)
@@ -402,7 +411,7 @@ module _ (fields : Fields) (verdict : Bool) where
       by_need true n some =
           let one : suc (inside + 1) ≡ inside + 2 = omega arith in
           subst (λ k. Left (Ends fields verdict around) fields (drop k (Open occur inside ∷ ms))
-              (place + (inside + 2)) top) one
+          (place + (inside + 2)) top) one
           (group_passed around occur inside ms place top n (group_of around occur inside ms place top f))
       by_need false n some = absurd (omega arith)
   mark_passed around (Close occur) ms place top some f = absurd (omega arith)
@@ -421,10 +430,10 @@ module _ (fields : Fields) (verdict : Bool) where
           let count = length (group_marks f.clauses) in
           let vs = verdicts f.clauses fields in
           let at : max place top.end ≡ place + count = omega
-              (arith, kept_ends top vs, ends_end around f.others (place + count) (counted_all top vs) f.end) in
+          (arith, kept_ends top vs, ends_end around f.others (place + count) (counted_all top vs) f.end) in
           let behind : drop (place + count) marks ≡ f.others =
           sym (drop-drop count place marks) ∙ ap (drop count) f.are
-              ∙ drop-append_seam (group_marks f.clauses) f.others in
+          ∙ drop-append_seam (group_marks f.clauses) f.others in
           subst (λ p. LeadTo fields verdict marks p top around) (sym at)
           (record {
             clauses = none;
@@ -432,7 +441,7 @@ module _ (fields : Fields) (verdict : Bool) where
             are = behind;
             end = ends_moved around f.others (place + count) (place + count + 0) top top (omega arith) refl
                 (ends_same around f.others (place + count) (counted_all top vs) top (kept_ends top vs)
-                    (stays_dead top vs dead) f.end);
+                (stays_dead top vs dead) f.end);
           })
 
   -- ---- where all is judged
@@ -440,7 +449,7 @@ module _ (fields : Fields) (verdict : Bool) where
   judged_by : (around : List Tally) (marks others : List (Mark KeyValue)) (place : ℕ) (top : Tally)
       (clauses : Clauses) → marks ≡ [] → marks ≡ group_marks clauses ++ others
       → Ends fields verdict around others (place + length (group_marks clauses))
-          (counted_all top (verdicts clauses fields)) → Ends fields verdict around [] (place + 0) top
+      (counted_all top (verdicts clauses fields)) → Ends fields verdict around [] (place + 0) top
   judged_by around marks others place top none empty is end = subst
       (λ l. Ends fields verdict around l (place + 0) top) (sym is ∙ empty) end
   judged_by around marks others place top (clause o (Tree.Term field word) cs) empty is end = absurd
@@ -474,20 +483,51 @@ pub begun : (fields : Fields) (tree : Tree) → LeadTo fields (holds tree fields
     (no_clauses (length (plan_of tree))) []
 begun fields (Tree.Group clauses) =
     let fresh = no_clauses (length (group_marks clauses)) in
-    record { clauses = clauses; others = []; are = sym (append-nil (group_marks clauses)); end =
-        (refl, kept_ends fresh (verdicts clauses fields)
-        ∙ before_none (length (group_marks clauses)), group_tallied (length (group_marks clauses))
-        (verdicts clauses fields)) }
-begun fields (Tree.Term field word) = record { clauses = clause Must (Tree.Term field word) none; others = []; are =
-    refl; end = (refl, refl, only_must 1 (holds (Tree.Term field word) fields)) }
-begun fields (Tree.Phrase field words) = record { clauses = clause Must (Tree.Phrase field words) none; others = [];
-    are = refl; end = (refl, refl, only_must 1 (holds (Tree.Phrase field words) fields)) }
-begun fields (Tree.Prefix field front) = record { clauses = clause Must (Tree.Prefix field front) none; others = [];
-    are = refl; end = (refl, refl, only_must 1 (holds (Tree.Prefix field front) fields)) }
-begun fields (Tree.Span field low high) = record { clauses = clause Must (Tree.Span field low high) none; others =
-    []; are = refl; end = (refl, refl, only_must 1 (holds (Tree.Span field low high) fields)) }
-begun fields Tree.All = record { clauses = clause Must Tree.All none; others = []; are = refl; end =
-    (refl, refl, refl) }
+    record {
+      clauses = clauses;
+      others = [];
+      are = sym (append-nil (group_marks clauses));
+      end = (
+        refl,
+        kept_ends fresh (verdicts clauses fields)
+            ∙ before_none (length (group_marks clauses)),
+        group_tallied (length (group_marks clauses))
+            (verdicts clauses fields),
+      );
+    }
+begun fields (Tree.Term field word) = record {
+  clauses = clause Must (Tree.Term field word) none;
+  others = [];
+  are =
+      refl;
+  end = (refl, refl, only_must 1 (holds (Tree.Term field word) fields));
+}
+begun fields (Tree.Phrase field words) = record {
+  clauses = clause Must (Tree.Phrase field words) none;
+  others = [];
+  are = refl;
+  end = (refl, refl, only_must 1 (holds (Tree.Phrase field words) fields));
+}
+begun fields (Tree.Prefix field front) = record {
+  clauses = clause Must (Tree.Prefix field front) none;
+  others = [];
+  are = refl;
+  end = (refl, refl, only_must 1 (holds (Tree.Prefix field front) fields));
+}
+begun fields (Tree.Span field low high) = record {
+  clauses = clause Must (Tree.Span field low high) none;
+  others =
+      [];
+  are = refl;
+  end = (refl, refl, only_must 1 (holds (Tree.Span field low high) fields));
+}
+begun fields Tree.All = record {
+  clauses = clause Must Tree.All none;
+  others = [];
+  are = refl;
+  end =
+      (refl, refl, refl);
+}
 
 -- a first clause that must hold does not: neither does the query
 first_fails : (fields : Fields) (tree : Tree) (asks : Asks KeyValue) (left : List (Mark KeyValue))
@@ -497,14 +537,14 @@ first_fails fields tree asks left fails plan =
     let marks = Leaf Must asks ∷ left in
     let start : LeadTo fields verdict marks 0 (no_clauses (length marks)) [] =
     subst (λ (ms : List (Mark KeyValue)). LeadTo fields verdict ms 0 (no_clauses (length ms)) []) (sym plan)
-        (begun fields tree) in
+    (begun fields tree) in
     let top = counted (no_clauses (length marks)) Must (leaf_holds fields asks) in
     let next : LeadTo fields verdict marks 1 top [] = leaf_counted fields verdict [] Must asks left 0
-        (no_clauses (length marks)) start in
+    (no_clauses (length marks)) start in
     let far : length marks ≤ onward top 1 = subst (λ b. length marks ≤ cond b 1 (max 1 (length marks))) (sym fails)
-        (omega arith) in
+    (omega arith) in
     sym (judged fields verdict [] marks (onward top 1) top far (gone_on fields verdict [] marks 1 top next))
-        ∙ ap (λ b. b && true) fails
+    ∙ ap (λ b. b && true) fails
 
 and_true : (b : Bool) → (b && true) ≡ b
 and_true true = refl
@@ -546,19 +586,19 @@ module _ (runs : List (List ℕ)) (queries : List Tree) (terms : List KeyValue) 
   pub plan_of_steps : (marks : List (List (Mark ℕ))) (plans : List (List Step)) (place : ℕ) (steps : List Step)
       (tree : Tree) → map (map (mark_of runs queries)) plans ≡ marks → steps ≡ unwrap_or (slice_get plans place) []
       → decoded terms (unwrap_or (slice_get marks place) []) ≡ plan_of tree
-          → map (meant runs queries terms) steps ≡ plan_of tree
+      → map (meant runs queries terms) steps ≡ plan_of tree
   plan_of_steps marks plans place steps tree seen at plan =
       ap (map (meant runs queries terms)) at ∙ sym (decoded_at plans place)
-          ∙ ap (λ ms. decoded terms (unwrap_or (slice_get ms place) [])) seen ∙ plan
+      ∙ ap (λ ms. decoded terms (unwrap_or (slice_get ms place) [])) seen ∙ plan
 
   -- what is answered by its steps is answered by its marks
   pub judged_at : {E : Type 0} (fields : Fields) (marks : List (List (Mark ℕ))) (plans : List (List Step))
       (place : ℕ) (steps : List Step) (r : Result Bool E) → map (map (mark_of runs queries)) plans ≡ marks
       → steps ≡ unwrap_or (slice_get plans place) []
       → IfOk r (λ held. (tree : Tree) → map (meant runs queries terms) steps ≡ plan_of tree
-          → held ≡ holds tree fields)
+      → held ≡ holds tree fields)
       → IfOk r (λ held. (tree : Tree) → decoded terms (unwrap_or (slice_get marks place) []) ≡ plan_of tree
-          → held ≡ holds tree fields)
+      → held ≡ holds tree fields)
   judged_at fields marks plans place steps (Err e) seen at h = tt
   judged_at fields marks plans place steps (Ok held) seen at h =
       λ tree plan. h tree (plan_of_steps marks plans place steps tree seen at plan)
@@ -566,17 +606,17 @@ module _ (runs : List (List ℕ)) (queries : List Tree) (terms : List KeyValue) 
   -- a word that the first clause asks for is not there
   pub ruled_out : (fields : Fields) (tree : Tree) (steps : List Step) → ((first_words steps).first ≡ NO_TERM → ⊥)
       → (has_key fields (term_at terms (first_words steps).first) && has_key fields
-          (term_at terms (first_words steps).second)) ≡ false
+      (term_at terms (first_words steps).second)) ≡ false
       → map (meant runs queries terms) steps ≡ plan_of tree → holds tree fields ≡ false
   ruled_out fields tree [] some fails plan = absurd (some refl)
   ruled_out fields tree (step.Term Must n ∷ steps) some fails plan =
       first_fails fields tree (Has (term_at terms n)) (map (meant runs queries terms) steps)
-          (twice (has_key fields (term_at terms n)) fails) plan
+      (twice (has_key fields (term_at terms n)) fails) plan
   ruled_out fields tree (step.Term Should n ∷ steps) some fails plan = absurd (some refl)
   ruled_out fields tree (step.Term MustNot n ∷ steps) some fails plan = absurd (some refl)
   ruled_out fields tree (step.Pair Must m n ∷ steps) some fails plan =
       first_fails fields tree (Run (term_at terms m ∷ term_at terms n ∷ [])) (map (meant runs queries terms) steps)
-          (pair_fails fields (term_at terms m) (term_at terms n) fails) plan
+      (pair_fails fields (term_at terms m) (term_at terms n) fails) plan
   ruled_out fields tree (step.Pair Should m n ∷ steps) some fails plan = absurd (some refl)
   ruled_out fields tree (step.Pair MustNot m n ∷ steps) some fails plan = absurd (some refl)
   ruled_out fields tree (step.Phrase occur place ∷ steps) some fails plan = absurd (some refl)
@@ -593,10 +633,10 @@ module _ (runs : List (List ℕ)) (queries : List Tree) (terms : List KeyValue) 
   ruled_out_at fields tree marks plans firsts place w seen kept inside is some fails plan =
       let steps = unwrap_or (slice_get plans place) [] in
       let same : w ≡ first_words steps = is ∙ ap (λ ws. get_or ws place w) kept
-          ∙ words_at plans place w (subst (λ (ws : List FirstWords). place < length ws) kept inside) in
+      ∙ words_at plans place w (subst (λ (ws : List FirstWords). place < length ws) kept inside) in
       ruled_out fields tree steps (λ none. some (ap (λ (v : FirstWords). v.first) same ∙ none))
       (ap (λ (v : FirstWords). has_key fields (term_at terms v.first) && has_key fields (term_at terms v.second))
-          (sym same) ∙ fails)
+      (sym same) ∙ fails)
       (plan_of_steps marks plans place steps tree seen refl plan)
 
   -- ---- one step of those that are left
@@ -609,50 +649,50 @@ module _ (runs : List (List ℕ)) (queries : List Tree) (terms : List KeyValue) 
   next_mark (s ∷ ss) (suc i) d h =
       let one : suc (i + 1) ≡ suc i + 1 = omega arith in
       subst (λ k. drop i (map (meant runs queries terms) ss) ≡ meant runs queries terms (get_or ss i d) ∷ drop k
-          (map (meant runs queries terms) (s ∷ ss))) one (next_mark ss i d (omega arith))
+      (map (meant runs queries terms) (s ∷ ss))) one (next_mark ss i d (omega arith))
 
   next_of : (steps : List Step) (marks : List (Mark KeyValue)) (i : ℕ) (d : Step) → i < length steps
       → map (meant runs queries terms) steps ≡ marks → drop i marks ≡ meant runs queries terms (get_or steps i d) ∷
       drop (i + 1) marks
   next_of steps marks i d inside same =
       ap (drop i) (sym same) ∙ next_mark steps i d inside
-          ∙ ap (λ l. meant runs queries terms (get_or steps i d) ∷ drop (i + 1) l) same
+      ∙ ap (λ l. meant runs queries terms (get_or steps i d) ∷ drop (i + 1) l) same
 
   -- it changes nothing
   pub step_passed : (fields : Fields) (verdict : Bool) (steps : List Step) (marks : List (Mark KeyValue)) (i n : ℕ)
       (d : Step) (top : Tally) (around : List Tally) → i < length steps
       → n ≡ passed top (meant runs queries terms (get_or steps i d)) → 0 < n
       → map (meant runs queries terms) steps ≡ marks → LeadTo fields verdict marks i top around
-          → LeadTo fields verdict marks (i + n) top around
+      → LeadTo fields verdict marks (i + n) top around
   step_passed fields verdict steps marks i n d top around inside so some same f =
       let mark = meant runs queries terms (get_or steps i d) in
       let here : drop i marks ≡ mark ∷ drop (i + 1) marks = next_of steps marks i d inside same in
       let over : Left (Ends fields verdict around) fields (drop n (mark ∷ drop (i + 1) marks)) (i + n) top =
       subst (λ k. Left (Ends fields verdict around) fields (drop k (mark ∷ drop (i + 1) marks)) (i + k) top) (sym so)
       (mark_passed fields verdict around mark (drop (i + 1) marks) i top (subst (λ k. 0 < k) so some)
-          (subst (λ l. Left (Ends fields verdict around) fields l i top) here f)) in
+      (subst (λ l. Left (Ends fields verdict around) fields l i top) here f)) in
       subst (λ l. Left (Ends fields verdict around) fields l (i + n) top)
-          (ap (drop n) (sym here) ∙ drop-drop n i marks) over
+      (ap (drop n) (sym here) ∙ drop-drop n i marks) over
 
   -- it is judged
   pub step_judged : (fields : Fields) (verdict : Bool) (steps : List Step) (marks : List (Mark KeyValue)) (i n : ℕ)
       (d : Step) (top next : Tally) (around left : List Tally) (held : Bool) → i < length steps
       → held ≡ mark_holds fields (meant runs queries terms (get_or steps i d))
-          → (next, left) ≡ marked i (meant runs queries terms (get_or steps i d)) held top around
-          → n ≡ onward next (i + 1)
+      → (next, left) ≡ marked i (meant runs queries terms (get_or steps i d)) held top around
+      → n ≡ onward next (i + 1)
       → map (meant runs queries terms) steps ≡ marks → LeadTo fields verdict marks i top around
-          → LeadTo fields verdict marks n next left
+      → LeadTo fields verdict marks n next left
   step_judged fields verdict steps marks i n d top next around left held inside asks moved on same f =
       let mark = meant runs queries terms (get_or steps i d) in
       let here : drop i marks ≡ mark ∷ drop (i + 1) marks = next_of steps marks i d inside same in
       let groups : (next, left) ≡ marked i mark (mark_holds fields mark) top around = moved
-          ∙ ap (λ b. marked i mark b top around) asks in
+      ∙ ap (λ b. marked i mark b top around) asks in
       let counted_one : LeadTo fields verdict marks (i + 1) next left =
       subst (λ (g : Groups). LeadTo fields verdict marks (i + 1) g.0 g.1) (sym groups)
       (mark_counted fields verdict around mark (drop (i + 1) marks) i top
-          (subst (λ l. Left (Ends fields verdict around) fields l i top) here f)) in
+      (subst (λ l. Left (Ends fields verdict around) fields l i top) here f)) in
       subst (λ k. LeadTo fields verdict marks k next left) (sym on)
-          (gone_on fields verdict left marks (i + 1) next counted_one)
+      (gone_on fields verdict left marks (i + 1) next counted_one)
 
   -- ---- where judging begins and ends
 
@@ -661,15 +701,15 @@ module _ (runs : List (List ℕ)) (queries : List Tree) (terms : List KeyValue) 
       → LeadTo fields (holds tree fields) (plan_of tree) 0 top (reverse stack)
   plan_begun fields tree steps stack top plan fresh none_open =
       let long : length steps ≡ length (plan_of tree) = sym (length-map steps (meant runs queries terms))
-          ∙ ap length plan in
+      ∙ ap length plan in
       subst (λ (around : List Tally). LeadTo fields (holds tree fields) (plan_of tree) 0 top around)
-          (sym (ap reverse none_open))
+      (sym (ap reverse none_open))
       (subst (λ (t : Tally). LeadTo fields (holds tree fields) (plan_of tree) 0 t [])
-          (ap no_clauses (sym long) ∙ sym fresh) (begun fields tree))
+      (ap no_clauses (sym long) ∙ sym fresh) (begun fields tree))
 
   pub plan_judged : (fields : Fields) (tree : Tree) (steps : List Step) (place : ℕ) (top : Tally)
       (around : List Tally) → map (meant runs queries terms) steps ≡ plan_of tree → length steps ≤ place
       → LeadTo fields (holds tree fields) (plan_of tree) place top around → tally_holds top ≡ holds tree fields
   plan_judged fields tree steps place top around plan all f =
       judged fields (holds tree fields) around (plan_of tree) place top
-          (omega (arith, length-map steps (meant runs queries terms), ap length plan)) f
+      (omega (arith, length-map steps (meant runs queries terms), ap length plan)) f

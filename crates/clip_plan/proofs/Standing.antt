@@ -22,8 +22,11 @@ pub grows_by : {A : Type 0} (xs ys : List A) (y : A) → ys ≡ xs ++ y ∷ [] �
 grows_by xs ys y e = record { more = y ∷ []; is = e }
 
 pub grows_then : {A : Type 0} {xs ys zs : List A} → Grows xs ys → Grows ys zs → Grows xs zs
-grows_then {xs = xs} g h = record { more = g.more ++ h.more; is = h.is ∙ ap (λ l. l ++ h.more) g.is
-    ∙ append_assoc xs g.more h.more }
+grows_then {xs = xs} g h = record {
+  more = g.more ++ h.more;
+  is = h.is ∙ ap (λ l. l ++ h.more) g.is
+      ∙ append_assoc xs g.more h.more;
+}
 
 pub longer : {A : Type 0} {xs ys : List A} → Grows xs ys → length xs ≤ length ys
 longer {xs = xs} {ys = ys} g = omega (arith, ap length g.is, length-append xs g.more)
@@ -45,8 +48,11 @@ get_last [] y = refl
 get_last (x ∷ xs) y = get_last xs y
 
 trees_grow : {xs ys : List Query} → Grows xs ys → Grows (map tree_of xs) (map tree_of ys)
-trees_grow {xs = xs} g = record { more = map tree_of g.more; is = ap (map tree_of) g.is
-    ∙ map-append tree_of xs g.more }
+trees_grow {xs = xs} g = record {
+  more = map tree_of g.more;
+  is = ap (map tree_of) g.is
+      ∙ map-append tree_of xs g.more;
+}
 
 -- ---- marks stay what they are
 
@@ -71,7 +77,7 @@ mark_kept runs new_runs queries new_queries (step.Phrase occur place) g a h = ap
     (λ o. Leaf occur (Run (unwrap_or o []))) (get_kept runs new_runs place g h)
 mark_kept runs new_runs queries new_queries (step.Query occur place) g a h =
     ap (λ o. Leaf occur (Is (unwrap_or o Tree.All))) (get_kept (map tree_of queries) (map tree_of new_queries) place
-        (trees_grow a) (rw length-map h))
+    (trees_grow a) (rw length-map h))
 mark_kept runs new_runs queries new_queries (step.Open occur inside) g a h = refl
 mark_kept runs new_runs queries new_queries (step.Close occur) g a h = refl
 
@@ -82,9 +88,9 @@ marks_kept runs new_runs queries new_queries [] g a h = refl
 marks_kept runs new_runs queries new_queries (s ∷ ss) g a h =
     let P = HasPlace (length runs) (length queries) in
     ap (λ m. m ∷ map (mark_of new_runs (map tree_of new_queries)) ss)
-        (mark_kept runs new_runs queries new_queries s g a (All-head P s ss h))
+    (mark_kept runs new_runs queries new_queries s g a (All-head P s ss h))
     ∙ ap (λ ms. mark_of runs (map tree_of queries) s ∷ ms)
-        (marks_kept runs new_runs queries new_queries ss g a (All-tail P s ss h))
+    (marks_kept runs new_runs queries new_queries ss g a (All-tail P s ss h))
 
 pub stand_kept : (terms : List KeyValue) (runs new_runs : List (List ℕ)) (queries new_queries : List Query)
     (steps : List Step) (marks : List (Mark KeyValue)) → Grows runs new_runs → Grows queries new_queries
@@ -126,7 +132,7 @@ adds_nothing terms runs new_runs queries new_queries steps g a = record {
 pub adds_step : (terms : List KeyValue) (runs : List (List ℕ)) (queries : List Query) (steps new : List Step)
     (s : Step) (m : Mark KeyValue) → new ≡ steps ++ s ∷ [] → HasPlace (length runs) (length queries) s
     → named (term_at terms) (mark_of runs (map tree_of queries) s) ≡ m
-        → Adds terms runs queries steps runs queries new (m ∷ [])
+    → Adds terms runs queries steps runs queries new (m ∷ [])
 adds_step terms runs queries steps new s m e place is =
     let P = HasPlace (length runs) (length queries) in
     record {
@@ -141,8 +147,8 @@ adds_step terms runs queries steps new s m e place is =
 pub adds_then : (terms : List KeyValue) (runs₀ runs₁ runs₂ : List (List ℕ)) (queries₀ queries₁ queries₂ : List Query)
     (steps₀ steps₁ steps₂ : List Step) (ms ns : List (Mark KeyValue))
     → Adds terms runs₀ queries₀ steps₀ runs₁ queries₁ steps₁ ms
-        → Adds terms runs₁ queries₁ steps₁ runs₂ queries₂ steps₂ ns
-        → Adds terms runs₀ queries₀ steps₀ runs₂ queries₂ steps₂ (ms ++ ns)
+    → Adds terms runs₁ queries₁ steps₁ runs₂ queries₂ steps₂ ns
+    → Adds terms runs₀ queries₀ steps₀ runs₂ queries₂ steps₂ (ms ++ ns)
 adds_then terms runs₀ runs₁ runs₂ queries₀ queries₁ queries₂ steps₀ steps₁ steps₂ ms ns f g = record {
   runs_grow = grows_then f.runs_grow g.runs_grow;
   queries_grow = grows_then f.queries_grow g.queries_grow;
@@ -157,8 +163,14 @@ pub adds_behind : {terms : List KeyValue} {runs new_runs : List (List ℕ)} {que
     {steps new_steps : List Step} {more : List (Mark KeyValue)}
     (f : Adds terms runs queries steps new_runs new_queries new_steps more) (others : List Step)
     → Adds terms runs queries others new_runs new_queries (others ++ f.added) more
-adds_behind f others = record { runs_grow = f.runs_grow; queries_grow = f.queries_grow; added = f.added; behind =
-    refl; stand = f.stand }
+adds_behind f others = record {
+  runs_grow = f.runs_grow;
+  queries_grow = f.queries_grow;
+  added = f.added;
+  behind =
+      refl;
+  stand = f.stand;
+}
 
 -- as many steps as marks
 pub as_many : {terms : List KeyValue} {runs new_runs : List (List ℕ)} {queries new_queries : List Query}
@@ -168,7 +180,7 @@ pub as_many : {terms : List KeyValue} {runs new_runs : List (List ℕ)} {queries
 as_many {terms} {runs} {new_runs} {queries} {new_queries} {steps} {new_steps} {more} f =
     let mark = mark_of new_runs (map tree_of new_queries) in
     sym (length-map f.added mark) ∙ sym (length-map (map mark f.added) (named (term_at terms)))
-        ∙ ap length f.stand.decode
+    ∙ ap length f.stand.decode
 
 -- ---- leaves
 
@@ -182,13 +194,13 @@ pub adds_phrase : (terms : List KeyValue) (runs new_runs : List (List ℕ)) (que
     (steps new : List Step) (occur : Occur) (place : ℕ) (keys : List KeyValue) → Grows runs new_runs
     → place < length new_runs
     → map (term_at terms) (unwrap_or (slice_get new_runs place) []) ≡ keys
-        → new ≡ steps ++ step.Phrase occur place ∷ [] → Adds terms runs queries steps new_runs queries new
-        (Leaf occur (Run keys) ∷ [])
+    → new ≡ steps ++ step.Phrase occur place ∷ [] → Adds terms runs queries steps new_runs queries new
+    (Leaf occur (Run keys) ∷ [])
 adds_phrase terms runs new_runs queries steps new occur place keys g inside is e =
     adds_then terms runs new_runs new_runs queries queries queries steps steps new [] (Leaf occur (Run keys) ∷ [])
     (adds_nothing terms runs new_runs queries queries steps g (grows_not queries))
     (adds_step terms new_runs queries steps new (step.Phrase occur place) (Leaf occur (Run keys)) e inside
-        (ap (λ ks. Leaf occur (Run ks)) is))
+    (ap (λ ks. Leaf occur (Run ks)) is))
 
 pub adds_query : (terms : List KeyValue) (runs : List (List ℕ)) (queries new_queries : List Query)
     (steps new : List Step) (occur : Occur) (q : Query) (place : ℕ) → new_queries ≡ queries ++ q ∷ []
@@ -196,7 +208,7 @@ pub adds_query : (terms : List KeyValue) (runs : List (List ℕ)) (queries new_q
     → Adds terms runs queries steps runs new_queries new (Leaf occur (Is (tree_of q)) ∷ [])
 adds_query terms runs queries new_queries steps new occur q place more at e =
     adds_then terms runs runs runs queries new_queries new_queries steps steps new []
-        (Leaf occur (Is (tree_of q)) ∷ [])
+    (Leaf occur (Is (tree_of q)) ∷ [])
     (adds_nothing terms runs runs queries new_queries steps (grows_not runs) (grows_by queries new_queries q more))
     (adds_step terms runs new_queries steps new (step.Query occur place) (Leaf occur (Is (tree_of q))) e
     (omega (arith, ap length more, length_push queries q))
@@ -213,10 +225,10 @@ adds_query terms runs queries new_queries steps new occur q place more at e =
 steps_stand : {terms : List KeyValue} {runs new_runs : List (List ℕ)} {queries new_queries : List Query}
     {steps new_steps : List Step} {marks : List (Mark KeyValue)} → steps ≡ []
     → Adds terms runs queries steps new_runs new_queries new_steps marks
-        → StandFor terms new_runs new_queries new_steps marks
+    → StandFor terms new_runs new_queries new_steps marks
 steps_stand {terms} {runs} {new_runs} {queries} {new_queries} {steps} {new_steps} {marks} e f =
     subst (λ (l : List Step). StandFor terms new_runs new_queries l marks)
-        (sym (f.behind ∙ ap (λ l. l ++ f.added) e)) f.stand
+    (sym (f.behind ∙ ap (λ l. l ++ f.added) e)) f.stand
 
 abbrev AllPlaced : List (List ℕ) → List Query → List (List Step) → Type 0
 AllPlaced runs queries plans = All (All (HasPlace (length runs) (length queries))) plans
@@ -227,17 +239,17 @@ all_placed : {runs new_runs : List (List ℕ)} {queries new_queries : List Query
 all_placed {runs = runs} {new_runs = new_runs} {queries = queries} {new_queries = new_queries} plans g a h =
     All-weaker (All (HasPlace (length runs) (length queries))) (All (HasPlace (length new_runs) (length new_queries)))
     (λ steps. places_kept (length runs) (length queries) (length new_runs) (length new_queries) steps (longer g)
-        (longer a)) plans h
+    (longer a)) plans h
 
 pub places_pushed : {terms : List KeyValue} {runs new_runs : List (List ℕ)} {queries new_queries : List Query}
     {steps new_steps : List Step} {marks : List (Mark KeyValue)} (plans new : List (List Step)) (list : List Step)
     → steps ≡ []
     → Adds terms runs queries steps new_runs new_queries new_steps marks → AllPlaced runs queries plans
-        → list ≡ new_steps → new ≡ plans ++ list ∷ [] → AllPlaced new_runs new_queries new
+    → list ≡ new_steps → new ≡ plans ++ list ∷ [] → AllPlaced new_runs new_queries new
 places_pushed {new_runs = new_runs} {new_queries = new_queries} plans new list none added h same e =
     let P = All (HasPlace (length new_runs) (length new_queries)) in
     subst (All P) (sym e) (All-push P plans list (all_placed plans added.runs_grow added.queries_grow h)
-        (subst P (sym same) (steps_stand none added).places))
+    (subst P (sym same) (steps_stand none added).places))
 
 -- plans as contracts see them
 abbrev pub marked : List (List ℕ) → List Query → List (List Step) → List (List (Mark ℕ))
@@ -250,14 +262,14 @@ plans_kept [] g a h = refl
 plans_kept {runs = runs} {new_runs = new_runs} {queries = queries} {new_queries = new_queries} (p ∷ ps) g a h =
     let P = All (HasPlace (length runs) (length queries)) in
     ap (λ m. m ∷ marked new_runs new_queries ps) (marks_kept runs new_runs queries new_queries p g a
-        (All-head P p ps h))
+    (All-head P p ps h))
     ∙ ap (λ ms. map (mark_of runs (map tree_of queries)) p ∷ ms) (plans_kept ps g a (All-tail P p ps h))
 
 pub marks_pushed : {terms : List KeyValue} {runs new_runs : List (List ℕ)} {queries new_queries : List Query}
     {steps new_steps : List Step} {marks : List (Mark KeyValue)} (plans new : List (List Step)) (list : List Step)
     (old : List (List (Mark ℕ))) → steps ≡ []
     → Adds terms runs queries steps new_runs new_queries new_steps marks → AllPlaced runs queries plans
-        → list ≡ new_steps → new ≡ plans ++ list ∷ [] → marked runs queries plans ≡ old
+    → list ≡ new_steps → new ≡ plans ++ list ∷ [] → marked runs queries plans ≡ old
     → map (decoded terms) (marked new_runs new_queries new) ≡ map (decoded terms) old ++ marks ∷ []
 marks_pushed {terms = terms} {new_runs = new_runs} {new_queries = new_queries} {marks = marks} plans new list old
     none added h same e view =
@@ -266,6 +278,6 @@ marks_pushed {terms = terms} {new_runs = new_runs} {new_queries = new_queries} {
     ∙ ap (map (decoded terms)) (map_push (map f) plans list)
     ∙ map_push (decoded terms) (marked new_runs new_queries plans) (map f list)
     ∙ ap (λ ms. map (decoded terms) ms ++ decoded terms (map f list) ∷ [])
-        (plans_kept plans added.runs_grow added.queries_grow h ∙ view)
+    (plans_kept plans added.runs_grow added.queries_grow h ∙ view)
     ∙ ap (λ m. map (decoded terms) old ++ m ∷ []) (ap (λ l. decoded terms (map f l)) same
-        ∙ (steps_stand none added).decode)
+    ∙ (steps_stand none added).decode)

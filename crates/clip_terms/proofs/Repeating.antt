@@ -109,11 +109,13 @@ moved_past run at n le none = record {
 
 -- what is kept of a run that is laid beside itself returns
 pub moved_returns : (run : List ℕ) (at next : Aligned) → Returns run at.start (at.start + at.kept) → Moves run at next → Returns run next.start (next.start + next.kept)
-moved_returns run at next returns moves = record { same = λ j lt.
-    let inside : j < next.kept = omega arith in
-    let before : j + moves.shift < at.kept = moves.within j inside in
-    let index : j + next.start ≡ (j + moves.shift) + at.start = omega (arith, moves.start) in
-    ap (λ k. get_or run k 0) index ∙ returns.same (j + moves.shift) (omega arith) ∙ moves.same j inside }
+moved_returns run at next returns moves = record {
+  same = λ j lt.
+      let inside : j < next.kept = omega arith in
+      let before : j + moves.shift < at.kept = moves.within j inside in
+      let index : j + next.start ≡ (j + moves.shift) + at.start = omega (arith, moves.start) in
+      ap (λ k. get_or run k 0) index ∙ returns.same (j + moves.shift) (omega arith) ∙ moves.same j inside;
+}
 
 -- and none before it does
 pub moved_least : (run : List ℕ) (at next : Aligned) (known : ℕ) → Returns run at.start (at.start + at.kept) → Moves run at next → at.start + at.kept < known → NoneBelow run at.start known
@@ -184,10 +186,12 @@ moved_agrees run numbers at next agree moves j lt =
 pub moved_nowhere : (run : List ℕ) (numbers : List (Option ℕ)) (at next : Aligned) → Agree run numbers at → at.kept ≤ length run → Moves run at next → NowhereIn run numbers (at.start + 1) next.start
 moved_nowhere run numbers at next agree short moves p past before =
     false_from_ne_true _ (λ b.
-    moves.least (p - at.start) (omega arith) (omega (arith, moves.start)) (record { same = λ j lt.
-        let index : at.start + (j + (p - at.start)) ≡ p + j = omega arith in
-        sym (number_once (get_or numbers (p + j) None) _ _ (begins_there run numbers p j b (omega arith))
-        (ap (λ k. is_number (get_or numbers k None) (get_or run (j + (p - at.start)) 0)) (sym index) ∙ agree (j + (p - at.start)) lt)) }))
+    moves.least (p - at.start) (omega arith) (omega (arith, moves.start)) (record {
+      same = λ j lt.
+          let index : at.start + (j + (p - at.start)) ≡ p + j = omega arith in
+          sym (number_once (get_or numbers (p + j) None) _ _ (begins_there run numbers p j b (omega arith))
+          (ap (λ k. is_number (get_or numbers k None) (get_or run (j + (p - at.start)) 0)) (sym index) ∙ agree (j + (p - at.start)) lt));
+    }))
 
 -- no more are kept than before
 pub moved_short : (run : List ℕ) (at next : Aligned) → Moves run at next → next.kept ≤ at.kept

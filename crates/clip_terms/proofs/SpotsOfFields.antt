@@ -92,13 +92,15 @@ module _ (numbers : List (Option ℕ)) where
 
   -- each position with a number is among them
   pub spots_each : (ws : List (List ℕ)) (ps : List Place) (n : ℕ) → length numbers ≡ length ws → IsPermutation (numbered 0 ws) ps → HasEach numbers n (spots_of numbers ps)
-  spots_each ws ps n long perm = record { each = λ position is test here.
-      let passing : ℕ → Bool = λ k. passes_at test (number_at numbers k) k in
-      let from : 0 + position ≡ position = omega arith in
-      let lt : position < length ws = omega (arith, long, inside position is) in
-      spots_any test ps
-      ∙ sym (list_any-IsPermutation (λ (p : Place). passing p.1) (numbered 0 ws) ps perm)
-      ∙ numbered_any passing ws 0 position lt (ap passing from ∙ ap (λ o. passes_at test o position) is ∙ here) }
+  spots_each ws ps n long perm = record {
+    each = λ position is test here.
+        let passing : ℕ → Bool = λ k. passes_at test (number_at numbers k) k in
+        let from : 0 + position ≡ position = omega arith in
+        let lt : position < length ws = omega (arith, long, inside position is) in
+        spots_any test ps
+        ∙ sym (list_any-IsPermutation (λ (p : Place). passing p.1) (numbered 0 ws) ps perm)
+        ∙ numbered_any passing ws 0 position lt (ap passing from ∙ ap (λ o. passes_at test o position) is ∙ here);
+  }
     where
       inside : (position : ℕ) → number_at numbers position ≡ Some n → position < length numbers
       inside position is =
@@ -199,10 +201,12 @@ any_at p (s ∷ spots) any =
 -- what two searches leave has each position of the number
 pub number_spots : (numbers : List (Option ℕ)) (spots rest found : List Spot) (n start count : ℕ) → AreSpotsOf numbers spots → start ≤ length spots → IsPartitionPoint (λ s. below n s ≡ true) (λ s. below n s ≡ false) spots start
     → rest ≡ drop start spots → count ≤ length rest → IsPartitionPoint (λ s. upto n s ≡ true) (λ s. upto n s ≡ false) rest count → found ≡ take count rest → HasEach numbers n found
-number_spots numbers spots rest found n start count are bound lower is within upper taken = record { each = λ position at test here.
-    let wanted : Spot → Bool = λ s. nat_eq s.number n && test s in
-    let any : list_any wanted spots ≡ true = (are.all n).each position at wanted (and_from (nat_eq n n) _ (eq-eqb n n refl) here) in
-    by_place test (any_at wanted spots any) }
+number_spots numbers spots rest found n start count are bound lower is within upper taken = record {
+  each = λ position at test here.
+      let wanted : Spot → Bool = λ s. nat_eq s.number n && test s in
+      let any : list_any wanted spots ≡ true = (are.all n).each position at wanted (and_from (nat_eq n n) _ (eq-eqb n n refl) here) in
+      by_place test (any_at wanted spots any);
+}
   where
     none : Spot
     none = record { number = 0; position = 0 }

@@ -9,9 +9,9 @@ ghost use Rattle.clip_terms.specs.Steps.FieldNumbers.{spot_of, spots_of, HasEach
 ghost use Rattle.clip_terms.specs.Steps.FieldNumbers.{begins_before, covers_before, is_covered_from};
 
 use crate::flags::FieldFlags;
+use crate::matching::stands_about;
 use crate::reading::number_at;
 use crate::repeats::{AT_START, Repeats};
-use crate::matching::stands_about;
 use crate::terms::Terms;
 use clip_meaning::{Field, Posting};
 use clip_words::NoMemory;
@@ -61,11 +61,7 @@ impl Model for FieldNumbers {
 }
 
 /// Adds a spot, if the position has a number.
-fn add_spot(
-    number: Option<u32>,
-    position: usize,
-    spots: &mut Vec<Spot>,
-) -> Result<(), NoMemory>
+fn add_spot(number: Option<u32>, position: usize, spots: &mut Vec<Spot>) -> Result<(), NoMemory>
     ensures { OnOk result (spots.new.items ≡ spots.old.items ++ spot_of number position) }
 {
     if let Some(number) = number {
@@ -112,12 +108,7 @@ fn stands_about_any(numbers: &[Option<u32>], run: &[u32], anchor: &Anchor<'_>) -
 }
 
 /// Raises the flags of a run's positions where its number of a place is at one of these spots and the run stands.
-fn mark_about(
-    numbers: &[Option<u32>],
-    run: &[u32],
-    anchor: &Anchor<'_>,
-    flags: &mut FieldFlags,
-)
+fn mark_about(numbers: &[Option<u32>], run: &[u32], anchor: &Anchor<'_>, flags: &mut FieldFlags)
     ensures long { length flags.new ≡ length flags.old }
     ensures raised { AreRaised flags.old flags.new
         (λ k. list_any (covers_before run.now numbers.now anchor.now.place k) anchor.now.spots.now) }
@@ -202,7 +193,9 @@ impl FieldNumbers {
     {
         let rarest = self.rarest(run);
         if is_often(rarest.spots.len(), run.len(), self.numbers.len()) {
-            return Repeats::of(run).next_from(&self.numbers, AT_START).is_some();
+            return Repeats::of(run)
+                .next_from(&self.numbers, AT_START)
+                .is_some();
         }
         stands_about_any(&self.numbers, run, &rarest)
     }

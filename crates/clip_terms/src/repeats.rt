@@ -154,7 +154,7 @@ impl<'a> Repeats<'a> {
         ensures { MatchOption result
             ((d : ℕ) → 0 < d → d + d ≤ length → Returns self.now.run.now d length → ⊥)
             (λ period. (0 < period) × (period + period ≤ length) × Returns self.now.run.now period length
-                × NoneBelow self.now.run.now period length) }
+            × NoneBelow self.now.run.now period length) }
     {
         for span in &self.spans[..self.count] {
             if span.from <= length && length <= span.upto {

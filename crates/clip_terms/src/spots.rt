@@ -10,8 +10,8 @@ ghost use Rattle.clip_terms.specs.Steps.Spots.{AreNear, IsOfArticle, covers_at};
 
 use crate::field_numbers::FieldNumbers;
 use crate::flags::FieldFlags;
-use crate::reading::Reading;
 use crate::matching::is_number;
+use crate::reading::Reading;
 use crate::terms::Terms;
 use clip_meaning::{Field, Posting};
 use std::marker::Model;
@@ -136,7 +136,12 @@ impl<'a> FieldSpots<'a> {
         ensures raised { AreRaised flags.old flags.new
             (λ k. is_at self.now.field k (term_at self.now.terms number)) }
     {
-        mark_places(self.postings_near(number), self.numbers.numbers(), number, flags);
+        mark_places(
+            self.postings_near(number),
+            self.numbers.numbers(),
+            number,
+            flags,
+        );
     }
 
     /// Raises the flags of the positions that the terms of these numbers cover where they stand next to each other, in

@@ -12,14 +12,18 @@ loop-occur-init t c =
     let runs = c.args.runs.now in
     let queries = c.args.queries.now.items in
     subst (λ (l : List Step). Adds c.args.terms.now runs queries
-        (c.args.steps.now.items ++ step.Open c.args.occur 0 ∷ []) runs queries l [])
-        (sym c.in_ok-push-in-Group.ensures.items)
+    (c.args.steps.now.items ++ step.Open c.args.occur 0 ∷ []) runs queries l [])
+    (sym c.in_ok-push-in-Group.ensures.items)
     (adds_nothing c.args.terms.now runs runs queries queries
-        (c.args.steps.now.items ++ step.Open c.args.occur 0 ∷ []) (grows_not runs) (grows_not queries))
+    (c.args.steps.now.items ++ step.Open c.args.occur 0 ∷ []) (grows_not runs) (grows_not queries))
 
 pub end_group-requires : goal.end_group-requires
-end_group-requires t c = omega (arith, c.len-opening.ensures, inside_count c.args.steps.now.items
-    (step.Open c.args.occur 0) c.loop-occur.invariant)
+end_group-requires t c = omega (
+  arith,
+  c.len-opening.ensures,
+  inside_count c.args.steps.now.items
+      (step.Open c.args.occur 0) c.loop-occur.invariant,
+)
 
 pub add_clause-requires : goal.add_clause-requires
 add_clause-requires t c =
@@ -27,15 +31,17 @@ add_clause-requires t c =
     let i = c.loop-occur.occur-index in
     let child = c.loop-occur-item.result in
     let fewer : nodes (tree_of child.1) < nodes (tree_of c.args.query.now) = child_nodes c.args.query.now
-        c.in-Group.clauses cs i child c.in-Group.is c.deref-occur-items.ensures.value c.loop-occur-test.true
-        c.loop-occur-item.is in
-    (omega (arith, fewer, c.decreases), child_words c.args.terms.now c.args.query.now c.in-Group.clauses cs i child
-        c.in-Group.is c.deref-occur-items.ensures.value c.requires c.loop-occur-test.true c.loop-occur-item.is)
+    c.in-Group.clauses cs i child c.in-Group.is c.deref-occur-items.ensures.value c.loop-occur-test.true
+    c.loop-occur-item.is in (
+      omega (arith, fewer, c.decreases),
+      child_words c.args.terms.now c.args.query.now c.in-Group.clauses cs i child
+          c.in-Group.is c.deref-occur-items.ensures.value c.requires c.loop-occur-test.true c.loop-occur-item.is,
+    )
 
 pub loop-occur-preserved : goal.loop-occur-preserved
 loop-occur-preserved t c =
     clause_added c.deref-occur-items.result.now c.loop-occur.occur-index c.loop-occur-item.result
-        c.loop-occur-test.true c.loop-occur-item.is c.loop-occur.invariant c.in_ok-add_clause-in-Group.ensures.added
+    c.loop-occur-test.true c.loop-occur-item.is c.loop-occur.invariant c.in_ok-add_clause-in-Group.ensures.added
 
 pub returns-in_err-add_clause-in-Group-clause-runs : goal.returns-in_err-add_clause-in-Group-clause-runs
 returns-in_err-add_clause-in-Group-clause-runs t c = as_long _ c.loop-occur.invariant.runs_grow
@@ -54,7 +60,7 @@ returns-after-loop-occur-clause-queries t c = longer c.loop-occur.invariant.quer
 pub returns-after-loop-occur-clause-added : goal.returns-after-loop-occur-clause-added
 returns-after-loop-occur-clause-added t c =
     group_closed c.end_group.result c.args.steps.now.items c.loop-occur.steps.items c.args.query.now
-        c.in-Group.clauses c.deref-occur-items.result.now c.loop-occur.occur-index c.args.occur
-        (step.Open c.args.occur 0) c.len-opening.result c.end_group.new.steps.items
+    c.in-Group.clauses c.deref-occur-items.result.now c.loop-occur.occur-index c.args.occur
+    (step.Open c.args.occur 0) c.len-opening.result c.end_group.new.steps.items
     c.in-Group.is c.deref-occur-items.ensures.value c.loop-occur-test.false
-        (omega (arith, c.len-opening.ensures, c.args.steps.now.ok.0)) c.loop-occur.invariant c.end_group.ensures
+    (omega (arith, c.len-opening.ensures, c.args.steps.now.ok.0)) c.loop-occur.invariant c.end_group.ensures

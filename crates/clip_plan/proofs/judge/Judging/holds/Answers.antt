@@ -9,8 +9,8 @@ pub loop-place-init : goal.loop-place-init
 loop-place-init c = λ tree plan.
     let judging = c.args.self.now in
     plan_begun judging.runs.now (map tree_of judging.queries.now) judging.reading.now.terms
-        judging.reading.now.article.fields tree judging.steps.now c.clear.new.self.items c.new-top.result plan
-        c.new-top.ensures c.clear.ensures.items
+    judging.reading.now.article.fields tree judging.steps.now c.clear.new.self.items c.new-top.result plan
+    c.new-top.ensures c.clear.ensures.items
 
 pub loop-place-preserved : goal.loop-place-preserved
 loop-place-preserved c = λ tree plan. c.in_ok-next.ensures.leads
@@ -21,5 +21,5 @@ returns c = λ tree plan.
     let judging = c.args.self.now in
     c.holds.ensures
     ∙ plan_judged judging.runs.now (map tree_of judging.queries.now) judging.reading.now.terms
-        judging.reading.now.article.fields tree judging.steps.now c.loop-place.place c.loop-place.top
-        (reverse c.loop-place.stack.items) plan c.loop-place-test.false (c.loop-place.invariant tree plan)
+    judging.reading.now.article.fields tree judging.steps.now c.loop-place.place c.loop-place.top
+    (reverse c.loop-place.stack.items) plan c.loop-place-test.false (c.loop-place.invariant tree plan)

@@ -9,9 +9,9 @@ use Rattle.clip_plan.proofs.judge.Judging.holds.Given as goal
 abbrev pub invariant-loop-place : goal.invariant-loop-place
 invariant-loop-place l =
     (tree : Tree) → map (meant l.self.runs.now (map tree_of l.self.queries.now) l.self.reading.now.terms)
-        l.self.steps.now ≡ plan_of tree
+    l.self.steps.now ≡ plan_of tree
     → LeadTo l.self.reading.now.article.fields (holds tree l.self.reading.now.article.fields) (plan_of tree) l.place
-        l.top (reverse l.stack.items)
+    l.top (reverse l.stack.items)
 
 abbrev pub decreases-loop-place : goal.decreases-loop-place
 decreases-loop-place l = length l.self.steps.now - l.place
