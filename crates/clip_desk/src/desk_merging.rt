@@ -51,10 +51,10 @@ impl<N: DeskName, L: UpdateListener> Desk<N, L> {
         Ok(())
     }
 
-    /// A job over the oldest four neighbouring segments of one level, where there are such four.
-    fn begin<R: Wait>(&self, rt: &R) -> Result<Option<MergeJob>, NoMemory> {
+    /// A job over the segments that a merge turn makes one, where there are some.
+    fn begin_turn<R: Wait>(&self, rt: &R) -> Result<Option<MergeJob>, NoMemory> {
         let guard = self.locked.lock(rt);
-        let job = guard.begin();
+        let job = guard.begin_turn();
         MutexGuard::unlock(guard);
         job
     }
@@ -67,15 +67,17 @@ impl<N: DeskName, L: UpdateListener> Desk<N, L> {
         answer
     }
 
-    /// Merges the oldest four neighbouring segments of one level, where there are such four, and publishes that. What
-    /// is registered stays, and so does the history: commits of other threads while it merges are kept. It may find its
-    /// merge stale where another thread merged or purged, or a clear came between. `NoMemory` where an allocation
-    /// failed, with nothing changed; a later call may merge them.
+    /// Takes a merge turn: merges the oldest four neighbouring segments of one level, or, where there are no such four,
+    /// all segments from the oldest on behind which one has a higher level, and publishes that. What is registered
+    /// stays, and so does the history: commits of other threads while it merges are kept. It may find its merge stale
+    /// where another thread merged or purged, or a clear came between. `NoMemory` where an allocation failed, with
+    /// nothing changed; a later call may merge them.
     ///
-    /// It may wait for other callers' commits, and for readers that look. It costs that of `Registrar::begin`, and
-    /// where there are four that of `MergeJob::run` and of `Registrar::install`. Commits go on while the job is run.
+    /// It may wait for other callers' commits, and for readers that look. It costs that of `Registrar::begin_turn`, and
+    /// where there are segments to merge that of `MergeJob::run` and of `Registrar::install`. Commits go on while the
+    /// job is run.
     pub fn merge_once<R: Wait>(&self, rt: &R) -> Result<MergeTurn, NoMemory> {
-        let Some(job) = self.begin(rt)? else {
+        let Some(job) = self.begin_turn(rt)? else {
             return Ok(MergeTurn::Nothing);
         };
         let merged = job.run()?;
@@ -85,7 +87,7 @@ impl<N: DeskName, L: UpdateListener> Desk<N, L> {
         }
     }
 
-    /// Merges until there is nothing to merge, or a merge is stale or refused.
+    /// Takes merge turns until there is nothing to merge, or a merge is stale or refused.
     fn merge_all<R: Wait>(&self, rt: &R) {
         for _ in rt.forever() {
             let Ok(MergeTurn::Installed) = self.merge_once(rt) else {

@@ -1,7 +1,7 @@
 //! Merges and purges of what the lock keeps: other segments, and the same history.
 ghost use Rattle.std.specs.Prelude.{◌≡◌, ℕ, Ok, None, IfOk, IfSome, OnOk, OnErr};
-ghost use Rattle.clip_registry.specs.Plan.{IsRun};
-ghost use Rattle.clip_registry.specs.Merging.{IsBegun, IsInstalled, IsStale, purged};
+ghost use Rattle.clip_registry.specs.Plan.{AreFew, IsRun};
+ghost use Rattle.clip_registry.specs.Merging.{IsInstalled, IsStale, IsTurnBegun, purged};
 ghost use Rattle.clip_desk.specs.Updates.{AreTold, Purged};
 
 use crate::events::Update;
@@ -43,13 +43,16 @@ impl<N: DeskName, L: UpdateListener> Locked<N, L> {
         Ok(())
     }
 
-    /// Begins a merge: a job over the oldest four neighbouring segments of one level, or `None` where there are no such
-    /// four. `NoMemory` where an allocation failed. It costs that of `Registrar::begin`.
-    pub fn begin(&self) -> Result<Option<MergeJob>, NoMemory>
-        ensures begun { IfOk result (λ job. IfSome job (IsBegun self.now.registry)) }
+    /// Begins the merge of a turn: a job over the oldest four neighbouring segments of one level, or, where there are no
+    /// such four, over all segments from the oldest on behind which one has a higher level. `None` where there is none
+    /// either; then segments are few: three at most for each level up to that of all their entries together. `NoMemory`
+    /// where an allocation failed. It costs that of `Registrar::begin_turn`.
+    pub fn begin_turn(&self) -> Result<Option<MergeJob>, NoMemory>
+        ensures begun { IfOk result (λ job. IfSome job (IsTurnBegun self.now.registry)) }
         ensures nothing { result ≡ Ok None → (first : ℕ) → IsRun self.now.registry.segments first → ⊥ }
+        ensures few { result ≡ Ok None → AreFew self.now.registry.segments }
     {
-        self.registrar.begin()
+        self.registrar.begin_turn()
     }
 
     /// Installs a merge, wherever it was begun, and publishes the registry with it; a stale one changes and publishes

@@ -1,4 +1,5 @@
 pub mod Division
 pub mod Named
+pub mod Rises
 pub mod Runs
 pub mod Searching

@@ -5,12 +5,8 @@ use Rattle.std.proofs.lemmas.List.{get_or-drop, get_or-map, get_or-take}
 use Rattle.std.proofs.lemmas.List.Elements.{All-get_or, All-from_get_or}
 use Rattle.clip_model.specs.History.{Registered}
 use Rattle.clip_model.specs.declared.limits.TheConstants.{RUN_LENGTH}
-use Rattle.clip_merge.specs.Plan.{IsLevel, IsRun, IsOldestRun, run_at}
+use Rattle.clip_merge.specs.Plan.{HasLevel, IsLevel, IsRun, IsOldestRun, run_at}
 use Rattle.clip_merge.proofs.Division.{one_level}
-
--- the segment at this place has the level
-abbrev pub HasLevel : List (List Registered) → ℕ → ℕ → Type 0
-HasLevel segments at level = IsLevel (length (get_or segments at [])) level
 
 -- Before this place stand so many neighbours of one level and no more, and no run.
 pub record Walked (segments : List (List Registered)) (at count level : ℕ) : Type 0 where
@@ -36,7 +32,7 @@ module _ (segments : List (List Registered)) where
       rw (get_or-take, get_or-drop) at (All-get_or (λ segment. IsLevel (length segment) run.level) (run_at segments first) k [] inside run.levels)
 
   -- four neighbours of one level are a run
-  run_of : (first level : ℕ) → first + RUN_LENGTH ≤ length segments → ((k : ℕ) → k < RUN_LENGTH → HasLevel segments (first + k) level) → IsRun segments first
+  pub run_of : (first level : ℕ) → first + RUN_LENGTH ≤ length segments → ((k : ℕ) → k < RUN_LENGTH → HasLevel segments (first + k) level) → IsRun segments first
   run_of first level there each = record {
     level = level;
     there = there;

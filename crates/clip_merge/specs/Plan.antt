@@ -1,6 +1,7 @@
--- Levels of segments, and the run of segments that is merged next.
-use Rattle.std.specs.Prelude.{ℕ, ◌+◌, ◌<◌, ◌≤◌, ◌^◌, List, length, take, drop}
+-- Levels of segments, and which neighbours are merged next.
+use Rattle.std.specs.Prelude.{◌≡◌, ℕ, ◌+◌, ◌-◌, ◌*◌, ◌<◌, ◌≤◌, ◌^◌, List, [], length, take, drop, slice_index_or}
 use Rattle.std.specs.List.{All}
+use Rattle.clip_segment.specs.Segment.{all_entries}
 use Rattle.clip_model.specs.History.{Registered}
 use Rattle.clip_model.specs.declared.limits.TheConstants.{RUN_LENGTH}
 
@@ -10,9 +11,15 @@ pub record IsLevel (n level : ℕ) : Type 0 where
   pub below : n < RUN_LENGTH ^ (level + 1)
   pub least : (k : ℕ) → n < RUN_LENGTH ^ (k + 1) → level ≤ k
 
+-- ---- runs
+
+-- so many neighbours from this place on
+abbrev pub neighbours : List (List Registered) → ℕ → ℕ → List (List Registered)
+neighbours segments first count = take count (drop first segments)
+
 -- the neighbours from this place on, as many as a run has
 abbrev pub run_at : List (List Registered) → ℕ → List (List Registered)
-run_at segments first = take RUN_LENGTH (drop first segments)
+run_at segments first = neighbours segments first RUN_LENGTH
 
 -- There are so many neighbours from this place on, and they have one level.
 pub record IsRun (segments : List (List Registered)) (first : ℕ) : Type 0 where
@@ -24,3 +31,40 @@ pub record IsRun (segments : List (List Registered)) (first : ℕ) : Type 0 wher
 pub record IsOldestRun (segments : List (List Registered)) (first : ℕ) : Type 0 where
   pub run : IsRun segments first
   pub oldest : (k : ℕ) → k < first → IsRun segments k → ⊥
+
+-- ---- rises
+
+-- the segment at this place has the level
+abbrev pub HasLevel : List (List Registered) → ℕ → ℕ → Type 0
+HasLevel segments at level = IsLevel (length (slice_index_or segments at [])) level
+
+-- Behind the segment at this place one has a higher level.
+pub record IsRise (segments : List (List Registered)) (first : ℕ) : Type 0 where
+  pub behind : ℕ
+  pub after : first < behind
+  pub there : behind < length segments
+  pub low : ℕ
+  pub high : ℕ
+  pub low_level : HasLevel segments first low
+  pub high_level : HasLevel segments behind high
+  pub rises : low < high
+
+-- Here is a rise, and nowhere before.
+pub record IsOldestRise (segments : List (List Registered)) (first : ℕ) : Type 0 where
+  pub rise : IsRise segments first
+  pub oldest : (k : ℕ) → k < first → IsRise segments k → ⊥
+
+-- ---- merge turns
+
+-- A turn merges the neighbours from the one place on to before the other: the oldest run, or, where there is none, all
+-- segments from the oldest rise on.
+pub data IsTurn (segments : List (List Registered)) (first past : ℕ) : Type 0 where
+  run : IsOldestRun segments first → past ≡ first + RUN_LENGTH → IsTurn segments first past
+  rise : ((k : ℕ) → IsRun segments k → ⊥) → IsOldestRise segments first → past ≡ length segments
+      → IsTurn segments first past
+
+-- For each level up to that of all their entries together there are at most as many segments as make no run.
+pub record AreFew (segments : List (List Registered)) : Type 0 where
+  pub level : ℕ
+  pub of_all : IsLevel (length (all_entries segments)) level
+  pub few : length segments ≤ (RUN_LENGTH - 1) * (level + 1)

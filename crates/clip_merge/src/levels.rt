@@ -1,7 +1,7 @@
 //! Levels of segments, and which neighbours are merged next.
 ghost use Rattle.std.specs.Prelude.{◌≡◌, ℕ, ◌+◌, IfSome, None, map};
 ghost use Rattle.std.specs.Arc.{arc_value};
-ghost use Rattle.clip_merge.specs.Plan.{IsLevel, IsRun, IsOldestRun};
+ghost use Rattle.clip_merge.specs.Plan.{AreFew, IsLevel, IsOldestRise, IsOldestRun, IsRise, IsRun, IsTurn};
 
 use clip_model::RUN_LENGTH;
 use clip_segment::Segment;
@@ -38,6 +38,44 @@ pub fn plan(segments: &[Arc<Segment>]) -> Option<(usize, usize)>
         last = here;
     }
     None
+}
+
+/// Where the oldest segment stands behind which one has a higher level, or `None` where levels stay or fall.
+fn oldest_rise(segments: &[Arc<Segment>]) -> Option<usize>
+    ensures rise { IfSome result (IsOldestRise (map arc_value segments.now)) }
+    ensures none { result ≡ None → (first : ℕ) → IsRise (map arc_value segments.now) first → ⊥ }
+{
+    // The highest level of the segments behind.
+    let mut highest = 0;
+    let mut oldest = None;
+    for at in (0..segments.len()).rev() {
+        let here = level(segments[at].len());
+        if here < highest {
+            oldest = Some(at);
+        } else {
+            highest = here;
+        }
+    }
+    oldest
+}
+
+/// Which neighbours a merge turn makes one: the place of the first, and that past the last. They are those of `plan`,
+/// or, where it finds none, all segments from the oldest on behind which one has a higher level. `None` where there are
+/// no such neighbours; then segments are few: three at most for each level up to that of all their entries together.
+/// Takes no memory. Cost: a step for each segment, and for each of its levels.
+pub fn plan_turn(segments: &[Arc<Segment>]) -> Option<(usize, usize)>
+    ensures turn { IfSome result (λ at. IsTurn (map arc_value segments.now) at.0 at.1) }
+    ensures no_run { result ≡ None → (first : ℕ) → IsRun (map arc_value segments.now) first → ⊥ }
+    ensures no_rise { result ≡ None → (first : ℕ) → IsRise (map arc_value segments.now) first → ⊥ }
+    ensures few { result ≡ None → AreFew (map arc_value segments.now) }
+{
+    match plan(segments) {
+        Some(run) => Some(run),
+        None => match oldest_rise(segments) {
+            Some(first) => Some((first, segments.len())),
+            None => None,
+        },
+    }
 }
 
 #[cfg(test)]

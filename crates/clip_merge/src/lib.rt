@@ -5,6 +5,6 @@ mod levels;
 mod live;
 mod merging;
 
-pub use levels::plan;
+pub use levels::{plan, plan_turn};
 pub use live::Live;
 pub use merging::{merge, purge};

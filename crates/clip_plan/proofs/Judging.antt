@@ -1,22 +1,23 @@
 -- A plan is judged as its query holds.
-use Rattle.std.proofs.Common.{◌≡◌, ℕ, zero, suc, ◌+◌, ◌<◌, ◌≤◌, ◌==◌, arith, Bool, true, false, not, ◌&&◌, ◌||◌, List, [], ◌∷◌, ◌++◌, map, length, drop, get_or, reverse, unwrap_or, refl, sym, ap, ◌∙◌, subst, append_assoc, append-nil}
+use Rattle.std.proofs.Common.{◌≡◌, ℕ, zero, suc, ◌+◌, ◌<◌, ◌≤◌, max, arith, Bool, true, false, not, cond, ◌&&◌, ◌||◌, List, [], ◌∷◌, ◌++◌, map, length, drop, get_or, reverse, unwrap_or, refl, sym, ap, ◌∙◌, subst, append_assoc, append-nil}
 use Rattle.std.specs.Prelude.{slice_get, Result, Ok, Err, IfOk}
-use Rattle.std.proofs.lemmas.Bool.Decides.{nat_tests}
 use Rattle.std.specs.List.{list_all, list_any}
-use Rattle.std.proofs.lemmas.List.{nil_from_length, drop_all, drop_more}
+use Rattle.std.proofs.lemmas.Bool.{false≢true}
+use Rattle.std.proofs.lemmas.List.{length-append, length-map, length_push, drop_all, drop-drop}
+use Rattle.std.proofs.Math.Seq.{drop-append-add, drop-append_seam}
 use Rattle.clip_grammar.specs.Tree.{Tree, Clauses, none, clause}
 use Rattle.clip_grammar.specs.declared.query.Occur.{Occur}
 use Rattle.clip_grammar.specs.declared.query.Occur.TheVariants.{Must, Should, MustNot}
 use Rattle.clip_meaning.specs.Article.{Fields}
 use Rattle.clip_meaning.specs.Meaning.{holds, verdicts, group_holds, meets_must, meets_must_not, meets_should, is_must}
-use Rattle.clip_extract.specs.Keys.{KeyValue}
-use Rattle.clip_plan.specs.Plan.{Asks, Has, Run, Mark, Leaf, Open, Close, clause_marks, group_marks, plan_of, decoded}
+use Rattle.clip_extract.specs.Keys.{KeyValue, Word}
+use Rattle.clip_plan.specs.Plan.{Asks, Has, Run, Is, Mark, Leaf, Open, Close, group_marks, plan_of, decoded}
 use Rattle.clip_plan.specs.Steps.Plans.{mark_of, first_words}
 use Rattle.clip_plan.specs.declared.first_words.FirstWords.{FirstWords}
 use Rattle.clip_plan.specs.declared.first_words.TheConstants.{NO_TERM}
 use Rattle.clip_plan.specs.declared.step.Step.{Step}
 use Rattle.clip_plan.specs.declared.step.Step.TheVariants as step
-use Rattle.clip_plan.specs.Steps.Judging.{no_clauses, counted, tally_holds, leaf_holds, mark_holds, meant, Groups, marked, stepped_all}
+use Rattle.clip_plan.specs.Steps.Judging.{no_clauses, counted, counted_all, tally_holds, is_needless, leaf_holds, mark_holds, meant, Groups, marked, passed, onward, Left, Ends, LeadTo}
 use Rattle.clip_plan.specs.declared.judge.Tally.{Tally}
 use Rattle.clip_terms.specs.Terms.{term_at}
 use Rattle.clip_terms.specs.Reading.{has_key, has_run}
@@ -25,162 +26,535 @@ use Rattle.clip_plan.proofs.AskedKeys.{has_word_key, has_word_run}
 
 -- ---- a group's clauses
 
--- with all these clauses more
-abbrev counted_all : Tally → List (Occur × Bool) → Tally
-counted_all t [] = t
-counted_all t (v ∷ vs) = counted_all (counted t v.0 v.1) vs
+-- A group of these clauses holds, behind others that all hold: with or without one that must hold or may and does.
+group_with : Bool → List (Occur × Bool) → Bool
+group_with met vs = list_all meets_must vs && list_all meets_must_not vs &&
+    (met || (list_any is_must vs || list_any meets_should vs))
 
--- a group of these clauses holds, behind others that all hold, with or without a Must, and with or without a Should that holds
-group_with : Bool → Bool → List (Occur × Bool) → Bool
-group_with must should vs = list_all meets_must vs && list_all meets_must_not vs && ((must || list_any is_must vs) || (should || list_any meets_should vs))
-
-group_end : (m s : Bool) → (m || s) ≡ group_with m s []
+group_end : (m : Bool) → m ≡ group_with m []
 unfolding group_with
-group_end true true = refl
-group_end true false = refl
-group_end false true = refl
-group_end false false = refl
+group_end true = refl
+group_end false = refl
 
-more_must : (m s : Bool) (vs : List (Occur × Bool)) → group_with true s vs ≡ group_with m s ((Must, true) ∷ vs)
+more_must : (m : Bool) (vs : List (Occur × Bool)) → group_with true vs ≡ group_with m ((Must, true) ∷ vs)
 unfolding group_with
-more_must true s vs = refl
-more_must false s vs = refl
+more_must true vs = refl
+more_must false vs = refl
 
-more_should : (m s h : Bool) (vs : List (Occur × Bool)) → group_with m (s || h) vs ≡ group_with m s ((Should, h) ∷ vs)
+or_over : (m h a b : Bool) → ((m || h) || (a || b)) ≡ (m || (a || (h || b)))
+or_over true h a b = refl
+or_over false true true b = refl
+or_over false true false b = refl
+or_over false false a b = refl
+
+more_should : (m h : Bool) (vs : List (Occur × Bool)) → group_with (m || h) vs ≡ group_with m ((Should, h) ∷ vs)
 unfolding group_with
-more_should m true h vs = refl
-more_should m false true vs = refl
-more_should m false false vs = refl
+more_should m h vs = ap (λ b. list_all meets_must vs && list_all meets_must_not vs && b)
+    (or_over m h (list_any is_must vs) (list_any meets_should vs))
 
 never : (a b : Bool) → false ≡ (a && false && b)
 never true b = refl
 never false b = refl
 
-none_held : (m s : Bool) (vs : List (Occur × Bool)) → false ≡ group_with m s ((MustNot, true) ∷ vs)
+none_held : (m : Bool) (vs : List (Occur × Bool)) → false ≡ group_with m ((MustNot, true) ∷ vs)
 unfolding group_with
-none_held m s vs = never (list_all meets_must vs) ((m || list_any is_must vs) || (s || list_any meets_should vs))
+none_held m vs = never (list_all meets_must vs) (m || (list_any is_must vs || list_any meets_should vs))
 
-after_must : (a m s held : Bool) (vs : List (Occur × Bool)) → ((a && held) && group_with true s vs) ≡ (a && group_with m s ((Must, held) ∷ vs))
+after_must : (a m held : Bool) (vs : List (Occur × Bool))
+    → ((a && held) && group_with true vs) ≡ (a && group_with m ((Must, held) ∷ vs))
 unfolding group_with
-after_must true m s true vs = more_must m s vs
-after_must true m s false vs = refl
-after_must false m s held vs = refl
+after_must true m true vs = more_must m vs
+after_must true m false vs = refl
+after_must false m held vs = refl
 
-after_must_not : (a m s held : Bool) (vs : List (Occur × Bool)) → ((a && not held) && group_with m s vs) ≡ (a && group_with m s ((MustNot, held) ∷ vs))
+after_must_not : (a m held : Bool) (vs : List (Occur × Bool))
+    → ((a && not held) && group_with m vs) ≡ (a && group_with m ((MustNot, held) ∷ vs))
 unfolding group_with
-after_must_not true m s true vs = none_held m s vs
-after_must_not true m s false vs = refl
-after_must_not false m s held vs = refl
+after_must_not true m true vs = none_held m vs
+after_must_not true m false vs = refl
+after_must_not false m held vs = refl
 
-tallied : (t : Tally) (vs : List (Occur × Bool)) → tally_holds (counted_all t vs) ≡ (t.may_hold && group_with t.has_must t.has_should vs)
-tallied t [] = ap (λ b. t.may_hold && b) (group_end t.has_must t.has_should)
-tallied t ((Must, held) ∷ vs) = tallied (counted t Must held) vs ∙ after_must t.may_hold t.has_must t.has_should held vs
-tallied t ((Should, held) ∷ vs) = tallied (counted t Should held) vs ∙ ap (λ b. t.may_hold && b) (more_should t.has_must t.has_should held vs)
-tallied t ((MustNot, held) ∷ vs) = tallied (counted t MustNot held) vs ∙ after_must_not t.may_hold t.has_must t.has_should held vs
+tallied : (t : Tally) (vs : List (Occur × Bool)) → tally_holds (counted_all t vs) ≡
+    (t.may_hold && group_with t.is_met vs)
+tallied t [] = ap (λ b. t.may_hold && b) (group_end t.is_met)
+tallied t ((Must, held) ∷ vs) = tallied (counted t Must held) vs ∙ after_must t.may_hold t.is_met held vs
+tallied t ((Should, held) ∷ vs) = tallied (counted t Should held) vs
+    ∙ ap (λ b. t.may_hold && b) (more_should t.is_met held vs)
+tallied t ((MustNot, held) ∷ vs) = tallied (counted t MustNot held) vs ∙ after_must_not t.may_hold t.is_met held vs
 
-group_tallied : (vs : List (Occur × Bool)) → tally_holds (counted_all no_clauses vs) ≡ group_holds vs
+group_tallied : (end : ℕ) (vs : List (Occur × Bool)) → tally_holds (counted_all (no_clauses end) vs) ≡ group_holds vs
 unfolding group_with group_holds
-group_tallied vs = tallied no_clauses vs
+group_tallied end vs = tallied (no_clauses end) vs
 
--- ---- a query's marks
+-- a group that may not hold does not, whatever clauses it has more
+stays_dead : (t : Tally) (vs : List (Occur × Bool)) → t.may_hold ≡ false
+    → tally_holds (counted_all t vs) ≡ tally_holds t
+stays_dead t vs dead = tallied t vs ∙ ap (λ b. b && group_with t.is_met vs) dead ∙ ap (λ b. b && t.is_met) (sym dead)
 
-mutual
-  -- the marks of a clause count it in the group that is open
-  clause_counted : (fields : Fields) (occur : Occur) (tree : Tree) (marks : List (Mark KeyValue)) (top : Tally) (around : List Tally)
-      → stepped_all fields (clause_marks occur tree ++ marks) (top, around) ≡ stepped_all fields marks (counted top occur (holds tree fields), around)
-  clause_counted fields occur (Tree.Term field word) marks top around = ap (λ b. stepped_all fields marks (counted top occur b, around)) (has_word_key fields field word)
-  clause_counted fields occur (Tree.Phrase field words) marks top around = ap (λ b. stepped_all fields marks (counted top occur b, around)) (has_word_run fields field words)
-  clause_counted fields occur (Tree.Prefix field front) marks top around = refl
-  clause_counted fields occur (Tree.Span field low high) marks top around = refl
-  clause_counted fields occur Tree.All marks top around = refl
-  clause_counted fields occur (Tree.Group clauses) marks top around =
-      ap (λ ms. stepped_all fields ms (no_clauses, top ∷ around)) (append_assoc (group_marks clauses) (Close occur ∷ []) marks)
-      ∙ group_counted fields clauses (Close occur ∷ marks) no_clauses (top ∷ around)
-      ∙ ap (λ b. stepped_all fields marks (counted top occur b, around)) (group_tallied (verdicts clauses fields))
+-- a clause that changes nothing
+unchanged : (t : Tally) (occur : Occur) (held : Bool) → is_needless t occur ≡ true → counted t occur held ≡ t
+unchanged t Must held n = absurd (false≢true n)
+unchanged t Should held n = ap (λ b. record { may_hold = t.may_hold; is_met = b; end = t.end })
+    (ap (λ b. b || held) n ∙ sym n)
+unchanged t MustNot held n = absurd (false≢true n)
 
-  group_counted : (fields : Fields) (clauses : Clauses) (marks : List (Mark KeyValue)) (top : Tally) (around : List Tally)
-      → stepped_all fields (group_marks clauses ++ marks) (top, around) ≡ stepped_all fields marks (counted_all top (verdicts clauses fields), around)
-  group_counted fields none marks top around = refl
-  group_counted fields (clause occur child others) marks top around =
-      ap (λ ms. stepped_all fields ms (top, around)) (append_assoc (clause_marks occur child) (group_marks others) marks)
-      ∙ clause_counted fields occur child (group_marks others ++ marks) top around
-      ∙ group_counted fields others marks (counted top occur (holds child fields)) around
+kept_end : (t : Tally) (occur : Occur) (held : Bool) → (counted t occur held).end ≡ t.end
+kept_end t Must held = refl
+kept_end t Should held = refl
+kept_end t MustNot held = refl
 
--- the groups that are open after all marks: the outermost alone, and its tally is that of the query
-abbrev Ends : Fields → Tree → Groups → Type 0
-Ends fields tree groups = (end : Tally) × (groups ≡ (end, [])) × (tally_holds end ≡ holds tree fields)
+kept_ends : (t : Tally) (vs : List (Occur × Bool)) → (counted_all t vs).end ≡ t.end
+kept_ends t [] = refl
+kept_ends t (v ∷ vs) = kept_ends (counted t v.0 v.1) vs ∙ kept_end t v.0 v.1
 
-only_must : (b : Bool) → tally_holds (counted no_clauses Must b) ≡ b
-only_must true = refl
-only_must false = refl
+only_must : (end : ℕ) (b : Bool) → tally_holds (counted (no_clauses end) Must b) ≡ b
+only_must end true = refl
+only_must end false = refl
 
-only_clause : (fields : Fields) (tree : Tree) → Ends fields tree (stepped_all fields (clause_marks Must tree) (no_clauses, []))
-only_clause fields tree =
-    (counted no_clauses Must (holds tree fields), ap (λ ms. stepped_all fields ms (no_clauses, [])) (sym (append-nil (clause_marks Must tree))) ∙ clause_counted fields Must tree [] no_clauses [], only_must (holds tree fields))
+-- a group's beginning is no leaf, and its end is neither
+not_leaf : (occur : Occur) (inside : ℕ) (ms : List (Mark KeyValue)) (o : Occur) (a : Asks KeyValue)
+    (rest : List (Mark KeyValue)) → Open occur inside ∷ ms ≡ Leaf o a ∷ rest → ⊥
+not_leaf occur inside ms o a rest e = cc
 
-pub plan_ends : (fields : Fields) (tree : Tree) → Ends fields tree (stepped_all fields (plan_of tree) (no_clauses, []))
-plan_ends fields (Tree.Group clauses) =
-    (counted_all no_clauses (verdicts clauses fields), ap (λ ms. stepped_all fields ms (no_clauses, [])) (sym (append-nil (group_marks clauses))) ∙ group_counted fields clauses [] no_clauses [], group_tallied (verdicts clauses fields))
-plan_ends fields (Tree.Term field word) = only_clause fields (Tree.Term field word)
-plan_ends fields (Tree.Phrase field words) = only_clause fields (Tree.Phrase field words)
-plan_ends fields (Tree.Prefix field front) = only_clause fields (Tree.Prefix field front)
-plan_ends fields (Tree.Span field low high) = only_clause fields (Tree.Span field low high)
-plan_ends fields Tree.All = only_clause fields Tree.All
+close_no_leaf : (occur : Occur) (ms : List (Mark KeyValue)) (o : Occur) (a : Asks KeyValue)
+    (rest : List (Mark KeyValue)) → Close occur ∷ ms ≡ Leaf o a ∷ rest → ⊥
+close_no_leaf occur ms o a rest e = cc
 
--- ---- an outermost group that may not hold
+close_no_open : (occur : Occur) (ms : List (Mark KeyValue)) (o : Occur) (inside : ℕ) (rest : List (Mark KeyValue))
+    → Close occur ∷ ms ≡ Open o inside ∷ rest → ⊥
+close_no_open occur ms o inside rest e = cc
 
--- the tally of the outermost group
-abbrev outermost : Tally → List Tally → Tally
-outermost top [] = top
-outermost top (next ∷ around) = outermost next around
+no_marks : (m : Mark KeyValue) (ms : List (Mark KeyValue)) → [] ≡ m ∷ ms → ⊥
+no_marks m ms e = cc
 
-counted_dead : (t : Tally) (occur : Occur) (held : Bool) → t.may_hold ≡ false → (counted t occur held).may_hold ≡ false
-counted_dead t Must held dead = ap (λ b. b && held) dead
-counted_dead t Should held dead = dead
-counted_dead t MustNot held dead = ap (λ b. b && not held) dead
+close_no_end : (occur : Occur) (ms : List (Mark KeyValue)) → Close occur ∷ ms ≡ [] → ⊥
+close_no_end occur ms e = cc
 
-stays_dead : (top : Tally) (around : List Tally) (occur : Occur) (held : Bool) → (outermost top around).may_hold ≡ false → (outermost (counted top occur held) around).may_hold ≡ false
-stays_dead top [] occur held dead = counted_dead top occur held dead
-stays_dead top (next ∷ around) occur held dead = dead
+-- ---- the marks that are left
 
--- no mark lets it hold again
-still_dead : (fields : Fields) (marks : List (Mark KeyValue)) (top : Tally) (around : List Tally) → (outermost top around).may_hold ≡ false
-    → (outermost (stepped_all fields marks (top, around)).0 (stepped_all fields marks (top, around)).1).may_hold ≡ false
-still_dead fields [] top around dead = dead
-still_dead fields (Leaf occur asks ∷ marks) top around dead = still_dead fields marks _ around (stays_dead top around occur (leaf_holds fields asks) dead)
-still_dead fields (Open ∷ marks) top around dead = still_dead fields marks no_clauses (top ∷ around) dead
-still_dead fields (Close occur ∷ marks) top [] dead = still_dead fields marks top [] dead
-still_dead fields (Close occur ∷ marks) top (next ∷ around) dead = still_dead fields marks _ around (stays_dead next around occur (tally_holds top) dead)
+module _ (fields : Fields) (verdict : Bool) where
+  -- where a group ends depends on no more of its tally
+  ends_same : (around : List Tally) (marks : List (Mark KeyValue)) (place : ℕ) (t u : Tally) → t.end ≡ u.end
+      → tally_holds t ≡ tally_holds u → Ends fields verdict around marks place t
+      → Ends fields verdict around marks place u
+  ends_same [] marks place t u e h f = (f.0, sym e ∙ f.1, sym h ∙ f.2)
+  ends_same (next ∷ around) marks place t u e h f = (
+    f.0,
+    f.1,
+    f.2,
+    sym e ∙ f.3,
+    subst (λ b. Left (Ends fields verdict around) fields f.1 (place + 1)
+        (counted next f.0 b)) h f.4,
+  )
 
--- ---- where the judging ends
+  ends_end : (around : List Tally) (marks : List (Mark KeyValue)) (place : ℕ) (t : Tally)
+      → Ends fields verdict around marks place t → t.end ≡ place
+  ends_end [] marks place t f = f.1
+  ends_end (next ∷ around) marks place t f = f.3
 
--- all marks are judged
-pub judged : (fields : Fields) (tree : Tree) (marks : List (Mark KeyValue)) (top : Tally) (around : List Tally)
-    → (top, around) ≡ stepped_all fields marks (no_clauses, []) → marks ≡ plan_of tree → tally_holds top ≡ holds tree fields
-judged fields tree marks top around at plan =
-    let ends = plan_ends fields tree in
-    ap (λ (g : Groups). tally_holds g.0) (at ∙ ap (λ ms. stepped_all fields ms (no_clauses, [])) plan ∙ ends.1) ∙ ends.2
+  -- at another place and tally that are these
+  ends_moved : (around : List Tally) (marks : List (Mark KeyValue)) (p q : ℕ) (t u : Tally) → p ≡ q → t ≡ u
+      → Ends fields verdict around marks p t → Ends fields verdict around marks q u
+  ends_moved around marks p q t u e same f = subst (λ v. Ends fields verdict around marks q v) same
+      (subst (λ n. Ends fields verdict around marks n t) e f)
 
--- no group but the outermost is open, and it may not hold: neither does the query
-pub judged_early : (fields : Fields) (tree : Tree) (marks left : List (Mark KeyValue)) (top : Tally)
-    → stepped_all fields left (top, []) ≡ stepped_all fields marks (no_clauses, []) → top.may_hold ≡ false → marks ≡ plan_of tree → false ≡ holds tree fields
-judged_early fields tree marks left top at dead plan =
-    let ends = plan_ends fields tree in
-    let at_end : stepped_all fields left (top, []) ≡ (ends.0, []) = at ∙ ap (λ ms. stepped_all fields ms (no_clauses, [])) plan ∙ ends.1 in
-    let still : ends.0.may_hold ≡ false = sym (ap (λ (g : Groups). (outermost g.0 g.1).may_hold) at_end) ∙ still_dead fields left top [] dead in
-    sym (ap (λ b. b && (ends.0.has_must || ends.0.has_should)) still) ∙ ends.2
+  -- a group ends at no leaf and at no other group's beginning
+  no_leaf : (around : List Tally) (occur : Occur) (asks : Asks KeyValue) (marks ms : List (Mark KeyValue))
+      (place : ℕ) (t : Tally) → Ends fields verdict around marks place t → Leaf occur asks ∷ ms ≡ marks → ⊥
+  no_leaf [] occur asks marks ms place t f is = let none : Leaf occur asks ∷ ms ≡ [] = is ∙ f.0 in cc
+  no_leaf (next ∷ around) occur asks marks ms place t f is = let close : Leaf occur asks ∷ ms ≡ Close f.0 ∷ f.1 = is
+      ∙ f.2 in cc
+
+  no_open : (around : List Tally) (occur : Occur) (inside : ℕ) (marks ms : List (Mark KeyValue)) (place : ℕ)
+      (t : Tally) → Ends fields verdict around marks place t → Open occur inside ∷ ms ≡ marks → ⊥
+  no_open [] occur inside marks ms place t f is = let none : Open occur inside ∷ ms ≡ [] = is ∙ f.0 in cc
+  no_open (next ∷ around) occur inside marks ms place t f is = let close : Open occur inside ∷ ms ≡ Close f.0 ∷ f.1 =
+      is ∙ f.2 in cc
+
+  -- ---- a leaf
+
+  leaf_first : (around : List Tally) (occur o : Occur) (asks a : Asks KeyValue) (ms others : List (Mark KeyValue))
+      (place : ℕ) (top : Tally) (held : Bool) (cs : Clauses) → leaf_holds fields a ≡ held
+      → Leaf occur asks ∷ ms ≡ Leaf o a ∷ (group_marks cs ++ others)
+      → Ends fields verdict around others (place + suc (length (group_marks cs)))
+      (counted_all (counted top o held) (verdicts cs fields))
+      → Left (Ends fields verdict around) fields ms (place + 1) (counted top occur (leaf_holds fields asks))
+  leaf_first around occur o asks a ms others place top held cs so is end =
+      let same : o ≡ occur = cc in
+      let one : a ≡ asks = cc in
+      record {
+        clauses = cs;
+        others = others;
+        are = cc;
+        end = ends_moved around others (place + suc (length (group_marks cs))) (place + 1 + length (group_marks cs))
+            (counted_all (counted top o held) (verdicts cs fields))
+            (counted_all (counted top occur (leaf_holds fields asks)) (verdicts cs fields)) (omega arith)
+            (ap (λ b. counted_all (counted top o b) (verdicts cs fields)) (sym so)
+            ∙ ap (λ x. counted_all (counted top o (leaf_holds fields x)) (verdicts cs fields)) one
+            ∙ ap (λ x. counted_all (counted top x (leaf_holds fields asks)) (verdicts cs fields)) same) end;
+      }
+
+  leaf_by : (around : List Tally) (occur : Occur) (asks : Asks KeyValue) (ms others : List (Mark KeyValue))
+      (place : ℕ) (top : Tally) (clauses : Clauses) → Leaf occur asks ∷ ms ≡ group_marks clauses ++ others
+      → Ends fields verdict around others (place + length (group_marks clauses))
+      (counted_all top (verdicts clauses fields)) → Left (Ends fields verdict around) fields ms (place + 1)
+      (counted top occur (leaf_holds fields asks))
+  leaf_by around occur asks ms others place top none is end = absurd
+      (no_leaf around occur asks others ms (place + 0) top end is)
+  leaf_by around occur asks ms others place top (clause o (Tree.Term field word) cs) is end =
+      leaf_first around occur o asks (Has (Word field word)) ms others place top
+      (holds (Tree.Term field word) fields) cs (has_word_key fields field word) is end
+  leaf_by around occur asks ms others place top (clause o (Tree.Phrase field words) cs) is end =
+      leaf_first around occur o asks (Run (map (Word field) words)) ms others place top
+      (holds (Tree.Phrase field words) fields) cs (has_word_run fields field words) is end
+  leaf_by around occur asks ms others place top (clause o (Tree.Prefix field front) cs) is end =
+      leaf_first around occur o asks (Is (Tree.Prefix field front)) ms others place top
+      (holds (Tree.Prefix field front) fields) cs refl is end
+  leaf_by around occur asks ms others place top (clause o (Tree.Span field low high) cs) is end =
+      leaf_first around occur o asks (Is (Tree.Span field low high)) ms others place top
+      (holds (Tree.Span field low high) fields) cs refl is end
+  leaf_by around occur asks ms others place top (clause o Tree.All cs) is end =
+      leaf_first around occur o asks (Is Tree.All) ms others place top true cs refl is end
+  leaf_by around occur asks ms others place top (clause o (Tree.Group inner) cs) is end = absurd
+      (not_leaf o (length (group_marks inner)) _ occur asks ms (sym is))
+
+  leaf_counted : (around : List Tally) (occur : Occur) (asks : Asks KeyValue) (ms : List (Mark KeyValue)) (place : ℕ)
+      (top : Tally) → Left (Ends fields verdict around) fields (Leaf occur asks ∷ ms) place top
+      → Left (Ends fields verdict around) fields ms (place + 1) (counted top occur (leaf_holds fields asks))
+  leaf_counted around occur asks ms place top f = leaf_by around occur asks ms f.others place top f.clauses f.are
+      f.end
+
+  -- ---- a group
+
+  -- what a group's beginning leads into
+  record GroupFirst (around : List Tally) (occur : Occur) (inside : ℕ) (ms : List (Mark KeyValue)) (place : ℕ)
+      (top : Tally) : Type 0 where
+    inner : Clauses
+    cs : Clauses
+    others : List (Mark KeyValue)
+    many : inside ≡ length (group_marks inner)
+    are : ms ≡ group_marks inner ++ Close occur ∷ (group_marks cs ++ others)
+    end : Ends fields verdict around others (place + 1 + length (group_marks inner) + 1 + length (group_marks cs))
+        (counted_all (counted top occur (group_holds (verdicts inner fields))) (verdicts cs fields))
+
+  group_first : (around : List Tally) (occur o : Occur) (inside : ℕ) (ms others : List (Mark KeyValue)) (place : ℕ)
+      (top : Tally) (inner cs : Clauses)
+      → Open occur inside ∷ ms ≡ Open o (length (group_marks inner)) ∷
+      (((group_marks inner ++ Close o ∷ []) ++ group_marks cs) ++ others)
+      → Ends fields verdict around others (place + suc
+      (length ((group_marks inner ++ Close o ∷ []) ++ group_marks cs)))
+      (counted_all (counted top o (group_holds (verdicts inner fields))) (verdicts cs fields))
+      → GroupFirst around occur inside ms place top
+  group_first around occur o inside ms others place top inner cs is end =
+      let same : o ≡ occur = cc in
+      let tail : ms ≡ ((group_marks inner ++ Close o ∷ []) ++ group_marks cs) ++ others = cc in
+      record {
+        inner = inner;
+        cs = cs;
+        others = others;
+        many = cc;
+        are =
+            tail ∙ ap (λ l. l ++ others) (append_assoc (group_marks inner) (Close o ∷ []) (group_marks cs))
+            ∙ append_assoc (group_marks inner) (Close o ∷ group_marks cs) others
+            ∙ ap (λ x. group_marks inner ++ Close x ∷ (group_marks cs ++ others)) same;
+        end = ends_moved around others _ (place + 1 + length (group_marks inner) + 1 + length (group_marks cs)) _ _
+            (omega (
+              arith,
+              length-append (group_marks inner ++ Close o ∷ []) (group_marks cs),
+              length_push
+                  (group_marks inner) (Close o),
+            ))
+            (ap (λ x. counted_all (counted top x (group_holds (verdicts inner fields))) (verdicts cs fields)) same)
+            end;
+      }
+
+  group_by : (around : List Tally) (occur : Occur) (inside : ℕ) (ms others : List (Mark KeyValue)) (place : ℕ)
+      (top : Tally) (clauses : Clauses) → Open occur inside ∷ ms ≡ group_marks clauses ++ others
+      → Ends fields verdict around others (place + length (group_marks clauses))
+      (counted_all top (verdicts clauses fields)) → GroupFirst around occur inside ms place top
+  group_by around occur inside ms others place top none is end = absurd
+      (no_open around occur inside others ms (place + 0) top end is)
+  group_by around occur inside ms others place top (clause o (Tree.Group inner) cs) is end = group_first around occur
+      o inside ms others place top inner cs is end
+  group_by around occur inside ms others place top (clause o (Tree.Term field word) cs) is end = absurd
+      (not_leaf occur inside ms o _ _ is)
+  group_by around occur inside ms others place top (clause o (Tree.Phrase field words) cs) is end = absurd
+      (not_leaf occur inside ms o _ _ is)
+  group_by around occur inside ms others place top (clause o (Tree.Prefix field front) cs) is end = absurd
+      (not_leaf occur inside ms o _ _ is)
+  group_by around occur inside ms others place top (clause o (Tree.Span field low high) cs) is end = absurd
+      (not_leaf occur inside ms o _ _ is)
+  group_by around occur inside ms others place top (clause o Tree.All cs) is end = absurd
+      (not_leaf occur inside ms o _ _ is)
+
+  group_of : (around : List Tally) (occur : Occur) (inside : ℕ) (ms : List (Mark KeyValue)) (place : ℕ) (top : Tally)
+      → Left (Ends fields verdict around) fields (Open occur inside ∷ ms) place top
+      → GroupFirst around occur inside ms place top
+  group_of around occur inside ms place top f = group_by around occur inside ms f.others place top f.clauses f.are
+      f.end
+
+  -- its clauses are next, and those of the group around it come behind its end
+  group_entered : (around : List Tally) (occur : Occur) (inside : ℕ) (ms : List (Mark KeyValue)) (place : ℕ)
+      (top : Tally) → GroupFirst around occur inside ms place top
+      → Left (Ends fields verdict (top ∷ around)) fields ms (place + 1) (no_clauses (place + 1 + inside))
+  group_entered around occur inside ms place top g =
+      let fresh = no_clauses (place + 1 + inside) in
+      let vs = verdicts g.inner fields in
+      record {
+        clauses = g.inner;
+        others = Close occur ∷ (group_marks g.cs ++ g.others);
+        are = g.are;
+        end = (
+          occur,
+          group_marks g.cs ++ g.others,
+          refl,
+          omega (arith, kept_ends fresh vs, g.many),
+          record {
+            clauses = g.cs;
+            others = g.others;
+            are = refl;
+            end = subst (λ b. Ends fields verdict around g.others
+                (place + 1 + length (group_marks g.inner) + 1 + length (group_marks g.cs))
+                (counted_all (counted top occur b) (verdicts g.cs fields)))
+                (sym (group_tallied (place + 1 + inside) vs)) g.end;
+          },
+        );
+      }
+
+  -- it is passed
+  group_passed : (around : List Tally) (occur : Occur) (inside : ℕ) (ms : List (Mark KeyValue)) (place : ℕ)
+      (top : Tally) → is_needless top occur ≡ true → GroupFirst around occur inside ms place top
+      → Left (Ends fields verdict around) fields (drop (inside + 1) ms) (place + (inside + 2)) top
+  group_passed around occur inside ms place top needless g = record {
+    clauses = g.cs;
+    others = g.others;
+    are =
+        ap (λ l. drop (inside + 1) l) g.are ∙ ap (λ n. drop (n + 1)
+        (group_marks g.inner ++ Close occur ∷ (group_marks g.cs ++ g.others))) g.many
+        ∙ drop-append-add (group_marks g.inner) (Close occur ∷ (group_marks g.cs ++ g.others)) 1;
+    end = ends_moved around g.others _ (place + (inside + 2) + length (group_marks g.cs)) _ _ (omega (arith, g.many))
+        (ap (λ t. counted_all t (verdicts g.cs fields))
+        (unchanged top occur (group_holds (verdicts g.inner fields)) needless)) g.end;
+  }
+
+  -- ---- a group's end
+
+  close_by : (around : List Tally) (occur : Occur) (ms others : List (Mark KeyValue)) (place : ℕ) (top : Tally)
+      (clauses : Clauses) → Close occur ∷ ms ≡ group_marks clauses ++ others
+      → Ends fields verdict around others (place + length (group_marks clauses))
+      (counted_all top (verdicts clauses fields)) → Ends fields verdict around (Close occur ∷ ms) place top
+  close_by around occur ms others place top none is end = subst (λ l. Ends fields verdict around l place top)
+      (sym is) (ends_moved around others (place + 0) place top top (omega arith) refl end)
+  close_by around occur ms others place top (clause o (Tree.Group inner) cs) is end = absurd
+      (close_no_open occur ms o _ _ is)
+  close_by around occur ms others place top (clause o (Tree.Term field word) cs) is end = absurd
+      (close_no_leaf occur ms o _ _ is)
+  close_by around occur ms others place top (clause o (Tree.Phrase field words) cs) is end = absurd
+      (close_no_leaf occur ms o _ _ is)
+  close_by around occur ms others place top (clause o (Tree.Prefix field front) cs) is end = absurd
+      (close_no_leaf occur ms o _ _ is)
+  close_by around occur ms others place top (clause o (Tree.Span field low high) cs) is end = absurd
+      (close_no_leaf occur ms o _ _ is)
+  close_by around occur ms others place top (clause o Tree.All cs) is end = absurd (close_no_leaf occur ms o _ _ is)
+
+  -- the outermost group has no end among the marks
+  close_alone : (occur : Occur) (ms : List (Mark KeyValue)) (place : ℕ) (top : Tally)
+      → Left (Ends fields verdict []) fields (Close occur ∷ ms) place top → ⊥
+  close_alone occur ms place top f = close_no_end occur ms
+      (close_by [] occur ms f.others place top f.clauses f.are f.end).0
+
+  close_counted : (next : Tally) (around : List Tally) (occur : Occur) (ms : List (Mark KeyValue)) (place : ℕ)
+      (top : Tally) → Left (Ends fields verdict (next ∷ around)) fields (Close occur ∷ ms) place top
+      → Left (Ends fields verdict around) fields ms (place + 1) (counted next occur (tally_holds top))
+  close_counted next around occur ms place top f =
+      let at = close_by (next ∷ around) occur ms f.others place top f.clauses f.are f.end in
+      let same : at.0 ≡ occur = close_occur occur at.0 ms at.1 at.2 in
+      let tail : at.1 ≡ ms = close_tail occur at.0 ms at.1 at.2 in
+      subst (λ l. Left (Ends fields verdict around) fields l (place + 1) (counted next occur (tally_holds top))) tail
+      (subst (λ o. Left (Ends fields verdict around) fields at.1 (place + 1) (counted next o (tally_holds top))) same
+      at.4)
+    where
+      close_occur : (occur o : Occur) (ms ns : List (Mark KeyValue)) → Close occur ∷ ms ≡ Close o ∷ ns → o ≡ occur
+      close_occur occur o ms ns e = cc
+
+      close_tail : (occur o : Occur) (ms ns : List (Mark KeyValue)) → Close occur ∷ ms ≡ Close o ∷ ns → ns ≡ ms
+      close_tail occur o ms ns e = cc
+
+  -- ---- a mark
+
+  mark_counted : (around : List Tally) (mark : Mark KeyValue) (ms : List (Mark KeyValue)) (place : ℕ) (top : Tally)
+      → Left (Ends fields verdict around) fields (mark ∷ ms) place top
+      → Left (Ends fields verdict (marked place mark (mark_holds fields mark) top around).1) fields ms (place + 1)
+      (marked place mark (mark_holds fields mark) top around).0
+  mark_counted around (Leaf occur asks) ms place top f = leaf_counted around occur asks ms place top f
+  mark_counted around (Open occur inside) ms place top f = group_entered around occur inside ms place top
+      (group_of around occur inside ms place top f)
+  mark_counted [] (Close occur) ms place top f = absurd (close_alone occur ms place top f)
+  mark_counted (next ∷ around) (Close occur) ms place top f = close_counted next around occur ms place top f
+
+  mark_passed : (around : List Tally) (mark : Mark KeyValue) (ms : List (Mark KeyValue)) (place : ℕ) (top : Tally)
+      → 0 < passed top mark → Left (Ends fields verdict around) fields (mark ∷ ms) place top
+      → Left (Ends fields verdict around) fields (drop (passed top mark) (mark ∷ ms)) (place + passed top mark) top
+  mark_passed around (Leaf occur asks) ms place top some f = by_need (is_needless top occur) refl some
+    where
+      by_need : (b : Bool) → is_needless top occur ≡ b → 0 < cond b 1 0
+          → Left (Ends fields verdict around) fields (drop (cond b 1 0) (Leaf occur asks ∷ ms)) (place + cond b 1 0)
+          top
+      by_need true n some = subst (λ t. Left (Ends fields verdict around) fields ms (place + 1) t)
+          (unchanged top occur (leaf_holds fields asks) n) (leaf_counted around occur asks ms place top f)
+      by_need false n some = absurd (omega arith)
+  mark_passed around (Open occur inside) ms place top some f = by_need (is_needless top occur) refl some
+    where
+      by_need : (b : Bool) → is_needless top occur ≡ b → 0 < cond b (inside + 2) 0
+          → Left (Ends fields verdict around) fields (drop (cond b (inside + 2) 0) (Open occur inside ∷ ms))
+          (place + cond b (inside + 2) 0) top
+      by_need true n some =
+          let one : suc (inside + 1) ≡ inside + 2 = omega arith in
+          subst (λ k. Left (Ends fields verdict around) fields (drop k (Open occur inside ∷ ms))
+          (place + (inside + 2)) top) one
+          (group_passed around occur inside ms place top n (group_of around occur inside ms place top f))
+      by_need false n some = absurd (omega arith)
+  mark_passed around (Close occur) ms place top some f = absurd (omega arith)
+
+  -- ---- a group that may not hold
+
+  -- the marks of so many clauses are passed
+  gone_on : (around : List Tally) (marks : List (Mark KeyValue)) (place : ℕ) (top : Tally)
+      → LeadTo fields verdict marks place top around → LeadTo fields verdict marks (onward top place) top around
+  gone_on around marks place top f = by_hope top.may_hold refl
+    where
+      by_hope : (b : Bool) → top.may_hold ≡ b → LeadTo fields verdict marks (cond b place (max place top.end)) top
+          around
+      by_hope true hope = f
+      by_hope false dead =
+          let count = length (group_marks f.clauses) in
+          let vs = verdicts f.clauses fields in
+          let at : max place top.end ≡ place + count = omega
+          (arith, kept_ends top vs, ends_end around f.others (place + count) (counted_all top vs) f.end) in
+          let behind : drop (place + count) marks ≡ f.others =
+          sym (drop-drop count place marks) ∙ ap (drop count) f.are
+          ∙ drop-append_seam (group_marks f.clauses) f.others in
+          subst (λ p. LeadTo fields verdict marks p top around) (sym at)
+          (record {
+            clauses = none;
+            others = f.others;
+            are = behind;
+            end = ends_moved around f.others (place + count) (place + count + 0) top top (omega arith) refl
+                (ends_same around f.others (place + count) (counted_all top vs) top (kept_ends top vs)
+                (stays_dead top vs dead) f.end);
+          })
+
+  -- ---- where all is judged
+
+  judged_by : (around : List Tally) (marks others : List (Mark KeyValue)) (place : ℕ) (top : Tally)
+      (clauses : Clauses) → marks ≡ [] → marks ≡ group_marks clauses ++ others
+      → Ends fields verdict around others (place + length (group_marks clauses))
+      (counted_all top (verdicts clauses fields)) → Ends fields verdict around [] (place + 0) top
+  judged_by around marks others place top none empty is end = subst
+      (λ l. Ends fields verdict around l (place + 0) top) (sym is ∙ empty) end
+  judged_by around marks others place top (clause o (Tree.Term field word) cs) empty is end = absurd
+      (no_marks _ _ (sym empty ∙ is))
+  judged_by around marks others place top (clause o (Tree.Phrase field words) cs) empty is end = absurd
+      (no_marks _ _ (sym empty ∙ is))
+  judged_by around marks others place top (clause o (Tree.Prefix field front) cs) empty is end = absurd
+      (no_marks _ _ (sym empty ∙ is))
+  judged_by around marks others place top (clause o (Tree.Span field low high) cs) empty is end = absurd
+      (no_marks _ _ (sym empty ∙ is))
+  judged_by around marks others place top (clause o Tree.All cs) empty is end = absurd (no_marks _ _ (sym empty ∙ is))
+  judged_by around marks others place top (clause o (Tree.Group inner) cs) empty is end = absurd
+      (no_marks _ _ (sym empty ∙ is))
+
+  ended : (around : List Tally) (place : ℕ) (top : Tally) → Ends fields verdict around [] place top
+      → tally_holds top ≡ verdict
+  ended [] place top f = f.2
+  ended (next ∷ around) place top f = absurd (no_marks _ _ f.2)
+
+  -- no mark is left
+  pub judged : (around : List Tally) (marks : List (Mark KeyValue)) (place : ℕ) (top : Tally) → length marks ≤ place
+      → LeadTo fields verdict marks place top around → tally_holds top ≡ verdict
+  judged around marks place top all f = ended around (place + 0) top
+      (judged_by around (drop place marks) f.others place top f.clauses (drop_all place marks all) f.are f.end)
+
+before_none : (n : ℕ) → n ≡ 0 + n
+before_none n = omega arith
+
+-- the clauses of a plan are next
+pub begun : (fields : Fields) (tree : Tree) → LeadTo fields (holds tree fields) (plan_of tree) 0
+    (no_clauses (length (plan_of tree))) []
+begun fields (Tree.Group clauses) =
+    let fresh = no_clauses (length (group_marks clauses)) in
+    record {
+      clauses = clauses;
+      others = [];
+      are = sym (append-nil (group_marks clauses));
+      end = (
+        refl,
+        kept_ends fresh (verdicts clauses fields)
+            ∙ before_none (length (group_marks clauses)),
+        group_tallied (length (group_marks clauses))
+            (verdicts clauses fields),
+      );
+    }
+begun fields (Tree.Term field word) = record {
+  clauses = clause Must (Tree.Term field word) none;
+  others = [];
+  are =
+      refl;
+  end = (refl, refl, only_must 1 (holds (Tree.Term field word) fields));
+}
+begun fields (Tree.Phrase field words) = record {
+  clauses = clause Must (Tree.Phrase field words) none;
+  others = [];
+  are = refl;
+  end = (refl, refl, only_must 1 (holds (Tree.Phrase field words) fields));
+}
+begun fields (Tree.Prefix field front) = record {
+  clauses = clause Must (Tree.Prefix field front) none;
+  others = [];
+  are = refl;
+  end = (refl, refl, only_must 1 (holds (Tree.Prefix field front) fields));
+}
+begun fields (Tree.Span field low high) = record {
+  clauses = clause Must (Tree.Span field low high) none;
+  others =
+      [];
+  are = refl;
+  end = (refl, refl, only_must 1 (holds (Tree.Span field low high) fields));
+}
+begun fields Tree.All = record {
+  clauses = clause Must Tree.All none;
+  others = [];
+  are = refl;
+  end =
+      (refl, refl, refl);
+}
 
 -- a first clause that must hold does not: neither does the query
-first_fails : (fields : Fields) (tree : Tree) (asks : Asks KeyValue) (left : List (Mark KeyValue)) → leaf_holds fields asks ≡ false → Leaf Must asks ∷ left ≡ plan_of tree → holds tree fields ≡ false
-first_fails fields tree asks left fails plan = sym (judged_early fields tree (Leaf Must asks ∷ left) left (counted no_clauses Must (leaf_holds fields asks)) refl fails plan)
+first_fails : (fields : Fields) (tree : Tree) (asks : Asks KeyValue) (left : List (Mark KeyValue))
+    → leaf_holds fields asks ≡ false → Leaf Must asks ∷ left ≡ plan_of tree → holds tree fields ≡ false
+first_fails fields tree asks left fails plan =
+    let verdict = holds tree fields in
+    let marks = Leaf Must asks ∷ left in
+    let start : LeadTo fields verdict marks 0 (no_clauses (length marks)) [] =
+    subst (λ (ms : List (Mark KeyValue)). LeadTo fields verdict ms 0 (no_clauses (length ms)) []) (sym plan)
+    (begun fields tree) in
+    let top = counted (no_clauses (length marks)) Must (leaf_holds fields asks) in
+    let next : LeadTo fields verdict marks 1 top [] = leaf_counted fields verdict [] Must asks left 0
+    (no_clauses (length marks)) start in
+    let far : length marks ≤ onward top 1 = subst (λ b. length marks ≤ cond b 1 (max 1 (length marks))) (sym fails)
+    (omega arith) in
+    sym (judged fields verdict [] marks (onward top 1) top far (gone_on fields verdict [] marks 1 top next))
+    ∙ ap (λ b. b && true) fails
 
 and_true : (b : Bool) → (b && true) ≡ b
 and_true true = refl
 and_true false = refl
 
 -- a pair of which a word is lacking
-pair_fails : (fields : Fields) (first second : KeyValue) → (has_key fields first && has_key fields second) ≡ false → has_run fields (first ∷ second ∷ []) ≡ false
-pair_fails fields first second fails = lacks fields (first ∷ second ∷ []) (ap (λ b. has_key fields first && b) (and_true (has_key fields second)) ∙ fails)
+pair_fails : (fields : Fields) (first second : KeyValue) → (has_key fields first && has_key fields second) ≡ false
+    → has_run fields (first ∷ second ∷ []) ≡ false
+pair_fails fields first second fails = lacks fields (first ∷ second ∷ [])
+    (ap (λ b. has_key fields first && b) (and_true (has_key fields second)) ∙ fails)
 
 twice : (b : Bool) → (b && b) ≡ false → b ≡ false
 twice true fails = fails
@@ -189,85 +563,153 @@ twice false fails = refl
 -- ---- steps
 
 -- the words that are kept of a plan
-words_at : (plans : List (List Step)) (place : ℕ) (w : FirstWords) → place < length (map first_words plans) → get_or (map first_words plans) place w ≡ first_words (unwrap_or (slice_get plans place) [])
+words_at : (plans : List (List Step)) (place : ℕ) (w : FirstWords) → place < length (map first_words plans)
+    → get_or (map first_words plans) place w ≡ first_words (unwrap_or (slice_get plans place) [])
 words_at [] place w inside = absurd (omega arith)
 words_at (steps ∷ plans) zero w inside = refl
 words_at (steps ∷ plans) (suc place) w inside = words_at plans place w (omega arith)
 
 module _ (runs : List (List ℕ)) (queries : List Tree) (terms : List KeyValue) where
-  pub decoded_step : (steps : List Step) → decoded terms (map (mark_of runs queries) steps) ≡ map (meant runs queries terms) steps
+  pub decoded_step : (steps : List Step) → decoded terms (map (mark_of runs queries) steps) ≡ map
+      (meant runs queries terms) steps
   decoded_step [] = refl
   decoded_step (step ∷ steps) = ap (λ marks. meant runs queries terms step ∷ marks) (decoded_step steps)
 
   -- a plan among plans
-  pub decoded_at : (plans : List (List Step)) (place : ℕ) → decoded terms (unwrap_or (slice_get (map (map (mark_of runs queries)) plans) place) []) ≡ map (meant runs queries terms) (unwrap_or (slice_get plans place) [])
+  pub decoded_at : (plans : List (List Step)) (place : ℕ)
+      → decoded terms (unwrap_or (slice_get (map (map (mark_of runs queries)) plans) place) []) ≡ map
+      (meant runs queries terms) (unwrap_or (slice_get plans place) [])
   decoded_at [] place = refl
   decoded_at (steps ∷ plans) zero = decoded_step steps
   decoded_at (steps ∷ plans) (suc place) = decoded_at plans place
 
-  pub plan_of_steps : (marks : List (List (Mark ℕ))) (plans : List (List Step)) (place : ℕ) (steps : List Step) (tree : Tree) → map (map (mark_of runs queries)) plans ≡ marks → steps ≡ unwrap_or (slice_get plans place) []
-      → decoded terms (unwrap_or (slice_get marks place) []) ≡ plan_of tree → map (meant runs queries terms) steps ≡ plan_of tree
+  pub plan_of_steps : (marks : List (List (Mark ℕ))) (plans : List (List Step)) (place : ℕ) (steps : List Step)
+      (tree : Tree) → map (map (mark_of runs queries)) plans ≡ marks → steps ≡ unwrap_or (slice_get plans place) []
+      → decoded terms (unwrap_or (slice_get marks place) []) ≡ plan_of tree
+      → map (meant runs queries terms) steps ≡ plan_of tree
   plan_of_steps marks plans place steps tree seen at plan =
-      ap (map (meant runs queries terms)) at ∙ sym (decoded_at plans place) ∙ ap (λ ms. decoded terms (unwrap_or (slice_get ms place) [])) seen ∙ plan
+      ap (map (meant runs queries terms)) at ∙ sym (decoded_at plans place)
+      ∙ ap (λ ms. decoded terms (unwrap_or (slice_get ms place) [])) seen ∙ plan
 
   -- what is answered by its steps is answered by its marks
-  pub judged_at : {E : Type 0} (fields : Fields) (marks : List (List (Mark ℕ))) (plans : List (List Step)) (place : ℕ) (steps : List Step) (r : Result Bool E) → map (map (mark_of runs queries)) plans ≡ marks → steps ≡ unwrap_or (slice_get plans place) []
-      → IfOk r (λ held. (tree : Tree) → map (meant runs queries terms) steps ≡ plan_of tree → held ≡ holds tree fields)
-      → IfOk r (λ held. (tree : Tree) → decoded terms (unwrap_or (slice_get marks place) []) ≡ plan_of tree → held ≡ holds tree fields)
+  pub judged_at : {E : Type 0} (fields : Fields) (marks : List (List (Mark ℕ))) (plans : List (List Step))
+      (place : ℕ) (steps : List Step) (r : Result Bool E) → map (map (mark_of runs queries)) plans ≡ marks
+      → steps ≡ unwrap_or (slice_get plans place) []
+      → IfOk r (λ held. (tree : Tree) → map (meant runs queries terms) steps ≡ plan_of tree
+      → held ≡ holds tree fields)
+      → IfOk r (λ held. (tree : Tree) → decoded terms (unwrap_or (slice_get marks place) []) ≡ plan_of tree
+      → held ≡ holds tree fields)
   judged_at fields marks plans place steps (Err e) seen at h = tt
   judged_at fields marks plans place steps (Ok held) seen at h =
       λ tree plan. h tree (plan_of_steps marks plans place steps tree seen at plan)
 
   -- a word that the first clause asks for is not there
   pub ruled_out : (fields : Fields) (tree : Tree) (steps : List Step) → ((first_words steps).first ≡ NO_TERM → ⊥)
-      → (has_key fields (term_at terms (first_words steps).first) && has_key fields (term_at terms (first_words steps).second)) ≡ false
+      → (has_key fields (term_at terms (first_words steps).first) && has_key fields
+      (term_at terms (first_words steps).second)) ≡ false
       → map (meant runs queries terms) steps ≡ plan_of tree → holds tree fields ≡ false
   ruled_out fields tree [] some fails plan = absurd (some refl)
   ruled_out fields tree (step.Term Must n ∷ steps) some fails plan =
-      first_fails fields tree (Has (term_at terms n)) (map (meant runs queries terms) steps) (twice (has_key fields (term_at terms n)) fails) plan
+      first_fails fields tree (Has (term_at terms n)) (map (meant runs queries terms) steps)
+      (twice (has_key fields (term_at terms n)) fails) plan
   ruled_out fields tree (step.Term Should n ∷ steps) some fails plan = absurd (some refl)
   ruled_out fields tree (step.Term MustNot n ∷ steps) some fails plan = absurd (some refl)
   ruled_out fields tree (step.Pair Must m n ∷ steps) some fails plan =
-      first_fails fields tree (Run (term_at terms m ∷ term_at terms n ∷ [])) (map (meant runs queries terms) steps) (pair_fails fields (term_at terms m) (term_at terms n) fails) plan
+      first_fails fields tree (Run (term_at terms m ∷ term_at terms n ∷ [])) (map (meant runs queries terms) steps)
+      (pair_fails fields (term_at terms m) (term_at terms n) fails) plan
   ruled_out fields tree (step.Pair Should m n ∷ steps) some fails plan = absurd (some refl)
   ruled_out fields tree (step.Pair MustNot m n ∷ steps) some fails plan = absurd (some refl)
   ruled_out fields tree (step.Phrase occur place ∷ steps) some fails plan = absurd (some refl)
   ruled_out fields tree (step.Query occur place ∷ steps) some fails plan = absurd (some refl)
-  ruled_out fields tree (step.Open ∷ steps) some fails plan = absurd (some refl)
+  ruled_out fields tree (step.Open occur inside ∷ steps) some fails plan = absurd (some refl)
   ruled_out fields tree (step.Close occur ∷ steps) some fails plan = absurd (some refl)
 
   -- the same of a plan among plans, by the words that are kept of it
-  pub ruled_out_at : (fields : Fields) (tree : Tree) (marks : List (List (Mark ℕ))) (plans : List (List Step)) (firsts : List FirstWords) (place : ℕ) (w : FirstWords) → map (map (mark_of runs queries)) plans ≡ marks
+  pub ruled_out_at : (fields : Fields) (tree : Tree) (marks : List (List (Mark ℕ))) (plans : List (List Step))
+      (firsts : List FirstWords) (place : ℕ) (w : FirstWords) → map (map (mark_of runs queries)) plans ≡ marks
       → firsts ≡ map first_words plans → place < length firsts → w ≡ get_or firsts place w → (w.first ≡ NO_TERM → ⊥)
       → (has_key fields (term_at terms w.first) && has_key fields (term_at terms w.second)) ≡ false
       → decoded terms (unwrap_or (slice_get marks place) []) ≡ plan_of tree → holds tree fields ≡ false
   ruled_out_at fields tree marks plans firsts place w seen kept inside is some fails plan =
       let steps = unwrap_or (slice_get plans place) [] in
-      let same : w ≡ first_words steps = is ∙ ap (λ ws. get_or ws place w) kept ∙ words_at plans place w (subst (λ (ws : List FirstWords). place < length ws) kept inside) in
+      let same : w ≡ first_words steps = is ∙ ap (λ ws. get_or ws place w) kept
+      ∙ words_at plans place w (subst (λ (ws : List FirstWords). place < length ws) kept inside) in
       ruled_out fields tree steps (λ none. some (ap (λ (v : FirstWords). v.first) same ∙ none))
-      (ap (λ (v : FirstWords). has_key fields (term_at terms v.first) && has_key fields (term_at terms v.second)) (sym same) ∙ fails)
+      (ap (λ (v : FirstWords). has_key fields (term_at terms v.first) && has_key fields (term_at terms v.second))
+      (sym same) ∙ fails)
       (plan_of_steps marks plans place steps tree seen refl plan)
 
-  -- one step of those that are left
-  pub one_step : (fields : Fields) (steps : List Step) (i : ℕ) (d : Step) (top next : Tally) (around left : List Tally) (held : Bool) → i < length steps
-      → held ≡ mark_holds fields (meant runs queries terms (get_or steps i d)) → (next, left) ≡ marked (meant runs queries terms (get_or steps i d)) held top around
-      → stepped_all fields (map (meant runs queries terms) (drop (i + 1) steps)) (next, left) ≡ stepped_all fields (map (meant runs queries terms) (drop i steps)) (top, around)
-  one_step fields steps i d top next around left held inside asks moved =
-      ap (stepped_all fields (map (meant runs queries terms) (drop (i + 1) steps))) (moved ∙ ap (λ b. marked (meant runs queries terms (get_or steps i d)) b top around) asks)
-      ∙ ap (λ ss. stepped_all fields (map (meant runs queries terms) ss) (top, around)) (sym (drop_more steps i d inside))
+  -- ---- one step of those that are left
 
-  -- no step is left
-  pub no_step : (fields : Fields) (steps : List Step) (i : ℕ) (groups : Groups) → length steps ≤ i → groups ≡ stepped_all fields (map (meant runs queries terms) (drop i steps)) groups
-  no_step fields steps i groups all = ap (λ ss. stepped_all fields (map (meant runs queries terms) ss) groups) (sym (drop_all i steps all))
+  next_mark : (steps : List Step) (i : ℕ) (d : Step) → i < length steps
+      → drop i (map (meant runs queries terms) steps) ≡ meant runs queries terms (get_or steps i d) ∷ drop (i + 1)
+      (map (meant runs queries terms) steps)
+  next_mark [] i d h = absurd (omega arith)
+  next_mark (s ∷ ss) zero d h = refl
+  next_mark (s ∷ ss) (suc i) d h =
+      let one : suc (i + 1) ≡ suc i + 1 = omega arith in
+      subst (λ k. drop i (map (meant runs queries terms) ss) ≡ meant runs queries terms (get_or ss i d) ∷ drop k
+      (map (meant runs queries terms) (s ∷ ss))) one (next_mark ss i d (omega arith))
 
--- ---- the stack
+  next_of : (steps : List Step) (marks : List (Mark KeyValue)) (i : ℕ) (d : Step) → i < length steps
+      → map (meant runs queries terms) steps ≡ marks → drop i marks ≡ meant runs queries terms (get_or steps i d) ∷
+      drop (i + 1) marks
+  next_of steps marks i d inside same =
+      ap (drop i) (sym same) ∙ next_mark steps i d inside
+      ∙ ap (λ l. meant runs queries terms (get_or steps i d) ∷ drop (i + 1) l) same
 
-zero_is : (n : ℕ) → (n == 0) ≡ true → n ≡ 0
-zero_is n h = grind (arith, nat_tests)
+  -- it changes nothing
+  pub step_passed : (fields : Fields) (verdict : Bool) (steps : List Step) (marks : List (Mark KeyValue)) (i n : ℕ)
+      (d : Step) (top : Tally) (around : List Tally) → i < length steps
+      → n ≡ passed top (meant runs queries terms (get_or steps i d)) → 0 < n
+      → map (meant runs queries terms) steps ≡ marks → LeadTo fields verdict marks i top around
+      → LeadTo fields verdict marks (i + n) top around
+  step_passed fields verdict steps marks i n d top around inside so some same f =
+      let mark = meant runs queries terms (get_or steps i d) in
+      let here : drop i marks ≡ mark ∷ drop (i + 1) marks = next_of steps marks i d inside same in
+      let over : Left (Ends fields verdict around) fields (drop n (mark ∷ drop (i + 1) marks)) (i + n) top =
+      subst (λ k. Left (Ends fields verdict around) fields (drop k (mark ∷ drop (i + 1) marks)) (i + k) top) (sym so)
+      (mark_passed fields verdict around mark (drop (i + 1) marks) i top (subst (λ k. 0 < k) so some)
+      (subst (λ l. Left (Ends fields verdict around) fields l i top) here f)) in
+      subst (λ l. Left (Ends fields verdict around) fields l (i + n) top)
+      (ap (drop n) (sym here) ∙ drop-drop n i marks) over
 
-pub none_left : (xs : List Tally) (n : ℕ) → n ≡ length xs → (n == 0) ≡ true → reverse xs ≡ []
-none_left xs n long h = ap reverse (nil_from_length xs (sym long ∙ zero_is n h))
+  -- it is judged
+  pub step_judged : (fields : Fields) (verdict : Bool) (steps : List Step) (marks : List (Mark KeyValue)) (i n : ℕ)
+      (d : Step) (top next : Tally) (around left : List Tally) (held : Bool) → i < length steps
+      → held ≡ mark_holds fields (meant runs queries terms (get_or steps i d))
+      → (next, left) ≡ marked i (meant runs queries terms (get_or steps i d)) held top around
+      → n ≡ onward next (i + 1)
+      → map (meant runs queries terms) steps ≡ marks → LeadTo fields verdict marks i top around
+      → LeadTo fields verdict marks n next left
+  step_judged fields verdict steps marks i n d top next around left held inside asks moved on same f =
+      let mark = meant runs queries terms (get_or steps i d) in
+      let here : drop i marks ≡ mark ∷ drop (i + 1) marks = next_of steps marks i d inside same in
+      let groups : (next, left) ≡ marked i mark (mark_holds fields mark) top around = moved
+      ∙ ap (λ b. marked i mark b top around) asks in
+      let counted_one : LeadTo fields verdict marks (i + 1) next left =
+      subst (λ (g : Groups). LeadTo fields verdict marks (i + 1) g.0 g.1) (sym groups)
+      (mark_counted fields verdict around mark (drop (i + 1) marks) i top
+      (subst (λ l. Left (Ends fields verdict around) fields l i top) here f)) in
+      subst (λ k. LeadTo fields verdict marks k next left) (sym on)
+      (gone_on fields verdict left marks (i + 1) next counted_one)
 
-pub not_true : (b : Bool) → not b ≡ true → b ≡ false
-not_true true h = sym h
-not_true false h = refl
+  -- ---- where judging begins and ends
+
+  pub plan_begun : (fields : Fields) (tree : Tree) (steps : List Step) (stack : List Tally) (top : Tally)
+      → map (meant runs queries terms) steps ≡ plan_of tree → top ≡ no_clauses (length steps) → stack ≡ []
+      → LeadTo fields (holds tree fields) (plan_of tree) 0 top (reverse stack)
+  plan_begun fields tree steps stack top plan fresh none_open =
+      let long : length steps ≡ length (plan_of tree) = sym (length-map steps (meant runs queries terms))
+      ∙ ap length plan in
+      subst (λ (around : List Tally). LeadTo fields (holds tree fields) (plan_of tree) 0 top around)
+      (sym (ap reverse none_open))
+      (subst (λ (t : Tally). LeadTo fields (holds tree fields) (plan_of tree) 0 t [])
+      (ap no_clauses (sym long) ∙ sym fresh) (begun fields tree))
+
+  pub plan_judged : (fields : Fields) (tree : Tree) (steps : List Step) (place : ℕ) (top : Tally)
+      (around : List Tally) → map (meant runs queries terms) steps ≡ plan_of tree → length steps ≤ place
+      → LeadTo fields (holds tree fields) (plan_of tree) place top around → tally_holds top ≡ holds tree fields
+  plan_judged fields tree steps place top around plan all f =
+      judged fields (holds tree fields) around (plan_of tree) place top
+      (omega (arith, length-map steps (meant runs queries terms), ap length plan)) f

@@ -170,7 +170,7 @@ few_of false e = omega arith
 -- a mark adds one at most
 few_more : (mark : Mark KeyValue) (e : ℕ) → excluded_before mark e ≤ e + 1
 few_more (Leaf occur leaf) e = omega arith
-few_more Open e = omega arith
+few_more (Open occur inside) e = omega arith
 few_more (Close occur) e = few_of (asks occur && e == 0) e
 
 pub few_back : (mark : Mark KeyValue) (e now : ℕ) → now ≡ excluded_before mark e → now ≤ e + 1

@@ -20,7 +20,7 @@ mark_named : {J K : Type 0} (f : J → K) (mark : Mark J) → mark_names (named 
 mark_named f (Leaf occur (Has k)) = refl
 mark_named f (Leaf occur (Run ks)) = refl
 mark_named f (Leaf occur (Is tree)) = refl
-mark_named f Open = refl
+mark_named f (Open occur inside) = refl
 mark_named f (Close occur) = refl
 
 names_named : {J K : Type 0} (f : J → K) (marks : List (Mark J)) → names (map (named f) marks) ≡ map f (names marks)
@@ -35,7 +35,7 @@ mark_twice : {I J K : Type 0} (f : I → J) (g : J → K) (mark : Mark I) → na
 mark_twice f g (Leaf occur (Has k)) = refl
 mark_twice f g (Leaf occur (Run ks)) = ap (λ l. Leaf occur (Run l)) (map_twice f g ks)
 mark_twice f g (Leaf occur (Is tree)) = refl
-mark_twice f g Open = refl
+mark_twice f g (Open occur inside) = refl
 mark_twice f g (Close occur) = refl
 
 named_twice : {I J K : Type 0} (f : I → J) (g : J → K) (marks : List (Mark I)) → map (named g) (map (named f) marks) ≡ map (named (λ k. g (f k))) marks
@@ -59,7 +59,7 @@ mark_same : {J K : Type 0} (f g : J → K) (mark : Mark J) → Agree f g (mark_n
 mark_same f g (Leaf occur (Has k)) h = ap (λ x. Leaf occur (Has x)) h.0
 mark_same f g (Leaf occur (Run ks)) h = ap (λ l. Leaf occur (Run l)) (map_same f g ks h)
 mark_same f g (Leaf occur (Is tree)) h = refl
-mark_same f g Open h = refl
+mark_same f g (Open occur inside) h = refl
 mark_same f g (Close occur) h = refl
 
 named_same : {J K : Type 0} (f g : J → K) (marks : List (Mark J)) → Agree f g (names marks) → map (named f) marks ≡ map (named g) marks

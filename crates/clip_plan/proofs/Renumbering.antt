@@ -78,10 +78,10 @@ term_renamed terms numbers from runs others queries steps new occur old number s
 
 -- a group's beginning
 pub open_renamed : (terms : List KeyValue) (numbers : List (Option ℕ)) (from runs : List (List ℕ)) (others : List Tree) (queries : List Query) (steps new : List Step) (s : Step)
-    → s ≡ step.Open → new ≡ steps ++ step.Open ∷ [] → Adds terms runs queries steps runs queries new (marks_renamed terms numbers from others (s ∷ []))
-open_renamed terms numbers from runs others queries steps new s is e =
+    (occur : Occur) (inside : ℕ) → s ≡ step.Open occur inside → new ≡ steps ++ step.Open occur inside ∷ [] → Adds terms runs queries steps runs queries new (marks_renamed terms numbers from others (s ∷ []))
+open_renamed terms numbers from runs others queries steps new s occur inside is e =
     subst (Adds terms runs queries steps runs queries new) (ap (λ x. marks_renamed terms numbers from others (x ∷ [])) (sym is))
-    (adds_step terms runs queries steps new step.Open Open e tt refl)
+    (adds_step terms runs queries steps new (step.Open occur inside) (Open occur inside) e tt refl)
 
 -- and its end
 pub close_renamed : (terms : List KeyValue) (numbers : List (Option ℕ)) (from runs : List (List ℕ)) (others : List Tree) (queries : List Query) (steps new : List Step) (occur : Occur) (s : Step)

@@ -1,5 +1,5 @@
 -- Plans: a query as a list of marks, by which it is judged from front to back.
-use Rattle.std.specs.Prelude.{ℕ, Bool, List, [], ◌∷◌, ◌++◌, map, flat_map, Option, None, unwrap_or, slice_get}
+use Rattle.std.specs.Prelude.{ℕ, Bool, List, [], ◌∷◌, ◌++◌, map, length, flat_map, Option, None, unwrap_or, slice_get}
 use Rattle.std.specs.List.{list_all, list_any}
 use Rattle.clip_grammar.specs.Tree.{Tree, Clauses, none, clause}
 use Rattle.clip_grammar.specs.declared.query.Occur.{Occur}
@@ -16,10 +16,11 @@ pub data Asks (K : Type 0) : Type 0 where
   Run : List K → Asks K
   Is : Tree → Asks K
 
--- a leaf as a clause, a group's beginning, and its end as a clause
+-- A leaf as a clause; a group's beginning, with how many marks stand between it and the group's end; and the end. Both
+-- say as which clause the group stands.
 pub data Mark (K : Type 0) : Type 0 where
   Leaf : Occur → Asks K → Mark K
-  Open : Mark K
+  Open : Occur → (inside : ℕ) → Mark K
   Close : Occur → Mark K
 
 abbrev pub named_asks : {J K : Type 0} → (J → K) → Asks J → Asks K
@@ -30,7 +31,7 @@ named_asks f (Is tree) = Is tree
 -- the mark with other names of keys
 abbrev pub named : {J K : Type 0} → (J → K) → Mark J → Mark K
 named f (Leaf occur asks) = Leaf occur (named_asks f asks)
-named f Open = Open
+named f (Open occur inside) = Open occur inside
 named f (Close occur) = Close occur
 
 -- marks with the terms in the place of their numbers
@@ -46,7 +47,7 @@ asks_names (Is tree) = []
 
 abbrev pub mark_names : {K : Type 0} → Mark K → List K
 mark_names (Leaf occur asks) = asks_names asks
-mark_names Open = []
+mark_names (Open occur inside) = []
 mark_names (Close occur) = []
 
 -- those of a plan, in order
@@ -71,7 +72,8 @@ abbrev mutual
   clause_marks occur (Tree.Prefix field front) = Leaf occur (Is (Tree.Prefix field front)) ∷ []
   clause_marks occur (Tree.Span field low high) = Leaf occur (Is (Tree.Span field low high)) ∷ []
   clause_marks occur Tree.All = Leaf occur (Is Tree.All) ∷ []
-  clause_marks occur (Tree.Group clauses) = Open ∷ group_marks clauses ++ Close occur ∷ []
+  clause_marks occur (Tree.Group clauses) =
+      Open occur (length (group_marks clauses)) ∷ group_marks clauses ++ Close occur ∷ []
 
   pub group_marks : Clauses → List (Mark KeyValue)
   group_marks none = []

@@ -45,9 +45,8 @@ impl FirstWords {
         match step {
             Step::Term(occur, number) => FirstWords::of_clause(occur, number, number),
             Step::Pair(occur, first, second) => FirstWords::of_clause(occur, first, second),
-            Step::Phrase(_, _) | Step::Query(_, _) | Step::Open | Step::Close(_) => {
-                FirstWords::none()
-            }
+            Step::Phrase(_, _) | Step::Query(_, _) => FirstWords::none(),
+            Step::Open(_, _) | Step::Close(_) => FirstWords::none(),
         }
     }
 

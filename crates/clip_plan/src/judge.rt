@@ -1,10 +1,22 @@
-//! Judging a plan.
-ghost use Rattle.std.specs.Prelude.{◌≡◌, ℕ, false, List, [], IfOk, map, reverse, unwrap_or, slice_get};
+//! Judging a plan: its steps from front to back, but for those that change nothing. Of `+a +(b c) d` in an article that
+//! has a and b:
+//!
+//! | step | | tally of the outermost group | of the inner one |
+//! |---|---|---|---|
+//! | 0 | `+a` | met | |
+//! | 1 | `+(`, 2 steps up to its end | | none |
+//! | 2 | `b` | | met |
+//! | 3 | `c` | passed: the inner group is met | |
+//! | 4 | `)` | still met, since the inner one holds | |
+//! | 5 | `d` | passed: the outermost is met | |
+//!
+//! In one without a the outermost group can't hold after step 0, and the rest is passed.
+ghost use Rattle.std.specs.Prelude.{◌≡◌, ℕ, ◌<◌, ◌≤◌, Bool, false, List, [], IfOk, map, length, reverse, unwrap_or, slice_get};
 ghost use Rattle.clip_grammar.specs.Tree.{Tree, tree_of};
 ghost use Rattle.clip_meaning.specs.Meaning.{holds};
 ghost use Rattle.clip_extract.specs.Keys.{KeyValue};
-ghost use Rattle.clip_plan.specs.Plan.{decoded, plan_of};
-ghost use Rattle.clip_plan.specs.Steps.Judging.{no_clauses, counted, tally_holds, mark_holds, meant, marked};
+ghost use Rattle.clip_plan.specs.Plan.{Mark, decoded, plan_of};
+ghost use Rattle.clip_plan.specs.Steps.Judging.{no_clauses, counted, tally_holds, is_needless, mark_holds, meant, marked, passed, onward, LeadTo};
 
 use crate::first_words::NO_TERM;
 use crate::plans::Plans;
@@ -15,23 +27,26 @@ use clip_pieces::PackedLists;
 use clip_terms::Reading;
 use clip_words::NoMemory;
 
-/// What stands among a group's clauses so far.
+/// What stands among a group's clauses so far, and where the group ends.
 #[derive(Clone, Copy, Debug, PartialEq, Eq)]
 pub struct Tally {
+    /// None of them keeps the group from holding.
     may_hold: bool,
-    has_must: bool,
-    has_should: bool,
+    /// One of them must hold, or may hold and does.
+    is_met: bool,
+    /// The place of the group's end among the plan's steps.
+    end: usize,
 }
 
 impl Tally {
-    /// No clause yet.
-    fn new() -> Tally
-        ensures { result ≡ no_clauses }
+    /// No clause yet, of a group that ends at a place.
+    fn new(end: usize) -> Tally
+        ensures { result ≡ no_clauses end }
     {
         Tally {
             may_hold: true,
-            has_must: false,
-            has_should: false,
+            is_met: false,
+            end,
         }
     }
 
@@ -39,21 +54,26 @@ impl Tally {
     fn counted(self, occur: Occur, held: bool) -> Tally
         ensures { result ≡ counted self occur held }
     {
+        let Tally {
+            may_hold,
+            is_met,
+            end,
+        } = self;
         match occur {
             Occur::Must => Tally {
-                may_hold: self.may_hold && held,
-                has_must: true,
-                has_should: self.has_should,
+                may_hold: may_hold && held,
+                is_met: true,
+                end,
             },
             Occur::MustNot => Tally {
-                may_hold: self.may_hold && !held,
-                has_must: self.has_must,
-                has_should: self.has_should,
+                may_hold: may_hold && !held,
+                is_met,
+                end,
             },
             Occur::Should => Tally {
-                may_hold: self.may_hold,
-                has_must: self.has_must,
-                has_should: self.has_should || held,
+                may_hold,
+                is_met: is_met || held,
+                end,
             },
         }
     }
@@ -62,7 +82,50 @@ impl Tally {
     fn holds(self) -> bool
         ensures { result ≡ tally_holds self }
     {
-        self.may_hold && (self.has_must || self.has_should)
+        self.may_hold && self.is_met
+    }
+
+    /// Whether one clause more changes nothing, hold it or not.
+    fn is_needless(self, occur: Occur) -> bool
+        ensures { result ≡ is_needless self occur }
+    {
+        match occur {
+            Occur::Should => self.is_met,
+            Occur::Must | Occur::MustNot => false,
+        }
+    }
+
+    /// How many steps are passed at a step: all of a clause that changes nothing.
+    fn passed(self, step: Step) -> usize
+        ensures few { result < 9223372036854775808 }
+        ensures is { (runs : List (List ℕ)) (queries : List Tree) (terms : List KeyValue)
+            → result ≡ passed self (meant runs queries terms step) }
+    {
+        match step {
+            Step::Term(occur, _)
+            | Step::Pair(occur, _, _)
+            | Step::Phrase(occur, _)
+            | Step::Query(occur, _) => usize::from(self.is_needless(occur)),
+            Step::Open(occur, inside) => {
+                if self.is_needless(occur) {
+                    inside as usize + 2
+                } else {
+                    0
+                }
+            }
+            Step::Close(_) => 0,
+        }
+    }
+
+    /// The place where judging goes on, where it came to this one: a group that can't hold is passed up to its end.
+    fn onward(self, place: usize) -> usize
+        ensures { result ≡ onward self place }
+    {
+        if self.may_hold {
+            place
+        } else {
+            place.max(self.end)
+        }
     }
 }
 
@@ -87,25 +150,28 @@ fn step_holds(runs: &PackedLists<u32>, queries: &[Query], step: Step, reading: &
         Step::Pair(_, first, second) => reading.has_run(&[first, second]),
         Step::Phrase(_, place) => reading.has_run(runs.get(place as usize)),
         Step::Query(_, place) => query_holds(queries, place as usize, reading),
-        Step::Open | Step::Close(_) => true,
+        Step::Open(_, _) | Step::Close(_) => true,
     }
 }
 
-/// The tally of the group that is open after a step, where `held` is whether what it asks is so. The groups around that
-/// one are on the stack.
+/// The tally of the group that is open after the step of a place, where `held` is whether what it asks is so. The
+/// groups around that one are on the stack.
 fn tally_after(
     step: Step,
     held: bool,
+    place: usize,
     top: Tally,
     stack: &mut Vec<Tally>,
 ) -> Result<Tally, NoMemory>
+    requires { place < 9223372036854775807 }
     ensures { IfOk result (λ next. (runs : List (List ℕ)) (queries : List Tree) (terms : List KeyValue)
-        → (next, reverse stack.new.items) ≡ marked (meant runs queries terms step) held top (reverse stack.old.items)) }
+        → (next, reverse stack.new.items)
+        ≡ marked place (meant runs queries terms step) held top (reverse stack.old.items)) }
 {
     match step {
-        Step::Open => {
+        Step::Open(_, inside) => {
             stack.push(top)?;
-            Ok(Tally::new())
+            Ok(Tally::new(place + 1 + inside as usize))
         }
         Step::Close(occur) => match stack.pop() {
             Some(around) => Ok(around.counted(occur, top.holds())),
@@ -118,28 +184,59 @@ fn tally_after(
     }
 }
 
-/// Whether the query of these steps holds of the article that is read.
-fn holds_by(
-    steps: &[Step],
-    runs: &PackedLists<u32>,
-    queries: &[Query],
-    reading: &Reading,
-    stack: &mut Vec<Tally>,
-) -> Result<bool, NoMemory>
-    ensures { IfOk result (λ held. (tree : Tree)
-        → map (meant runs.now (map tree_of queries.now) reading.now.terms) steps.now ≡ plan_of tree
-        → held ≡ holds tree reading.now.article.fields) }
-{
-    let mut top = Tally::new();
-    stack.clear();
-    for step in steps {
-        let held = step_holds(runs, queries, *step, reading);
-        top = tally_after(*step, held, top, stack)?;
-        if !top.may_hold && stack.is_empty() {
-            return Ok(false);
+/// The steps of a plan, what they name, and the article that is read.
+#[derive(Drop)]
+struct Judging<'a> {
+    steps: &'a [Step],
+    runs: &'a PackedLists<u32>,
+    queries: &'a [Query],
+    reading: &'a Reading<'a>,
+}
+
+impl<'a> Judging<'a> {
+    /// Judges the step of a place, or passes what changes nothing: gives the place of the next step to be judged, and
+    /// the tally of the group that is open then.
+    fn turn(
+        &self,
+        place: usize,
+        top: Tally,
+        stack: &mut Vec<Tally>,
+    ) -> Result<(usize, Tally), NoMemory>
+        requires { place < length self.now.steps.now }
+        ensures forward { IfOk result (λ next. place < next.0) }
+        ensures leads { IfOk result (λ next. (verdict : Bool) (marks : List (Mark KeyValue))
+            → map (meant self.now.runs.now (map tree_of self.now.queries.now) self.now.reading.now.terms)
+            self.now.steps.now ≡ marks
+            → LeadTo self.now.reading.now.article.fields verdict marks place top (reverse stack.old.items)
+            → LeadTo self.now.reading.now.article.fields verdict marks next.0 next.1 (reverse stack.new.items)) }
+    {
+        let step = self.steps[place];
+        let passed = top.passed(step);
+        if passed > 0 {
+            return Ok((place + passed, top));
         }
+        let held = step_holds(self.runs, self.queries, step, self.reading);
+        let next = tally_after(step, held, place, top, stack)?;
+        Ok((next.onward(place + 1), next))
     }
-    Ok(top.holds())
+
+    /// Whether the query of the steps holds of the article that is read.
+    fn holds(&self, stack: &mut Vec<Tally>) -> Result<bool, NoMemory>
+        ensures { IfOk result (λ held. (tree : Tree)
+            → map (meant self.now.runs.now (map tree_of self.now.queries.now) self.now.reading.now.terms)
+            self.now.steps.now ≡ plan_of tree
+            → held ≡ holds tree self.now.reading.now.article.fields) }
+    {
+        let mut top = Tally::new(self.steps.len());
+        let mut place = 0;
+        stack.clear();
+        while place < self.steps.len() {
+            let (next, tally) = self.turn(place, top, stack)?;
+            place = next;
+            top = tally;
+        }
+        Ok(top.holds())
+    }
 }
 
 impl Plans {
@@ -161,9 +258,10 @@ impl Plans {
     /// Whether the query of the plan at a place holds of the article that is read, where the plan's numbers are those
     /// of the reading's terms. `stack` is room for the groups that are open.
     ///
-    /// `NoMemory` where the room had to grow and an allocation failed. Cost: a step for each leaf and group of the
-    /// query, up to the first clause of its outermost group by which it does not hold; and of a phrase whose words the
-    /// article has, a walk over the article's words.
+    /// `NoMemory` where the room had to grow and an allocation failed. Cost: a step for each leaf and group that it
+    /// comes to, and for a phrase what `Reading::has_run` takes. What is left of a group is passed in one step once a
+    /// clause keeps it from holding, and a clause that may hold is passed in one, and not asked, once its group has a
+    /// clause that must hold or one that does.
     pub fn judge(
         &self,
         place: usize,
@@ -174,12 +272,12 @@ impl Plans {
             → decoded reading.now.terms (unwrap_or (slice_get self.now place) []) ≡ plan_of tree
             → held ≡ holds tree reading.now.article.fields) }
     {
-        holds_by(
-            self.steps.get(place),
-            &self.runs,
-            &self.queries,
+        let judging = Judging {
+            steps: self.steps.get(place),
+            runs: &self.runs,
+            queries: &self.queries,
             reading,
-            stack,
-        )
+        };
+        judging.holds(stack)
     }
 }

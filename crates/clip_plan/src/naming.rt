@@ -35,7 +35,7 @@ fn step_asks(step: Step) -> bool
         | Step::Pair(occur, _, _)
         | Step::Phrase(occur, _)
         | Step::Query(occur, _) => asks(occur),
-        Step::Open | Step::Close(_) => false,
+        Step::Open(_, _) | Step::Close(_) => false,
     }
 }
 
@@ -46,7 +46,7 @@ fn excluded_before(step: Step, excluded: usize) -> usize
         → result ≡ excluded_before (meant runs queries terms step) excluded }
 {
     match step {
-        Step::Open => excluded.saturating_sub(1),
+        Step::Open(_, _) => excluded.saturating_sub(1),
         Step::Close(occur) => {
             if asks(occur) && excluded == 0 {
                 0
@@ -67,7 +67,7 @@ fn step_may_name(step: Step, spots: &FieldSpots) -> bool
         Step::Term(_, number) => spots.is_of_field(number),
         Step::Pair(_, first, _) => spots.is_of_field(first),
         Step::Phrase(_, _) | Step::Query(_, _) => true,
-        Step::Open | Step::Close(_) => false,
+        Step::Open(_, _) | Step::Close(_) => false,
     }
 }
 
@@ -115,7 +115,7 @@ fn mark_leaf(
         Step::Pair(_, first, second) => spots.mark_run(&[first, second], flags),
         Step::Phrase(_, place) => spots.mark_run(runs.get(place as usize), flags),
         Step::Query(_, place) => mark_query(queries, place as usize, spots.field(), flags),
-        Step::Open | Step::Close(_) => {}
+        Step::Open(_, _) | Step::Close(_) => {}
     }
 }
 

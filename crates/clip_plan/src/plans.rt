@@ -1,5 +1,5 @@
 //! Plans, and how a query becomes one.
-ghost use Rattle.std.specs.Prelude.{◌≡◌, ℕ, ◌<◌, ◌≤◌, ◌++◌, ◌∷◌, [], List, OnOk, OnErr, IfOk, length, map, unwrap_or, slice_get, IsTrue};
+ghost use Rattle.std.specs.Prelude.{◌≡◌, ℕ, ◌-◌, ◌<◌, ◌≤◌, ◌++◌, ◌∷◌, [], List, OnOk, OnErr, IfOk, length, map, set, unwrap_or, slice_get, IsTrue};
 ghost use Rattle.std.specs.Arc.{arc_str_bytes};
 ghost use Rattle.clip_grammar.specs.Tree.{Tree, tree_of};
 ghost use Rattle.clip_grammar.specs.declared.query.Query.{Query};
@@ -7,6 +7,7 @@ ghost use Rattle.clip_extract.specs.Keys.{KeyValue, Word};
 ghost use Rattle.clip_terms.specs.Terms.{term_at};
 ghost use Rattle.clip_plan.specs.Plan.{Mark, Leaf, Is, Run, decoded, plan_of, clause_marks, are_terms, word_keys};
 ghost use Rattle.clip_plan.specs.Steps.Plans.{first_words, Grows, Adds, IsNoGroup};
+ghost use Rattle.clip_plan.specs.declared.step.Step.TheVariants as step;
 
 use crate::copy::copied;
 use crate::first_words::FirstWords;
@@ -204,6 +205,20 @@ fn add_leaf(
     }
 }
 
+/// Ends the group that begins with the step of a place: writes into that one how many steps are behind it, and adds
+/// the group's end.
+fn end_group(occur: Occur, opening: usize, steps: &mut Vec<Step>) -> Result<(), NoMemory>
+    requires { opening < length steps.old.items }
+    ensures { OnOk result (steps.new.items
+        ≡ set steps.old.items opening (step.Open occur (length steps.old.items - opening - 1))
+        ++ step.Close occur ∷ []) }
+{
+    let inside = kept_place(steps.len() - opening - 1)?;
+    steps[opening] = Step::Open(occur, inside);
+    steps.push(Step::Close(occur))?;
+    Ok(())
+}
+
 /// Adds the steps of a query as a clause.
 fn add_clause(
     alloc: Global,
@@ -222,12 +237,12 @@ fn add_clause(
 {
     match query {
         Query::Group(clauses) => {
-            steps.push(Step::Open)?;
+            let opening = steps.len();
+            steps.push(Step::Open(occur, 0))?;
             for (occur, child) in clauses {
                 add_clause(alloc, terms, *occur, child, runs, queries, steps)?;
             }
-            steps.push(Step::Close(occur))?;
-            Ok(())
+            end_group(occur, opening, steps)
         }
         _ => add_leaf(alloc, terms, occur, query, runs, queries, steps),
     }

@@ -31,7 +31,7 @@ fn add_named(runs: &PackedLists<u32>, step: Step, numbers: &mut Vec<u32>) -> Res
             numbers.extend_from_slice(runs.get(place as usize))?;
             Ok(())
         }
-        Step::Query(_, _) | Step::Open | Step::Close(_) => Ok(()),
+        Step::Query(_, _) | Step::Open(_, _) | Step::Close(_) => Ok(()),
     }
 }
 
@@ -129,8 +129,8 @@ impl<'a> Source<'a> {
                 let query = query_at(alloc, self.queries, place as usize)?;
                 add_query(occur, query, queries, steps)
             }
-            Step::Open => {
-                steps.push(Step::Open)?;
+            Step::Open(occur, inside) => {
+                steps.push(Step::Open(occur, inside))?;
                 Ok(())
             }
             Step::Close(occur) => {

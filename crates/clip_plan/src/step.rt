@@ -12,8 +12,8 @@ pub(crate) enum Step {
     Phrase(Occur, u32),
     /// The query of this place holds.
     Query(Occur, u32),
-    /// A group begins.
-    Open,
+    /// A group begins, as a clause of the one around it, and so many steps stand between this one and its end.
+    Open(Occur, u32),
     /// The group that was begun last ends, and is a clause of the one around it.
     Close(Occur),
 }

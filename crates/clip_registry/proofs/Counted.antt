@@ -9,10 +9,9 @@ use Rattle.std.specs.Ordering.{eq_by_cmp}
 use Rattle.std.specs.FinMap as finite
 use Rattle.std.specs.FinMap.{get-empty, len-remove, empty_of_len}
 use Rattle.clip_words.specs.Order.{bytes_cmp}
-use Rattle.clip_merge.specs.Plan.{run_at}
+use Rattle.clip_merge.specs.Plan.{neighbours}
 use Rattle.clip_registry.proofs.Entries.{all_entries-append}
 use Rattle.clip_segment.specs.Segment.{IsRising, all_entries}
-use Rattle.clip_model.specs.declared.limits.TheConstants.{RUN_LENGTH}
 use Rattle.clip_model.specs.History.{Registered, Registry, replay, is_live}
 use Rattle.clip_model.proofs.ById.{bytes_same}
 use Rattle.clip_model.proofs.Live.{removed_else}
@@ -62,21 +61,22 @@ few_given (r ∷ rs) m is given =
     removed_else m r.standing.id t.standing.id (apart m r t rs is given h) ∙ given t (contains_later r t rs h)) in
     omega arith
 
--- the segments of a run are part of all segments
-parts : (segments : List (List Registered)) (first : ℕ) → all_entries segments ≡ all_entries (take first segments) ++ (all_entries (run_at segments first) ++ all_entries (drop RUN_LENGTH (drop first segments)))
-parts segments first =
+-- some neighbours are part of all segments
+parts : (segments : List (List Registered)) (first count : ℕ)
+    → all_entries segments ≡ all_entries (take first segments) ++ (all_entries (neighbours segments first count) ++ all_entries (drop count (drop first segments)))
+parts segments first count =
     ap all_entries (sym (take-append-drop first segments)) ∙ all_entries-append (take first segments) (drop first segments)
-    ∙ ap (λ es. all_entries (take first segments) ++ es) (ap all_entries (sym (take-append-drop RUN_LENGTH (drop first segments))) ∙ all_entries-append (take RUN_LENGTH (drop first segments)) (drop RUN_LENGTH (drop first segments)))
+    ∙ ap (λ es. all_entries (take first segments) ++ es) (ap all_entries (sym (take-append-drop count (drop first segments))) ∙ all_entries-append (take count (drop first segments)) (drop count (drop first segments)))
 
-pub run_among : (segments : List (List Registered)) (first : ℕ) (r : Registered) → Contains (all_entries (run_at segments first)) r → Contains (all_entries segments) r
-run_among segments first r h =
-    subst (λ es. Contains es r) (sym (parts segments first))
-    (Contains-append_right (all_entries (take first segments)) _ r (Contains-append_left (all_entries (run_at segments first)) (all_entries (drop RUN_LENGTH (drop first segments))) r h))
+pub neighbours_among : (segments : List (List Registered)) (first count : ℕ) (r : Registered) → Contains (all_entries (neighbours segments first count)) r → Contains (all_entries segments) r
+neighbours_among segments first count r h =
+    subst (λ es. Contains es r) (sym (parts segments first count))
+    (Contains-append_right (all_entries (take first segments)) _ r (Contains-append_left (all_entries (neighbours segments first count)) (all_entries (drop count (drop first segments))) r h))
 
-pub run_rises : (segments : List (List Registered)) (first : ℕ) → IsRising (all_entries segments) → IsRising (all_entries (run_at segments first))
-run_rises segments first is =
-    rising_left (all_entries (run_at segments first)) (all_entries (drop RUN_LENGTH (drop first segments)))
-    (rising_right (all_entries (take first segments)) _ (subst IsRising (parts segments first) is))
+pub neighbours_rise : (segments : List (List Registered)) (first count : ℕ) → IsRising (all_entries segments) → IsRising (all_entries (neighbours segments first count))
+neighbours_rise segments first count is =
+    rising_left (all_entries (neighbours segments first count)) (all_entries (drop count (drop first segments)))
+    (rising_right (all_entries (take first segments)) _ (subst IsRising (parts segments first count) is))
   where
     rising_right : (xs ys : List Registered) → IsRising (xs ++ ys) → IsRising ys
     rising_right [] ys is = is
@@ -87,11 +87,11 @@ run_rises segments first is =
     rising_left (x ∷ xs) ys is =
         rising_cons x xs (all_of_some (Below x) (xs ++ ys) xs (rising_head x (xs ++ ys) is) (λ r h. Contains-append_left xs ys r h)) (rising_left xs ys (rising_tail x (xs ++ ys) is))
 
--- the live entries of a run are no more than the registered queries
-pub few_live : (state : RegistryState) (first : ℕ) → IsWhole state → length (live_of state (all_entries (run_at state.segments first))) ≤ finite.len (replay state.history)
-few_live state first whole =
-    let run = all_entries (run_at state.segments first) in
+-- the live entries of some neighbours are no more than the registered queries
+pub few_live : (state : RegistryState) (first count : ℕ) → IsWhole state → length (live_of state (all_entries (neighbours state.segments first count))) ≤ finite.len (replay state.history)
+few_live state first count whole =
+    let some = all_entries (neighbours state.segments first count) in
     let live = λ (r : Registered). is_live state.history r.seq in
-    few_given (live_of state run) (replay state.history) (rising_filter live run (run_rises state.segments first whole.rising)) (λ r h.
-    let among = contains_of_filter live r run h in
-    (whole.live_entries r).1 (run_among state.segments first r among.0, among.1))
+    few_given (live_of state some) (replay state.history) (rising_filter live some (neighbours_rise state.segments first count whole.rising)) (λ r h.
+    let among = contains_of_filter live r some h in
+    (whole.live_entries r).1 (neighbours_among state.segments first count r among.0, among.1))

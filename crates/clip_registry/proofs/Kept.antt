@@ -1,14 +1,13 @@
 -- A registry stays whole where its segments keep each live entry.
-use Rattle.std.proofs.Common.{◌≡◌, ℕ, ◌+◌, ◌≤◌, Bool, true, false, cond, List, [], ◌∷◌, ◌++◌, length, get_or, take, drop, map, refl, sym, ap, subst, ◌∙◌, inl, inr, arith, IsTrue, append_assoc, append-nil}
+use Rattle.std.proofs.Common.{◌≡◌, ℕ, ◌+◌, ◌<◌, ◌≤◌, Bool, true, false, cond, List, [], ◌∷◌, ◌++◌, length, get_or, take, drop, map, refl, sym, ap, subst, ◌∙◌, inl, inr, arith, IsTrue, append_assoc, append-nil}
 use Rattle.std.proofs.lemmas.List.{take-append-drop, drop-drop, get_or_default, length-take, length-drop}
 use Rattle.std.proofs.lemmas.List.Elements.{All-contains, Contains-append_left, Contains-append_right, Contains-append_cases, filter-append}
 use Rattle.std.specs.List.{All, Contains, filter}
 use Rattle.clip_segment.specs.Segment.{IsRising, all_entries}
-use Rattle.clip_model.specs.declared.limits.TheConstants.{RUN_LENGTH}
 use Rattle.clip_model.specs.History.{Registered, replay, listed, is_live}
 use Rattle.clip_model.proofs.Live.{given_live}
 use Rattle.clip_model.proofs.Numbering.{replay_numbered}
-use Rattle.clip_merge.specs.Plan.{run_at}
+use Rattle.clip_merge.specs.Plan.{neighbours}
 use Rattle.clip_registry.proofs.Entries.{all_entries-append}
 use Rattle.clip_registry.specs.Merging.{StandsAt, has_entries, purged, shelf}
 use Rattle.clip_registry.specs.RegistryState.{RegistryState, IsWhole}
@@ -122,37 +121,38 @@ kept_purged state whole =
 -- ---- installing
 
 -- where segments stand as the sources there are as many
-pub run_there : (segments sources : List (List Registered)) (first : ℕ) → length sources ≡ RUN_LENGTH → StandsAt segments sources first → first + RUN_LENGTH ≤ length segments
-run_there segments sources first count stands =
+pub neighbours_there : (segments sources : List (List Registered)) (first : ℕ) → 0 < length sources → StandsAt segments sources first → first + length sources ≤ length segments
+neighbours_there segments sources first some stands =
     let e = ap length stands in
-    omega (arith, length-take RUN_LENGTH (drop first segments), length-drop first segments)
+    omega (arith, length-take (length sources) (drop first segments), length-drop first segments)
 
-entries_apart : (segments : List (List Registered)) (first : ℕ)
-    → all_entries segments ≡ all_entries (take first segments) ++ (all_entries (run_at segments first) ++ all_entries (drop (first + RUN_LENGTH) segments))
-entries_apart segments first =
+entries_apart : (segments : List (List Registered)) (first count : ℕ)
+    → all_entries segments ≡ all_entries (take first segments) ++ (all_entries (neighbours segments first count) ++ all_entries (drop (first + count) segments))
+entries_apart segments first count =
     ap all_entries (sym (take-append-drop first segments)) ∙ all_entries-append (take first segments) (drop first segments)
     ∙ ap (λ es. all_entries (take first segments) ++ es)
-    (ap all_entries (sym (take-append-drop RUN_LENGTH (drop first segments))) ∙ all_entries-append (take RUN_LENGTH (drop first segments)) (drop RUN_LENGTH (drop first segments))
-    ∙ ap (λ ss. all_entries (run_at segments first) ++ all_entries ss) (drop-drop RUN_LENGTH first segments ∙ ap (λ k. drop k segments) (omega arith)))
+    (ap all_entries (sym (take-append-drop count (drop first segments))) ∙ all_entries-append (take count (drop first segments)) (drop count (drop first segments))
+    ∙ ap (λ ss. all_entries (neighbours segments first count) ++ all_entries ss) (drop-drop count first segments ∙ ap (λ k. drop k segments) (omega arith)))
 
 entries_shelved : (es : List Registered) → all_entries (shelf es) ≡ es
 entries_shelved [] = refl
 entries_shelved (e ∷ es) = append-nil (e ∷ es)
 
-entries_replaced : (segments : List (List Registered)) (first : ℕ) (es : List Registered) → all_entries (replaced segments first es) ≡ all_entries (take first segments) ++ (es ++ all_entries (drop (first + RUN_LENGTH) segments))
-entries_replaced segments first es =
-    all_entries-append (take first segments ++ shelf es) (drop (first + RUN_LENGTH) segments)
-    ∙ ap (λ x. x ++ all_entries (drop (first + RUN_LENGTH) segments)) (all_entries-append (take first segments) (shelf es) ∙ ap (λ x. all_entries (take first segments) ++ x) (entries_shelved es))
-    ∙ append_assoc (all_entries (take first segments)) es (all_entries (drop (first + RUN_LENGTH) segments))
+entries_replaced : (segments : List (List Registered)) (first count : ℕ) (es : List Registered)
+    → all_entries (replaced segments first count es) ≡ all_entries (take first segments) ++ (es ++ all_entries (drop (first + count) segments))
+entries_replaced segments first count es =
+    all_entries-append (take first segments ++ shelf es) (drop (first + count) segments)
+    ∙ ap (λ x. x ++ all_entries (drop (first + count) segments)) (all_entries-append (take first segments) (shelf es) ∙ ap (λ x. all_entries (take first segments) ++ x) (entries_shelved es))
+    ∙ append_assoc (all_entries (take first segments)) es (all_entries (drop (first + count) segments))
 
 pub kept_replaced : (state : RegistryState) (sources : List (List Registered)) (first : ℕ) (p : Registered → Bool) → IsWhole state → StandsAt state.segments sources first
-    → ((r : Registered) → Contains (all_entries sources) r → IsTrue (is_live state.history r.seq) → p r ≡ true) → AreKept state (replaced state.segments first (filter p (all_entries sources)))
+    → ((r : Registered) → Contains (all_entries sources) r → IsTrue (is_live state.history r.seq) → p r ≡ true) → AreKept state (replaced state.segments first (length sources) (filter p (all_entries sources)))
 kept_replaced state sources first p whole stands complete =
     let before = all_entries (take first state.segments) in
-    let after = all_entries (drop (first + RUN_LENGTH) state.segments) in
+    let after = all_entries (drop (first + length sources) state.segments) in
     let middle = all_entries sources in
-    let was : all_entries state.segments ≡ before ++ (middle ++ after) = entries_apart state.segments first ∙ ap (λ ss. before ++ (all_entries ss ++ after)) stands in
-    let is = entries_replaced state.segments first (filter p middle) in
+    let was : all_entries state.segments ≡ before ++ (middle ++ after) = entries_apart state.segments first (length sources) ∙ ap (λ ss. before ++ (all_entries ss ++ after)) stands in
+    let is = entries_replaced state.segments first (length sources) (filter p middle) in
     record {
       rising = subst IsRising (sym is) (rising_middle p before middle after (subst IsRising was whole.rising));
       some = λ r h. subst (λ es. Contains es r) (sym was) (some_of_middle p before middle after r (subst (λ es. Contains es r) is h));

@@ -20,3 +20,4 @@ pub mod Ranking
 pub mod Piecing
 pub mod Joining
 pub mod Sent
+pub mod Turns

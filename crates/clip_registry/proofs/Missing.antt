@@ -59,9 +59,9 @@ misses_none state merge m seqs is registry all miss =
     (contains_filter (λ (r : Registered). names seqs r.seq) miss.entry (all_entries merge.sources) (named_if_live m seqs (all_entries merge.sources) all miss.entry miss.among live) miss.among))
 
 pub kept_merge : (state : RegistryState) (merge : Merge) (m : Registry) (seqs : List ℕ) (first : ℕ) → IsMerged seqs merge → m ≡ replay state.history → list_all (has_seq_if_live m seqs) (all_entries merge.sources) ≡ true
-    → IsWhole state → StandsAt state.segments merge.sources first → AreKept state (replaced state.segments first merge.entries)
+    → IsWhole state → StandsAt state.segments merge.sources first → AreKept state (replaced state.segments first (length merge.sources) merge.entries)
 kept_merge state merge m seqs first is registry all whole stands =
-    subst (λ es. AreKept state (replaced state.segments first es)) (sym is.named)
+    subst (λ es. AreKept state (replaced state.segments first (length merge.sources) es)) (sym is.named)
     (kept_replaced state merge.sources first (λ (r : Registered). names seqs r.seq) whole stands
     (λ r among live. named_if_live m seqs (all_entries merge.sources) all r among (subst (λ k. is_live_in k r.seq ≡ true) (sym registry) live)))
 

@@ -1,11 +1,10 @@
 -- Merges: what a job and a merge hold, and what installing and purging do.
-use Rattle.std.specs.Prelude.{◌≡◌, ℕ, ◌+◌, Bool, true, false, List, [], ◌∷◌, ◌++◌, map, filter, take, drop, Contains, IsTrue, refl}
+use Rattle.std.specs.Prelude.{◌≡◌, ◌⊎◌, ℕ, ◌+◌, Bool, true, false, List, [], ◌∷◌, ◌++◌, map, filter, length, take, drop, Contains, IsTrue, refl}
 use Rattle.std.specs.Coded.{Coded, code_by, coded×, coded_ℕ, coded_list}
-use Rattle.clip_model.specs.declared.limits.TheConstants.{RUN_LENGTH}
 use Rattle.clip_model.specs.History.{History, Registered, registered_code, is_live}
 use Rattle.clip_segment.specs.Segment.{all_entries}
 use Rattle.clip_merge.specs.Live.{named}
-use Rattle.clip_merge.specs.Plan.{IsOldestRun, run_at}
+use Rattle.clip_merge.specs.Plan.{IsOldestRun, IsTurn, neighbours, run_at}
 use Rattle.clip_registry.specs.RegistryState.{RegistryState, IsWhole}
 
 -- ---- jobs
@@ -24,12 +23,29 @@ job_code = code_by (List (List Registered) × List ℕ)
 abbrev pub live_of : RegistryState → List Registered → List Registered
 live_of state entries = filter (λ r. is_live state.history r.seq) entries
 
+-- from this place on the segments are the sources
+abbrev pub StandsAt : List (List Registered) → List (List Registered) → ℕ → Type 0
+StandsAt segments sources first = neighbours segments first (length sources) ≡ sources
+
 -- The job is over the oldest run of the registry, and holds which of its entries are live.
 pub record IsBegun (state : RegistryState) (job : Job) : Type 0 where
   pub first : ℕ
   pub oldest : IsOldestRun state.segments first
   pub sources : job.sources ≡ run_at state.segments first
   pub live : job.live ≡ map (λ r. r.seq) (live_of state (all_entries job.sources))
+
+-- The job is over neighbours of the registry, and holds which of their entries are live.
+pub record IsOver (state : RegistryState) (job : Job) (first past : ℕ) : Type 0 where
+  pub stands : StandsAt state.segments job.sources first
+  pub ends : first + length job.sources ≡ past
+  pub live : job.live ≡ map (λ r. r.seq) (live_of state (all_entries job.sources))
+
+-- The job is over the neighbours that a merge turn merges.
+pub record IsTurnBegun (state : RegistryState) (job : Job) : Type 0 where
+  pub first : ℕ
+  pub past : ℕ
+  pub turn : IsTurn state.segments first past
+  pub over : IsOver state job first past
 
 -- ---- merges
 
@@ -48,10 +64,6 @@ abbrev pub merge_of : Job → Merge
 merge_of job = record { sources = job.sources; entries = named job.live (all_entries job.sources) }
 
 -- ---- installing
-
--- from this place on the segments are the sources
-abbrev pub StandsAt : List (List Registered) → List (List Registered) → ℕ → Type 0
-StandsAt segments sources first = run_at segments first ≡ sources
 
 -- an entry of the sources that is live in the registry is not in the merge
 pub record Misses (state : RegistryState) (merge : Merge) : Type 0 where
@@ -75,7 +87,8 @@ pub record IsInstalled (old new : RegistryState) (merge : Merge) : Type 0 where
   pub first : ℕ
   pub stood : StandsAt old.segments merge.sources first
   pub complete : Misses old merge → ⊥
-  pub segments : new.segments ≡ take first old.segments ++ shelf merge.entries ++ drop (first + RUN_LENGTH) old.segments
+  pub segments : new.segments
+      ≡ take first old.segments ++ shelf merge.entries ++ drop (first + length merge.sources) old.segments
   pub history : new.history ≡ old.history
   pub keeps : new.keeps ≡ old.keeps
 
@@ -93,5 +106,6 @@ purged state = record state { segments = filter has_entries (map (live_of state)
 
 -- However the history went on since a job was begun, its merge misses no live entry.
 abbrev pub LateMergesMissNothing : Type 0
-LateMergesMissNothing = (begun later : RegistryState) (more : History) (job : Job) → IsWhole begun → IsBegun begun job
-    → later.history ≡ begun.history ++ more → Misses later (merge_of job) → ⊥
+LateMergesMissNothing = (begun later : RegistryState) (more : History) (job : Job) → IsWhole begun
+    → IsBegun begun job ⊎ IsTurnBegun begun job → later.history ≡ begun.history ++ more
+    → Misses later (merge_of job) → ⊥

@@ -22,5 +22,5 @@ mod view;
 pub use history::History;
 pub use merging::{Installed, MergeJob, MergeTurn, Merged, late_merges_miss_nothing};
 pub use registrar::Registrar;
-pub use turn::merge_turn;
+pub use turn::{merge_all, merge_turn};
 pub use view::View;

@@ -1,9 +1,9 @@
 //! The registrar: it applies commands one by one.
 ghost use Rattle.std.specs.Prelude.{◌≡◌, ◌-◌, ◌<◌, ◌≤◌, ℕ, true, false, Ok, None, length, IfOk, IfErr, IfSome, OnOk, OnErr, IsTrue, IsFalse, slice_get, option_map, option_copied};
-ghost use Rattle.clip_merge.specs.Plan.{IsRun};
+ghost use Rattle.clip_merge.specs.Plan.{AreFew, IsRun};
 ghost use Rattle.clip_model.specs.History.{fits, has_room, applied, own, IsLegal};
 ghost use Rattle.clip_standing.specs.Command.{command_of, answer_of, shared_entry};
-ghost use Rattle.clip_registry.specs.Merging.{IsBegun, IsInstalled, IsStale, purged};
+ghost use Rattle.clip_registry.specs.Merging.{IsBegun, IsInstalled, IsStale, IsTurnBegun, purged};
 ghost use Rattle.clip_registry.specs.RegistryState.{IsWhole, beginning, kept_history, state_after};
 ghost use Rattle.clip_registry.specs.Steps.Change.{IsAccepted};
 ghost use Rattle.clip_standing.specs.declared.command.Refused.TheVariants as refused;
@@ -15,7 +15,7 @@ use crate::merging::{Installed, MergeJob, Merged};
 use crate::purging::live_segments;
 use crate::state::State;
 use crate::view::View;
-use clip_merge::plan;
+use clip_merge::{plan, plan_turn};
 use clip_model::MOST_CALLERS;
 use clip_standing::{Applied, Command, HistoryEntry, Refused};
 use clip_words::NoMemory;
@@ -142,22 +142,41 @@ impl Registrar {
         let Some(state) = &self.state else {
             return Ok(None);
         };
-        let Some((first, end)) = plan(&state.segments) else {
-            return Ok(None);
-        };
-        let sources = &state.segments[first..end];
-        let job = MergeJob::over(self.alloc, sources, &state.roster)?;
-        Ok(Some(job))
+        match plan(&state.segments) {
+            Some((first, past)) => Ok(Some(MergeJob::of(self.alloc, state, first, past)?)),
+            None => Ok(None),
+        }
     }
 
-    /// Installs a merge, on whichever registrar it was begun: its segment takes the place of the four sources, or they
-    /// just go where it has no entries. `Stale` exactly where the sources don't stand, as no four neighbouring segments
-    /// have the same lists of entries, or where an entry of theirs that is live now is missing from the merge, which
-    /// can't be where it was begun on this registrar. The history is kept, and so is what is registered.
+    /// Begins the merge of a turn: that of `begin`, or, where there are no such four, a job over all segments from the
+    /// oldest on behind which one has a higher level. `None` where there is none either; then segments are few: three
+    /// at most for each level up to that of all their entries together. `NoMemory` where an allocation failed.
+    ///
+    /// Cost: that of `clip_merge::plan_turn`, so a step for each segment and each of its levels, and a step for each
+    /// entry of those that are merged.
+    pub fn begin_turn(&self) -> Result<Option<MergeJob>, NoMemory>
+        ensures begun { IfOk result (λ job. IfSome job (IsTurnBegun self.now)) }
+        ensures nothing { result ≡ Ok None → (first : ℕ) → IsRun self.now.segments first → ⊥ }
+        ensures few { result ≡ Ok None → AreFew self.now.segments }
+        ensures whole { IsWhole self.now }
+    {
+        let Some(state) = &self.state else {
+            return Ok(None);
+        };
+        match plan_turn(&state.segments) {
+            Some((first, past)) => Ok(Some(MergeJob::of(self.alloc, state, first, past)?)),
+            None => Ok(None),
+        }
+    }
+
+    /// Installs a merge, on whichever registrar it was begun: its segment takes the place of the sources, or they just
+    /// go where it has no entries. `Stale` exactly where the sources don't stand, as no neighbouring segments have the
+    /// same lists of entries, or where an entry of theirs that is live now is missing from the merge, which can't be
+    /// where it was begun on this registrar. The history is kept, and so is what is registered.
     ///
     /// `NoMemory` where an allocation failed, with nothing changed and the merge dropped.
     ///
-    /// Cost: a step for each segment, each of which is shared by a new list; for each entry of the four a comparison of
+    /// Cost: a step for each segment, each of which is shared by a new list; for each entry of the sources a comparison of
     /// its seq and texts, and where it is live a search by halves; and a copy like that of a command, of which nothing
     /// else is changed. A stale merge copies nothing.
     pub fn install(&mut self, merged: Merged) -> Result<Installed, NoMemory>

@@ -1,9 +1,8 @@
 //! Whether segments have the same lists of entries, and where they stand.
-ghost use Rattle.std.specs.Prelude.{◌≡◌, ◌↔◌, ℕ, ◌≤◌, None, map, length, IfSome, IsTrue};
+ghost use Rattle.std.specs.Prelude.{◌≡◌, ◌↔◌, ℕ, ◌<◌, ◌≤◌, None, map, length, IfSome, IsTrue};
 ghost use Rattle.std.specs.Arc.{arc_value};
 ghost use Rattle.clip_registry.specs.Merging.{StandsAt};
 
-use clip_model::RUN_LENGTH;
 use clip_segment::Segment;
 use clip_standing::{Entry, Standing};
 use std::sync::Arc;
@@ -54,19 +53,19 @@ fn are_same_segments(a: &[Arc<Segment>], b: &[Arc<Segment>]) -> bool
     true
 }
 
-/// The first place at which four segments stand as the sources.
+/// The first place at which segments stand as the sources.
 ///
-/// Cost: a step for each segment, and for each entry of the four a comparison of its seq and texts. At other places the
-/// segments mostly differ in their lengths or their first seqs, and no text is read.
+/// Cost: a step for each segment, and for each entry of the sources a comparison of its seq and texts. At other places
+/// the segments mostly differ in their lengths or their first seqs, and no text is read.
 pub fn place_of(segments: &[Arc<Segment>], sources: &[Arc<Segment>]) -> Option<usize>
-    requires { length sources.now ≡ RUN_LENGTH }
+    requires { 0 < length sources.now }
     ensures stands { IfSome result (λ first. StandsAt (map arc_value segments.now) (map arc_value sources.now) first) }
     ensures nowhere { result ≡ None → (first : ℕ)
         → StandsAt (map arc_value segments.now) (map arc_value sources.now) first → ⊥ }
 {
     for first in 0..segments.len() {
         let (_, rest) = segments.split_at(first);
-        let (run, _) = rest.split_at(rest.len().min(RUN_LENGTH));
+        let (run, _) = rest.split_at(rest.len().min(sources.len()));
         if are_same_segments(run, sources) {
             return Some(first);
         }

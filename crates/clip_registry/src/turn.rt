@@ -1,23 +1,28 @@
-//! Merge turns, by which a registry that grows query by query keeps few segments.
-ghost use Rattle.std.specs.Prelude.{◌≡◌, ℕ, Ok};
-ghost use Rattle.clip_merge.specs.Plan.{IsRun};
-ghost use Rattle.clip_registry.specs.Steps.Turns.{HasMerged};
+//! Merge turns, by which a registry that grows line by line keeps few segments.
+ghost use Rattle.std.specs.Prelude.{◌≡◌, ◌≢◌, ℕ, Ok, OnOk};
+ghost use Rattle.clip_merge.specs.Plan.{AreFew, IsRun};
+ghost use Rattle.clip_registry.specs.Steps.Turns.{HasMerged, TakesTurns};
 
 use crate::merging::{Installed, MergeTurn};
 use crate::registrar::Registrar;
 use clip_words::NoMemory;
 
-/// Merges the oldest four neighbouring segments of one level, where there are such four. What is registered stays as it
-/// is. `NoMemory` where an allocation failed, with nothing changed; a later turn may merge them.
+/// Merges the oldest four neighbouring segments of one level, or, where there are no such four, all segments from the
+/// oldest on behind which one has a higher level. What is registered stays as it is. `Nothing` where there is none
+/// either; then segments are few: three at most for each level up to that of all their entries together. It is never
+/// `Stale`. `NoMemory` where an allocation failed, with nothing changed; a later turn may merge them.
 ///
-/// Cost: that of `Registrar::begin`, and where there are four that of `MergeJob::run` and of `Registrar::install`.
+/// Cost: that of `Registrar::begin_turn`, and where there are segments to merge that of `MergeJob::run` and of
+/// `Registrar::install`.
 pub fn merge_turn(registrar: &mut Registrar) -> Result<MergeTurn, NoMemory>
     ensures nothing { result ≡ Ok MergeTurn.Nothing → (first : ℕ) → IsRun registrar.old.segments first → ⊥ }
+    ensures few { result ≡ Ok MergeTurn.Nothing → AreFew registrar.old.segments }
     ensures installed { result ≡ Ok MergeTurn.Installed → HasMerged registrar.old registrar.new }
+    ensures never_stale { result ≢ Ok MergeTurn.Stale }
     ensures unchanged { (result ≡ Ok MergeTurn.Installed → ⊥) → registrar.new ≡ registrar.old }
     ensures history { registrar.new.history ≡ registrar.old.history }
 {
-    let job = match registrar.begin()? {
+    let job = match registrar.begin_turn()? {
         Some(job) => job,
         None => return Ok(MergeTurn::Nothing),
     };
@@ -25,5 +30,25 @@ pub fn merge_turn(registrar: &mut Registrar) -> Result<MergeTurn, NoMemory>
     match registrar.install(merged)? {
         Installed::Done => Ok(MergeTurn::Installed),
         Installed::Stale => Ok(MergeTurn::Stale),
+    }
+}
+
+/// Takes merge turns until there is nothing to merge; then segments are few: three at most for each level up to that of
+/// all their entries together. What is registered stays as it is. `NoMemory` where an allocation failed; the turns
+/// before stay taken, and a later call may take the others.
+///
+/// Cost: that of `merge_turn` for each turn, each of which leaves fewer segments. Where each call finds one segment more
+/// than the one before left, and no entry dies, an entry is rewritten at most once for each level that it rises, and
+/// once more.
+pub fn merge_all(registrar: &mut Registrar) -> Result<(), NoMemory>
+    ensures turns { TakesTurns registrar.old registrar.new }
+    ensures few { OnOk result (AreFew registrar.new.segments) }
+    ensures history { registrar.new.history ≡ registrar.old.history }
+{
+    loop {
+        match merge_turn(registrar)? {
+            MergeTurn::Installed => {}
+            MergeTurn::Nothing | MergeTurn::Stale => return Ok(()),
+        }
     }
 }

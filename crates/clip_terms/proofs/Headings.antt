@@ -59,7 +59,7 @@ under_one h x y a b =
     ∙ (λ i. ordering_then (heading_cmp (a i) (b i)) (bytes_cmp (text_of x) (text_of y)))
     ∙ ap (λ o. ordering_then o (bytes_cmp (text_of x) (text_of y))) (tied_itself heading_cmp_total h)
 
-rises_at : (ts : List KeyValue) → IsRising ts → (m n : ℕ) (d : KeyValue) → m < n → n < length ts → key_cmp (get_or ts m d) (get_or ts n d) ≡ Less
+pub rises_at : (ts : List KeyValue) → IsRising ts → (m n : ℕ) (d : KeyValue) → m < n → n < length ts → key_cmp (get_or ts m d) (get_or ts n d) ≡ Less
 unfolding IsStrictlySortedBy
 rises_at [] up m n d lt inside = absurd (omega arith)
 rises_at (t ∷ ts) up zero zero d lt inside = absurd (omega arith)

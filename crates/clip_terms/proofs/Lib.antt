@@ -3,6 +3,7 @@ pub mod FrontsOfTerms
 pub mod Headings
 pub mod KeysByField
 pub mod LeadsOfTerms
+pub mod MarkedRuns
 pub mod Merging
 pub mod NumberedKeys
 pub mod Numbers
@@ -10,6 +11,9 @@ pub mod PastFronts
 pub mod PlacedWords
 pub mod RaisedFlags
 pub mod ReadingOf
+pub mod Repeating
+pub mod RunPlaces
 pub mod Runs
+pub mod SpotsOfFields
 pub mod Spotted
 pub mod Strict

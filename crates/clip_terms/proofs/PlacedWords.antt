@@ -136,12 +136,16 @@ each_numbered all front (w ∷ ws) is =
     word_got [] w ws = refl
     word_got (x ∷ front) w ws = word_got front w ws
 
+-- each posting of the numbered words in another order is of the word at its position
+pub posted : (words : List (List ℕ)) (ps : List Place) → IsPermutation (numbered 0 words) ps → All (λ (p : Place). slice_get words p.1 ≡ Some p.0) ps
+posted words ps moved = All-permutation (λ (p : Place). slice_get words p.1 ≡ Some p.0) (numbered 0 words) ps moved (each_numbered words [] words refl)
+
 -- postings that are the numbered words in another order are of them
 pub of_words : (words : List (List ℕ)) (ps : List Place) (count : ℕ) → IsPermutation (numbered 0 words) ps → length words ≡ count → AreOfWords ps count
 of_words words ps count moved long = record {
   words = words;
   long = long;
-  each = All-permutation (λ (p : Place). slice_get words p.1 ≡ Some p.0) (numbered 0 words) ps moved (each_numbered words [] words refl);
+  each = posted words ps moved;
 }
 
 read_back : (field : List ℕ) (keys : List KeyValue) (all front ps : List ℕ) (ws : List (List ℕ)) → all ≡ front ++ ps → length ps ≡ length ws → All (IsPlaced field keys all) (numbered (length front) ws)

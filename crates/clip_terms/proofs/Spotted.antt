@@ -1,5 +1,5 @@
 -- Spots: where the term of a number stands in a field, and which positions a run of numbers covers.
-use Rattle.std.proofs.Common.{◌≡◌, ℕ, ◌+◌, ◌<◌, ◌≤◌, Bool, true, false, ◌&&◌, ◌||◌, nat_eq, nat_lt, nat_le, List, [], ◌∷◌, map, length, drop, get_or, bytes_eq, Option, unwrap_or, refl, sym, ap, subst, ◌∙◌, arith, eq-eqb, eqb-true}
+use Rattle.std.proofs.Common.{◌≡◌, ℕ, zero, suc, ◌+◌, ◌<◌, ◌≤◌, Bool, true, false, ◌&&◌, ◌||◌, nat_eq, nat_lt, nat_le, List, [], ◌∷◌, map, length, drop, get_or, bytes_eq, Option, unwrap_or, refl, sym, ap, subst, ◌∙◌, arith, eq-eqb, eqb-true}
 use Rattle.std.specs.List.{list_any, starts_with}
 use Rattle.std.specs.List.Sorted.{IsStrictlySortedBy}
 use Rattle.std.specs.Cmp.{eq_by_cmp_equiv}
@@ -22,6 +22,7 @@ use Rattle.clip_extract.proofs.Order.{key_cmp_total, same_itself, same_key}
 use Rattle.clip_terms.specs.Reading.{stands_in}
 use Rattle.clip_terms.specs.Terms.{term_at, number_of}
 use Rattle.clip_terms.specs.Spots.{FieldValue, is_at, covers_from, is_covered, is_word_of}
+use Rattle.clip_terms.specs.Steps.FieldNumbers.{is_covered_from}
 use Rattle.clip_terms.specs.Steps.Leads.{heading, IsPart}
 use Rattle.clip_terms.specs.Steps.Runs.{begins_with}
 use Rattle.clip_terms.specs.Steps.Spots.{AreNear, IsOfArticle, covers_at}
@@ -207,6 +208,21 @@ module _ (terms : List KeyValue) (strict : IsStrictlySortedBy key_cmp terms) whe
       ∙ first.just (λ p. covers_from field (map (term_at terms) (n ∷ run)) k p.1)
       ∙ run_of_near field (term_at terms n) (map (term_at terms) run) found first k 0 field.1 refl
 
+  -- a run covers by its numbers the positions that it covers by its keys
+  covered_words : (field : FieldValue) (run : List ℕ) (k start : ℕ) (words : List (List ℕ)) → drop start field.1 ≡ words
+      → is_covered_from run k start (numbers_of field.0 words) ≡ list_any (λ (p : List ℕ × ℕ). covers_from field (map (term_at terms) run) k p.1) (numbered start words)
+  covered_words field run k start [] e = refl
+  covered_words field run k start (w ∷ words) e =
+      let head : (begins_with run (numbers_of field.0 (w ∷ words)) && is_within start (length run) k) ≡ covers_from field (map (term_at terms) run) k start =
+      ap (λ b. b && is_within start (length run) k) (begins terms strict field.0 run (w ∷ words))
+      ∙ ap (λ m. starts_with is_same (map (Word field.0) (w ∷ words)) (map (term_at terms) run) && is_within start m k) (sym (length-map run (term_at terms)))
+      ∙ sym (from_word field (map (term_at terms) run) k start w words e) in
+      let later = covered_words field run k (start + 1) words (rest_dropped start field.1 w words e) in
+      (λ i. head i || later i)
+
+  pub run_covers : (field : FieldValue) (numbers : List (Option ℕ)) (run : List ℕ) (k : ℕ) → numbers ≡ map (number_of terms) (field_keys field) → is_covered_from run k 0 numbers ≡ is_covered field (map (term_at terms) run) k
+  run_covers field numbers run k are = ap (is_covered_from run k 0) are ∙ covered_words field run k 0 field.1 refl
+
 -- ---- no keys cover no position
 
 none_covered_in : (field : FieldValue) (k : ℕ) (ps : List (List ℕ × ℕ)) → list_any (λ (p : List ℕ × ℕ). covers_from field [] k p.1) ps ≡ false
@@ -227,8 +243,15 @@ or_false false = refl
 
 -- ---- the numbers of one field among those of all
 
-pub field_at : {V E : Type 0} (items : V → List (Option ℕ)) (g : E → List (Option ℕ)) (all : List V) (fields : List E) (i : ℕ) (d : V) (e : E) → map items all ≡ map g fields → i < length fields
-    → (i < length all) × (items (get_or all i d) ≡ g (get_or fields i e))
-field_at items g all fields i d e same lt =
-    let long : length all ≡ length fields = sym (length-map all items) ∙ ap length same ∙ length-map fields g in
-    (omega (arith, long, lt), sym (get_or-map items all i d [] (omega (arith, long, lt))) ∙ ap (λ xs. get_or xs i []) same ∙ get_or-map g fields i e [] lt)
+pub field_at : {E : Type 0} (g : E → List (Option ℕ)) (all : List (List (Option ℕ))) (fields : List E) (i : ℕ) (d : List (Option ℕ)) (e : E) → all ≡ map g fields → i < length fields → get_or all i d ≡ g (get_or fields i e)
+field_at g all fields i d e same lt = ap (λ xs. get_or xs i d) same ∙ get_or-map g fields i e d lt
+
+-- what is read at one place of two lists that are mapped to one
+pub both_at : {V E X : Type 0} (h : V → X) (g : E → X) (all : List V) (fields : List E) (i : ℕ) (v : V) (f : E) → map h all ≡ map g fields → i < length fields → v ≡ get_or all i v → f ≡ get_or fields i f → h v ≡ g f
+both_at h g all fields i v f same lt is_v is_f =
+    let long : length all ≡ length fields = sym (length-map all h) ∙ ap length same ∙ length-map fields g in
+    ap h is_v ∙ sym (get_or-map h all i v (h v) (omega (arith, long, lt))) ∙ ap (λ xs. get_or xs i (h v)) same ∙ get_or-map g fields i f (h v) lt ∙ ap g (sym is_f)
+
+pub some_number : (n : ℕ) → nat_eq n 0 ≡ false → 0 < n
+some_number zero e = absurd (true≢false e)
+some_number (suc n) e = omega arith

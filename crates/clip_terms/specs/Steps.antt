@@ -1,5 +1,6 @@
 -- What the proofs of this crate go through, and private fields as contracts see them; no public clause cites it.
 pub mod Asking
+pub mod FieldNumbers
 pub mod FieldTerms
 pub mod Flags
 pub mod Fronts
@@ -10,6 +11,7 @@ pub mod Numbers
 pub mod Parts
 pub mod Places
 pub mod Reading
+pub mod Repeats
 pub mod Runs
 pub mod Sought
 pub mod Spots

@@ -4,14 +4,17 @@
 ghost use Rattle.std.specs.Prelude.{◌≡◌};
 
 mod asking;
+mod field_numbers;
 mod field_terms;
 mod flags;
 mod heads;
 mod leads;
 mod likely;
+mod matching;
 mod numbering;
 mod parts;
 mod reading;
+mod repeats;
 mod spots;
 mod terms;
 

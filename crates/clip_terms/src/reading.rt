@@ -3,16 +3,18 @@ ghost use Rattle.std.specs.Prelude.{◌≡◌, ℕ, ◌<◌, [], IfOk, nat_eq, l
 ghost use Rattle.std.specs.FinMap as finite;
 ghost use Rattle.std.specs.List.{All, list_any, list_all};
 ghost use Rattle.clip_terms.specs.Spots.{spots_among};
-ghost use Rattle.clip_terms.specs.Terms.{term_at};
+ghost use Rattle.clip_extract.specs.Covering.{field_keys};
+ghost use Rattle.clip_terms.specs.Terms.{number_of, term_at};
 ghost use Rattle.clip_terms.specs.Reading.{has_key, has_run};
 ghost use Rattle.clip_terms.specs.Steps.Numbers.{number_at, AreFlags};
-ghost use Rattle.clip_terms.specs.Steps.Runs.{is_number, begins_with, stands_among};
+ghost use Rattle.clip_terms.specs.Steps.Runs.{stands_among};
 
 use crate::asking::Asking;
+use crate::field_numbers::FieldNumbers;
 use crate::numbering::{add_front_numbers, key_numbers, known_numbers};
 use crate::spots::FieldSpots;
 use crate::terms::Terms;
-use clip_meaning::Article;
+use clip_meaning::{Article, Field};
 use clip_pieces::Marks;
 use clip_words::NoMemory;
 use std::alloc::Global;
@@ -26,7 +28,7 @@ pub struct Reading<'a> {
     article: &'a Article,
     numbers: Vec<u32>,
     marks: Marks,
-    fields: Vec<Vec<Option<u32>>>,
+    fields: Vec<FieldNumbers>,
 }
 
 impl<'a> Model for Reading<'a> {
@@ -55,7 +57,7 @@ fn marks_of(alloc: Global, numbers: &[u32], bound: usize) -> Result<Marks, NoMem
 }
 
 /// The number of the key at a place, if there is one.
-fn number_at(by_key: &[Option<u32>], place: usize) -> Option<u32>
+pub(crate) fn number_at(by_key: &[Option<u32>], place: usize) -> Option<u32>
     ensures { result ≡ number_at by_key.now place }
 {
     match by_key.get(place) {
@@ -79,18 +81,37 @@ fn numbers_at(
     Ok(numbers)
 }
 
-/// For each field the numbers of the keys at its places.
+/// The numbers of a field's words among terms, whose keys are at these places.
+fn numbers_of(
+    alloc: Global,
+    terms: &Terms,
+    field: &Field,
+    places: &[usize],
+    by_key: &[Option<u32>],
+) -> Result<FieldNumbers, NoMemory>
+    requires { map (number_at by_key.now) places.now ≡ map (number_of terms.now) (field_keys field.now) }
+    ensures { IfOk result (λ numbers. numbers ≡ map (number_of terms.now) (field_keys field.now)) }
+{
+    let numbers = numbers_at(alloc, places, by_key)?;
+    FieldNumbers::of(alloc, terms, field, numbers)
+}
+
+/// For each field the numbers of its words among terms, whose keys are at these places.
 fn field_numbers(
     alloc: Global,
-    fields: &[Vec<usize>],
+    terms: &Terms,
+    fields: &[Field],
+    places: &[Vec<usize>],
     by_key: &[Option<u32>],
-) -> Result<Vec<Vec<Option<u32>>>, NoMemory>
-    ensures { IfOk result (λ numbers. map (λ n. n.items) numbers.items
-        ≡ map (λ places. map (number_at by_key.now) places.items) fields.now) }
+) -> Result<Vec<FieldNumbers>, NoMemory>
+    requires { map (λ places. map (number_at by_key.now) places.items) places.now
+        ≡ map (λ field. map (number_of terms.now) (field_keys field)) fields.now }
+    ensures { IfOk result (λ numbers. numbers.items
+        ≡ map (λ field. map (number_of terms.now) (field_keys field)) fields.now) }
 {
     let mut numbers = Vec::with_capacity(alloc, fields.len())?;
-    for places in fields {
-        numbers.push(numbers_at(alloc, places, by_key)?)?;
+    for place in 0..fields.len() {
+        numbers.push(numbers_of(alloc, terms, &fields[place], &places[place], by_key)?)?;
     }
     Ok(numbers)
 }
@@ -116,10 +137,11 @@ impl<'a> Reading<'a> {
         let mut numbers = known_numbers(alloc, &by_key)?;
         add_front_numbers(terms, asking, &mut numbers)?;
         let marks = marks_of(alloc, &numbers, terms.len())?;
-        let fields = field_numbers(alloc, asking.places(), &by_key)?;
+        let article = asking.article();
+        let fields = field_numbers(alloc, terms, article.fields(), asking.places(), &by_key)?;
         Ok(Reading {
             terms,
-            article: asking.article(),
+            article,
             numbers,
             marks,
             fields,
@@ -160,8 +182,9 @@ impl<'a> Reading<'a> {
     }
 
     /// Whether the words of these numbers stand in some field next to each other, in order; no numbers never do. Takes
-    /// no memory. Cost: a step for each word of the article, and for each place of the first of them one for each
-    /// number.
+    /// no memory. Cost: a step for each number; in each field two searches by halves for each number while those before
+    /// it are frequent, and then a step for each place of the rarest of these and each number, or, where that is less,
+    /// for each word of the field and each number, times the logarithm of their count.
     pub fn has_run(&self, run: &[u32]) -> bool
         ensures { result ≡ has_run self.now.article.fields (map (term_at self.now.terms) run.now) }
     {
@@ -216,55 +239,13 @@ impl<'a> Reading<'a> {
     }
 }
 
-/// Whether a place has this number.
-pub(crate) fn is_number(found: Option<u32>, number: u32) -> bool
-    ensures { result ≡ is_number found number }
-{
-    match found {
-        Some(found) => found == number,
-        None => false,
-    }
-}
-
-/// Whether the numbers begin with those of a run.
-pub(crate) fn starts_with(numbers: &[Option<u32>], run: &[u32]) -> bool
-    ensures { result ≡ begins_with run.now numbers.now }
-{
-    let mut numbers = numbers;
-    let mut run = run;
-    while let Some((next, others)) = run.split_first() {
-        let Some((number, after)) = numbers.split_first() else {
-            return false;
-        };
-        if !is_number(*number, *next) {
-            return false;
-        }
-        numbers = after;
-        run = others;
-    }
-    true
-}
-
-/// Whether the numbers of a run stand somewhere next to each other, in order.
-fn stands_in(numbers: &[Option<u32>], run: &[u32]) -> bool
-    ensures { result ≡ stands_among run.now numbers.now }
-{
-    let mut rest = numbers;
-    while let Some((_, after)) = rest.split_first() {
-        if starts_with(rest, run) {
-            return true;
-        }
-        rest = after;
-    }
-    false
-}
-
 /// Whether the numbers of a run stand next to each other, in order, in one of the fields.
-fn stands_in_any(fields: &[Vec<Option<u32>>], run: &[u32]) -> bool
-    ensures { result ≡ list_any (stands_among run.now) (map (λ numbers. numbers.items) fields.now) }
+fn stands_in_any(fields: &[FieldNumbers], run: &[u32]) -> bool
+    requires { 0 < length run.now }
+    ensures { result ≡ list_any (stands_among run.now) fields.now }
 {
     for numbers in fields {
-        if stands_in(numbers, run) {
+        if numbers.has_run(run) {
             return true;
         }
     }

@@ -8,8 +8,10 @@ ghost use Rattle.clip_terms.specs.Terms.{number_of, term_at};
 ghost use Rattle.clip_terms.specs.Steps.Runs.{begins_with};
 ghost use Rattle.clip_terms.specs.Steps.Spots.{AreNear, IsOfArticle, covers_at};
 
+use crate::field_numbers::FieldNumbers;
 use crate::flags::FieldFlags;
-use crate::reading::{Reading, is_number, starts_with};
+use crate::matching::is_number;
+use crate::reading::Reading;
 use crate::terms::Terms;
 use clip_meaning::{Field, Posting};
 use std::marker::Model;
@@ -21,7 +23,7 @@ use std::ops::Range;
 pub struct FieldSpots<'a> {
     reading: &'a Reading<'a>,
     field: &'a Field,
-    numbers: &'a [Option<u32>],
+    numbers: &'a FieldNumbers,
     range: Range<usize>,
 }
 
@@ -36,17 +38,6 @@ impl<'a> Model for FieldSpots<'a> {
     ghost view = { spots_value };
 
     ghost invariant = { AreSpots };
-}
-
-/// The numbers from a position on, none where it is past the end.
-fn numbers_from(numbers: &[Option<u32>], position: usize) -> &[Option<u32>]
-    ensures { result.now ≡ drop position numbers.now }
-{
-    if position < numbers.len() {
-        &numbers[position..]
-    } else {
-        &[]
-    }
 }
 
 /// Whether this number stands at a position.
@@ -73,27 +64,13 @@ fn mark_places(postings: &[Posting], numbers: &[Option<u32>], number: u32, flags
     }
 }
 
-/// Raises the flags of a run's positions at those of the postings where its numbers stand.
-fn mark_runs(postings: &[Posting], numbers: &[Option<u32>], run: &[u32], flags: &mut FieldFlags)
-    ensures long { length flags.new ≡ length flags.old }
-    ensures raised { AreRaised flags.old flags.new
-        (λ k. list_any (covers_at run.now numbers.now k) postings.now) }
-{
-    for posting in postings {
-        let position = posting.position();
-        if starts_with(numbers_from(numbers, position), run) {
-            flags.raise(position, run.len());
-        }
-    }
-}
-
 impl<'a> FieldSpots<'a> {
     /// A field of the article of a reading, of which these are the numbers of the words, in the order of the text, and
     /// whose place among the fields of the terms is likely this. Cost: that of `Terms::words_of`.
     pub(crate) fn of(
         reading: &'a Reading<'a>,
         field: &'a Field,
-        numbers: &'a [Option<u32>],
+        numbers: &'a FieldNumbers,
         likely: usize,
     ) -> FieldSpots<'a>
         requires numbers { numbers.now ≡ map (number_of reading.now.terms) (field_keys field.now) }
@@ -159,19 +136,26 @@ impl<'a> FieldSpots<'a> {
         ensures raised { AreRaised flags.old flags.new
             (λ k. is_at self.now.field k (term_at self.now.terms number)) }
     {
-        mark_places(self.postings_near(number), self.numbers, number, flags);
+        mark_places(
+            self.postings_near(number),
+            self.numbers.numbers(),
+            number,
+            flags,
+        );
     }
 
     /// Raises the flags of the positions that the terms of these numbers cover where they stand next to each other, in
-    /// order; no numbers cover none. Takes no memory. Cost: as of `mark_term` for the first of them, and at each of its
-    /// positions a step for each number.
+    /// order; no numbers cover none. Takes no memory. Cost: two searches by halves for each number while those before
+    /// it are frequent, and then a step for each place of the rarest of these and each number, or, where that is less,
+    /// for each word of the field and each number, times the logarithm of their count.
     pub fn mark_run(&self, run: &[u32], flags: &mut FieldFlags)
         ensures long { length flags.new ≡ length flags.old }
         ensures raised { AreRaised flags.old flags.new
             (λ k. is_covered self.now.field (map (term_at self.now.terms) run.now) k) }
     {
-        if let Some(first) = run.first() {
-            mark_runs(self.postings_near(*first), self.numbers, run, flags);
+        if run.is_empty() {
+            return;
         }
+        self.numbers.mark_run(run, flags);
     }
 }

@@ -16,11 +16,12 @@ use std::thread::Threads;
 use std::{fs, io};
 
 /// The examples: of each the requests stand in NAME.jsonl, and the replies in NAME.out.
-const EXAMPLES: [&str; 19] = [
+const EXAMPLES: [&str; 21] = [
     "alerts",
     "changes",
     "clippings",
     "cut_lines",
+    "deep_queries",
     "exclusion",
     "fields",
     "folding",
@@ -31,6 +32,7 @@ const EXAMPLES: [&str; 19] = [
     "purging",
     "random_changes",
     "random_operators",
+    "random_phrases",
     "random_queries",
     "ranges",
     "refusals",
@@ -39,7 +41,7 @@ const EXAMPLES: [&str; 19] = [
 ];
 
 /// The examples that are run with hits: of each the replies stand in NAME.hits.
-const WITH_HITS: [&str; 2] = ["hits", "random_queries"];
+const WITH_HITS: [&str; 4] = ["deep_queries", "hits", "random_phrases", "random_queries"];
 
 /// The traces, in files of the same kind.
 const TRACES: [&str; 8] = [

@@ -16,7 +16,7 @@ type Row = (
 );
 
 #[rattlefmt::skip]
-static ROWS: [Row; 12] = [
+static ROWS: [Row; 17] = [
     ("\"tea tea\"", &[("text", "tea tea tea")], "text@0 text@1 text@2 "),
     ("tea te*", &[("text", "tea")], "text@0 "),
     ("(tea -coffee) *:*", &[("text", "coffee tea")], "text@1 "),
@@ -24,6 +24,14 @@ static ROWS: [Row; 12] = [
     ("title:gre* [m TO z]", &[("title", "Green grey"), ("text", "milk")], "text@0 title@0 title@1 "),
     // occurrences that overlap
     ("\"a b a\"", &[("text", "a b a b a")], "text@0 text@1 text@2 text@3 text@4 "),
+    // phrases that repeat, looked for from the start of a text on
+    ("\"a a b\"", &[("text", "a a a b")], "text@1 text@2 text@3 "),
+    ("\"a a a\"", &[("text", "a a a a b a a")], "text@0 text@1 text@2 text@3 "),
+    ("\"a b a b c\"", &[("text", "a b a b a b c a b a b")], "text@2 text@3 text@4 text@5 text@6 "),
+    ("\"a b a c a b d\"", &[("text", "a b a c a b a c a b d a b a c a b")],
+        "text@4 text@5 text@6 text@7 text@8 text@9 text@10 "),
+    // a phrase whose first words stand at the end
+    ("tea \"a a b\"", &[("text", "b tea a a")], "text@1 "),
     // a leaf inside and outside of a group that is excluded, and below two exclusions
     ("tea -(tea +milk)", &[("text", "tea")], "text@0 "),
     ("tea -(coffee -milk)", &[("text", "milk tea")], "text@1 "),

@@ -1,32 +1,44 @@
 -- Judging a plan from front to back: what stands among the clauses of each group that is open.
-use Rattle.std.specs.Prelude.{ℕ, Bool, true, false, not, ◌&&◌, ◌||◌, List, [], ◌∷◌}
-use Rattle.clip_grammar.specs.Tree.{Tree}
+use Rattle.std.specs.Prelude.{◌≡◌, ℕ, ◌+◌, max, Bool, true, false, not, cond, ◌&&◌, ◌||◌, List, [], ◌∷◌, ◌++◌, length, drop}
+use Rattle.clip_grammar.specs.Tree.{Tree, Clauses}
 use Rattle.clip_grammar.specs.declared.query.Occur.{Occur}
 use Rattle.clip_grammar.specs.declared.query.Occur.TheVariants.{Must, Should, MustNot}
 use Rattle.clip_meaning.specs.Article.{Fields}
-use Rattle.clip_meaning.specs.Meaning.{holds}
+use Rattle.clip_meaning.specs.Meaning.{holds, verdicts}
 use Rattle.clip_extract.specs.Keys.{KeyValue}
 use Rattle.clip_terms.specs.Terms.{term_at}
 use Rattle.clip_terms.specs.Reading.{has_key, has_run}
-use Rattle.clip_plan.specs.Plan.{Asks, Has, Run, Is, Mark, Leaf, Open, Close, named}
+use Rattle.clip_plan.specs.Plan.{Asks, Has, Run, Is, Mark, Leaf, Open, Close, named, group_marks}
 use Rattle.clip_plan.specs.Steps.Plans.{mark_of}
 use Rattle.clip_plan.specs.declared.step.Step.{Step}
 use Rattle.clip_plan.specs.declared.judge.Tally.{Tally}
 
 -- ---- a group's clauses so far
 
-abbrev pub no_clauses : Tally
-no_clauses = record { may_hold = true; has_must = false; has_should = false }
+-- none, of a group that ends at a place
+abbrev pub no_clauses : (end : ℕ) → Tally
+no_clauses end = record { may_hold = true; is_met = false; end = end }
 
 -- with one clause more, whose child holds or does not
 abbrev pub counted : Tally → Occur → Bool → Tally
-counted t Must held = record { may_hold = t.may_hold && held; has_must = true; has_should = t.has_should }
-counted t Should held = record { may_hold = t.may_hold; has_must = t.has_must; has_should = t.has_should || held }
-counted t MustNot held = record { may_hold = t.may_hold && not held; has_must = t.has_must; has_should = t.has_should }
+counted t Must held = record { may_hold = t.may_hold && held; is_met = true; end = t.end }
+counted t Should held = record { may_hold = t.may_hold; is_met = t.is_met || held; end = t.end }
+counted t MustNot held = record { may_hold = t.may_hold && not held; is_met = t.is_met; end = t.end }
+
+-- with all these clauses more
+abbrev pub counted_all : Tally → List (Occur × Bool) → Tally
+counted_all t [] = t
+counted_all t (v ∷ vs) = counted_all (counted t v.0 v.1) vs
 
 -- a group of these clauses holds
 abbrev pub tally_holds : Tally → Bool
-tally_holds t = t.may_hold && (t.has_must || t.has_should)
+tally_holds t = t.may_hold && t.is_met
+
+-- whether its child holds changes nothing
+abbrev pub is_needless : Tally → Occur → Bool
+is_needless t Must = false
+is_needless t Should = t.is_met
+is_needless t MustNot = false
 
 -- ---- leaves
 
@@ -39,7 +51,7 @@ leaf_holds fields (Is tree) = holds tree fields
 -- the same of a mark; of one that is no leaf it is
 abbrev pub mark_holds : Fields → Mark KeyValue → Bool
 mark_holds fields (Leaf occur asks) = leaf_holds fields asks
-mark_holds fields Open = true
+mark_holds fields (Open occur inside) = true
 mark_holds fields (Close occur) = true
 
 -- the mark that a step is, over keys
@@ -52,16 +64,43 @@ meant runs queries terms step = named (term_at terms) (mark_of runs queries step
 abbrev pub Groups : Type 0
 Groups = Tally × List Tally
 
--- after a mark, where what it asks is so or not
-abbrev pub marked : {K : Type 0} → Mark K → Bool → Tally → List Tally → Groups
-marked (Leaf occur asks) held top around = (counted top occur held, around)
-marked Open held top around = (no_clauses, top ∷ around)
-marked (Close occur) held top [] = (top, [])
-marked (Close occur) held top (next ∷ around) = (counted next occur (tally_holds top), around)
+-- after the mark of a place, where what it asks is so or not
+abbrev pub marked : {K : Type 0} → (place : ℕ) → Mark K → Bool → Tally → List Tally → Groups
+marked place (Leaf occur asks) held top around = (counted top occur held, around)
+marked place (Open occur inside) held top around = (no_clauses (place + 1 + inside), top ∷ around)
+marked place (Close occur) held top [] = (top, [])
+marked place (Close occur) held top (next ∷ around) = (counted next occur (tally_holds top), around)
 
-abbrev pub stepped : Fields → Mark KeyValue → Tally → List Tally → Groups
-stepped fields mark top around = marked mark (mark_holds fields mark) top around
+-- how many marks are passed at a mark: all of a clause that changes nothing
+abbrev pub passed : {K : Type 0} → Tally → Mark K → ℕ
+passed top (Leaf occur asks) = cond (is_needless top occur) 1 0
+passed top (Open occur inside) = cond (is_needless top occur) (inside + 2) 0
+passed top (Close occur) = 0
 
-abbrev pub stepped_all : Fields → List (Mark KeyValue) → Groups → Groups
-stepped_all fields [] groups = groups
-stepped_all fields (mark ∷ marks) groups = stepped_all fields marks (stepped fields mark groups.0 groups.1)
+-- the place where judging goes on, where it came to this one: the group's end where the group may not hold
+abbrev pub onward : Tally → (place : ℕ) → ℕ
+onward top place = cond top.may_hold place (max place top.end)
+
+-- ---- the marks that are left
+
+-- They begin with clauses of the group that is open, and this is so of the marks behind these, of their place, and of
+-- the tally with these.
+pub record Left (Then : List (Mark KeyValue) → ℕ → Tally → Type 0) (fields : Fields) (marks : List (Mark KeyValue))
+    (place : ℕ) (top : Tally) : Type 0 where
+  pub clauses : Clauses
+  pub others : List (Mark KeyValue)
+  pub are : marks ≡ group_marks clauses ++ others
+  pub end : Then others (place + length (group_marks clauses)) (counted_all top (verdicts clauses fields))
+
+-- At these marks the group that is open ends, at the place that its tally has; behind its end those around it go on,
+-- and in the end the outermost holds or does not.
+abbrev pub Ends : Fields → (holds : Bool) → (around : List Tally) → List (Mark KeyValue) → (place : ℕ) → Tally → Type 0
+Ends fields holds [] marks place top = (marks ≡ []) × (top.end ≡ place) × (tally_holds top ≡ holds)
+Ends fields holds (next ∷ around) marks place top =
+    (occur : Occur) × (others : List (Mark KeyValue)) × (marks ≡ Close occur ∷ others) × (top.end ≡ place)
+    × Left (Ends fields holds around) fields others (place + 1) (counted next occur (tally_holds top))
+
+-- From a place on, the marks of a plan lead to whether its query holds.
+abbrev pub LeadTo : Fields → (holds : Bool) → List (Mark KeyValue) → (place : ℕ) → Tally → (around : List Tally)
+    → Type 0
+LeadTo fields holds marks place top around = Left (Ends fields holds around) fields (drop place marks) place top

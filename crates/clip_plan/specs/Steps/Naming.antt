@@ -11,7 +11,7 @@ use Rattle.clip_plan.specs.Plan.{Asks, Has, Run, Is, Mark, Leaf, Open, Close}
 -- How many open groups are excluded, or stand in one that is: before a mark, of the count behind it.
 abbrev pub excluded_before : {K : Type 0} → Mark K → ℕ → ℕ
 excluded_before (Leaf occur leaf) excluded = excluded
-excluded_before Open excluded = excluded - 1
+excluded_before (Open occur inside) excluded = excluded - 1
 excluded_before (Close occur) excluded = cond (asks occur && excluded == 0) 0 (excluded + 1)
 
 -- the same before all marks, of the count behind them
@@ -24,7 +24,7 @@ excluded_at (mark ∷ marks) excluded = excluded_before mark (excluded_at marks 
 -- a leaf that asks
 abbrev pub mark_asks : {K : Type 0} → Mark K → Bool
 mark_asks (Leaf occur leaf) = asks occur
-mark_asks Open = false
+mark_asks (Open occur inside) = false
 mark_asks (Close occur) = false
 
 -- the leaf names the word at a position of the field, whether it asks or not
@@ -36,7 +36,7 @@ leaf_names field position (Is tree) = is_named tree field.0 field.1 (get_or fiel
 -- the same of a mark that is a leaf
 abbrev pub mark_names : FieldValue → (position : ℕ) → Mark KeyValue → Bool
 mark_names field position (Leaf occur leaf) = leaf_names field position leaf
-mark_names field position Open = false
+mark_names field position (Open occur inside) = false
 mark_names field position (Close occur) = false
 
 -- the mark is a leaf that asks, in no excluded group, and names the word

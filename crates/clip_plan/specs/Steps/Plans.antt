@@ -22,7 +22,7 @@ mark_of runs queries (step.Term occur n) = Leaf occur (Has n)
 mark_of runs queries (step.Pair occur m n) = Leaf occur (Run (m ∷ n ∷ []))
 mark_of runs queries (step.Phrase occur place) = Leaf occur (Run (unwrap_or (slice_get runs place) []))
 mark_of runs queries (step.Query occur place) = Leaf occur (Is (unwrap_or (slice_get queries place) Tree.All))
-mark_of runs queries step.Open = Open
+mark_of runs queries (step.Open occur inside) = Open occur inside
 mark_of runs queries (step.Close occur) = Close occur
 
 abbrev pub marks_of : Inside → List (List (Mark ℕ))
@@ -34,7 +34,7 @@ HasPlace runs queries (step.Term occur n) = Unit {0}
 HasPlace runs queries (step.Pair occur m n) = Unit {0}
 HasPlace runs queries (step.Phrase occur place) = place < runs
 HasPlace runs queries (step.Query occur place) = place < queries
-HasPlace runs queries step.Open = Unit {0}
+HasPlace runs queries (step.Open occur inside) = Unit {0}
 HasPlace runs queries (step.Close occur) = Unit {0}
 
 -- each step of each plan has its run or query
@@ -57,7 +57,7 @@ step_words (step.Term occur n) = clause_words occur n n
 step_words (step.Pair occur m n) = clause_words occur m n
 step_words (step.Phrase occur place) = no_words
 step_words (step.Query occur place) = no_words
-step_words step.Open = no_words
+step_words (step.Open occur inside) = no_words
 step_words (step.Close occur) = no_words
 
 -- of a plan, those of its first step
@@ -84,14 +84,15 @@ pub record StandFor (terms : List KeyValue) (runs : List (List ℕ)) (queries : 
   pub places : All (HasPlace (length runs) (length queries)) steps
   pub decode : decoded terms (map (mark_of runs (map tree_of queries)) steps) ≡ marks
 
--- Behind the steps stand those of these marks, and of the runs and the queries there may be more.
+-- Behind the steps are added those of these marks, and of the runs and the queries there may be more.
 pub record Adds (terms : List KeyValue) (runs : List (List ℕ)) (queries : List Query) (steps : List Step)
     (new_runs : List (List ℕ)) (new_queries : List Query) (new_steps : List Step) (more : List (Mark KeyValue)) : Type 0
   where
     pub runs_grow : Grows runs new_runs
     pub queries_grow : Grows queries new_queries
-    pub stand : (marks : List (Mark KeyValue)) → StandFor terms runs queries steps marks
-        → StandFor terms new_runs new_queries new_steps (marks ++ more)
+    pub added : List Step
+    pub behind : new_steps ≡ steps ++ added
+    pub stand : StandFor terms new_runs new_queries added more
 
 -- the query is no group
 abbrev pub IsNoGroup : Query → Type 0

@@ -1,10 +1,9 @@
 -- Jobs and merges as their fields hold them.
-use Rattle.std.specs.Prelude.{◌≡◌, ℕ, ◌+◌, ◌≤◌, ◌||◌, Bool, not, List, ◌++◌, map, length, take, drop, Contains, IsTrue}
+use Rattle.std.specs.Prelude.{◌≡◌, ℕ, ◌+◌, ◌<◌, ◌≤◌, ◌||◌, Bool, not, List, ◌++◌, map, length, take, drop, Contains, IsTrue}
 use Rattle.std.specs.Arc.{arc_value}
 use Rattle.clip_segment.specs.Segment.{IsRising, all_entries}
 use Rattle.clip_segment.specs.declared.segment.TheConstants.{MOST_POSITIONS}
 use Rattle.clip_merge.specs.Live.{named, names}
-use Rattle.clip_model.specs.declared.limits.TheConstants.{RUN_LENGTH}
 use Rattle.clip_model.specs.History.{Registered, Registry, is_live, is_live_in}
 use Rattle.clip_registry.specs.Merging.{Job, Merge, shelf}
 use Rattle.clip_registry.specs.RegistryState.{RegistryState}
@@ -15,9 +14,9 @@ use Rattle.clip_registry.specs.declared.merging.Merged.TheInside as merged
 abbrev pub job_inside : job.Inside → Job
 job_inside j = record { sources = map arc_value j.sources.items; live = j.live.value }
 
--- There are as many sources as a run has, their seqs rise, and not too many of their entries are live.
+-- There are sources, their seqs rise, and not too many of their entries are live.
 pub record IsJob (j : Job) : Type 0 where
-  pub count : length j.sources ≡ RUN_LENGTH
+  pub some : 0 < length j.sources
   pub rising : IsRising (all_entries j.sources)
   pub short : length (named j.live (all_entries j.sources)) ≤ MOST_POSITIONS
 
@@ -32,9 +31,9 @@ job_over registry sources = record
 abbrev pub merged_inside : merged.Inside → Merge
 merged_inside m = record { sources = map arc_value m.sources.items; entries = m.segment.value }
 
--- There are as many sources as a run has, their seqs rise, and the entries are those with these seqs.
+-- There are sources, their seqs rise, and the entries are those with these seqs.
 pub record IsMerged (seqs : List ℕ) (m : Merge) : Type 0 where
-  pub count : length m.sources ≡ RUN_LENGTH
+  pub some : 0 < length m.sources
   pub rising : IsRising (all_entries m.sources)
   pub named : m.entries ≡ named seqs (all_entries m.sources)
 
@@ -45,9 +44,9 @@ IsMergedInside m = IsMerged m.live.value (merged_inside m)
 abbrev pub has_seq_if_live : Registry → List ℕ → Registered → Bool
 has_seq_if_live registry seqs r = not (is_live_in registry r.seq) || names seqs r.seq
 
--- the segments, with these entries in the place of a run
-abbrev pub replaced : List (List Registered) → ℕ → List Registered → List (List Registered)
-replaced segments first entries = take first segments ++ shelf entries ++ drop (first + RUN_LENGTH) segments
+-- the segments, with these entries in the place of so many neighbours
+abbrev pub replaced : List (List Registered) → ℕ → ℕ → List Registered → List (List Registered)
+replaced segments first count entries = take first segments ++ shelf entries ++ drop (first + count) segments
 
 -- The seqs of these segments rise, their entries are some of the registry's, and each of those that is live is among
 -- them.

@@ -22,5 +22,5 @@ pub record IsReading (r : Inside) : Type 0 where
   pub long : length r.marks ≡ length r.terms.now
   pub flags : (n : ℕ) → n < length r.terms.now
       → unwrap_or (slice_get r.marks n) true ≡ has_key r.article.now.fields (term_at r.terms.now n)
-  pub fields : map (λ places. places.items) r.fields.items
+  pub fields : r.fields.items
       ≡ map (λ field. map (number_of r.terms.now) (field_keys field)) (finite.entries r.article.now.fields)

@@ -2,7 +2,8 @@ use Rattle.std.proofs.Common.{ℕ, ◌+◌, ◌-◌, ◌<◌, List, length, map,
 use Rattle.std.proofs.lemmas.List.{length-map}
 use Rattle.std.specs.Arc.{arc_value}
 use Rattle.clip_model.specs.History.{Registered}
-use Rattle.clip_merge.proofs.Runs.{HasLevel, Walked, level_at, walked_alike, walked_found, walked_other}
+use Rattle.clip_merge.specs.Plan.{HasLevel}
+use Rattle.clip_merge.proofs.Runs.{Walked, level_at, walked_alike, walked_found, walked_other}
 use Rattle.clip_merge.proofs.levels.plan.Goals as goal
 use Rattle.clip_merge.proofs.levels.plan.Goals.{then-here-last, else-here-last}
 

@@ -1,38 +1,66 @@
-use Rattle.std.proofs.Common.{◌<◌, [], ◌∷◌, refl, arith}
+use Rattle.std.proofs.Common.{◌<◌, ◌++◌, List, [], ◌∷◌, sym, subst, arith}
 use Rattle.clip_grammar.specs.Tree.{tree_of, nodes}
-use Rattle.clip_plan.specs.Plan.{Open}
-use Rattle.clip_plan.proofs.Clauses.{child_words, child_nodes, clause_added, group_added}
+use Rattle.clip_plan.specs.Steps.Plans.{Adds}
+use Rattle.clip_plan.specs.declared.step.Step.{Step}
 use Rattle.clip_plan.specs.declared.step.Step.TheVariants as step
-use Rattle.clip_plan.proofs.Standing.{adds_step, as_long, longer}
+use Rattle.clip_plan.proofs.Clauses.{child_words, child_nodes, clause_added, inside_count, group_closed}
+use Rattle.clip_plan.proofs.Standing.{adds_nothing, grows_not, as_long, longer}
 use Rattle.clip_plan.proofs.plans.+add_clause.Goals as goal
 
 pub loop-occur-init : goal.loop-occur-init
-loop-occur-init t c = adds_step c.args.terms.now c.args.runs.now c.args.queries.now.items c.args.steps.now.items _ step.Open Open c.in_ok-push-in-Group.ensures.items tt refl
+loop-occur-init t c =
+    let runs = c.args.runs.now in
+    let queries = c.args.queries.now.items in
+    subst (λ (l : List Step). Adds c.args.terms.now runs queries
+    (c.args.steps.now.items ++ step.Open c.args.occur 0 ∷ []) runs queries l [])
+    (sym c.in_ok-push-in-Group.ensures.items)
+    (adds_nothing c.args.terms.now runs runs queries queries
+    (c.args.steps.now.items ++ step.Open c.args.occur 0 ∷ []) (grows_not runs) (grows_not queries))
+
+pub end_group-requires : goal.end_group-requires
+end_group-requires t c = omega (
+  arith,
+  c.len-opening.ensures,
+  inside_count c.args.steps.now.items
+      (step.Open c.args.occur 0) c.loop-occur.invariant,
+)
 
 pub add_clause-requires : goal.add_clause-requires
 add_clause-requires t c =
     let cs = c.deref-occur-items.result.now in
     let i = c.loop-occur.occur-index in
     let child = c.loop-occur-item.result in
-    let fewer : nodes (tree_of child.1) < nodes (tree_of c.args.query.now) = child_nodes c.args.query.now c.in-Group.clauses cs i child c.in-Group.is c.deref-occur-items.ensures.value c.loop-occur-test.true c.loop-occur-item.is in
-    (omega (arith, fewer, c.decreases), child_words c.args.terms.now c.args.query.now c.in-Group.clauses cs i child c.in-Group.is c.deref-occur-items.ensures.value c.requires c.loop-occur-test.true c.loop-occur-item.is)
+    let fewer : nodes (tree_of child.1) < nodes (tree_of c.args.query.now) = child_nodes c.args.query.now
+    c.in-Group.clauses cs i child c.in-Group.is c.deref-occur-items.ensures.value c.loop-occur-test.true
+    c.loop-occur-item.is in (
+      omega (arith, fewer, c.decreases),
+      child_words c.args.terms.now c.args.query.now c.in-Group.clauses cs i child
+          c.in-Group.is c.deref-occur-items.ensures.value c.requires c.loop-occur-test.true c.loop-occur-item.is,
+    )
 
 pub loop-occur-preserved : goal.loop-occur-preserved
 loop-occur-preserved t c =
-    clause_added (Open ∷ []) c.deref-occur-items.result.now c.loop-occur.occur-index c.loop-occur-item.result c.loop-occur-test.true c.loop-occur-item.is c.loop-occur.invariant c.in_ok-add_clause-in-Group.ensures.added
+    clause_added c.deref-occur-items.result.now c.loop-occur.occur-index c.loop-occur-item.result
+    c.loop-occur-test.true c.loop-occur-item.is c.loop-occur.invariant c.in_ok-add_clause-in-Group.ensures.added
 
 pub returns-in_err-add_clause-in-Group-clause-runs : goal.returns-in_err-add_clause-in-Group-clause-runs
-returns-in_err-add_clause-in-Group-clause-runs t c = as_long _ c.loop-occur.invariant.runs_grow c.add_clause.ensures.runs
+returns-in_err-add_clause-in-Group-clause-runs t c = as_long _ c.loop-occur.invariant.runs_grow
+    c.add_clause.ensures.runs
 
 pub returns-in_err-add_clause-in-Group-clause-queries : goal.returns-in_err-add_clause-in-Group-clause-queries
-returns-in_err-add_clause-in-Group-clause-queries t c = as_long _ c.loop-occur.invariant.queries_grow c.add_clause.ensures.queries
+returns-in_err-add_clause-in-Group-clause-queries t c = as_long _ c.loop-occur.invariant.queries_grow
+    c.add_clause.ensures.queries
 
-pub returns-in_ok-push-in-Group-2-clause-runs : goal.returns-in_ok-push-in-Group-2-clause-runs
-returns-in_ok-push-in-Group-2-clause-runs t c = longer c.loop-occur.invariant.runs_grow
+pub returns-after-loop-occur-clause-runs : goal.returns-after-loop-occur-clause-runs
+returns-after-loop-occur-clause-runs t c = longer c.loop-occur.invariant.runs_grow
 
-pub returns-in_ok-push-in-Group-2-clause-queries : goal.returns-in_ok-push-in-Group-2-clause-queries
-returns-in_ok-push-in-Group-2-clause-queries t c = longer c.loop-occur.invariant.queries_grow
+pub returns-after-loop-occur-clause-queries : goal.returns-after-loop-occur-clause-queries
+returns-after-loop-occur-clause-queries t c = longer c.loop-occur.invariant.queries_grow
 
-pub returns-in_ok-push-in-Group-2-clause-added : goal.returns-in_ok-push-in-Group-2-clause-added
-returns-in_ok-push-in-Group-2-clause-added t c =
-    group_added c.args.query.now c.in-Group.clauses c.deref-occur-items.result.now c.loop-occur.occur-index c.args.occur _ c.in-Group.is c.deref-occur-items.ensures.value c.loop-occur-test.false c.loop-occur.invariant c.in_ok-push-in-Group-2.ensures.items
+pub returns-after-loop-occur-clause-added : goal.returns-after-loop-occur-clause-added
+returns-after-loop-occur-clause-added t c =
+    group_closed c.end_group.result c.args.steps.now.items c.loop-occur.steps.items c.args.query.now
+    c.in-Group.clauses c.deref-occur-items.result.now c.loop-occur.occur-index c.args.occur
+    (step.Open c.args.occur 0) c.len-opening.result c.end_group.new.steps.items
+    c.in-Group.is c.deref-occur-items.ensures.value c.loop-occur-test.false
+    (omega (arith, c.len-opening.ensures, c.args.steps.now.ok.0)) c.loop-occur.invariant c.end_group.ensures

@@ -1,4 +1,3 @@
-use Rattle.std.proofs.Common.{[]}
 use Rattle.clip_plan.proofs.Clauses.{child_words, clause_added, plan_added}
 use Rattle.clip_plan.proofs.Standing.{adds_nothing, as_long, grows_not, longer}
 use Rattle.clip_plan.proofs.plans.add_plan.Goals as goal
@@ -13,7 +12,7 @@ add_clause-requires c =
 
 pub loop-occur-preserved : goal.loop-occur-preserved
 loop-occur-preserved c =
-    clause_added [] c.deref-occur-items.result.now c.loop-occur.occur-index c.loop-occur-item.result c.loop-occur-test.true c.loop-occur-item.is c.loop-occur.invariant c.in_ok-add_clause-in-Group.ensures.added
+    clause_added c.deref-occur-items.result.now c.loop-occur.occur-index c.loop-occur-item.result c.loop-occur-test.true c.loop-occur-item.is c.loop-occur.invariant c.in_ok-add_clause-in-Group.ensures.added
 
 pub returns-in_err-add_clause-in-Group-clause-runs : goal.returns-in_err-add_clause-in-Group-clause-runs
 returns-in_err-add_clause-in-Group-clause-runs c = as_long _ c.loop-occur.invariant.runs_grow c.add_clause.ensures.runs

@@ -11,5 +11,8 @@ use Rattle.clip_plan.proofs.plans.Plans.judge.Goals as goal
 pub returns : goal.returns
 returns c =
     let reading = c.args.reading.now in
-    judged_at c.self.inside.runs (map tree_of c.self.inside.queries.items) reading.terms reading.article.fields c.args.self.now c.self.inside.steps c.args.place c.get.result.now c.holds_by.result c.self.view_is c.get.ensures
-    (subst (λ (queries : List Query). IfOk c.holds_by.result (λ held. (tree : Tree) → map (meant c.self.inside.runs (map tree_of queries) reading.terms) c.get.result.now ≡ plan_of tree → held ≡ holds tree reading.article.fields)) c.deref.ensures.value c.holds_by.ensures)
+    judged_at c.self.inside.runs (map tree_of c.self.inside.queries.items) reading.terms reading.article.fields
+    c.args.self.now c.self.inside.steps c.args.place c.get.result.now c.holds.result c.self.view_is c.get.ensures
+    (subst (λ (queries : List Query). IfOk c.holds.result
+    (λ held. (tree : Tree) → map (meant c.self.inside.runs (map tree_of queries) reading.terms) c.get.result.now
+    ≡ plan_of tree → held ≡ holds tree reading.article.fields)) c.deref.ensures.value c.holds.ensures)

@@ -13,7 +13,7 @@ pub returns-in_ok-push-in-Open-clause-added : goal.returns-in_ok-push-in-Open-cl
 returns-in_ok-push-in-Open-clause-added c = λ terms.
     let source = c.args.self.now in
     open_renamed terms source.numbers.now source.runs.now c.args.runs.now (map tree_of source.queries.now) c.args.queries.now.items c.args.steps.now.items c.push-in-Open.new.self.items
-    c.args.step c.in-Open.is c.in_ok-push-in-Open.ensures.items
+    c.args.step c.in-Open.occur c.in-Open.inside c.in-Open.is c.in_ok-push-in-Open.ensures.items
 
 pub returns-in_ok-push-in-Close-clause-added : goal.returns-in_ok-push-in-Close-clause-added
 returns-in_ok-push-in-Close-clause-added c = λ terms.

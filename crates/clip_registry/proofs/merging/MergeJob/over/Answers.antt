@@ -45,7 +45,7 @@ invariant_of-result c =
     let picked : named c.in_ok-live.live.value (all_entries (map arc_value c.in_ok-to_vec.field-0.items)) ≡ live_in m all =
     ap (λ ss. named c.in_ok-live.live.value (all_entries ss)) (sources c) ∙ ap (λ seqs. named seqs all) (live c) ∙ named_picked (is_live_in m) all in
     record {
-      count = ap length (sources c) ∙ length-map c.args.sources.now arc_value ∙ c.requires.count;
+      some = let same : length (map arc_value c.in_ok-to_vec.field-0.items) ≡ length c.args.sources.now = ap length (sources c) ∙ length-map c.args.sources.now arc_value in let some = c.requires.some in omega arith;
       rising = subst (λ (ss : List (List Registered)). IsRising (all_entries ss)) (sym (sources c)) (record { rises = c.requires.rising.rises });
       short = subst (λ (es : List Registered). length es ≤ MOST_POSITIONS) (sym picked) (let few = c.requires.few in omega arith);
     }

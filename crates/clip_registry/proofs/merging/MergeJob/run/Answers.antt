@@ -1,4 +1,4 @@
-use Rattle.std.proofs.Common.{◌≡◌, List, length, map, sym, ap, subst, ◌∙◌}
+use Rattle.std.proofs.Common.{◌≡◌, List, length, map, sym, ap, subst, ◌∙◌, arith}
 use Rattle.std.specs.Arc.{arc_value}
 use Rattle.clip_merge.specs.Live.{named}
 use Rattle.clip_segment.specs.Segment.{IsRising, all_entries}
@@ -17,7 +17,7 @@ entries c =
 
 pub invariant_of-result : goal.invariant_of-result
 invariant_of-result c = record {
-  count = ap length (sources c) ∙ c.self.invariant.count;
+  some = let same = ap length (sources c) in let some = c.self.invariant.some in omega arith;
   rising = subst (λ (ss : List (List Registered)). IsRising (all_entries ss)) (sym (sources c)) c.self.invariant.rising;
   named = entries c ∙ (λ i. named (sym c.in_ok-clone-2.ensures.cases i) (all_entries (sym (sources c) i)));
 }

@@ -1,14 +1,13 @@
 use Rattle.std.proofs.Common.{◌≡◌, map, sym, ap, subst, ◌∙◌}
 use Rattle.std.specs.Arc.{arc_value}
 use Rattle.std.specs.List.{list_all}
-use Rattle.clip_merge.specs.Plan.{run_at}
 use Rattle.clip_segment.specs.Segment.{all_entries}
 use Rattle.clip_registry.specs.Merging.{Merge, StandsAt}
 use Rattle.clip_registry.specs.Merging.IsStale.{misses}
 use Rattle.clip_registry.specs.RegistryState.{RegistryState}
 use Rattle.clip_registry.specs.Steps.Merging.{IsMerged, has_seq_if_live}
 use Rattle.clip_registry.specs.Steps.State.{IsConsistent}
-use Rattle.clip_registry.proofs.Kept.{run_there}
+use Rattle.clip_registry.proofs.Kept.{neighbours_there}
 use Rattle.clip_registry.proofs.Missing.{misses_none, kept_merge, misses_one}
 use Rattle.clip_registry.proofs.merging.Merged.place_in.Goals as goal
 use Rattle.clip_registry.proofs.merging.Merged.place_in.Goals.{After-misses_none}
@@ -21,8 +20,10 @@ state c = subst (λ (s : RegistryState). IsConsistent s c.state.inside.roster c.
 
 stands : (c : After-misses_none) → StandsAt c.args.state.now.segments c.args.self.now.sources c.in_ok-first.first
 stands c =
-    sym (ap (λ ss. run_at ss c.in_ok-first.first) (ap (map arc_value) c.deref.ensures.value ∙ ap (λ (s : RegistryState). s.segments) c.state.view_is))
-    ∙ c.in_ok-first.ensures.stands ∙ ap (map arc_value) c.deref-2.ensures.value ∙ ap (λ (m : Merge). m.sources) c.self.view_is
+    let sources = ap (map arc_value) c.deref-2.ensures.value ∙ ap (λ (m : Merge). m.sources) c.self.view_is in
+    let segments = ap (map arc_value) c.deref.ensures.value ∙ ap (λ (s : RegistryState). s.segments) c.state.view_is in
+    subst (λ ss. StandsAt c.args.state.now.segments ss c.in_ok-first.first) sources
+    (subst (λ ss. StandsAt ss (map arc_value c.deref-2.result.now) c.in_ok-first.first) segments c.in_ok-first.ensures.stands)
 
 tested : (c : After-misses_none) → list_all (has_seq_if_live c.state.inside.roster.registry c.self.inside.live.value) (all_entries c.args.self.now.sources) ≡ c.misses_none.result
 tested c =
@@ -33,7 +34,7 @@ tested c =
 pub returns-then-misses_none-clause-there : goal.returns-then-misses_none-clause-there
 returns-then-misses_none-clause-there c =
     let here = (goal.at.returns-then-misses_none-clause-there c).After-misses_none in
-    run_there c.args.state.now.segments c.args.self.now.sources c.in_ok-first.first (merged here).count (stands here)
+    neighbours_there c.args.state.now.segments c.args.self.now.sources c.in_ok-first.first (merged here).some (stands here)
 
 pub returns-then-misses_none-clause-stands : goal.returns-then-misses_none-clause-stands
 returns-then-misses_none-clause-stands c = stands (goal.at.returns-then-misses_none-clause-stands c).After-misses_none

@@ -1,11 +1,10 @@
 use Rattle.std.proofs.Common.{◌≡◌, append-nil, ◌+◌, ◌++◌, ◌∷◌, [], true, false, ◌==◌, List, length, map, take, drop, refl, sym, ap, ◌∙◌, arith}
 use Rattle.std.proofs.lemmas.Bool.Decides.{nat_tests}
-use Rattle.std.proofs.lemmas.List.{map-append, take-map, drop-map, drop-drop}
+use Rattle.std.proofs.lemmas.List.{length-map, map-append, take-map, drop-map, drop-drop}
 use Rattle.std.specs.Arc.{arc_value}
 use Rattle.std.specs.declared.vec.Vec.{Vec}
 use Rattle.std.specs.declared.alloc.Global.{Global}
 use Rattle.std.specs.declared.sync.Arc.{Arc}
-use Rattle.clip_model.specs.declared.limits.TheConstants.{RUN_LENGTH}
 use Rattle.clip_model.specs.History.{Registered}
 use Rattle.clip_registry.specs.Merging.{Merge, shelf}
 use Rattle.clip_standing.proofs.Clones.{map_shared}
@@ -44,7 +43,9 @@ middle c = elim c.if-not-is_empty.branch [
 pub returns : goal.returns
 returns c =
     let added = c.in_ok-extend_with_clones-2.ensures.items in
+    let count = c.len.result in
+    let counted : count ≡ length c.args.self.sources = c.len.ensures ∙ c.self.inside.sources.ok.0 ∙ sym (length-map c.self.inside.sources.items arc_value) ∙ ap (λ (m : Merge). length m.sources) c.self.view_is in
     ap (map arc_value) added.1 ∙ map-append arc_value c.if-not-is_empty.list.items added.0 ∙ ap (λ l. l ++ map arc_value added.0) (middle c)
     ∙ ap (λ l. take c.args.first (map arc_value c.args.segments.now) ++ shelf c.args.self.entries ++ l)
-    (map_shared c.split_at-2.result.1.now added.0 added.2 ∙ ap (map arc_value) (c.split_at-2.ensures.back ∙ ap (drop RUN_LENGTH) c.split_at.ensures.back ∙ drop-drop RUN_LENGTH c.args.first c.args.segments.now ∙ ap (λ k. drop k c.args.segments.now) (omega arith))
-    ∙ sym (drop-map arc_value (c.args.first + RUN_LENGTH) c.args.segments.now))
+    (map_shared c.split_at-2.result.1.now added.0 added.2 ∙ ap (map arc_value) (c.split_at-2.ensures.back ∙ ap (drop count) c.split_at.ensures.back ∙ drop-drop count c.args.first c.args.segments.now ∙ ap (λ k. drop k c.args.segments.now) (omega arith))
+    ∙ sym (drop-map arc_value (c.args.first + count) c.args.segments.now) ∙ ap (λ k. drop (c.args.first + k) (map arc_value c.args.segments.now)) counted)

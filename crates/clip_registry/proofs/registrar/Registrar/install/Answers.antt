@@ -1,7 +1,6 @@
 use Rattle.std.proofs.Common.{◌≡◌, ◌+◌, ◌≤◌, length, map, refl, sym, ap, subst, ◌∙◌, arith}
 use Rattle.std.proofs.lemmas.List.{length-map}
 use Rattle.std.specs.Arc.{arc_value}
-use Rattle.clip_model.specs.declared.limits.TheConstants.{RUN_LENGTH}
 use Rattle.clip_model.specs.History.{replay}
 use Rattle.clip_registry.specs.Steps.LiveFlags.{flags_in}
 use Rattle.clip_registry.specs.Merging.{IsStale, Misses, StandsAt}
@@ -15,10 +14,10 @@ use Rattle.clip_registry.proofs.registrar.Registrar.install.Goals.{After-deref-4
 same : (c : After-deref-4) → map arc_value c.deref-4.result.now ≡ c.deref.result.now.segments
 same c = ap (map arc_value) c.deref-4.ensures.value ∙ ap (λ (s : RegistryState). s.segments) (c.behind-shared.view_is ∙ c.deref-3.ensures ∙ sym c.deref.ensures)
 
--- the new ones have the merge in the place of the four
+-- the new ones have the merge in the place of its sources
 put : (c : After-deref-5) → map arc_value c.deref-4.result.now ≡ c.deref.result.now.segments
-    → map arc_value c.in_ok-segments.segments.items ≡ replaced c.deref.result.now.segments c.in-Some-place_in.first c.args.merged.entries
-put c are = c.in_ok-segments.ensures ∙ ap (λ ss. replaced ss c.in-Some-place_in.first c.args.merged.entries) are
+    → map arc_value c.in_ok-segments.segments.items ≡ replaced c.deref.result.now.segments c.in-Some-place_in.first (length c.args.merged.sources) c.args.merged.entries
+put c are = c.in_ok-segments.ensures ∙ ap (λ ss. replaced ss c.in-Some-place_in.first (length c.args.merged.sources) c.args.merged.entries) are
 
 pub put_in-requires : goal.put_in-requires
 put_in-requires c =
@@ -29,14 +28,14 @@ put_in-requires c =
 
 pub put_flags-requires : goal.put_flags-requires
 put_flags-requires c =
-    subst (λ (s : RegistryState). c.in-Some-place_in.first + RUN_LENGTH ≤ length s.segments) (c.deref.ensures ∙ sym c.deref-2.ensures) c.in-Some-place_in.ensures.there
+    subst (λ (s : RegistryState). c.in-Some-place_in.first + length c.args.merged.sources ≤ length s.segments) (c.deref.ensures ∙ sym c.deref-2.ensures) c.in-Some-place_in.ensures.there
 
 pub with_segments-requires-clause-flags : goal.with_segments-requires-clause-flags
 with_segments-requires-clause-flags c =
     let here = goal.at.with_segments-requires-clause-flags c in
     let entries = c.args.merged.entries in
     c.in_ok-live.ensures
-    ∙ ap (λ (s : RegistryState). flags_in (replay s.history) (replaced s.segments c.in-Some-place_in.first entries)) (c.deref-2.ensures ∙ sym c.deref.ensures)
+    ∙ ap (λ (s : RegistryState). flags_in (replay s.history) (replaced s.segments c.in-Some-place_in.first (length c.args.merged.sources) entries)) (c.deref-2.ensures ∙ sym c.deref.ensures)
     ∙ ap (flags_in (replay c.deref.result.now.history)) (sym (put here.After-deref-5 (same here.After-deref-4)))
     ∙ ap (λ (s : RegistryState). flags_in (replay s.history) (map arc_value c.in_ok-segments.segments.items)) (c.deref.ensures ∙ sym c.deref-5.ensures)
 
@@ -56,7 +55,7 @@ returns-clause-done c _ =
       first = c.in-Some-place_in.first;
       stood = subst (λ (s : RegistryState). StandsAt s.segments c.args.merged.sources c.in-Some-place_in.first) was c.in-Some-place_in.ensures.stands;
       complete = λ miss. c.in-Some-place_in.ensures.complete (subst (λ s. Misses s c.args.merged) (sym was) miss);
-      segments = ap (λ (s : RegistryState). s.segments) next ∙ put here.After-deref-5 (same here.After-deref-4) ∙ ap (λ (s : RegistryState). replaced s.segments c.in-Some-place_in.first c.args.merged.entries) was;
+      segments = ap (λ (s : RegistryState). s.segments) next ∙ put here.After-deref-5 (same here.After-deref-4) ∙ ap (λ (s : RegistryState). replaced s.segments c.in-Some-place_in.first (length c.args.merged.sources) c.args.merged.entries) was;
       history = ap (λ (s : RegistryState). s.history) (next ∙ with_others);
       keeps = ap (λ (s : RegistryState). s.keeps) (next ∙ with_others);
     }

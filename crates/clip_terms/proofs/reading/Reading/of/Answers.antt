@@ -26,12 +26,17 @@ invariant_of-result c =
     record {
       strict = c.order_law.ensures;
       within = numbers_within terms fields keys old new c.keys.ensures first fronts;
-      numbers = λ n lt. had n lt ∙ ap (λ (a : ArticleValue). has_key a.fields (term_at terms n)) (sym c.article.ensures);
+      numbers = λ n lt. had n lt ∙ ap (λ (a : ArticleValue). has_key a.fields (term_at terms n)) (sym c.article-article.ensures);
       long = c.in_ok-marks.ensures.long ∙ c.len.ensures;
-      flags = λ n lt. flags n lt ∙ had n lt ∙ ap (λ (a : ArticleValue). has_key a.fields (term_at terms n)) (sym c.article.ensures);
-      fields =
-          c.in_ok-fields.ensures
-          ∙ ap (λ by. map (λ (v : Vec ℕ Global). map (number_at by) v.items) c.places.result.now) (c.deref-3.ensures.value ∙ c.in_ok-by_key.ensures)
-          ∙ fields_numbered terms keys (λ (v : Vec ℕ Global). v.items) c.places.result.now (finite.entries fields) (c.places.ensures c.keys.result.now c.keys.ensures)
-          ∙ ap (λ (a : ArticleValue). map (λ field. map (number_of terms) (field_keys field)) (finite.entries a.fields)) (sym c.article.ensures);
+      flags = λ n lt. flags n lt ∙ had n lt ∙ ap (λ (a : ArticleValue). has_key a.fields (term_at terms n)) (sym c.article-article.ensures);
+      fields = c.in_ok-fields.ensures ∙ ap (map (λ field. map (number_of terms) (field_keys field))) c.fields.ensures;
     }
+
+pub field_numbers-requires : goal.field_numbers-requires
+field_numbers-requires c =
+    let terms = c.args.terms.now in
+    let keys = map key_of c.keys.result.now in
+    let fields = c.args.asking.now.fields in
+    ap (λ by. map (λ (v : Vec ℕ Global). map (number_at by) v.items) c.places.result.now) (c.deref-3.ensures.value ∙ c.in_ok-by_key.ensures)
+    ∙ fields_numbered terms keys (λ (v : Vec ℕ Global). v.items) c.places.result.now (finite.entries fields) (c.places.ensures c.keys.result.now c.keys.ensures)
+    ∙ ap (map (λ field. map (number_of terms) (field_keys field))) (sym (c.fields.ensures ∙ ap (λ (a : ArticleValue). finite.entries a.fields) c.article-article.ensures))

@@ -1,4 +1,4 @@
-use Rattle.std.proofs.Common.{◌≡◌, ◌<◌, ℕ, [], Option, Vec, Global, arith, ap, subst, sym, ◌∙◌, length, map, get_or}
+use Rattle.std.proofs.Common.{◌≡◌, ◌<◌, ℕ, [], arith, ap, subst, sym, ◌∙◌, length, map, get_or}
 use Rattle.std.specs.FinMap as finite
 use Rattle.std.proofs.lemmas.List.{get_or_default}
 use Rattle.clip_extract.specs.Covering.{field_keys}
@@ -18,8 +18,8 @@ of-requires-clause-numbers c =
     let found = c.index-fields-place.result in
     let within : place < length fields = omega (arith, c.requires, ap (λ (r : ReadingValue). length (finite.entries r.article.fields)) c.self.view_is) in
     let field : found ≡ get_or fields place ([], []) = c.index-fields-place.is ∙ ap (λ fs. get_or fs place found) c.fields.ensures ∙ get_or_default fields place found ([], []) within in
-    c.deref.ensures.value ∙ ap (λ (v : Vec (Option ℕ) Global). v.items) c.index.ensures
-    ∙ (field_at (λ (v : Vec (Option ℕ) Global). v.items) (λ (f : FieldValue). map (number_of terms) (field_keys f)) inside.fields.items fields place c.index.result.now ([], []) c.self.invariant.fields within).1
+    c.index.ensures
+    ∙ field_at (λ (f : FieldValue). map (number_of terms) (field_keys f)) inside.fields.items fields place c.index.result.now ([], []) c.self.invariant.fields within
     ∙ ap (λ (f : FieldValue). map (number_of terms) (field_keys f)) (sym field)
     ∙ ap (λ (r : ReadingValue). map (number_of r.terms) (field_keys found)) c.self.view_is
 

@@ -1,0 +1,43 @@
+-- Merge turns end, since each leaves fewer segments.
+use Rattle.std.proofs.Common.{◌≡◌, ℕ, suc, ◌+◌, ◌<◌, ◌≤◌, List, [], ◌∷◌, ◌++◌, take, drop, length, length-append, length-take, length-drop, ap, arith}
+use Rattle.clip_model.specs.History.{Registered}
+use Rattle.clip_merge.specs.Plan.{IsTurn}
+use Rattle.clip_merge.specs.Plan.IsTurn.{rise, run}
+use Rattle.clip_registry.specs.Merging.{merge_of, shelf}
+use Rattle.clip_registry.specs.RegistryState.{RegistryState}
+use Rattle.clip_registry.specs.Steps.Turns.{HasMerged, TakesTurns}
+use Rattle.clip_registry.proofs.Kept.{neighbours_there}
+
+-- a turn merges two segments at least, which are there
+pub turn_there : (segments : List (List Registered)) (first past : ℕ) → IsTurn segments first past → (first + 2 ≤ past) × (past ≤ length segments)
+turn_there segments first past (run oldest ends) = let there = oldest.run.there in (omega arith, omega arith)
+turn_there segments first past (rise none oldest ends) = let after = oldest.rise.after in let there = oldest.rise.there in (omega arith, omega arith)
+
+shelf_short : (es : List Registered) → length (shelf es) ≤ 1
+shelf_short [] = omega arith
+shelf_short (e ∷ es) = omega arith
+
+-- after a turn fewer segments stand
+pub fewer : (old new : RegistryState) → HasMerged old new → length new.segments < length old.segments
+fewer old new merged =
+    let job = merged.job in
+    let is = merged.installed in
+    let ends = merged.begun.over.ends in
+    let there = turn_there old.segments merged.begun.first merged.begun.past merged.begun.turn in
+    let within : is.first + length job.sources ≤ length old.segments = neighbours_there old.segments job.sources is.first (omega arith) is.stood in
+    let es = (merge_of job).entries in
+    let before = take is.first old.segments in
+    let after = drop (is.first + length job.sources) old.segments in
+    let same : length new.segments ≡ length ((before ++ shelf es) ++ after) = ap length is.segments in
+    omega (
+      arith,
+      length-append (before ++ shelf es) after,
+      length-append before (shelf es),
+      shelf_short es,
+      length-take is.first old.segments,
+      length-drop (is.first + length job.sources) old.segments,
+    )
+
+-- one turn more
+pub turn_more : (old between new : RegistryState) → TakesTurns old between → HasMerged between new → TakesTurns old new
+turn_more old between new turns merged = (suc turns.0, (between, turns.1, merged))
