@@ -31,8 +31,9 @@ class Exchange:
 class Engine:
     """One process, with pipes to its standard input and output."""
 
-    def __init__(self, name: str, command: str) -> None:
+    def __init__(self, name: str, command: str, patience: float = PATIENCE_SECONDS) -> None:
         self.name = name
+        self._patience = patience
         self._errors = tempfile.TemporaryFile()
         try:
             self._process = subprocess.Popen(shlex.split(command), stdin=subprocess.PIPE, stdout=subprocess.PIPE,
@@ -63,9 +64,21 @@ class Engine:
 
     def resident_bytes(self) -> int:
         """Memory of the process that stands in RAM."""
+        return self._status_bytes("VmRSS:")
+
+    def peak_bytes(self) -> int:
+        """The most memory of the process that stood in RAM since `forget_peak`, or since it began."""
+        return self._status_bytes("VmHWM:")
+
+    def forget_peak(self) -> None:
+        """From here on the peak is that of what follows."""
+        with open(f"/proc/{self._process.pid}/clear_refs", "w") as file:
+            file.write("5")
+
+    def _status_bytes(self, name: str) -> int:
         with open(f"/proc/{self._process.pid}/status") as file:
             for line in file:
-                if line.startswith("VmRSS:"):
+                if line.startswith(name):
                     return int(line.split()[1]) * 1_024
         return 0
 
@@ -77,7 +90,7 @@ class Engine:
         missing = len(lines) if replies is None else replies
         cpu, start = self.cpu_seconds(), time.perf_counter()
         while missing > 0 or left:
-            readable, writable, _ = select.select([self._output], [self._input] if left else [], [], PATIENCE_SECONDS)
+            readable, writable, _ = select.select([self._output], [self._input] if left else [], [], self._patience)
             if readable:
                 held.append(self._read())
                 missing -= held[-1].count(b"\n")
@@ -97,13 +110,13 @@ class Engine:
     def send(self, left: memoryview) -> None:
         """Sends bytes to an engine that answers nothing before it has them all."""
         while left:
-            if not select.select([], [self._input], [], PATIENCE_SECONDS)[1]:
+            if not select.select([], [self._input], [], self._patience)[1]:
                 self._fail("does not read")
             left = left[self._write(left):]
 
     def receive(self) -> bytes:
         """The next bytes of an answer, one at least."""
-        if not select.select([self._output], [], [], PATIENCE_SECONDS)[0]:
+        if not select.select([self._output], [], [], self._patience)[0]:
             self._fail("does not answer")
         return self._read()
 

@@ -9,7 +9,7 @@ from typing import Iterator, Sequence
 
 from engine import Engine, EngineFailed, Exchange
 from meaning import Presearcher, fields_of, holds
-from scenarios import Scenario, Size, articles_of
+from scenarios import Scenario, Size
 from workload import Workload, line_of
 
 COUNT = line_of({"op": "count"})
@@ -142,13 +142,12 @@ def differing(first: Result, second: Result) -> list[str]:
     return [one[0] for one, other in told if one != other]
 
 
-def wrong(workload: Workload, result: Result, articles: int) -> list[str]:
+def wrong(workload: Workload, scenario: Scenario, result: Result, articles: int) -> list[str]:
     """The articles, among so many of the first timed ones, for which the engine's ids are not those by
     `meaning.holds`, in byte order."""
-    _, timed = articles_of(workload, result.size)
     alerts = (alert for run in result.matching for alert in alerts_of(run.replies))
     found = []
-    for article, (told, ids) in zip(timed[:articles], alerts):
+    for article, (told, ids) in zip(scenario.articles[:articles], alerts):
         fields = fields_of(article)
         due = [id for (id, _), query in zip(workload.named[:result.size.queries], workload.queries)
                if holds(query, fields)]
@@ -157,10 +156,9 @@ def wrong(workload: Workload, result: Result, articles: int) -> list[str]:
     return found
 
 
-def candidates_per_article(workload: Workload, size: Size, articles: int) -> float:
+def candidates_per_article(workload: Workload, scenario: Scenario, articles: int) -> float:
     """How many queries share a key with an article, on average over so many of the first timed ones."""
     presearcher = Presearcher()
-    presearcher.add(workload.queries[:size.queries])
-    _, timed = articles_of(workload, size)
-    sample = timed[:articles]
+    presearcher.add(workload.queries[:scenario.size.queries])
+    sample = scenario.articles[:articles]
     return sum(len(presearcher.candidates(fields_of(article))) for article in sample) / len(sample)

@@ -7,12 +7,18 @@ To add a row, write a function that takes a workload and a size and gives a
 from __future__ import annotations
 
 from dataclasses import dataclass, replace
-from typing import Callable
+from functools import partial
+from itertools import cycle
+from random import Random
+from typing import Callable, Iterable
 
 from prose import Article
 from workload import Workload, line_of, match_lines, register_lines
 
 PASSES = 10
+
+# Of how many articles each long one is made, and how many long ones are timed.
+JOINED, LONG_ONES = (1, 16, 64, 256, 380), 3
 
 
 @dataclass(frozen=True)
@@ -33,17 +39,25 @@ class Size:
 class Scenario:
     """The lines of a row, in passes. Where two engines are compared, they take the passes in turn.
 
-    `steady` says that the timed lines leave the registered queries as they
-    are, so that replies can be judged by the queries alone. `in_lock_step` says
-    that each timed line is sent once the one before it is answered.
+    `articles` are those that are timed. `judged` says that Python can judge them
+    by the registered queries: the timed lines leave these as they are, and no
+    article is long. `in_lock_step` says that each timed line is sent once the
+    one before it is answered. `label` names the row where its scenario has
+    several.
     """
 
     size: Size
     register: list[list[bytes]]
     warm: list[bytes]
     timed: list[list[bytes]]
-    steady: bool = True
+    articles: list[Article]
+    judged: bool = True
     in_lock_step: bool = False
+    label: str = ""
+
+
+# Makes a row.
+Maker = Callable[[Workload, Size], Scenario]
 
 
 def cut(lines: list[bytes], passes: int) -> list[list[bytes]]:
@@ -66,6 +80,7 @@ def scenario_of(workload: Workload, size: Size, per_register: int, per_match: in
         cut(register_lines(workload.named[:size.queries], per_register), PASSES),
         match_lines(warm, per_match),
         cut(match_lines(timed, per_match), PASSES),
+        timed,
     )
 
 
@@ -99,7 +114,7 @@ def churn(workload: Workload, size: Size) -> Scenario:
         places = [(turn * 8 + k) % len(named) for k in range(8)]
         changed = [(named[place][0], named[place - len(named) // 2][1]) for place in places]
         lines += register_lines(changed) + match_lines(timed[at:at + 4])
-    return replace(base, timed=cut(lines, PASSES), steady=False)
+    return replace(base, timed=cut(lines, PASSES), judged=False)
 
 
 def changes(workload: Workload, size: Size) -> Scenario:
@@ -112,16 +127,72 @@ def changes(workload: Workload, size: Size) -> Scenario:
         place = turn * 7_919 % len(named)
         lines += register_lines([(f"n{turn:07d}", named[place - len(named) // 2][1])])
         lines += [line_of({"op": "delete", "ids": [named[place][0]]})] + match_lines([article])
-    return replace(base, timed=cut(lines, PASSES), steady=False)
+    return replace(base, timed=cut(lines, PASSES), judged=False)
 
 
-SCENARIOS: dict[str, Callable[[Workload, Size], Scenario]] = {
-    "full-lines": full_lines,
-    "with-hits": full_lines,
-    "batches": batches,
-    "lock-step": lock_step,
-    "one-a-line": one_a_line,
-    "embedded": one_a_line,
-    "churn": churn,
-    "changes": changes,
+def long_article(joined: int, workload: Workload, size: Size) -> Scenario:
+    """Queries in lines of 1,024, then an article that is made of so many, again and again."""
+    first = workload.articles[0]
+    text = " ".join(article.text for article in workload.articles[:joined])
+    articles = [Article(f"n{number}", first.title, text) for number in range(1 + LONG_ONES)]
+    return Scenario(
+        Size(size.queries, 1, LONG_ONES),
+        cut(register_lines(workload.named[:size.queries]), PASSES),
+        match_lines(articles[:1]),
+        cut(match_lines(articles[1:]), LONG_ONES),
+        articles[1:],
+        judged=False,
+        label=f"{len(text.split()):,} words",
+    )
+
+
+def one_word(workload: Workload, size: Size) -> Scenario:
+    """Queries in lines of 1,024, then articles of one word, one a line."""
+    short = [replace(article, title="", text=article.text.split()[0]) for article in workload.articles[:size.articles]]
+    return replace(full_lines(replace(workload, articles=short), size), label="one word")
+
+
+def mixed_lines(label: str, sizes: Iterable[int], workload: Workload, size: Size) -> Scenario:
+    """Queries in lines of these sizes, again and again, then one article a line."""
+    lines: list[bytes] = []
+    at = 0
+    for queries in cycle(sizes):
+        if at >= size.queries:
+            break
+        lines += register_lines(workload.named[at:min(at + queries, size.queries)])
+        at += queries
+    return replace(full_lines(workload, size), register=cut(lines, PASSES), label=label)
+
+
+def drawn(most: int) -> list[int]:
+    """Numbers from 1 to the most one, in any order."""
+    return Random(most).choices(range(1, most + 1), k=10_000)
+
+
+def labelled(label: str, make: Maker, workload: Workload, size: Size) -> Scenario:
+    """The row under another name."""
+    return replace(make(workload, size), label=label)
+
+
+WORKED = (partial(labelled, "1 a line", full_lines), one_word, partial(labelled, "16 a line", batches))
+
+# By name, what makes each row.
+SCENARIOS: dict[str, tuple[Maker, ...]] = {
+    "full-lines": (full_lines,),
+    "with-hits": (full_lines,),
+    "batches": (batches,),
+    "lock-step": (lock_step,),
+    "one-a-line": (one_a_line,),
+    "embedded": (one_a_line,),
+    "churn": (churn,),
+    "changes": (changes,),
+    "long-articles": tuple(partial(long_article, joined) for joined in JOINED),
+    "mixed-lines": (
+        partial(mixed_lines, "lines of 3", [3]),
+        partial(mixed_lines, "of 1 and 5", [1, 5]),
+        partial(mixed_lines, "of 1 to 6", drawn(6)),
+        partial(mixed_lines, "of 1 to 100", drawn(100)),
+    ),
+    "quiet": WORKED,
+    "busy": WORKED,
 }
