@@ -15,7 +15,7 @@ use clip_front::{
 use clip_listen::Audience;
 use clip_match::match_batch_finding;
 use clip_meaning::Article;
-use clip_registry::{Registrar, View, merge_turn};
+use clip_registry::{Registrar, View, merge_all};
 use clip_standing::{Applied, Command, Refused};
 use clip_stream::{RunFault, Sink, Source};
 use clip_words::{NoMemory, WordPool};
@@ -24,10 +24,12 @@ use std::alloc::Global;
 /// The caller of each change.
 const CALLER: u32 = 1;
 
-/// A registrar that one run owns. Each accepted change is followed by a merge turn.
+/// A registrar that one run owns. Each accepted change is followed by merge turns.
 #[derive(Drop)]
 struct Owned {
     registrar: Registrar,
+    /// How the merge turns after the last accepted change ended: segments are few where none was refused memory.
+    merges: Result<(), NoMemory>,
 }
 
 impl Registry for Owned {
@@ -39,13 +41,13 @@ impl Registry for Owned {
 
     ghost purges = { λ old new. new.registrar ≡ purged old.registrar };
 
-    ghost goes_on = { λ old new. GoesOnUnpurged old.registrar new.registrar };
+    ghost goes_on = { GoesOnUnpurged };
 
-    /// Accepts a command, and takes a merge turn then. A turn that is refused memory is dropped.
+    /// Accepts a command, and takes merge turns then, until segments are few or a turn is refused memory.
     fn accept(&mut self, command: Command) -> Result<Option<Applied>, NoMemory> {
         match self.registrar.apply(CALLER, command) {
             Ok(applied) => {
-                let _ = merge_turn(&mut self.registrar);
+                self.merges = merge_all(&mut self.registrar);
                 Ok(Some(applied))
             }
             Err((_, Refused::Full)) => Ok(None),
@@ -138,8 +140,10 @@ impl<A: Audience> Server<A> for RunServer {
 /// two reads the replies are gathered, so that the writer gets few writes. Each line is answered by the registry that
 /// the lines before it leave, and its alerts are delivered before its reply is written.
 ///
-/// After each accepted change one merge turn is taken: the oldest four neighbouring segments of one level become one. A
-/// turn that is refused memory is dropped, and a later one may take them. What is registered stays as it is.
+/// After each accepted change merge turns are taken until there is nothing to merge: the oldest four neighbouring
+/// segments of one level become one, or, where there are no such four, all from the oldest on behind which one has a
+/// higher level. Then there are three segments at most for each level up to that of all their entries together. Where a
+/// turn is refused memory, the turns after the next change merge again. What is registered stays as it is.
 ///
 /// The devices are to be fresh: nothing was read yet, the reader has not met its end, and no call of it or of the
 /// writer has failed.
@@ -151,9 +155,9 @@ impl<A: Audience> Server<A> for RunServer {
 ///
 /// Cost: a register reads each query that it lists, looks its listener's name up, extracts its keys and searches the
 /// ids for its own; a delete searches the ids for each that it lists. A merge turn takes a step for each segment and,
-/// where there are four to merge, a look-up for each key of each of their entries. While no query is replaced or
-/// taken out, an entry is rewritten at most once per level, so at most about log4 n times where n queries are
-/// registered one by one; a merge that leaves dead entries out may stay at its level. A purge takes a step for each
+/// where there are some to merge, a look-up for each key of each of their entries. While no query is replaced or
+/// taken out, an entry is rewritten at most once for each level that it rises, and once more, so at most about log4 n
+/// times where n queries are registered; a merge that leaves dead entries out may stay at its level. A purge takes a step for each
 /// entry, and rewrites the segments that have a dead one. A match costs for each article its words, a look-up of its
 /// keys in each segment, and its candidates, and not the registry, and for each alert with a listener a look-up of
 /// the name and what that listener takes. Memory: one line and what it asks for, up to 64 KiB of gathered replies and
@@ -187,6 +191,7 @@ pub fn run_alone<R: Source, W: Sink, A: Audience>(
     let mut server = RunServer {
         registry: Owned {
             registrar: Registrar::without_history(alloc),
+            merges: Ok(()),
         },
         books: Books::new(alloc, settings),
         pool: WordPool::new(alloc),
