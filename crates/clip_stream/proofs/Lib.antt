@@ -1,5 +1,6 @@
 pub mod Bytes
 pub mod Cuts
 pub mod Faults
+pub mod Feeds
 pub mod Fuel
 pub mod LinesRead
