@@ -30,7 +30,7 @@ rows-alerts_due hearers n s [] = refl
 rows-alerts_due hearers n s (a ∷ articles) = ap (λ rest. rows_of_article hearers n (alerts s.history a) ++ rest) (rows-alerts_due hearers n s articles)
 
 -- the text of what is due, with the texts of the notes
-text-alerts_due : (form : Form) (hearers : List Hearer) (n : ℕ) (s : RegistryState) (articles : List ArticleValue) → found_text form hearers n (map (alerts_due s) articles) ≡ (given hearers n s.history (matching articles)).text form
+pub text-alerts_due : (form : Form) (hearers : List Hearer) (n : ℕ) (s : RegistryState) (articles : List ArticleValue) → found_text form hearers n (map (alerts_due s) articles) ≡ (given hearers n s.history (matching articles)).text form
 text-alerts_due form hearers n s articles = ap₂ (λ ids told. reply_text n (matched form ids (texts_said hearers told))) (shown-alerts_due s articles) (told-alerts_due s articles)
 
 -- a line that matches articles gives just what is found of them at a view with its history

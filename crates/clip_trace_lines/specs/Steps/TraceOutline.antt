@@ -190,6 +190,6 @@ pub record AnswersTraced (old new : Stand) (n : ℕ) (line bytes : List ℕ) : T
 abbrev pub AnswersIn : {S : Type 0} → (S → Stand) → Answering S
 AnswersIn view s t n line text = AnswersTraced (view s) (view t) n line text
 
--- nothing is told of an answering that was broken off
+-- of an answering that was broken off nothing was on its way
 abbrev pub BreaksIn : {S : Type 0} → Breaking S
-BreaksIn s t n line = ⊤
+BreaksIn s t n line text = text ≡ []
