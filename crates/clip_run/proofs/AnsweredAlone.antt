@@ -34,3 +34,11 @@ both_ok (Err e) f p q = tt
 pub both_err : {T E P Q R : Type 0} (r : Result T E) → (P → Q → R) → OnErr r P → OnErr r Q → OnErr r R
 both_err (Ok x) f p q = tt
 both_err (Err e) f p q = f p q
+
+pub ok_weaker : {T E P Q : Type 0} (r : Result T E) → (P → Q) → OnOk r P → OnOk r Q
+ok_weaker (Ok x) f p = f p
+ok_weaker (Err e) f p = tt
+
+pub err_weaker : {T E P Q : Type 0} (r : Result T E) → (P → Q) → OnErr r P → OnErr r Q
+err_weaker (Ok x) f p = tt
+err_weaker (Err e) f p = f p

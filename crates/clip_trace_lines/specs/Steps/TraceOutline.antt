@@ -1,5 +1,5 @@
 -- What a line of a trace says, found step by step, and how it is answered: the stepping stones to the whole input.
-use Rattle.std.specs.Prelude.{◌≡◌, ℕ, ◌==◌, List, map, if◌then◌else◌, ◌++◌, Option, Some, None, option_map, option_and_then, codes, bytes_eq, Result, Ok, Err, ⊤, string_bytes}
+use Rattle.std.specs.Prelude.{[], ◌≡◌, ℕ, ◌==◌, List, map, if◌then◌else◌, ◌++◌, Option, Some, None, option_map, option_and_then, codes, bytes_eq, Result, Ok, Err, ⊤, string_bytes}
 use Rattle.std.specs.Arc.{arc_value}
 use Rattle.std.specs.declared.alloc.Global.{Global}
 use Rattle.std.specs.declared.sync.Arc.{Arc}

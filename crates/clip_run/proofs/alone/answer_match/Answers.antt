@@ -2,7 +2,7 @@ use Rattle.std.proofs.Common.{◌≡◌, ◌+◌, ◌<◌, ◌++◌, [], List, �
 use Rattle.std.proofs.lemmas.Bool.{lt-ltb}
 use Rattle.clip_match.specs.Alerts.{alerts_due}
 use Rattle.clip_stream.specs.Device.{AppendsFront, HandsOver}
-use Rattle.clip_stream.proofs.Faults.{on_err}
+use Rattle.clip_stream.proofs.Faults.{on_err, on_ok}
 use Rattle.clip_stream.proofs.Flows.{handed_more, none_taken}
 use Rattle.clip_standing.specs.Alerts.{AlertsValue, alerts_value}
 use Rattle.clip_listen.specs.Heard.{told_all, note_value, notes_of, HearsFront}
@@ -11,10 +11,11 @@ use Rattle.clip_protocol.specs.Reply.{alerts_data}
 use Rattle.clip_protocol.specs.Steps.Flowing.{item_text, opening}
 use Rattle.clip_protocol.specs.Steps.Views.{alerts_by_id}
 use Rattle.clip_front.specs.Outcome.{kept_rows, rows_of_article}
-use Rattle.clip_front.specs.Steps.Found.{told_in}
+use Rattle.clip_front.specs.Steps.Found.{told_in, rows_in}
 use Rattle.clip_front.proofs.Delivering.{heard_next, notes_next, posted_next, front_here, heard_front, none_posted}
 use Rattle.clip_front.proofs.Flowing.{begun_text, data_of, put_next, item_same, text_whole, text_front, front_of_whole, front_of_first}
-use Rattle.clip_run.proofs.Found.{goes_on_matched, told-alerts_due, text-alerts_due}
+use Rattle.clip_run.proofs.Found.{all_matched, goes_on_matched, told-alerts_due, text-alerts_due, whole_reply}
+use Rattle.clip_run.proofs.AnsweredAlone.{ok_weaker, err_weaker}
 use Rattle.clip_run.proofs.alone.answer_match.Goals as goal
 
 pub returns-in_err-answer-clause-err : goal.returns-in_err-answer-clause-err
@@ -110,3 +111,40 @@ returns-in_err-add-clause-front g c =
     let all = text_front form hearers c.args.number vs (i + 1) in
     let e = sym (text-alerts_due form hearers c.args.number c.args.view.now c.args.articles.now) ∙ all.1 ∙ ap (λ t. t ++ all.0) (sym (ap (λ t. first ++ t) same ∙ put_next form vs i v it.0 it.1)) in
     on_err _ (front_of_whole _ _ _ c.args.flow.now.outbox.now c.loop-article.flow.outbox.now first more all.0 _ e before.handed c.in_err-add.ensures.front)
+
+pub returns-clause-goes_on : goal.returns-clause-goes_on
+returns-clause-goes_on g c =
+    let hearers = g.A.Audience.hearers in
+    let old = hearers c.args.audience.now in
+    let form = c.args.books.now.settings.form in
+    let keeps = c.args.books.now.settings.keeps_rows in
+    let vs = map (alerts_due c.args.view.now) c.args.articles.now in
+    let all = all_matched c.args.view.now c.args.articles.now c.loop-article.article-index c.loop-article-test.false in
+    let before = c.loop-article.invariant in
+    on_ok _
+    (goes_on_matched c.args.view.now old (hearers c.loop-article.audience) c.args.books.now c.loop-article.books c.args.number c.args.articles.now vs _ refl (sym (text-alerts_due form old c.args.number c.args.view.now c.args.articles.now)) (before.heard ∙ ap (λ ws. told_all (told_in ws) old) all)
+    (before.rows ∙ ap (λ ws. c.args.books.now.ledger ++ kept_rows keeps (rows_in old c.args.number ws)) all) before.settings)
+
+pub returns-clause-moved : goal.returns-clause-moved
+returns-clause-moved g c =
+    let old = g.A.Audience.hearers c.args.audience.now in
+    let form = c.args.books.now.settings.form in
+    let before = c.loop-article.invariant in
+    let first = begun_text (data_of form (map (alerts_due c.args.view.now) c.args.articles.now)) c.loop-article.article-index in
+    let whole = whole_reply c.args.view.now c.args.articles.now form old c.args.number c.loop-article.answer.number c.loop-article.article-index c.loop-article.answer.notes.items c.loop-article-test.false before.number before.notes in
+    let P : List ℕ → Type 0 = λ t. HandsOver (g.W.Sink.taken c.args.flow.now.writer.now) (c.args.flow.now.outbox.now ++ t) (g.W.Sink.taken c.end.new.flow.writer.now) c.end.new.flow.outbox.now in
+    ok_weaker c.end.result (λ p. subst P whole (handed_more _ _ _ c.args.flow.now.outbox.now c.loop-article.flow.outbox.now c.end.new.flow.outbox.now first _ before.handed p)) c.end.ensures.moved
+
+pub returns-clause-err : goal.returns-clause-err
+returns-clause-err g c =
+    let hearers = g.A.Audience.hearers in
+    on_err _ (subst (λ alerts. HearsFront alerts (hearers c.args.audience.now) (hearers c.loop-article.audience)) (told-alerts_due c.args.view.now c.args.articles.now) (heard_front (map (alerts_due c.args.view.now) c.args.articles.now) c.loop-article.article-index _ _ c.loop-article.invariant.heard))
+
+pub returns-clause-front : goal.returns-clause-front
+returns-clause-front g c =
+    let old = g.A.Audience.hearers c.args.audience.now in
+    let form = c.args.books.now.settings.form in
+    let before = c.loop-article.invariant in
+    let first = begun_text (data_of form (map (alerts_due c.args.view.now) c.args.articles.now)) c.loop-article.article-index in
+    let whole = whole_reply c.args.view.now c.args.articles.now form old c.args.number c.loop-article.answer.number c.loop-article.article-index c.loop-article.answer.notes.items c.loop-article-test.false before.number before.notes in
+    err_weaker c.end.result (λ some. front_of_whole _ _ _ c.args.flow.now.outbox.now c.loop-article.flow.outbox.now first _ [] _ (sym whole ∙ sym (append-nil _)) before.handed some) c.end.ensures.front

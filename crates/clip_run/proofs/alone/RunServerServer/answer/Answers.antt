@@ -1,20 +1,23 @@
 use Rattle.std.proofs.Common.{◌++◌, [], refl, sym, ap, inl, append-nil}
 use Rattle.clip_stream.proofs.Faults.{on_err}
-use Rattle.clip_stream.proofs.Flows.{none_taken}
 use Rattle.clip_protocol.specs.LineMeaning.{matching}
 use Rattle.clip_protocol.specs.Reply.{reply}
 use Rattle.clip_front.specs.Steps.Answers.{BreaksIn}
-use Rattle.clip_front.proofs.Progress.{answers_put, breaks_put}
+use Rattle.clip_front.proofs.Progress.{answers_put, breaks_put, breaks_unwritten}
 use Rattle.clip_front.proofs.Responses.{answers_quiet, answers_matched, breaks_untold, breaks_matched}
 use Rattle.clip_run.specs.RunServer.{AnswersAlone, held_at}
 use Rattle.clip_run.proofs.AnsweredAlone.{both_ok, both_err}
 use Rattle.clip_run.proofs.alone.RunServerServer.answer.Goals as goal
 
 pub returns-in_err-text-clause-err : goal.returns-in_err-text-clause-err
-returns-in_err-text-clause-err g c = on_err _ (record { text = []; broken = inl (breaks_untold _ _ _ _ _ c.args.number c.args.bytes.now); written = none_taken _ _ })
+returns-in_err-text-clause-err g c =
+    let hearers = g.A.Audience.hearers in
+    on_err _ (breaks_unwritten (AnswersAlone hearers) (BreaksIn (held_at hearers)) (c.args.self.now, c.args.audience.now) _ c.args.number c.args.bytes.now _ _ (breaks_untold _ _ _ _ _ c.args.number c.args.bytes.now))
 
 pub returns-in_err-view-in-Articles-clause-err : goal.returns-in_err-view-in-Articles-clause-err
-returns-in_err-view-in-Articles-clause-err g c = on_err _ (record { text = []; broken = inl (breaks_untold _ _ _ _ _ c.args.number c.args.bytes.now); written = none_taken _ _ })
+returns-in_err-view-in-Articles-clause-err g c =
+    let hearers = g.A.Audience.hearers in
+    on_err _ (breaks_unwritten (AnswersAlone hearers) (BreaksIn (held_at hearers)) (c.args.self.now, c.args.audience.now) _ c.args.number c.args.bytes.now _ _ (breaks_untold _ _ _ _ _ c.args.number c.args.bytes.now))
 
 pub returns-in-Text-clause-ok : goal.returns-in-Text-clause-ok
 returns-in-Text-clause-ok g c =
@@ -43,8 +46,8 @@ returns-in_ok-view-in-Articles-clause-ok g c =
     let hearers = g.A.Audience.hearers in
     let taken = rw c.in-Articles.is at c.in_ok-text.ensures.taken in
     let looked = ap (λ s. s.history) c.in_ok-view-in-Articles.ensures in
-    let goes_on = rw c.deref.ensures.value at c.answer_match.ensures.goes_on in
-    let moved = rw c.deref.ensures.value at c.answer_match.ensures.moved in
+    let goes_on = rw c.deref-in-Articles.ensures.value at c.answer_match.ensures.goes_on in
+    let moved = rw c.deref-in-Articles.ensures.value at c.answer_match.ensures.moved in
     both_ok c.answer_match.result
     (λ goes handed.
     record {
@@ -63,8 +66,8 @@ returns-in_ok-view-in-Articles-clause-err g c =
     let taken = rw c.in-Articles.is at c.in_ok-text.ensures.taken in
     let looked = ap (λ s. s.history) c.in_ok-view-in-Articles.ensures in
     let text = reply c.args.self.now.books.settings.form (hearers c.args.audience.now) c.args.number c.in_ok-view-in-Articles.view.history (matching c.in-Articles.articles.items) in
-    let front = rw c.deref.ensures.value at c.answer_match.ensures.err in
-    let written = rw c.deref.ensures.value at c.answer_match.ensures.front in
+    let front = rw c.deref-in-Articles.ensures.value at c.answer_match.ensures.err in
+    let written = rw c.deref-in-Articles.ensures.value at c.answer_match.ensures.front in
     both_err c.answer_match.result
     (λ heard some.
     record {
