@@ -245,11 +245,7 @@ impl Engine {
     ///
     /// Cost: that of `Article::read_sharing`, with the words of the engine's last articles, and of
     /// `clip_match::match_article_finding`.
-    pub fn match_article(
-        &mut self,
-        id: &str,
-        fields: &[(String, String)],
-    ) -> Result<Alerts, Unread>
+    pub fn match_article(&mut self, id: &str, fields: &[(String, String)]) -> Result<Alerts, Unread>
         ensures alerts { IfOk result (λ found. alerts_of found
             ≡ alerts self.old.history (article_value id.now (pairs_of fields.now))) }
         ensures kept { OnOk result (fault_of id.now (pairs_of fields.now) ≡ None) }

@@ -10,9 +10,7 @@ ghost use Rattle.clip_front.specs.Outcome.{GivesAll, GivesFront};
 ghost use Rattle.clip_front.specs.Steps.Answers.{GoesOn, held};
 
 use crate::finding::hits_found;
-use clip_front::{
-    Books, Ended, MatchReply, Registry, Server, Settings, Taken, serve, take_line,
-};
+use clip_front::{Books, Ended, MatchReply, Registry, Server, Settings, Taken, serve, take_line};
 use clip_listen::Audience;
 use clip_match::match_article_finding;
 use clip_meaning::Article;

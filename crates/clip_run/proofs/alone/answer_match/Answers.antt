@@ -59,7 +59,7 @@ loop-article-preserved g c =
     let same = item_same c.loop-article.answer.has_article i form c.loop-article.books.settings.form v (alerts_value c.in_ok-alerts.alerts) before.later (ap (λ k. k.form) before.settings) is in
     let P : List ℕ → Type 0 = λ t. HandsOver (g.W.Sink.taken c.args.flow.now.writer.now) (c.args.flow.now.outbox.now ++ t) (g.W.Sink.taken c.add.new.flow.writer.now) c.add.new.flow.outbox.now in
     let posted = added.rows ∙ ap (λ n. c.loop-article.books.ledger ++ kept_rows c.loop-article.books.settings.keeps_rows (rows_of_article (hearers c.loop-article.audience) n (alerts_value c.in_ok-alerts.alerts).alerts)) before.number
-        ∙ ap (λ w. c.loop-article.books.ledger ++ kept_rows c.loop-article.books.settings.keeps_rows (rows_of_article (hearers c.loop-article.audience) c.args.number w.alerts)) is in
+    ∙ ap (λ w. c.loop-article.books.ledger ++ kept_rows c.loop-article.books.settings.keeps_rows (rows_of_article (hearers c.loop-article.audience) c.args.number w.alerts)) is in
     record {
       same_reference = added.same_reference ∙ before.same_reference;
       well = added.well ∙ before.well;
