@@ -84,13 +84,18 @@ fn take_listing(alloc: Global, listing: Listing) -> Result<Arc<Standing>, Unread
 }
 
 /// Reads an article.
-fn read_article(alloc: Global, id: &str, fields: &[(String, String)]) -> Result<Article, Unread>
+fn read_article(
+    alloc: Global,
+    pool: &mut WordPool,
+    id: &str,
+    fields: &[(String, String)],
+) -> Result<Article, Unread>
     ensures read { IfOk result (λ article. article ≡ article_value id.now (pairs_of fields.now)) }
     ensures kept { OnOk result (fault_of id.now (pairs_of fields.now) ≡ None) }
     ensures refused { IfErr result (λ why. (why ≡ unread.NoMemory) ⊎ ((why ≡ unread.Refused Refusal.Limit)
         × (fault_of id.now (pairs_of fields.now) ≡ None → ⊥))) }
 {
-    match Article::read(alloc, id, fields) {
+    match Article::read_sharing(alloc, pool, id, fields) {
         Ok(article) => Ok(article),
         Err(ArticleFault::NoMemory) => Err(Unread::NoMemory),
         Err(_) => Err(Unread::Refused(Refusal::Limit)),
@@ -236,17 +241,19 @@ impl Engine {
     /// hits.
     ///
     /// `Limit` where the id or a field is beyond its limits, the first that `Article::read` refuses; `NoMemory` where
-    /// an allocation failed.
+    /// an allocation failed. Whatever it answers, the engine stays as it is.
     ///
-    /// Cost: that of `Article::read` and of `clip_match::match_article_finding`.
-    pub fn match_article(&self, id: &str, fields: &[(String, String)]) -> Result<Alerts, Unread>
+    /// Cost: that of `Article::read_sharing`, with the words of the engine's last articles, and of
+    /// `clip_match::match_article_finding`.
+    pub fn match_article(&mut self, id: &str, fields: &[(String, String)]) -> Result<Alerts, Unread>
         ensures alerts { IfOk result (λ found. alerts_of found
-            ≡ alerts self.now.history (article_value id.now (pairs_of fields.now))) }
+            ≡ alerts self.old.history (article_value id.now (pairs_of fields.now))) }
         ensures kept { OnOk result (fault_of id.now (pairs_of fields.now) ≡ None) }
         ensures refused { IfErr result (λ why. (why ≡ unread.NoMemory) ⊎ ((why ≡ unread.Refused Refusal.Limit)
             × (fault_of id.now (pairs_of fields.now) ≡ None → ⊥))) }
+        ensures unchanged { self.new ≡ self.old }
     {
-        let article = read_article(self.alloc, id, fields)?;
+        let article = read_article(self.alloc, &mut self.pool, id, fields)?;
         let view = self.owned.registrar.view()?;
         let hits = if self.hits {
             HitsFound::AtOnce

@@ -164,9 +164,10 @@ impl Kept {
     }
 
     /// What is found of an article, as bytes.
-    fn found(&self, alloc: Global, id: &[u8], fields: &[Field<'_>]) -> Result<Vec<u8>, u32>
-        ensures ok { IfOk result (λ bytes. bytes.items ≡ found_at self.now.engine id.now (fields_of fields.now)) }
+    fn found(&mut self, alloc: Global, id: &[u8], fields: &[Field<'_>]) -> Result<Vec<u8>, u32>
+        ensures ok { IfOk result (λ bytes. bytes.items ≡ found_at self.old.engine id.now (fields_of fields.now)) }
         ensures err { IfErr result (λ code. code ≡ 0 → ⊥) }
+        ensures unchanged { (self.new.engine ≡ self.old.engine) × (self.new.text ≡ self.old.text) }
     {
         let id = text_of(alloc, id)?;
         let pairs = texts_of(alloc, fields)?;

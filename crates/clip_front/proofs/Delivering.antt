@@ -2,6 +2,7 @@
 use Rattle.std.proofs.Common.{◌≡◌, ℕ, ◌+◌, ◌<◌, List, [], ◌∷◌, ◌++◌, length, get_or, take, drop, Bool, true, false, refl, sym, ap, ap₂, ◌∙◌, subst, append_assoc, append-nil}
 use Rattle.std.proofs.lemmas.List.{take_more, take-append-drop}
 use Rattle.std.proofs.lemmas.List.Elements.{filter_map-append}
+use Rattle.clip_model.specs.Alerts.{Alert}
 use Rattle.clip_standing.specs.Alerts.{AlertsValue}
 use Rattle.clip_listen.specs.Heard.{Hearer, NoteValue, told_all, note_of, notes_of, HearsFront}
 use Rattle.clip_listen.proofs.Hearing.{told_more, all_notes_kept, front_after, front_of_more}
@@ -55,6 +56,10 @@ front_here vs i v old now new below is before front =
 
 pub heard_front : (vs : List AlertsValue) (i : ℕ) (old now : List Hearer) → now ≡ told_all (told_in (take i vs)) old → HearsFront (told_in vs) old now
 heard_front vs i old now heard = record { front = told_in (take i vs); rest = told_in (drop i vs); cut = ap told_in (sym (take-append-drop i vs)) ∙ told_append (take i vs) (drop i vs); heard = heard }
+
+-- all were heard
+pub heard_whole : (alerts : List Alert) (old new : List Hearer) → new ≡ told_all alerts old → HearsFront alerts old new
+heard_whole alerts old new told = record { front = alerts; rest = []; cut = sym (append-nil alerts); heard = told }
 
 pub none_posted : (keeps : Bool) (rows : List RowValue) → rows ≡ rows ++ kept_rows keeps []
 none_posted true rows = sym (append-nil rows)

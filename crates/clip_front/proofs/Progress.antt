@@ -1,31 +1,17 @@
 -- How far a server has come.
-use Rattle.std.proofs.Common.{◌≡◌, ℕ, suc, ◌+◌, ◌<◌, ◌≤◌, List, [], ◌∷◌, ◌++◌, length, take, Bool, true, false, Option, Some, None, refl, sym, ap, ap₂, ◌∙◌, subst, arith, append_assoc, append-nil, length-append, true≢false, inl, inr}
+use Rattle.std.proofs.Common.{◌≡◌, ℕ, suc, ◌+◌, ◌<◌, ◌≤◌, List, [], ◌∷◌, ◌++◌, length, take, Bool, true, false, Option, Some, None, refl, sym, ap, ap₂, ◌∙◌, subst, arith, append_assoc, append-nil, length-append, true≢false, inl, inr, ◌⊎◌}
+use Rattle.std.specs.Prelude.{Result, Ok, Err, OnOk, OnErr}
 use Rattle.std.specs.Io.KnownBytes.{Appends, Consumes, IsAtEnd}
-use Rattle.std.proofs.Math.Seq.{take-append-add}
 use Rattle.clip_stream.specs.Device.{AppendsFront, HandsOver}
 use Rattle.clip_stream.specs.Lines.{lines_of, lines_read, OfInput, OfLinesRead}
 use Rattle.clip_stream.specs.Steps.Reading.{Reading, Reads, FindsLine, first_line, has_feed, cut, fuel}
 use Rattle.clip_stream.specs.declared.limits.TheConstants.{MOST_READS}
 use Rattle.clip_stream.proofs.Bytes.{consumes_none, consumes_more}
+use Rattle.clip_stream.proofs.Flows.{appends_on, appends_none, front_on}
 use Rattle.clip_stream.proofs.Fuel.{fuel_new}
 use Rattle.clip_stream.proofs.LinesRead.{lines_read-first, of_input}
 use Rattle.clip_front.specs.Devices.{Devices, AreFresh}
-use Rattle.clip_front.specs.Steps.Serving.{Answering, Breaking, Serves, StopsAt, ServesAll, ServesFront}
-
--- ---- known bytes that grow
-
-appends_on : (old mid new : Option (List ℕ)) (done more : List ℕ) → Appends old mid done → Appends mid new more → Appends old new (done ++ more)
-appends_on None mid new done more a b = tt
-appends_on (Some xs) None new done more a b = absurd a
-appends_on (Some xs) (Some ys) None done more a b = absurd b
-appends_on (Some xs) (Some ys) (Some zs) done more a b = b ∙ ap (λ v. v ++ more) a ∙ append_assoc xs done more
-
-pub appends_none : (old : Option (List ℕ)) → Appends old old []
-appends_none None = tt
-appends_none (Some xs) = sym (append-nil xs)
-
-front_on : (old mid new : Option (List ℕ)) (done bytes : List ℕ) → Appends old mid done → AppendsFront mid new bytes → AppendsFront old new (done ++ bytes)
-front_on old mid new done bytes a f = (length done + f.0, subst (Appends old new) (sym (take-append-add done bytes f.0)) (appends_on old mid new done (take f.0 bytes) a f.1))
+use Rattle.clip_front.specs.Steps.Serving.{Answering, Breaking, AnswersInto, BreaksInto, Serves, StopsAt, ServesAll, ServesFront}
 
 -- ---- the path
 
@@ -37,9 +23,9 @@ serves_more answers s t u k n [] line text bytes p e a =
 serves_more answers s t u k n (l ∷ front) line text bytes p e a =
     (p.0, p.1, p.2 ++ bytes, p.3, ap (λ x. x ++ bytes) p.4 ∙ append_assoc p.1 p.2 bytes, serves_more answers p.0 t u (suc k) n front line p.2 bytes p.5 (omega (arith, e)) a)
 
-stops_here : {S : Type 0} (breaks : Breaking S) (s : S) (n : ℕ) (later : List (List ℕ)) → StopsAt breaks s s n later
-stops_here breaks s n [] = refl
-stops_here breaks s n (line ∷ lines) = inl refl
+stops_here : {S : Type 0} (breaks : Breaking S) (s : S) (n : ℕ) (later : List (List ℕ)) → StopsAt breaks s s n later []
+stops_here breaks s n [] = (refl, refl)
+stops_here breaks s n (line ∷ lines) = inl (refl, refl)
 
 -- Of all that is given, however much more it is, these lines come first, and then those of what is pending and what comes.
 abbrev Splits : Reading → List ℕ → List (List ℕ) → Type 0
@@ -147,6 +133,7 @@ fault_first answers breaks first left met_end taken = (
     front = [];
     later = lines_read met_end [];
     text = [];
+    begun = [];
     parts = refl;
     served = (refl, refl);
     stops = stops_here breaks first 1 (lines_read met_end []);
@@ -165,10 +152,11 @@ fault_reading {breaks = breaks} {now = now} {left_first = left_first} {left = le
         front = p.front;
         later = later;
         text = p.sent ++ gathered;
+        begun = [];
         parts = p.split met_end r.bytes (λ e. let i = r.idle e in (met ∙ i.1, i.0));
         served = p.served;
         stops = stops_here breaks now (suc (length p.front)) later;
-        written = front_on taken_first taken new_taken p.sent gathered p.written some;
+        written = subst (AppendsFront taken_first new_taken) (sym (append-nil (p.sent ++ gathered))) (front_on taken_first taken new_taken p.sent gathered p.written some);
       },
     )
 
@@ -181,8 +169,8 @@ reads_none : (reading : Reading) (left : Option (List ℕ)) → Reads reading re
 reads_none reading left = record { bytes = []; given = consumes_none left; idle = λ e. (refl, e) }
 
 -- the answering of a line was broken off
-fault_broken : {S : Type 0} {answers : Answering S} {breaks : Breaking S} {first now next : S} {left_first left left_new : Option (List ℕ)} {reading new_reading : Reading} {met_end : Bool} {line : List ℕ} {taken_first taken : Option (List ℕ)} {gathered : List ℕ} {n k : ℕ} → Progress answers first now left_first left reading taken_first taken gathered n → FindsLine true reading new_reading left left_new line → met_end ≡ new_reading.is_at_end → k ≡ n + 1 → breaks now next k line → OfLinesRead left_first left_new met_end (ServesFront answers breaks first next taken_first taken)
-fault_broken {breaks = breaks} {now = now} {next = next} {left_first = left_first} {left = left} {left_new = left_new} {reading = reading} {new_reading = new_reading} {met_end = met_end} {line = line} {taken_first = taken_first} {taken = taken} {gathered = gathered} {k = k} p f met e broken =
+fault_broken : {S : Type 0} {answers : Answering S} {breaks : Breaking S} {first now next : S} {left_first left left_new : Option (List ℕ)} {reading new_reading : Reading} {met_end : Bool} {line : List ℕ} {taken_first taken new_taken : Option (List ℕ)} {gathered : List ℕ} {n k : ℕ} (text : List ℕ) → Progress answers first now left_first left reading taken_first taken gathered n → FindsLine true reading new_reading left left_new line → met_end ≡ new_reading.is_at_end → k ≡ n + 1 → breaks now next k line text → AppendsFront taken new_taken (gathered ++ text) → OfLinesRead left_first left_new met_end (ServesFront answers breaks first next taken_first new_taken)
+fault_broken {breaks = breaks} {now = now} {next = next} {left_first = left_first} {left = left} {left_new = left_new} {reading = reading} {new_reading = new_reading} {met_end = met_end} {line = line} {taken_first = taken_first} {taken = taken} {new_taken = new_taken} {gathered = gathered} {k = k} text p f met e broken some =
     let number : k ≡ suc (length p.front) = omega (arith, e, p.counted) in
     let found = first_line (reading.pending ++ f.reads.bytes) in
     let later = lines_read met_end (new_reading.pending ++ []) in (
@@ -193,10 +181,11 @@ fault_broken {breaks = breaks} {now = now} {next = next} {left_first = left_firs
         front = p.front;
         later = found ∷ later;
         text = p.sent ++ gathered;
+        begun = text;
         parts = ap (lines_read met_end) (sym (append-nil (p.bytes ++ f.reads.bytes))) ∙ split_line reading new_reading left left_new line p.bytes p.front p.split f met_end [] (λ at_end. (met ∙ at_end, refl));
         served = p.served;
-        stops = inr (subst (λ j. breaks now next j (cut found)) number (subst (breaks now next k) f.takes.1 broken));
-        written = front_on taken_first taken taken p.sent gathered p.written (0, appends_none taken);
+        stops = inr (subst (λ j. breaks now next j (cut found) text) number (subst (λ l. breaks now next k l text) f.takes.1 broken));
+        written = subst (AppendsFront taken_first new_taken) (sym (append_assoc p.sent gathered text)) (front_on taken_first taken new_taken p.sent (gathered ++ text) p.written some);
       },
     )
 
@@ -249,6 +238,24 @@ goes_on goes handed write_well found budget ended met read_well less pending set
       progress = progress_line (progress_handed goes.progress handed) found refl answered grown;
     }
 
+-- What was gathered was handed over, a line was found and answered, and its answer flows.
+pub goes_flowing : {S : Type 0} {answers : Answering S} {IsSettled : S → Type 0} {first now next : S} {old before : Devices} {taken : Option (List ℕ)} {well : Bool} {devices : Devices} {reading new_reading : Reading} {gathered held more line : List ℕ} {has_more new_more : Bool} {n : ℕ} → Goes answers IsSettled first now old before reading gathered has_more n
+    → HandsOver before.taken gathered taken held → well ≡ before.write_failed → FindsLine true reading new_reading before.left devices.left line → devices.reads + new_reading.reads_left ≡ MOST_READS → (new_reading.is_at_end ≡ true → IsAtEnd devices.left) → devices.met_end ≡ new_reading.is_at_end → devices.read_failed ≡ before.read_failed
+    → fuel new_reading < fuel reading → new_more ≡ has_feed new_reading.pending → (new_more ≡ false → IsSettled next) → AnswersInto answers now next (n + 1) line taken held devices.taken more → devices.write_failed ≡ well → Goes answers IsSettled first next old devices new_reading more new_more (n + 1)
+goes_flowing {held = held} goes handed write_well found budget ended met read_well less pending settled a still_well =
+    let left = goes.fuel_left in
+    record {
+      budget = budget;
+      ended = ended;
+      met = met;
+      reader_well = read_well ∙ goes.reader_well;
+      writer_well = still_well ∙ write_well ∙ goes.writer_well;
+      pending = pending;
+      settled = settled;
+      fuel_left = omega (arith, less, left);
+      progress = progress_handed (progress_line {more = held ++ a.text} (progress_handed goes.progress handed) found refl a.answered refl) a.handed;
+    }
+
 -- It ends where no line was found.
 pub goes_to_end : {S : Type 0} {answers : Answering S} {IsSettled : S → Type 0} {first now : S} {old before : Devices} {left taken : Option (List ℕ)} {reading new_reading : Reading} {gathered held line : List ℕ} {has_more : Bool} {n : ℕ} → Goes answers IsSettled first now old before reading gathered has_more n
     → HandsOver before.taken gathered taken held → (has_more ≡ false → held ≡ []) → FindsLine false reading new_reading before.left left line → (new_reading.is_at_end ≡ true → IsAtEnd left) → OfInput old.left (ServesAll answers first now old.taken taken n)
@@ -266,12 +273,47 @@ pub breaks_reading : {S : Type 0} {answers : Answering S} {breaks : Breaking S} 
     → HandsOver before.taken gathered taken held → Reads reading new_reading before.left left → met_end ≡ new_reading.is_at_end → OfLinesRead old.left left met_end (ServesFront answers breaks first now old.taken taken)
 breaks_reading goes handed read met = fault_held (progress_handed goes.progress handed) read met
 
--- The answering of the line was broken off.
-pub breaks_answering : {S : Type 0} {answers : Answering S} {breaks : Breaking S} {IsSettled : S → Type 0} {first now next : S} {old before : Devices} {left taken : Option (List ℕ)} {met_end : Bool} {reading new_reading : Reading} {gathered held line : List ℕ} {has_more : Bool} {n : ℕ} → Goes answers IsSettled first now old before reading gathered has_more n
-    → HandsOver before.taken gathered taken held → FindsLine true reading new_reading before.left left line → met_end ≡ new_reading.is_at_end → breaks now next (n + 1) line → OfLinesRead old.left left met_end (ServesFront answers breaks first next old.taken taken)
-breaks_answering goes handed found met broken = fault_broken (progress_handed goes.progress handed) found met refl broken
+-- The answering of the line was broken off, and nothing of it was written.
+pub breaks_answering : {S : Type 0} {answers : Answering S} {breaks : Breaking S} {IsSettled : S → Type 0} {first now next : S} {old before : Devices} {left taken : Option (List ℕ)} {met_end : Bool} {reading new_reading : Reading} {gathered held line : List ℕ} {has_more : Bool} {n : ℕ} (text : List ℕ) → Goes answers IsSettled first now old before reading gathered has_more n
+    → HandsOver before.taken gathered taken held → FindsLine true reading new_reading before.left left line → met_end ≡ new_reading.is_at_end → breaks now next (n + 1) line text → OfLinesRead old.left left met_end (ServesFront answers breaks first next old.taken taken)
+breaks_answering {taken = taken} text goes handed found met broken = fault_broken text (progress_handed goes.progress handed) found met refl broken (0, appends_none taken)
+
+broken_or_answered : {S : Type 0} {answers : Answering S} {breaks : Breaking S} {first now next : S} {left_first left left_new : Option (List ℕ)} {reading new_reading : Reading} {met_end : Bool} {line : List ℕ} {taken_first taken new_taken : Option (List ℕ)} {gathered : List ℕ} {n k : ℕ} (text : List ℕ) → Progress answers first now left_first left reading taken_first taken gathered n → FindsLine true reading new_reading left left_new line → met_end ≡ new_reading.is_at_end → k ≡ n + 1 → breaks now next k line text ⊎ answers now next k line text → AppendsFront taken new_taken (gathered ++ text) → OfLinesRead left_first left_new met_end (ServesFront answers breaks first next taken_first new_taken)
+broken_or_answered text p f met e (inl broken) some = fault_broken text p f met e broken some
+broken_or_answered {left_new = left_new} {new_reading = new_reading} {gathered = gathered} text p f met e (inr answered) some =
+    fault_reading (progress_line {more = gathered ++ text} p f e answered refl) (reads_none new_reading left_new) met some
+
+-- It was broken off, or not all of the answer was gathered; a front of it was written.
+pub breaks_flowing : {S : Type 0} {answers : Answering S} {breaks : Breaking S} {IsSettled : S → Type 0} {first now next : S} {old before : Devices} {left taken new_taken : Option (List ℕ)} {met_end : Bool} {reading new_reading : Reading} {gathered held line : List ℕ} {has_more : Bool} {n : ℕ} → Goes answers IsSettled first now old before reading gathered has_more n
+    → HandsOver before.taken gathered taken held → FindsLine true reading new_reading before.left left line → met_end ≡ new_reading.is_at_end → BreaksInto answers breaks now next (n + 1) line taken held new_taken → OfLinesRead old.left left met_end (ServesFront answers breaks first next old.taken new_taken)
+breaks_flowing goes handed found met b = broken_or_answered b.text (progress_handed goes.progress handed) found met refl b.broken b.written
 
 -- The answer was not gathered.
 pub breaks_gathering : {S : Type 0} {answers : Answering S} {breaks : Breaking S} {IsSettled : S → Type 0} {first now next : S} {old before : Devices} {left taken : Option (List ℕ)} {met_end : Bool} {reading new_reading : Reading} {gathered held line text : List ℕ} {has_more : Bool} {n : ℕ} → Goes answers IsSettled first now old before reading gathered has_more n
     → HandsOver before.taken gathered taken held → FindsLine true reading new_reading before.left left line → met_end ≡ new_reading.is_at_end → answers now next (n + 1) line text → OfLinesRead old.left left met_end (ServesFront answers breaks first next old.taken taken)
 breaks_gathering {left = left} {new_reading = new_reading} {held = held} {text = text} goes handed found met answered = fault_held (progress_line {more = held ++ text} (progress_handed goes.progress handed) found refl answered refl) (reads_none new_reading left) met
+
+-- ---- by what the writer has taken in the end
+
+pub front_at : {S : Type 0} (answers : Answering S) (breaks : Breaking S) (s t : S) (left left_new : Option (List ℕ)) (met_end : Bool) (taken_old : Option (List ℕ)) {taken taken_new : Option (List ℕ)} → taken ≡ taken_new → OfLinesRead left left_new met_end (ServesFront answers breaks s t taken_old taken) → OfLinesRead left left_new met_end (ServesFront answers breaks s t taken_old taken_new)
+front_at answers breaks s t left left_new met_end taken_old e p = subst (λ w. OfLinesRead left left_new met_end (ServesFront answers breaks s t taken_old w)) e p
+
+pub all_at : {S : Type 0} (answers : Answering S) (s t : S) (left taken_old : Option (List ℕ)) (count : ℕ) {taken taken_new : Option (List ℕ)} → taken ≡ taken_new → OfInput left (ServesAll answers s t taken_old taken count) → OfInput left (ServesAll answers s t taken_old taken_new count)
+all_at answers s t left taken_old count e p = subst (λ w. OfInput left (ServesAll answers s t taken_old w count)) e p
+
+-- ---- answers that are put into a flow
+
+-- a line that was answered by a text that was put
+pub answers_put : {S T E : Type 0} (answers : Answering S) (s t : S) (n : ℕ) (line text : List ℕ) (taken taken_new : Option (List ℕ)) (gathered held : List ℕ) (result : Result T E) → answers s t n line text → OnOk result (HandsOver taken (gathered ++ text) taken_new held)
+    → OnOk result (AnswersInto answers s t n line taken gathered taken_new held)
+answers_put answers s t n line text taken taken_new gathered held (Ok x) answered handed = record { text = text; answered = answered; handed = handed }
+answers_put answers s t n line text taken taken_new gathered held (Err e) answered handed = tt
+
+pub breaks_put : {S T E : Type 0} (answers : Answering S) (breaks : Breaking S) (s t : S) (n : ℕ) (line text : List ℕ) (taken taken_new : Option (List ℕ)) (gathered : List ℕ) (result : Result T E) → answers s t n line text → OnErr result (AppendsFront taken taken_new (gathered ++ text))
+    → OnErr result (BreaksInto answers breaks s t n line taken gathered taken_new)
+breaks_put answers breaks s t n line text taken taken_new gathered (Ok x) answered front = tt
+breaks_put answers breaks s t n line text taken taken_new gathered (Err e) answered front = record { text = text; broken = inr answered; written = front }
+
+-- one that was broken off before anything was put
+pub breaks_unwritten : {S : Type 0} (answers : Answering S) (breaks : Breaking S) (s t : S) (n : ℕ) (line : List ℕ) (taken : Option (List ℕ)) (gathered : List ℕ) → breaks s t n line [] → BreaksInto answers breaks s t n line taken gathered taken
+breaks_unwritten answers breaks s t n line taken gathered broken = record { text = []; broken = inl broken; written = (0, appends_none taken) }

@@ -13,7 +13,7 @@ use Rattle.clip_front.specs.declared.settings.Settings.{Settings}
 use Rattle.clip_protocol.specs.declared.refusal.Refusal.TheVariants.{Full}
 use Rattle.clip_protocol.specs.LineMeaning.{Meaning, Means, nothing, refusal, refusal_at, command, purging, counting, showing, matching, judged, after}
 use Rattle.clip_front.specs.Outcome.{alerts_told, rows_posted, kept_rows, names_in}
-use Rattle.clip_protocol.specs.Reply.{Reply, accepted, alerts_of_all, refused, reply_text}
+use Rattle.clip_protocol.specs.Reply.{Reply, accepted, alerts_of_all, refused, reply, reply_text}
 use Rattle.clip_front.specs.Steps.Answers.{Held, held, Replies, Settles, GoesOn, Answers, Breaks}
 use Rattle.clip_protocol.specs.Steps.Outline.{Outline, outline, matches, MeansOutline}
 use Rattle.clip_front.specs.Steps.Registry.{IsJudged}
@@ -117,13 +117,18 @@ answers_matched hearers heard books new_books old taken seen new n line text art
 
 -- ---- lines that were broken off
 
--- nothing was told
-pub breaks_untold : (old new : History) (hearers : List Hearer) (books new_books : Books) (line : List ℕ) → Breaks (held old hearers books) (held new hearers new_books) line
-breaks_untold old new hearers books new_books line =
+-- nothing was told, and nothing was on its way
+pub breaks_untold : (old new : History) (hearers : List Hearer) (books new_books : Books) (n : ℕ) (line : List ℕ) → Breaks (held old hearers books) (held new hearers new_books) n line []
+breaks_untold old new hearers books new_books n line =
     let m = outline_some (names_in hearers) old (outline line) in
-    record { meaning = m.0; means = means_from (names_in hearers) old line m.0 m.1; heard = no_front _ _ }
+    record { meaning = m.0; means = means_from (names_in hearers) old line m.0 m.1; heard = no_front _ _; more = _; replies = refl }
 
-pub breaks_matched : (hearers heard : List Hearer) (books new_books : Books) (old taken seen new : History) (line : List ℕ) (articles : List ArticleValue) → Means (names_in hearers) old line (matching articles) → taken ≡ old → seen ≡ taken → HearsFront (alerts_of_all seen articles) hearers heard
-    → Breaks (held old hearers books) (held new heard new_books) line
-breaks_matched hearers heard books new_books old taken seen new line articles means still looked front =
-    record { meaning = matching articles; means = means; heard = subst (λ h. HearsFront (alerts_of_all h articles) hearers heard) (looked ∙ still) front }
+pub breaks_matched : (hearers heard : List Hearer) (books new_books : Books) (old taken seen new : History) (n : ℕ) (line text more : List ℕ) (articles : List ArticleValue) → Means (names_in hearers) old line (matching articles) → taken ≡ old → seen ≡ taken → HearsFront (alerts_of_all seen articles) hearers heard
+    → reply books.settings.form hearers n seen (matching articles) ≡ text ++ more → Breaks (held old hearers books) (held new heard new_books) n line text
+breaks_matched hearers heard books new_books old taken seen new n line text more articles means still looked front printed = record {
+  meaning = matching articles;
+  means = means;
+  heard = subst (λ h. HearsFront (alerts_of_all h articles) hearers heard) (looked ∙ still) front;
+  more = more;
+  replies = subst (λ h. reply books.settings.form hearers n h (matching articles) ≡ text ++ more) (looked ∙ still) printed;
+}

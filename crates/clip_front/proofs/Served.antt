@@ -1,11 +1,12 @@
 -- What a run gives, by the answers to its lines.
-use Rattle.std.proofs.Common.{◌≡◌, ℕ, zero, suc, ◌≤◌, List, [], ◌∷◌, ◌++◌, length, take, drop, Bool, true, false, cond, Option, refl, sym, ap, ap₂, ◌∙◌, subst, arith, append_assoc, append-nil, true≢false, if◌then◌else◌, inl, inr}
+use Rattle.std.proofs.Common.{◌≡◌, ℕ, zero, suc, ◌+◌, ◌≤◌, List, [], ◌∷◌, ◌++◌, length, take, drop, Bool, true, false, cond, Option, refl, sym, ap, ap₂, ◌∙◌, subst, arith, append_assoc, append-nil, true≢false, if◌then◌else◌, inl, inr}
 use Rattle.std.specs.Prelude.{nat_lt}
 use Rattle.std.specs.Io.KnownBytes.{Appends}
 use Rattle.std.proofs.Math.Seq.{take-append_seam}
 use Rattle.std.proofs.lemmas.Bool.Decides.{nat_tests}
 use Rattle.std.proofs.lemmas.List.{length-take, take-append-drop}
 use Rattle.clip_stream.specs.Device.{AppendsFront}
+use Rattle.clip_stream.proofs.Flows.{front_longer}
 use Rattle.clip_stream.proofs.LinesRead.{of_input_weaker, of_lines_read_weaker}
 use Rattle.clip_stream.specs.Lines.{lines_of, OfInput, OfLinesRead}
 use Rattle.clip_stream.specs.Steps.Reading.{cut}
@@ -148,14 +149,14 @@ record BegunBy (s t : Held) (n : ℕ) (lines : List (List ℕ)) (text : List ℕ
   printed : outcome.text s.settings.form ≡ text ++ more
   heard : HearsFront outcome.alerts s.hearers t.hearers
 
-begun_here : (s t : Held) (n : ℕ) (line : List ℕ) → Breaks s t (cut line) → BegunBy s t n (line ∷ []) []
-begun_here s t n line b =
+begun_here : (s t : Held) (n : ℕ) (line text : List ℕ) → Breaks s t n (cut line) text → BegunBy s t n (line ∷ []) text
+begun_here s t n line text b =
     let now = given s.hearers n s.history b.meaning in
     record {
       outcome = now;
       gives = (b.meaning, nothing_given, means_cut (names_in s.hearers) s.history line b.meaning b.means, sym (followed_nothing now), refl);
-      more = now.text s.settings.form;
-      printed = refl;
+      more = b.more;
+      printed = b.replies;
       heard = b.heard;
     }
 
@@ -170,10 +171,13 @@ begun_first s t u n line first rest text lines a e later =
       heard = front_after now.alerts later.outcome.alerts s.hearers t.hearers u.hearers (heard_now s t n (cut line) first a) later.heard;
     }
 
-begun_by : {S : Type 0} (view : S → Held) (s t u : S) (n k : ℕ) (lines : List (List ℕ)) (line text : List ℕ) → Serves (AnswersIn view) s t n lines text → BreaksIn view t u k (cut line) → BegunBy (view s) (view u) n (lines ++ line ∷ []) text
-begun_by view s t u n k [] line text p broken =
-    subst (BegunBy (view s) (view u) n (line ∷ [])) (sym p.1) (begun_here (view s) (view u) n line (subst (λ x. BreaksIn view x u k (cut line)) p.0 broken))
-begun_by view s t u n k (l ∷ lines) line text p broken = begun_first (view s) (view p.0) (view u) n l p.1 p.2 text (lines ++ line ∷ []) p.3 p.4 (begun_by view p.0 t u (suc n) k lines line p.2 p.5 broken)
+begun_by : {S : Type 0} (view : S → Held) (s t u : S) (n k : ℕ) (lines : List (List ℕ)) (line text begun : List ℕ) → Serves (AnswersIn view) s t n lines text → k ≡ n + length lines → BreaksIn view t u k (cut line) begun → BegunBy (view s) (view u) n (lines ++ line ∷ []) (text ++ begun)
+begun_by view s t u n k [] line text begun p e broken =
+    let here : k ≡ n = omega (arith, e) in
+    let whole : text ++ begun ≡ begun = ap (λ x. x ++ begun) p.1 in
+    subst (BegunBy (view s) (view u) n (line ∷ [])) (sym whole) (begun_here (view s) (view u) n line begun (subst (λ x. BreaksIn view x u n (cut line) begun) p.0 (subst (λ j. BreaksIn view t u j (cut line) begun) here broken)))
+begun_by view s t u n k (l ∷ lines) line text begun p e broken =
+    begun_first (view s) (view p.0) (view u) n l p.1 (p.2 ++ begun) (text ++ begun) (lines ++ line ∷ []) p.3 (ap (λ x. x ++ begun) p.4 ∙ append_assoc p.1 p.2 begun) (begun_by view p.0 t u (suc n) k lines line p.2 begun p.5 (omega (arith, e)) broken)
 
 ended_by : {S : Type 0} (view : S → Held) (s t : S) (n : ℕ) (lines : List (List ℕ)) (text : List ℕ) → Serves (AnswersIn view) s t n lines text → BegunBy (view s) (view t) n lines text
 ended_by view s t n lines text p =
@@ -192,12 +196,6 @@ begun_more s t n lines later text b =
       heard = front_of_more b.outcome.alerts on.0.alerts s.hearers t.hearers b.heard;
     }
 
--- a front of a text is one of a longer text
-pub front_longer : (old new : Option (List ℕ)) (text more : List ℕ) → AppendsFront old new text → AppendsFront old new (text ++ more)
-front_longer old new text more f =
-    let there : take f.0 text ++ (drop f.0 text ++ more) ≡ text ++ more = sym (append_assoc (take f.0 text) (drop f.0 text) more) ∙ ap (λ x. x ++ more) (take-append-drop f.0 text) in
-    (length (take f.0 text), subst (Appends old new) (sym (take-append_seam (take f.0 text) (drop f.0 text ++ more)) ∙ ap (take (length (take f.0 text))) there) f.1)
-
 front_given : (s t : Held) (taken_first taken : Option (List ℕ)) (text : List ℕ) (lines : List (List ℕ)) → s.history ≡ [] → BegunBy s t 1 lines text → AppendsFront taken_first taken text → GivesFront s.hearers t.hearers s.settings.form taken_first taken lines
 front_given s t taken_first taken text lines start b written = record {
   outcome = b.outcome;
@@ -206,20 +204,23 @@ front_given s t taken_first taken text lines start b written = record {
   told = b.heard;
 }
 
-begun_at : {S : Type 0} (view : S → Held) (s t u : S) (text : List ℕ) (lines later : List (List ℕ)) → Serves (AnswersIn view) s t 1 lines text → StopsAt (BreaksIn view) t u (suc (length lines)) later → BegunBy (view s) (view u) 1 (lines ++ later) text
-begun_at view s t u text lines [] p same =
-    begun_more (view s) (view u) 1 lines [] text (ended_by view s u 1 lines text (subst (λ x. Serves (AnswersIn view) s x 1 lines text) (sym same) p))
-begun_at view s t u text lines (line ∷ later) p (inl same) =
-    begun_more (view s) (view u) 1 lines (line ∷ later) text (ended_by view s u 1 lines text (subst (λ x. Serves (AnswersIn view) s x 1 lines text) (sym same) p))
-begun_at view s t u text lines (line ∷ later) p (inr broken) =
-    subst (λ ls. BegunBy (view s) (view u) 1 ls text) (append_assoc lines (line ∷ []) later)
-    (begun_more (view s) (view u) 1 (lines ++ line ∷ []) later text (begun_by view s t u 1 (suc (length lines)) lines line text p broken))
+begun_none : {S : Type 0} (view : S → Held) (s t u : S) (text begun : List ℕ) (lines later : List (List ℕ)) → Serves (AnswersIn view) s t 1 lines text → u ≡ t → begun ≡ [] → BegunBy (view s) (view u) 1 (lines ++ later) (text ++ begun)
+begun_none view s t u text begun lines later p same none =
+    subst (BegunBy (view s) (view u) 1 (lines ++ later)) (sym (ap (λ x. text ++ x) none ∙ append-nil text))
+    (begun_more (view s) (view u) 1 lines later text (ended_by view s u 1 lines text (subst (λ x. Serves (AnswersIn view) s x 1 lines text) (sym same) p)))
+
+begun_at : {S : Type 0} (view : S → Held) (s t u : S) (text begun : List ℕ) (lines later : List (List ℕ)) → Serves (AnswersIn view) s t 1 lines text → StopsAt (BreaksIn view) t u (suc (length lines)) later begun → BegunBy (view s) (view u) 1 (lines ++ later) (text ++ begun)
+begun_at view s t u text begun lines [] p stopped = begun_none view s t u text begun lines [] p stopped.0 stopped.1
+begun_at view s t u text begun lines (line ∷ later) p (inl stopped) = begun_none view s t u text begun lines (line ∷ later) p stopped.0 stopped.1
+begun_at view s t u text begun lines (line ∷ later) p (inr broken) =
+    subst (λ ls. BegunBy (view s) (view u) 1 ls (text ++ begun)) (append_assoc lines (line ∷ []) later)
+    (begun_more (view s) (view u) 1 (lines ++ line ∷ []) later (text ++ begun) (begun_by view s t u 1 (suc (length lines)) lines line text begun p (omega arith) broken))
 
 gives_front : {S : Type 0} (view : S → Held) (s t : S) (settings : Settings) (taken_first taken : Option (List ℕ)) (lines : List (List ℕ)) → (view s).history ≡ [] → (view s).settings ≡ settings → ServesFront (AnswersIn view) (BreaksIn view) s t taken_first taken lines
     → GivesFront (view s).hearers (view t).hearers settings.form taken_first taken lines
 gives_front view s t settings taken_first taken lines start same p =
-    let begun = subst (λ ls. BegunBy (view s) (view t) 1 ls p.text) (sym p.parts) (begun_at view s p.between t p.text p.front p.later p.served p.stops) in
-    subst (λ k. GivesFront (view s).hearers (view t).hearers k.form taken_first taken lines) same (front_given (view s) (view t) taken_first taken p.text lines start begun p.written)
+    let begun = subst (λ ls. BegunBy (view s) (view t) 1 ls (p.text ++ p.begun)) (sym p.parts) (begun_at view s p.between t p.text p.begun p.front p.later p.served p.stops) in
+    subst (λ k. GivesFront (view s).hearers (view t).hearers k.form taken_first taken lines) same (front_given (view s) (view t) taken_first taken (p.text ++ p.begun) lines start begun p.written)
 
 pub run_gives_front : {S : Type 0} (view : S → Held) (s t : S) (settings : Settings) (left left_new : Option (List ℕ)) (met_end : Bool) (taken_first taken : Option (List ℕ)) → (view s).history ≡ [] → (view s).settings ≡ settings
     → OfLinesRead left left_new met_end (ServesFront (AnswersIn view) (BreaksIn view) s t taken_first taken) → OfLinesRead left left_new met_end (GivesFront (view s).hearers (view t).hearers settings.form taken_first taken)

@@ -25,6 +25,7 @@ front_weaker answers others breaks among s t taken_old taken lines p = record {
   front = p.front;
   later = p.later;
   text = p.text;
+  begun = p.begun;
   parts = p.parts;
   served = serves_weaker answers others among s p.between 1 p.front p.text p.served;
   stops = p.stops;

@@ -1,17 +1,23 @@
 //! The delivery of a line's alerts.
-ghost use Rattle.std.specs.Prelude.{◌≡◌, ◌++◌, map, IfOk, OnOk, OnErr};
+ghost use Rattle.std.specs.Prelude.{◌≡◌, ◌≢◌, ◌++◌, [], map, true, false, Err, IfErr, IfOk, OnOk, OnErr};
+ghost use Rattle.std.specs.Arc.{arc_str_bytes};
 ghost use Rattle.std.specs.List.{All};
 ghost use Rattle.clip_standing.specs.Alerts.{alerts_value};
 ghost use Rattle.clip_listen.specs.Heard.{told_all, note_value, notes_of, alerts_of, HearsFront};
 ghost use Rattle.clip_front.specs.declared.settings.Settings.{Settings};
 ghost use Rattle.clip_front.specs.Outcome.{kept_rows, rows_of_article};
+ghost use Rattle.clip_stream.specs.Device.{AppendsFront, HandsOver};
 ghost use Rattle.clip_protocol.specs.Found.{found_value};
+ghost use Rattle.clip_protocol.specs.Reply.{alerts_data};
+ghost use Rattle.clip_protocol.specs.Steps.Flowing.{closing, item_text, opening};
+ghost use Rattle.clip_protocol.specs.Steps.Views.{alerts_by_id};
 ghost use Rattle.clip_front.specs.Steps.Found.{IsFor, told_in, rows_in, found_text};
 
 use crate::books::Books;
 use clip_listen::{Audience, Note, deliver_to};
-use clip_protocol::{Found, found_text};
+use clip_protocol::{Found, closed_text, found_text, opened_text, put_alerts};
 use clip_standing::Alerts;
+use clip_stream::{Flow, RunFault, Sink};
 use clip_words::NoMemory;
 use std::alloc::Global;
 
@@ -158,4 +164,107 @@ pub fn deliver_found<A: Audience>(
 {
     let found = unshown(alloc, found)?;
     deliver_shown(alloc, audience, books, number, &found)
+}
+
+/// The reply to a match that is on its way, article by article.
+#[derive(Drop)]
+pub struct MatchReply {
+    /// The number of its line.
+    pub number: u64,
+    /// What the listeners said of the alerts of its articles so far.
+    pub notes: Vec<Note>,
+    /// Whether it shows an article already.
+    pub has_article: bool,
+}
+
+impl MatchReply {
+    /// Puts the beginning of the reply to the match on the line of this number.
+    ///
+    /// `NoMemory` where an allocation failed, `Write` where the writer fails. Constant time, but for the writer's.
+    pub fn begin<W: Sink>(
+        alloc: Global,
+        flow: &mut Flow<'_, W>,
+        number: u64,
+    ) -> Result<MatchReply, RunFault>
+        ensures same_reference { flow.new.writer.ghost_name ≡ flow.old.writer.ghost_name }
+        ensures begun { IfOk result (λ reply. (reply.number ≡ number) × (reply.notes.items ≡ [])
+            × (reply.has_article ≡ false)) }
+        ensures moved { OnOk result (HandsOver (W.taken flow.old.writer.now) (flow.old.outbox.now ++ opening)
+            (W.taken flow.new.writer.now) flow.new.outbox.now) }
+        ensures well { OnOk result (W.has_failed flow.new.writer.now ≡ W.has_failed flow.old.writer.now) }
+        ensures fault { IfErr result (λ e. e ≢ RunFault.Read) }
+        ensures write { result ≡ Err RunFault.Write → W.has_failed flow.new.writer.now ≡ true }
+        ensures front { OnErr result (AppendsFront (W.taken flow.old.writer.now) (W.taken flow.new.writer.now)
+            (flow.old.outbox.now ++ opening)) }
+    {
+        let text = opened_text(alloc)?;
+        flow.put(&text)?;
+        Ok(MatchReply {
+            number,
+            notes: Vec::new(alloc),
+            has_article: false,
+        })
+    }
+
+    /// Delivers an article's alerts, posts them, and puts what the reply shows of them.
+    ///
+    /// `NoMemory` where an allocation failed or a listener answers it, `Write` where the writer fails; the listeners
+    /// have heard some first ones of the alerts then, and a front of the text may be put. Cost: that of `deliver_to`,
+    /// of `Books::post` and of `put_alerts`.
+    pub fn add<A: Audience, W: Sink>(
+        &mut self,
+        alloc: Global,
+        audience: &mut A,
+        books: &mut Books,
+        flow: &mut Flow<'_, W>,
+        alerts: &Alerts,
+    ) -> Result<(), RunFault>
+        ensures same_reference { flow.new.writer.ghost_name ≡ flow.old.writer.ghost_name }
+        ensures number { self.new.number ≡ self.old.number }
+        ensures notes { OnOk result (map note_value self.new.notes.items
+            ≡ map note_value self.old.notes.items ++ notes_of (A.hearers audience.old) (alerts_of alerts.now)) }
+        ensures later { OnOk result (self.new.has_article ≡ true) }
+        ensures heard { OnOk result (A.hearers audience.new
+            ≡ told_all (alerts_of alerts.now) (A.hearers audience.old)) }
+        ensures rows { OnOk result (books.new.ledger ≡ books.old.ledger ++ kept_rows books.old.settings.keeps_rows
+            (rows_of_article (A.hearers audience.old) self.old.number (alerts_of alerts.now))) }
+        ensures settings { books.new.settings ≡ books.old.settings }
+        ensures moved { OnOk result (HandsOver (W.taken flow.old.writer.now) (flow.old.outbox.now ++ item_text self.old.has_article
+            (alerts_data books.old.settings.form (alerts_by_id (alerts_value alerts.now))))
+            (W.taken flow.new.writer.now) flow.new.outbox.now) }
+        ensures well { OnOk result (W.has_failed flow.new.writer.now ≡ W.has_failed flow.old.writer.now) }
+        ensures fault { IfErr result (λ e. e ≢ RunFault.Read) }
+        ensures write { result ≡ Err RunFault.Write → W.has_failed flow.new.writer.now ≡ true }
+        ensures err { OnErr result (HearsFront (alerts_of alerts.now)
+            (A.hearers audience.old) (A.hearers audience.new)) }
+        ensures front { OnErr result (AppendsFront (W.taken flow.old.writer.now) (W.taken flow.new.writer.now)
+            (flow.old.outbox.now ++ item_text self.old.has_article
+            (alerts_data books.old.settings.form (alerts_by_id (alerts_value alerts.now))))) }
+    {
+        let settings = books.settings;
+        let mut said = deliver_article(alloc, audience, books, self.number, alerts)?;
+        self.notes.append(&mut said)?;
+        let later = self.has_article;
+        self.has_article = true;
+        put_alerts(flow, alloc, settings.form, later, alerts)
+    }
+
+    /// Puts the end of the reply, with what the listeners said.
+    ///
+    /// `NoMemory` where an allocation failed, `Write` where the writer fails. Its cost is linear in the notes.
+    pub fn end<W: Sink>(self, alloc: Global, flow: &mut Flow<'_, W>) -> Result<(), RunFault>
+        ensures same_reference { flow.new.writer.ghost_name ≡ flow.old.writer.ghost_name }
+        ensures moved { OnOk result (HandsOver (W.taken flow.old.writer.now) (flow.old.outbox.now
+            ++ closing self.number (map (λ n. arc_str_bytes n.text) self.notes.items))
+            (W.taken flow.new.writer.now) flow.new.outbox.now) }
+        ensures well { OnOk result (W.has_failed flow.new.writer.now ≡ W.has_failed flow.old.writer.now) }
+        ensures fault { IfErr result (λ e. e ≢ RunFault.Read) }
+        ensures write { result ≡ Err RunFault.Write → W.has_failed flow.new.writer.now ≡ true }
+        ensures front { OnErr result (AppendsFront (W.taken flow.old.writer.now) (W.taken flow.new.writer.now)
+            (flow.old.outbox.now
+            ++ closing self.number (map (λ n. arc_str_bytes n.text) self.notes.items))) }
+    {
+        let text = closed_text(Vec::new(alloc), self.number, &self.notes)?;
+        flow.put(&text)
+    }
 }

@@ -1,6 +1,7 @@
 -- The text of the reply to a match, piece by piece.
-use Rattle.std.proofs.Common.{◌≡◌, ℕ, ◌+◌, ◌<◌, suc, List, [], ◌∷◌, ◌++◌, Bool, true, false, codes, decimal, map, drop, get_or, length, nat_lt, refl, sym, ap, ap₂, ◌∙◌, append_assoc, add-one, arith}
+use Rattle.std.proofs.Common.{◌≡◌, ℕ, ◌+◌, ◌<◌, ◌||◌, suc, List, [], ◌∷◌, ◌++◌, Bool, true, false, codes, decimal, map, drop, get_or, length, nat_lt, refl, sym, ap, ap₂, ◌∙◌, append_assoc, append-nil, add-one, arith, min, take}
 use Rattle.std.proofs.Math.Seq.{drop-cons}
+use Rattle.std.proofs.lemmas.List.{length-take, take_more, take-append-drop}
 use Rattle.std.proofs.lemmas.Bool.{lt-ltb}
 use Rattle.json.specs.Token.{end_object, end_array, key, number}
 use Rattle.json.specs.Print.{escape_byte, print, print_from, quoted}
@@ -14,8 +15,9 @@ use Rattle.clip_protocol.specs.declared.form.Form.{Form}
 use Rattle.clip_protocol.specs.declared.found.Found.{Found}
 use Rattle.clip_protocol.specs.Found.{found_value}
 use Rattle.clip_protocol.specs.Reply as reply
-use Rattle.clip_protocol.specs.Reply.{alerts_data, number_of, printed, reply_value}
+use Rattle.clip_protocol.specs.Reply.{alerts_data, number_of, printed, reply_text, reply_value}
 use Rattle.clip_protocol.specs.Request.{array_of, members_from}
+use Rattle.clip_protocol.specs.Steps.Flowing.{closing, item_text, items_begun, opening, shown_data}
 use Rattle.clip_protocol.specs.Steps.Printing.{data_tokens}
 use Rattle.clip_protocol.specs.Steps.Views.{alerts_by_id}
 
@@ -68,3 +70,54 @@ print-whole form n found notes opened text begins closes =
     let rest = members ++ 10 ∷ [] in
     let around : List ℕ → List ℕ = λ s. 123 ∷ 34 ∷ (codes "alerts" ++ 34 ∷ 58 ∷ 91 ∷ s) in
     sym (append_assoc text (93 ∷ []) rest) ∙ ap (λ t. t ++ rest) (closes ∙ ap (λ t. t ++ items) begins) ∙ ap around (sym (append_assoc items members (10 ∷ [])))
+
+-- ---- item by item
+
+pub items_closed : (later : Bool) (ds : List Data) → items_begun later ds ++ 93 ∷ [] ≡ items_text later (items_of ds)
+items_closed later [] = refl
+items_closed later (d ∷ ds) =
+    append_assoc (item_text later d) (items_begun true ds) (93 ∷ [])
+    ∙ ap (λ t. item_text later d ++ t) (items_closed true ds)
+    ∙ append_assoc (comma_if later) (compact_text d) (items_text true (items_of ds))
+
+-- whether an item behind these stands behind another
+abbrev behind : Bool → List Data → Bool
+behind later [] = later
+behind later (d ∷ ds) = true
+
+behind_some : (ds : List Data) → behind false ds ≡ nat_lt 0 (length ds)
+behind_some [] = refl
+behind_some (d ∷ ds) = sym (lt-ltb 0 (suc (length ds)) (omega arith))
+
+items_append : (later : Bool) (ds more : List Data) → items_begun later (ds ++ more) ≡ items_begun later ds ++ items_begun (behind later ds) more
+items_append later [] more = refl
+items_append later (d ∷ ds) more = ap (λ t. item_text later d ++ t) (items_append true ds more ∙ ap (λ b. items_begun true ds ++ items_begun b more) (behind_true ds)) ∙ sym (append_assoc (item_text later d) (items_begun true ds) (items_begun true more))
+  where
+    behind_true : (ds : List Data) → behind true ds ≡ true
+    behind_true [] = refl
+    behind_true (d ∷ ds) = refl
+
+-- one item more
+pub items_next : (ds : List Data) (i : ℕ) (d : Data) → i < length ds → d ≡ get_or ds i d → items_begun false (take i ds) ++ item_text (nat_lt 0 i) d ≡ items_begun false (take (i + 1) ds)
+items_next ds i d below is =
+    let first = take i ds in
+    let before : length first ≡ i = length-take i ds ∙ omega (arith, below) in
+    ap (λ b. items_begun false first ++ item_text b d) (ap (nat_lt 0) (sym before) ∙ sym (behind_some first))
+    ∙ ap (λ t. items_begun false first ++ t) (sym (append-nil (item_text (behind false first) d)))
+    ∙ sym (items_append false first (d ∷ []))
+    ∙ ap (λ w. items_begun false (first ++ w ∷ [])) is
+    ∙ ap (items_begun false) (sym (take_more ds i d below))
+
+-- the first items are a front of all
+pub items_front : (ds : List Data) (i : ℕ) → (rest : List ℕ) × (items_begun false ds ≡ items_begun false (take i ds) ++ rest)
+items_front ds i = (items_begun (behind false (take i ds)) (drop i ds), ap (items_begun false) (sym (take-append-drop i ds)) ∙ items_append false (take i ds) (drop i ds))
+
+-- the whole reply to a match
+pub reply_articles : (form : Form) (n : ℕ) (found : List (List ℕ × List Alert)) (notes : List (List ℕ)) → (opening ++ items_begun false (shown_data form found)) ++ closing n notes ≡ reply_text n (reply.matched form found notes)
+reply_articles form n found notes =
+    print-whole form n found notes opening (opening ++ items_begun false (shown_data form found)) refl
+    (append_assoc opening (items_begun false (shown_data form found)) (93 ∷ []) ∙ ap (λ t. opening ++ t) (items_closed false (shown_data form found)))
+
+-- what is written of an item behind a comma
+pub item_printed : (later : Bool) (d : Data) (before text : List ℕ) → before ≡ comma_if later → text ≡ before ++ print (data_tokens d) → text ≡ item_text later d
+item_printed later d before text comma written = written ∙ ap₂ (λ b t. b ++ t) comma (print-outline d)

@@ -1,5 +1,6 @@
 -- Stepping stones: outlines of lines, what is printed of a reply, and requests, lines and replies as contracts see
 -- them.
+pub mod Flowing
 pub mod Listings
 pub mod Outline
 pub mod Printing

@@ -1,16 +1,15 @@
 //! What was found of an article, and the text of the reply to a match.
-ghost use Rattle.std.specs.Prelude.{◌≡◌, ◌∷◌, [], ◌++◌, All, IfOk, OnOk, codes, false, is_some, map, not, true};
+ghost use Rattle.std.specs.Prelude.{◌≡◌, ◌∷◌, [], ◌++◌, All, IfOk, OnOk, false, is_some, map, not, true};
 ghost use Rattle.std.specs.Arc.{arc_str_bytes};
 ghost use Rattle.std.specs.List.{list_any};
-ghost use Rattle.json.specs.Print.{print, quoted};
-ghost use Rattle.serde_json.specs.Data.{string};
+ghost use Rattle.json.specs.Print.{print};
 ghost use Rattle.serde_json.specs.View.{items_of};
-ghost use Rattle.serde_json.specs.Written.{comma_if, items_text, members_text};
+ghost use Rattle.serde_json.specs.Written.{comma_if, items_text};
 ghost use Rattle.clip_standing.specs.Alerts.{alert_value, alerts_value};
 ghost use Rattle.clip_protocol.specs.Found.{IsShownIn, found_value, is_shown};
 ghost use Rattle.clip_protocol.specs.Reply as reply;
-ghost use Rattle.clip_protocol.specs.Reply.{alerts_data, number_of, reply_text};
-ghost use Rattle.clip_protocol.specs.Request.{array_of, members_from};
+ghost use Rattle.clip_protocol.specs.Reply.{alerts_data, reply_text};
+ghost use Rattle.clip_protocol.specs.Steps.Flowing.{closing, opening};
 ghost use Rattle.clip_protocol.specs.Steps.Printing.{data_tokens};
 ghost use Rattle.clip_protocol.specs.Steps.Views.{alerts_by_id};
 
@@ -67,9 +66,9 @@ impl Found {
     }
 }
 
-/// The reply to a match up to what it shows of the first article.
-fn opened_text(alloc: Global) -> Result<Vec<u8>, NoMemory>
-    ensures { IfOk result (λ text. text.items ≡ 123 ∷ (quoted (codes "alerts") ++ 58 ∷ 91 ∷ [])) }
+/// The reply to a match up to what it shows of the first article. `NoMemory` where an allocation failed.
+pub fn opened_text(alloc: Global) -> Result<Vec<u8>, NoMemory>
+    ensures { IfOk result (λ text. text.items ≡ opening) }
 {
     let mut out = begun(alloc)?;
     out.key("alerts")?;
@@ -78,7 +77,7 @@ fn opened_text(alloc: Global) -> Result<Vec<u8>, NoMemory>
 }
 
 /// Adds a comma to the text, where what comes stands after another.
-fn separate(text: &mut Vec<u8>, later: bool) -> Result<(), NoMemory>
+pub fn separate(text: &mut Vec<u8>, later: bool) -> Result<(), NoMemory>
     ensures { OnOk result (text.new.items ≡ text.old.items ++ comma_if later) }
 {
     if later {
@@ -125,11 +124,11 @@ fn with_articles(
     Ok(text)
 }
 
-/// The text, and after it the end of the articles and the rest of the reply to a match.
-fn closed_text(text: Vec<u8>, number: u64, notes: &[Note]) -> Result<Vec<u8>, NoMemory>
-    ensures { IfOk result (λ whole. whole.items ≡ text.items ++ 93 ∷ (members_text true (members_from
-        ((codes "line", number_of number)
-        ∷ (codes "notes", array_of (map string (map (λ n. arc_str_bytes n.text) notes.now))) ∷ [])) ++ 10 ∷ [])) }
+/// The text, and after it the end of the articles and the rest of the reply to a match. `NoMemory` where an allocation
+/// failed. Its cost is linear in what it adds.
+pub fn closed_text(text: Vec<u8>, number: u64, notes: &[Note]) -> Result<Vec<u8>, NoMemory>
+    ensures { IfOk result (λ whole. whole.items
+        ≡ text.items ++ closing number (map (λ n. arc_str_bytes n.text) notes.now)) }
 {
     let mut out = Writer::new(text);
     out.end_array()?;

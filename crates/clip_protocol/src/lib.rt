@@ -8,19 +8,21 @@ mod line;
 mod listing;
 mod members;
 mod printing;
+mod put;
 mod refusal;
 mod reply;
 mod request;
 mod shown;
 
 pub use form::Form;
-pub use found::{Found, found_text};
+pub use found::{Found, closed_text, found_text, opened_text};
 pub use judged::{JudgedDraft, articles_of, judge_drafts};
 pub use line::{Line, have_ids, is_blank, json_of};
 pub use listing::{ListFault, read_listing};
 pub use members::{
     has_members, items_of, members_of, take_member, three_members, two_members, two_of,
 };
+pub use put::put_alerts;
 pub use refusal::{Refusal, UNSHAPED, Unread};
 pub use reply::{Reply, accepted};
 pub use request::{Draft, Listing, Request, drafts_of, listings_of, texts_of};

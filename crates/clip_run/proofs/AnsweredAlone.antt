@@ -1,5 +1,6 @@
 -- What a run on one thread gives, whatever its lines purge.
 use Rattle.std.proofs.Common.{◌≡◌, ℕ, List, [], Bool, Option}
+use Rattle.std.specs.Prelude.{Result, Ok, Err, OnOk, OnErr}
 use Rattle.clip_stream.specs.Lines.{OfInput, OfLinesRead}
 use Rattle.clip_listen.specs.Heard.{Hearer}
 use Rattle.clip_front.specs.Outcome.{GivesAll, GivesFront}
@@ -23,3 +24,21 @@ pub alone_gives_front : {A : Type 0} (hearers : A → List Hearer) (s t : RunSer
     → OfLinesRead left left_new met_end (ServesFront (AnswersAlone hearers) (BreaksIn (held_at hearers)) s t taken_old taken) → OfLinesRead left left_new met_end (GivesFront (hearers s.1) (hearers t.1) settings.form taken_old taken)
 alone_gives_front hearers s t settings left left_new met_end taken_old taken start same p =
     run_gives_front (held_at hearers) s t settings left left_new met_end taken_old taken start same (serves_front_weaker (AnswersAlone hearers) (AnswersIn (held_at hearers)) (BreaksIn (held_at hearers)) (answers_held hearers) s t left left_new met_end taken_old taken p)
+
+-- ---- what two facts of a result say together
+
+pub both_ok : {T E P Q R : Type 0} (r : Result T E) → (P → Q → R) → OnOk r P → OnOk r Q → OnOk r R
+both_ok (Ok x) f p q = f p q
+both_ok (Err e) f p q = tt
+
+pub both_err : {T E P Q R : Type 0} (r : Result T E) → (P → Q → R) → OnErr r P → OnErr r Q → OnErr r R
+both_err (Ok x) f p q = tt
+both_err (Err e) f p q = f p q
+
+pub ok_weaker : {T E P Q : Type 0} (r : Result T E) → (P → Q) → OnOk r P → OnOk r Q
+ok_weaker (Ok x) f p = f p
+ok_weaker (Err e) f p = tt
+
+pub err_weaker : {T E P Q : Type 0} (r : Result T E) → (P → Q) → OnErr r P → OnErr r Q
+err_weaker (Ok x) f p = tt
+err_weaker (Err e) f p = f p

@@ -1,20 +1,25 @@
 -- What was found of a line's articles is all that the line gives.
-use Rattle.std.proofs.Common.{◌≡◌, ℕ, List, [], ◌∷◌, ◌++◌, map, refl, ap, ap₂, ◌∙◌}
+use Rattle.std.proofs.Common.{◌≡◌, ℕ, ◌≤◌, List, [], ◌∷◌, ◌++◌, length, map, take, false, refl, ap, ap₂, ◌∙◌, arith}
+use Rattle.std.proofs.lemmas.List.{length-map, take_all}
+use Rattle.std.specs.Arc.{arc_str_bytes}
 use Rattle.std.specs.Prelude.{flat_map}
 use Rattle.clip_meaning.specs.Article.{ArticleValue}
 use Rattle.clip_model.specs.Alerts.{alerts}
 use Rattle.clip_match.specs.Alerts.{alerts_due}
 use Rattle.clip_standing.specs.Alerts.{AlertsValue}
-use Rattle.clip_listen.specs.Heard.{Hearer, told_all}
+use Rattle.clip_listen.specs.Heard.{Hearer, note_value, notes_of, told_all}
+use Rattle.clip_listen.specs.declared.note.Note.{Note}
 use Rattle.clip_registry.specs.RegistryState.{RegistryState}
 use Rattle.clip_protocol.specs.LineMeaning.{matching}
 use Rattle.clip_protocol.specs.declared.form.Form.{Form}
-use Rattle.clip_protocol.specs.Reply.{alerts_shown, alerts_of_all, matched, reply_text, texts_said}
+use Rattle.clip_protocol.specs.Reply.{alerts_data, alerts_shown, alerts_of_all, matched, reply, reply_text, texts_said}
+use Rattle.clip_protocol.specs.Steps.Flowing.{closing, items_begun, opening}
 use Rattle.clip_protocol.specs.Steps.Views.{alerts_by_id}
 use Rattle.clip_front.specs.declared.books.Books.{Books}
 use Rattle.clip_front.specs.Outcome.{given, kept_rows, rows_of_article}
 use Rattle.clip_front.specs.Steps.Answers.{GoesOn, held}
 use Rattle.clip_front.specs.Steps.Found.{told_in, rows_in, found_text, found_outcome}
+use Rattle.clip_front.proofs.Flowing.{begun_text, data_of, text_whole}
 use Rattle.clip_front.proofs.Responses.{held_by}
 
 shown-alerts_due : (s : RegistryState) (articles : List ArticleValue) → map alerts_by_id (map (alerts_due s) articles) ≡ map (alerts_shown s.history) articles
@@ -30,7 +35,7 @@ rows-alerts_due hearers n s [] = refl
 rows-alerts_due hearers n s (a ∷ articles) = ap (λ rest. rows_of_article hearers n (alerts s.history a) ++ rest) (rows-alerts_due hearers n s articles)
 
 -- the text of what is due, with the texts of the notes
-text-alerts_due : (form : Form) (hearers : List Hearer) (n : ℕ) (s : RegistryState) (articles : List ArticleValue) → found_text form hearers n (map (alerts_due s) articles) ≡ (given hearers n s.history (matching articles)).text form
+pub text-alerts_due : (form : Form) (hearers : List Hearer) (n : ℕ) (s : RegistryState) (articles : List ArticleValue) → found_text form hearers n (map (alerts_due s) articles) ≡ (given hearers n s.history (matching articles)).text form
 text-alerts_due form hearers n s articles = ap₂ (λ ids told. reply_text n (matched form ids (texts_said hearers told))) (shown-alerts_due s articles) (told-alerts_due s articles)
 
 -- a line that matches articles gives just what is found of them at a view with its history
@@ -51,3 +56,20 @@ goes_on_matched view hearers heard books new_books n articles found text is prin
           ∙ ap₂ (held_by books.settings view.history) (told ∙ ap (λ o. told_all o.alerts hearers) gives) (rows ∙ ap (λ o. books.ledger ++ kept_rows books.settings.keeps_rows o.rows) gives);
       replies = printed ∙ ap (λ o. o.text books.settings.form) gives;
     }
+
+-- ---- article by article
+
+-- all articles are among the first that were matched
+pub all_matched : (view : RegistryState) (articles : List ArticleValue) (i : ℕ) → length articles ≤ i → take i (map (alerts_due view) articles) ≡ map (alerts_due view) articles
+all_matched view articles i all = take_all i (map (alerts_due view) articles) (omega (arith, all, length-map articles (alerts_due view)))
+
+-- what is put after all articles is the reply
+pub whole_reply : (view : RegistryState) (articles : List ArticleValue) (form : Form) (hearers : List Hearer) (n k i : ℕ) (notes : List Note) → length articles ≤ i → k ≡ n → map note_value notes ≡ notes_of hearers (told_in (take i (map (alerts_due view) articles)))
+    → begun_text (data_of form (map (alerts_due view) articles)) i ++ closing k (map (λ x. arc_str_bytes x.text) notes) ≡ reply form hearers n view.history (matching articles)
+whole_reply view articles form hearers n k i notes all number said =
+    let vs = map (alerts_due view) articles in
+    let ds = data_of form vs in
+    let texts = map (λ x. arc_str_bytes x.text) notes in
+    let within : length ds ≤ i = omega (arith, all, length-map articles (alerts_due view), length-map vs alerts_by_id, length-map (map alerts_by_id vs) (alerts_data form)) in
+    ap (λ xs. (opening ++ items_begun false xs) ++ closing k texts) (take_all i ds within) ∙ ap (λ j. (opening ++ items_begun false ds) ++ closing j texts) number
+    ∙ text_whole form hearers n vs notes (said ∙ ap (λ ws. notes_of hearers (told_in ws)) (all_matched view articles i all)) ∙ text-alerts_due form hearers n view articles

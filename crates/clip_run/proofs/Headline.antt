@@ -3,6 +3,7 @@ use Rattle.std.proofs.Common.{◌≡◌, ℕ, suc, List, [], ◌∷◌, ◌++◌
 use Rattle.std.specs.Io.KnownBytes.{Appends}
 use Rattle.clip_stream.specs.Device.{AppendsFront}
 use Rattle.clip_stream.specs.Lines.{lines_of, OfInput, OfLinesRead}
+use Rattle.clip_stream.proofs.Flows.{front_longer}
 use Rattle.clip_stream.proofs.LinesRead.{of_input_weaker, of_lines_read_weaker}
 use Rattle.clip_stream.specs.Steps.Reading.{cut}
 use Rattle.clip_model.specs.Alerts.{Alert}
@@ -16,7 +17,7 @@ use Rattle.clip_front.specs.Steps.Serving.{Serves, StopsAt, ServesAll, ServesFro
 use Rattle.clip_protocol.proofs.Meanings.{means_from, means_to}
 use Rattle.clip_front.proofs.Outcomes.{followed_assoc, followed_nothing, given_kept}
 use Rattle.clip_front.proofs.OneOutcome.{gives_on}
-use Rattle.clip_front.proofs.Served.{choose, cut_is_long, cut_is_whole, front_longer}
+use Rattle.clip_front.proofs.Served.{choose, cut_is_long, cut_is_whole}
 use Rattle.clip_front.specs.declared.settings.Settings.{Settings}
 use Rattle.clip_run.specs.Owed.{owes, Course, Gave, Turns, BreaksOff, TurnsIn, BreaksIn}
 use Rattle.clip_run.proofs.Owing.{owes_told, gave_nothing, gave_more}
@@ -194,18 +195,25 @@ stopped : {S : Type 0} (view : S → Course) (s t u : S) (lines : List (List ℕ
 stopped view s t u lines text p same =
     subst (λ ls. BegunBy (view s) (view u) 1 ls text) (append-nil lines) (begun_by view s t u 1 lines [] text p (λ k. subst (λ x. BegunBy (view t) (view x) k [] []) (sym same) (begun_none (view t) k)))
 
-begun_at : {S : Type 0} (view : S → Course) (s t u : S) (text : List ℕ) (lines later : List (List ℕ)) → Serves (TurnsIn view) s t 1 lines text → StopsAt (BreaksIn view) t u (suc (length lines)) later → BegunBy (view s) (view u) 1 (lines ++ later) text
-begun_at view s t u text lines [] p same = begun_more (view s) (view u) 1 lines [] text (stopped view s t u lines text p same)
-begun_at view s t u text lines (line ∷ later) p (inl same) = begun_more (view s) (view u) 1 lines (line ∷ later) text (stopped view s t u lines text p same)
-begun_at view s t u text lines (line ∷ later) p (inr broken) =
+begun_at : {S : Type 0} (view : S → Course) (s t u : S) (text begun : List ℕ) (lines later : List (List ℕ)) → Serves (TurnsIn view) s t 1 lines text → StopsAt (BreaksIn view) t u (suc (length lines)) later begun → BegunBy (view s) (view u) 1 (lines ++ later) text
+begun_at view s t u text begun lines [] p same = begun_more (view s) (view u) 1 lines [] text (stopped view s t u lines text p same.0)
+begun_at view s t u text begun lines (line ∷ later) p (inl same) = begun_more (view s) (view u) 1 lines (line ∷ later) text (stopped view s t u lines text p same.0)
+begun_at view s t u text begun lines (line ∷ later) p (inr broken) =
     subst (λ ls. BegunBy (view s) (view u) 1 ls text) (append_assoc lines (line ∷ []) later)
-    (begun_more (view s) (view u) 1 (lines ++ line ∷ []) later text (begun_by view s t u 1 lines (line ∷ []) text p (λ k. begun_here (view t) (view u) k line (renumbered (view t) (view u) (suc (length lines)) k (cut line) broken))))
+    (begun_more (view s) (view u) 1 (lines ++ line ∷ []) later text (begun_by view s t u 1 lines (line ∷ []) text p (λ k. begun_here (view t) (view u) k line (renumbered (view t) (view u) (suc (length lines)) k (cut line) broken.0))))
+
+-- nothing of the line that was begun was on its way
+nothing_begun : {S : Type 0} (view : S → Course) (s t : S) (n : ℕ) (later : List (List ℕ)) (begun : List ℕ) → StopsAt (BreaksIn view) s t n later begun → begun ≡ []
+nothing_begun view s t n [] begun same = same.1
+nothing_begun view s t n (line ∷ later) begun (inl same) = same.1
+nothing_begun view s t n (line ∷ later) begun (inr broken) = broken.1
 
 gives_front : {S : Type 0} (view : S → Course) (s t : S) (settings : Settings) (taken_old taken : Option (List ℕ)) (lines : List (List ℕ)) → (view s).history ≡ [] → (view s).settings ≡ settings → (view s).owed ≡ [] → ServesFront (TurnsIn view) (BreaksIn view) s t taken_old taken lines
     → GivesFront (view s).hearers (view t).hearers settings.form taken_old taken lines
 gives_front view s t settings taken_old taken lines start same none p =
-    let begun = subst (λ ls. BegunBy (view s) (view t) 1 ls p.text) (sym p.parts) (begun_at view s p.between t p.text p.front p.later p.served p.stops) in
-    subst (λ k. GivesFront (view s).hearers (view t).hearers k.form taken_old taken lines) same (front_given (view s) (view t) taken_old taken p.text lines start none begun p.written)
+    let begun = subst (λ ls. BegunBy (view s) (view t) 1 ls p.text) (sym p.parts) (begun_at view s p.between t p.text p.begun p.front p.later p.served p.stops) in
+    let whole = ap (λ x. p.text ++ x) (nothing_begun view p.between t (suc (length p.front)) p.later p.begun p.stops) ∙ append-nil p.text in
+    subst (λ k. GivesFront (view s).hearers (view t).hearers k.form taken_old taken lines) same (front_given (view s) (view t) taken_old taken p.text lines start none begun (subst (AppendsFront taken_old taken) whole p.written))
 
 pub run_gives_front : {S : Type 0} (view : S → Course) (s t : S) (settings : Settings) (left left_new : Option (List ℕ)) (met_end : Bool) (taken_old taken : Option (List ℕ)) → (view s).history ≡ [] → (view s).settings ≡ settings → (view s).owed ≡ []
     → OfLinesRead left left_new met_end (ServesFront (TurnsIn view) (BreaksIn view) s t taken_old taken) → OfLinesRead left left_new met_end (GivesFront (view s).hearers (view t).hearers settings.form taken_old taken)

@@ -5,4 +5,3 @@ pub mod OnlyCaller
 pub mod Outcomes
 pub mod Owing
 pub mod Seats
-pub mod Turns

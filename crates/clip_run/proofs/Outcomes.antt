@@ -4,7 +4,7 @@ use Rattle.std.specs.Prelude.{Result, Ok, Err, IfOk, OnOk, OnErr}
 use Rattle.core.specs.Result.{IsErrAnd}
 use Rattle.clip_stream.specs.Lines.{lines_read, OfInput, OfLinesRead}
 use Rattle.clip_stream.proofs.Bytes.{consumes_none}
-use Rattle.clip_front.proofs.Progress.{appends_none}
+use Rattle.clip_stream.proofs.Flows.{appends_none}
 use Rattle.clip_stream.specs.declared.fault.RunFault.{RunFault}
 use Rattle.clip_stream.specs.declared.fault.RunFault.TheVariants as fault
 use Rattle.clip_listen.specs.Heard.{Hearer}

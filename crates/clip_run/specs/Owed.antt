@@ -70,8 +70,9 @@ pub record BreaksOff (old new : Course) (n : ℕ) (line : List ℕ) : Type 0 whe
 abbrev pub TurnsIn : {S : Type 0} → (S → Course) → Answering S
 TurnsIn view s t n line text = Turns (view s) (view t) n line text
 
+-- nothing of its text was on its way
 abbrev pub BreaksIn : {S : Type 0} → (S → Course) → Breaking S
-BreaksIn view s t n line = BreaksOff (view s) (view t) n line
+BreaksIn view s t n line text = BreaksOff (view s) (view t) n line × (text ≡ [])
 
 -- of what is owed, a front of the alerts was heard
 abbrev pub HearsOwed : Course → Course → Type 0

@@ -18,5 +18,4 @@ pub record AnswersAlone {A : Type 0} (hearers : A → List Hearer) (s t : RunSer
     : Type 0 where
   pub answers : AnswersIn (held_at hearers) s t n line text
   pub purges : PurgesIf (Means (names_in (hearers s.1)) s.0.registry.registrar.history line purging)
-      (λ old new. new.registrar ≡ purged old.registrar) (λ old new. GoesOnUnpurged old.registrar new.registrar)
-      s.0.registry t.0.registry
+      (λ old new. new.registrar ≡ purged old.registrar) GoesOnUnpurged s.0.registry t.0.registry

@@ -1,13 +1,14 @@
--- What the registrar of a run does at a line that asks for no purge.
-use Rattle.std.specs.Prelude.{◌≡◌, ◌⊎◌}
+-- What the registry of a run does at a line that asks for no purge.
+use Rattle.std.specs.Prelude.{◌≡◌, ◌⊎◌, OnOk}
 use Rattle.clip_model.specs.History.{Command}
-use Rattle.clip_registry.specs.RegistryState.{RegistryState, state_after}
-use Rattle.clip_registry.specs.Steps.Turns.{HasMerged}
+use Rattle.clip_registry.specs.Plan.{AreFew}
+use Rattle.clip_registry.specs.RegistryState.{state_after}
+use Rattle.clip_registry.specs.Steps.Turns.{TakesTurns}
+use Rattle.clip_run.specs.declared.alone.Owned.{Owned}
 
--- four segments became one, or nothing was done
-abbrev pub TakesTurn : RegistryState → RegistryState → Type 0
-TakesTurn old new = (new ≡ old) ⊎ HasMerged old new
-
--- It stays as it is, or accepts a command of caller 1 and takes one merge turn then.
-abbrev pub GoesOnUnpurged : RegistryState → RegistryState → Type 0
-GoesOnUnpurged old new = (new ≡ old) ⊎ ((c : Command) × TakesTurn (state_after old 1 c) new)
+-- Its registrar stays as it is, or accepts a command of caller 1 and takes merge turns then; where none of these was
+-- refused memory, segments are few after them.
+abbrev pub GoesOnUnpurged : Owned → Owned → Type 0
+GoesOnUnpurged old new = (new.registrar ≡ old.registrar)
+    ⊎ ((c : Command) × TakesTurns (state_after old.registrar 1 c) new.registrar
+    × OnOk new.merges (AreFew new.registrar.segments))

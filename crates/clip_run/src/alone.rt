@@ -1,33 +1,34 @@
 //! A run on one thread: a registrar of its own, its books, and merge turns between the lines.
-ghost use Rattle.std.specs.Prelude.{IfOk, OnErr};
+ghost use Rattle.std.specs.Prelude.{◌≡◌, ◌≢◌, ◌++◌, true, Err, IfErr, IfOk, OnErr, OnOk};
 ghost use Rattle.clip_listen.specs.Heard.{HearsFront};
+ghost use Rattle.clip_stream.specs.Device.{AppendsFront, HandsOver};
 ghost use Rattle.clip_stream.specs.Lines.{OfInput, OfLinesRead};
 ghost use Rattle.clip_front.specs.Devices.{AreFresh, IsHonest, devices_at};
 ghost use Rattle.clip_protocol.specs.LineMeaning.{matching};
-ghost use Rattle.clip_protocol.specs.Reply.{alerts_of_all};
+ghost use Rattle.clip_protocol.specs.Reply.{alerts_of_all, reply};
 ghost use Rattle.clip_front.specs.Outcome.{GivesAll, GivesFront};
 ghost use Rattle.clip_front.specs.Steps.Answers.{GoesOn, held};
 
 use crate::finding::hits_found;
-use clip_front::{
-    Books, Ended, Registry, Server, Settings, Taken, deliver_found, serve, take_line,
-};
+use clip_front::{Books, Ended, MatchReply, Registry, Server, Settings, Taken, serve, take_line};
 use clip_listen::Audience;
-use clip_match::match_batch_finding;
+use clip_match::match_article_finding;
 use clip_meaning::Article;
-use clip_registry::{Registrar, View, merge_turn};
+use clip_registry::{Registrar, View, merge_all};
 use clip_standing::{Applied, Command, Refused};
-use clip_stream::{RunFault, Sink, Source};
+use clip_stream::{Flow, RunFault, Sink, Source};
 use clip_words::{NoMemory, WordPool};
 use std::alloc::Global;
 
 /// The caller of each change.
 const CALLER: u32 = 1;
 
-/// A registrar that one run owns. Each accepted change is followed by a merge turn.
+/// A registrar that one run owns. Each accepted change is followed by merge turns.
 #[derive(Drop)]
 struct Owned {
     registrar: Registrar,
+    /// How the merge turns after the last accepted change ended: segments are few where none was refused memory.
+    merges: Result<(), NoMemory>,
 }
 
 impl Registry for Owned {
@@ -39,13 +40,13 @@ impl Registry for Owned {
 
     ghost purges = { λ old new. new.registrar ≡ purged old.registrar };
 
-    ghost goes_on = { λ old new. GoesOnUnpurged old.registrar new.registrar };
+    ghost goes_on = { GoesOnUnpurged };
 
-    /// Accepts a command, and takes a merge turn then. A turn that is refused memory is dropped.
+    /// Accepts a command, and takes merge turns then, until segments are few or a turn is refused memory.
     fn accept(&mut self, command: Command) -> Result<Option<Applied>, NoMemory> {
         match self.registrar.apply(CALLER, command) {
             Ok(applied) => {
-                let _ = merge_turn(&mut self.registrar);
+                self.merges = merge_all(&mut self.registrar);
                 Ok(Some(applied))
             }
             Err((_, Refused::Full)) => Ok(None),
@@ -75,26 +76,43 @@ struct RunServer {
     pool: WordPool,
 }
 
-/// Matches articles at a view, and delivers their alerts: the text of the reply to the line of this number.
-fn answer_match<A: Audience>(
+/// Matches articles at a view, article by article: delivers the alerts of one, and puts what the reply to the line of
+/// this number shows of it, before the next is matched.
+fn answer_match<A: Audience, W: Sink>(
     alloc: Global,
     view: &View,
     audience: &mut A,
     books: &mut Books,
+    flow: &mut Flow<'_, W>,
     number: u64,
     articles: &[Article],
-) -> Result<Vec<u8>, NoMemory>
-    ensures ok { IfOk result (λ text. GoesOn (held view.now.history (A.hearers audience.old) books.old)
-        (held view.now.history (A.hearers audience.new) books.new) number (matching articles.now) text.items) }
+) -> Result<(), RunFault>
+    ensures same_reference { flow.new.writer.ghost_name ≡ flow.old.writer.ghost_name }
+    ensures goes_on { OnOk result (GoesOn (held view.now.history (A.hearers audience.old) books.old)
+        (held view.now.history (A.hearers audience.new) books.new) number (matching articles.now)
+        (reply books.old.settings.form (A.hearers audience.old) number view.now.history (matching articles.now))) }
+    ensures moved { OnOk result (HandsOver (W.taken flow.old.writer.now) (flow.old.outbox.now
+        ++ reply books.old.settings.form (A.hearers audience.old) number view.now.history (matching articles.now))
+        (W.taken flow.new.writer.now) flow.new.outbox.now) }
+    ensures well { OnOk result (W.has_failed flow.new.writer.now ≡ W.has_failed flow.old.writer.now) }
+    ensures fault { IfErr result (λ e. e ≢ RunFault.Read) }
+    ensures write { result ≡ Err RunFault.Write → W.has_failed flow.new.writer.now ≡ true }
     ensures err { OnErr result (HearsFront (alerts_of_all view.now.history articles.now)
         (A.hearers audience.old) (A.hearers audience.new)) }
+    ensures front { OnErr result (AppendsFront (W.taken flow.old.writer.now) (W.taken flow.new.writer.now)
+        (flow.old.outbox.now
+        ++ reply books.old.settings.form (A.hearers audience.old) number view.now.history (matching articles.now))) }
 {
     let hits = hits_found(books.settings);
-    let found = match_batch_finding(alloc, view, articles, hits)?;
-    deliver_found(alloc, audience, books, number, found)
+    let mut answer = MatchReply::begin(alloc, flow, number)?;
+    for article in articles {
+        let alerts = match_article_finding(alloc, view, article, hits)?;
+        answer.add(alloc, audience, books, flow, &alerts)?;
+    }
+    answer.end(alloc, flow)
 }
 
-impl<A: Audience> Server<A> for RunServer {
+impl<A: Audience, W: Sink> Server<A, W> for RunServer {
     ghost use Rattle.std.specs.Prelude.{⊤};
     ghost use Rattle.clip_front.specs.Steps.Answers.{BreaksIn};
     ghost use Rattle.clip_run.specs.RunServer.{AnswersAlone, held_at};
@@ -109,10 +127,11 @@ impl<A: Audience> Server<A> for RunServer {
         &mut self,
         alloc: Global,
         audience: &mut A,
+        flow: &mut Flow<'_, W>,
         number: u64,
         bytes: &[u8],
         _has_more: bool,
-    ) -> Result<Vec<u8>, NoMemory> {
+    ) -> Result<(), RunFault> {
         match take_line(
             alloc,
             &mut self.pool,
@@ -121,10 +140,18 @@ impl<A: Audience> Server<A> for RunServer {
             number,
             bytes,
         )? {
-            Taken::Text(text) => Ok(text),
+            Taken::Text(text) => flow.put(&text),
             Taken::Articles(articles) => {
                 let view = self.registry.registrar.view()?;
-                answer_match(alloc, &view, audience, &mut self.books, number, &articles)
+                answer_match(
+                    alloc,
+                    &view,
+                    audience,
+                    &mut self.books,
+                    flow,
+                    number,
+                    &articles,
+                )
             }
         }
     }
@@ -136,10 +163,13 @@ impl<A: Audience> Server<A> for RunServer {
 ///
 /// Before it asks the reader for more bytes, each reply to a line that was read whole is written and flushed; between
 /// two reads the replies are gathered, so that the writer gets few writes. Each line is answered by the registry that
-/// the lines before it leave, and its alerts are delivered before its reply is written.
+/// the lines before it leave. A match is answered article by article: the alerts of each are delivered before its part
+/// of the reply is written, and that before the next is matched, so no reply is held whole.
 ///
-/// After each accepted change one merge turn is taken: the oldest four neighbouring segments of one level become one. A
-/// turn that is refused memory is dropped, and a later one may take them. What is registered stays as it is.
+/// After each accepted change merge turns are taken until there is nothing to merge: the oldest four neighbouring
+/// segments of one level become one, or, where there are no such four, all from the oldest on behind which one has a
+/// higher level. Then there are three segments at most for each level up to that of all their entries together. Where a
+/// turn is refused memory, the turns after the next change merge again. What is registered stays as it is.
 ///
 /// The devices are to be fresh: nothing was read yet, the reader has not met its end, and no call of it or of the
 /// writer has failed.
@@ -151,14 +181,15 @@ impl<A: Audience> Server<A> for RunServer {
 ///
 /// Cost: a register reads each query that it lists, looks its listener's name up, extracts its keys and searches the
 /// ids for its own; a delete searches the ids for each that it lists. A merge turn takes a step for each segment and,
-/// where there are four to merge, a look-up for each key of each of their entries. While no query is replaced or
-/// taken out, an entry is rewritten at most once per level, so at most about log4 n times where n queries are
-/// registered one by one; a merge that leaves dead entries out may stay at its level. A purge takes a step for each
+/// where there are some to merge, a look-up for each key of each of their entries. While no query is replaced or
+/// taken out, an entry is rewritten at most once for each level that it rises, and once more, so at most about log4 n
+/// times where n queries are registered; a merge that leaves dead entries out may stay at its level. A purge takes a step for each
 /// entry, and rewrites the segments that have a dead one. A match costs for each article its words, a look-up of its
 /// keys in each segment, and its candidates, and not the registry, and for each alert with a listener a look-up of
 /// the name and what that listener takes. Memory: one line and what it asks for, up to 64 KiB of gathered replies and
-/// one reply more, at most 4,096 words of the last articles, the registered queries, and those that no merge or purge
-/// has left out yet, with their index, and a row for each alert where rows are kept.
+/// what is shown of one article more, the alerts of one article and the notes of one line, at most 4,096 words of the
+/// last articles, the registered queries, and those that no merge or purge has left out yet, with their index, and a
+/// row for each alert where rows are kept.
 pub fn run_alone<R: Source, W: Sink, A: Audience>(
     alloc: Global,
     reader: &mut R,
@@ -187,6 +218,7 @@ pub fn run_alone<R: Source, W: Sink, A: Audience>(
     let mut server = RunServer {
         registry: Owned {
             registrar: Registrar::without_history(alloc),
+            merges: Ok(()),
         },
         books: Books::new(alloc, settings),
         pool: WordPool::new(alloc),

@@ -3,12 +3,14 @@
 
 mod device;
 mod fault;
+mod flow;
 mod limits;
 mod lines;
 mod outbox;
 
 pub use device::{Failed, Sink, Source, StdSink, StdSource};
 pub use fault::RunFault;
+pub use flow::Flow;
 pub use limits::{MOST_LINE_BYTES, MOST_READS, MOST_WORKERS};
 pub use lines::{LineReader, lines_read_come_first};
 pub use outbox::Outbox;

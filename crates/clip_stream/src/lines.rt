@@ -2,12 +2,13 @@
 ghost use Rattle.std.specs.Prelude.{◌≡◌, ◌≢◌, ◌+◌, ◌-◌, ◌<◌, ◌≤◌, ◌++◌, ◌⊎◌, [], length, take, drop, true, false, is_err, is_ok, IfOk, OnOk, OnErr, IfSome, IfNone, MatchOption, MatchBool, Err, IfErr};
 ghost use Rattle.std.specs.Io.KnownBytes.{Consumes, IsAtEnd, Keeps};
 ghost use Rattle.clip_stream.specs.Lines.{LinesReadComeFirst};
-ghost use Rattle.clip_stream.specs.Steps.Reading.{has_feed, first_line, after_line, cut, fuel, FindsLine, Reads};
+ghost use Rattle.clip_stream.specs.Steps.Reading.{has_feed, first_line, after_line, cut, fuel, FindsLine, IsFeedOf, Reads};
 
 use crate::device::Source;
 use crate::fault::RunFault;
 use crate::limits::{MOST_LINE_BYTES, MOST_READS};
 use clip_words::NoMemory;
+use memchr::memchr;
 use std::alloc::Global;
 use std::marker::Model;
 
@@ -17,19 +18,21 @@ const CHUNK: usize = 65_536;
 /// How many bytes of a line are kept: one more than a line may have tells that it is too long.
 const KEPT: usize = MOST_LINE_BYTES + 1;
 
-/// What was read and not yet taken, and how many reads are left.
+/// What was read and not yet taken, where its first line feed stands, and how many reads are left.
 #[derive(Drop)]
 pub struct LineReader {
     buffer: Vec<u8>,
     start: usize,
     end: usize,
+    /// Where the first line feed of what is pending stands, counted from its start: each byte is looked at once.
+    feed: Option<usize>,
     reads_left: u64,
     is_at_end: bool,
 }
 
 impl Model for LineReader {
     ghost use Rattle.std.specs.Prelude.{◌≡◌, ◌≤◌, ◌-◌, take, drop, vec_len, true};
-    ghost use Rattle.clip_stream.specs.Steps.Reading.{Reading};
+    ghost use Rattle.clip_stream.specs.Steps.Reading.{Reading, IsFeedOf};
     ghost use Rattle.clip_stream.specs.declared.limits.TheConstants.{MOST_READS};
 
     ghost Value = { Reading };
@@ -41,23 +44,15 @@ impl Model for LineReader {
     } };
 
     ghost invariant = { λ r. (r.start ≤ r.end) × (r.end ≤ vec_len r.buffer) × (vec_len r.buffer ≡ 65536)
-        × (r.reads_left ≤ MOST_READS) × (r.is_at_end ≡ true → r.start ≡ r.end) };
+        × (r.reads_left ≤ MOST_READS) × (r.is_at_end ≡ true → r.start ≡ r.end)
+        × IsFeedOf r.feed (take (r.end - r.start) (drop r.start r.buffer.items)) };
 }
 
 /// Where the first line feed stands.
 fn feed_of(bytes: &[u8]) -> Option<usize>
-    ensures none { IfNone result (has_feed bytes.now ≡ false) }
-    ensures some { IfSome result (λ _. has_feed bytes.now ≡ true) }
-    ensures within { IfSome result (λ i. i < length bytes.now) }
-    ensures first { IfSome result (λ i. first_line bytes.now ≡ take i bytes.now) }
-    ensures after { IfSome result (λ i. after_line bytes.now ≡ drop (i + 1) bytes.now) }
+    ensures { IsFeedOf result bytes.now }
 {
-    for (i, b) in bytes.iter().enumerate() {
-        if *b == b'\n' {
-            return Some(i);
-        }
-    }
-    None
+    memchr(b'\n', bytes)
 }
 
 /// Adds bytes to a line, of which no more is kept than tells that it is too long.
@@ -81,6 +76,7 @@ impl LineReader {
             buffer: vec![in alloc; 0; CHUNK]?,
             start: 0,
             end: 0,
+            feed: None,
             reads_left: MOST_READS,
             is_at_end: false,
         })
@@ -99,9 +95,10 @@ impl LineReader {
         ensures end { self.new.is_at_end ≡ self.old.is_at_end }
     {
         let pending = &self.buffer[self.start..self.end];
-        match feed_of(pending) {
+        match self.feed {
             Some(i) => {
                 extend_cut(line, &pending[..i])?;
+                self.feed = feed_of(&pending[i + 1..]);
                 self.start += i + 1;
                 Ok(true)
             }
@@ -143,6 +140,7 @@ impl LineReader {
         self.reads_left -= 1;
         self.start = 0;
         self.end = 0;
+        self.feed = None;
         match reader.read(&mut self.buffer) {
             Ok(0) => {
                 self.is_at_end = true;
@@ -150,17 +148,18 @@ impl LineReader {
             }
             Ok(n) => {
                 self.end = n;
+                self.feed = feed_of(&self.buffer[..n]);
                 Ok(true)
             }
             Err(_) => Err(RunFault::Read),
         }
     }
 
-    /// Whether a whole line is pending, so that it comes without a read.
+    /// Whether a whole line is pending, so that it comes without a read. Cost: one step.
     pub fn has_line(&self) -> bool
         ensures { result ≡ has_feed self.now.pending }
     {
-        feed_of(&self.buffer[self.start..self.end]).is_some()
+        self.feed.is_some()
     }
 
     /// The next line, without its line feed, or false at the end of the input. Of a line at most

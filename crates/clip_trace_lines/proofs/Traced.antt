@@ -1,8 +1,9 @@
 -- What a trace gives, by the answers to its lines.
-use Rattle.std.proofs.Common.{◌≡◌, ℕ, suc, List, [], ◌∷◌, ◌++◌, map, Bool, true, false, cond, Option, Some, None, refl, sym, ap, ◌∙◌, subst, append_assoc, append-nil, if◌then◌else◌}
+use Rattle.std.proofs.Common.{◌≡◌, ℕ, suc, List, [], ◌∷◌, ◌++◌, map, Bool, true, false, cond, Option, Some, None, refl, sym, ap, ◌∙◌, subst, append_assoc, append-nil, length, inl, inr, if◌then◌else◌}
 use Rattle.serde_json.specs.Data.{Data}
 use Rattle.clip_standing.specs.Alerts.{alerts_value}
 use Rattle.clip_standing.specs.declared.alert.Alerts.{Alerts}
+use Rattle.clip_stream.specs.Device.{AppendsFront}
 use Rattle.clip_stream.specs.Lines.{lines_of, OfInput, OfLinesRead}
 use Rattle.clip_stream.proofs.LinesRead.{of_input_weaker, of_lines_read_weaker}
 use Rattle.clip_stream.specs.Steps.Reading.{cut}
@@ -13,7 +14,7 @@ use Rattle.clip_protocol.specs.LineMeaning.{blank, refused, asks, SaysBy, IsFill
 use Rattle.clip_trace_lines.specs.TraceLine.{Said, SaysLine, SaysTrace}
 use Rattle.clip_trace_lines.specs.TraceOutcome.{found_shown, Traces, IsTrace, TracesAll, TracesFront}
 use Rattle.clip_trace_lines.specs.TraceRequest.{TraceRequest, trace_value, trace_within}
-use Rattle.clip_front.specs.Steps.Serving.{Serves, ServesAll, ServesFront}
+use Rattle.clip_front.specs.Steps.Serving.{Serves, StopsAt, ServesAll, ServesFront}
 use Rattle.clip_trace_lines.specs.Steps.TraceOutline.{trace_request_of, trace_line, asked_line, value_line, AnswersTraced, AnswersIn, BreaksIn}
 use Rattle.clip_protocol.specs.Steps.Views.{alerts_by_id}
 use Rattle.clip_protocol.proofs.RequestLaw.{none_is_some}
@@ -108,6 +109,15 @@ pub trace_gives : {S : Type 0} (view : S → Stand) (s t : S) (left taken_first 
 trace_gives view s t left taken_first taken count start p =
     of_input_weaker left (ServesAll (AnswersIn view) s t taken_first taken count) (TracesAll taken_first taken count) (λ input served. record { text = served.text; is = is_trace view s t (lines_of input) served.text start served.served; replies = served.written; counted = served.counted }) p
 
+-- nothing of the line that was begun was on its way
+none_begun : {S : Type 0} (s t : S) (n : ℕ) (later : List (List ℕ)) (begun : List ℕ) → StopsAt BreaksIn s t n later begun → begun ≡ []
+none_begun s t n [] begun stopped = stopped.1
+none_begun s t n (line ∷ later) begun (inl stopped) = stopped.1
+none_begun s t n (line ∷ later) begun (inr broken) = broken
+
+written_of : {S : Type 0} (s t : S) (n : ℕ) (later : List (List ℕ)) (text begun : List ℕ) (taken_first taken : Option (List ℕ)) → StopsAt BreaksIn s t n later begun → AppendsFront taken_first taken (text ++ begun) → AppendsFront taken_first taken text
+written_of s t n later text begun taken_first taken stops written = subst (AppendsFront taken_first taken) (ap (λ x. text ++ x) (none_begun s t n later begun stops) ∙ append-nil text) written
+
 pub trace_gives_front : {S : Type 0} (view : S → Stand) (s t : S) (left left_new : Option (List ℕ)) (met_end : Bool) (taken_first taken : Option (List ℕ)) → view s ≡ nothing_open → OfLinesRead left left_new met_end (ServesFront (AnswersIn view) BreaksIn s t taken_first taken) → OfLinesRead left left_new met_end (TracesFront taken_first taken)
 trace_gives_front view s t left left_new met_end taken_first taken start p =
-    of_lines_read_weaker left left_new met_end (ServesFront (AnswersIn view) BreaksIn s t taken_first taken) (TracesFront taken_first taken) (λ lines served. record { front = served.front; later = served.later; text = served.text; cut = served.parts; is = is_trace view s served.between served.front served.text start served.served; replies = served.written }) p
+    of_lines_read_weaker left left_new met_end (ServesFront (AnswersIn view) BreaksIn s t taken_first taken) (TracesFront taken_first taken) (λ lines served. record { front = served.front; later = served.later; text = served.text; cut = served.parts; is = is_trace view s served.between served.front served.text start served.served; replies = written_of served.between t (suc (length served.front)) served.later served.text served.begun taken_first taken served.stops served.written }) p

@@ -7,9 +7,8 @@ ghost use Rattle.clip_trace_lines.specs.TraceOutcome.{TracesAll, TracesFront};
 use crate::trace_answer::answer_traced;
 use clip_front::{Ended, Server, serve};
 use clip_ledger::Ledger;
-use clip_stream::{RunFault, Sink, Source};
+use clip_stream::{Flow, RunFault, Sink, Source};
 use clip_trace::Tracer;
-use clip_words::NoMemory;
 use std::alloc::Global;
 
 /// A tracer, which answers the lines of a trace, with nothing lent to it.
@@ -18,7 +17,7 @@ struct TraceServer {
     tracer: Tracer,
 }
 
-impl Server<()> for TraceServer {
+impl<W: Sink> Server<(), W> for TraceServer {
     ghost use Rattle.std.specs.Prelude.{⊤};
     ghost use Rattle.clip_trace_lines.specs.Steps.TraceServer.{stand_at};
     ghost use Rattle.clip_trace_lines.specs.Steps.TraceOutline.{AnswersIn, BreaksIn};
@@ -33,11 +32,13 @@ impl Server<()> for TraceServer {
         &mut self,
         alloc: Global,
         _lent: &mut (),
+        flow: &mut Flow<'_, W>,
         number: u64,
         bytes: &[u8],
         _has_more: bool,
-    ) -> Result<Vec<u8>, NoMemory> {
-        answer_traced(alloc, &mut self.tracer, number, bytes)
+    ) -> Result<(), RunFault> {
+        let text = answer_traced(alloc, &mut self.tracer, number, bytes)?;
+        flow.put(&text)
     }
 }
 

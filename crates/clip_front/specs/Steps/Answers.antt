@@ -92,11 +92,14 @@ pub record Answers (old new : Held) (n : ℕ) (line text : List ℕ) : Type 0 wh
   pub means : Means (names_in old.hearers) old.history line meaning
   pub goes_on : GoesOn old new n meaning text
 
--- Where the answering was broken off, the listeners have heard a front of the line's alerts.
-pub record Breaks (old new : Held) (line : List ℕ) : Type 0 where
+-- Where the answering of line n was broken off, the listeners have heard a front of the line's alerts, and the text that
+-- was on its way is a front of the reply.
+pub record Breaks (old new : Held) (n : ℕ) (line text : List ℕ) : Type 0 where
   pub meaning : Meaning
   pub means : Means (names_in old.hearers) old.history line meaning
   pub heard : HearsFront (alerts_told old.history meaning) old.hearers new.hearers
+  pub more : List ℕ
+  pub replies : reply old.settings.form old.hearers n old.history meaning ≡ text ++ more
 
 -- ---- by a server
 
@@ -104,6 +107,6 @@ pub record Breaks (old new : Held) (line : List ℕ) : Type 0 where
 abbrev pub AnswersIn : {S : Type 0} → (S → Held) → Answering S
 AnswersIn view s t n line text = Answers (view s) (view t) n line text
 
--- nothing but a front of the line's alerts was told
+-- nothing but a front of the line's alerts was told, and of its reply none was on its way but a front
 abbrev pub BreaksIn : {S : Type 0} → (S → Held) → Breaking S
-BreaksIn view s t n line = Breaks (view s) (view t) line
+BreaksIn view s t n line text = Breaks (view s) (view t) n line text

@@ -1,5 +1,5 @@
 -- How a reader takes one line after another.
-use Rattle.std.specs.Prelude.{◌≡◌, ◌⊎◌, ℕ, suc, ◌+◌, ◌*◌, ◌<◌, ◌==◌, ◌||◌, List, [], ◌∷◌, ◌++◌, length, take, Bool, true, false, if◌then◌else◌, Option}
+use Rattle.std.specs.Prelude.{◌≡◌, ◌⊎◌, ℕ, suc, ◌+◌, ◌*◌, ◌<◌, ◌==◌, ◌||◌, List, [], ◌∷◌, ◌++◌, length, take, drop, Bool, true, false, if◌then◌else◌, Option, MatchOption}
 use Rattle.std.specs.Io.KnownBytes.{Consumes}
 use Rattle.clip_stream.specs.declared.limits.TheConstants.{MOST_LINE_BYTES}
 
@@ -16,6 +16,17 @@ first_line (b ∷ bytes) = if b == 10 then [] else b ∷ first_line bytes
 abbrev pub after_line : List ℕ → List ℕ
 after_line [] = []
 after_line (b ∷ bytes) = if b == 10 then bytes else after_line bytes
+
+-- the first line feed stands at this place of the bytes
+pub record FeedsAt (bytes : List ℕ) (i : ℕ) : Type 0 where
+  pub has : has_feed bytes ≡ true
+  pub within : i < length bytes
+  pub first : first_line bytes ≡ take i bytes
+  pub after : after_line bytes ≡ drop (i + 1) bytes
+
+-- the first line feed of the bytes stands at this place, or there is none
+abbrev pub IsFeedOf : Option ℕ → List ℕ → Type 0
+IsFeedOf feed bytes = MatchOption feed (has_feed bytes ≡ false) (λ i. FeedsAt bytes i)
 
 -- what is kept of a line: one byte more than a line may have tells that it is too long
 unfoldable pub cut : List ℕ → List ℕ

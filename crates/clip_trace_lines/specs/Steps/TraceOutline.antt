@@ -1,5 +1,5 @@
 -- What a line of a trace says, found step by step, and how it is answered: the stepping stones to the whole input.
-use Rattle.std.specs.Prelude.{◌≡◌, ℕ, ◌==◌, List, map, if◌then◌else◌, ◌++◌, Option, Some, None, option_map, option_and_then, codes, bytes_eq, Result, Ok, Err, ⊤, string_bytes}
+use Rattle.std.specs.Prelude.{[], ◌≡◌, ℕ, ◌==◌, List, map, if◌then◌else◌, ◌++◌, Option, Some, None, option_map, option_and_then, codes, bytes_eq, Result, Ok, Err, ⊤, string_bytes}
 use Rattle.std.specs.Arc.{arc_value}
 use Rattle.std.specs.declared.alloc.Global.{Global}
 use Rattle.std.specs.declared.sync.Arc.{Arc}
@@ -190,6 +190,6 @@ pub record AnswersTraced (old new : Stand) (n : ℕ) (line bytes : List ℕ) : T
 abbrev pub AnswersIn : {S : Type 0} → (S → Stand) → Answering S
 AnswersIn view s t n line text = AnswersTraced (view s) (view t) n line text
 
--- nothing is told of an answering that was broken off
+-- of an answering that was broken off nothing was on its way
 abbrev pub BreaksIn : {S : Type 0} → Breaking S
-BreaksIn s t n line = ⊤
+BreaksIn s t n line text = text ≡ []

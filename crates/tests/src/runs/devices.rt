@@ -80,6 +80,8 @@ pub struct Tape {
     pub flushes: u64,
     pub flushed: bool,
     pub failed: bool,
+    /// The most bytes that one call was handed.
+    pub longest: usize,
     ghost some: { 0 < piece },
 }
 
@@ -96,6 +98,7 @@ impl Sink for Tape {
         }
         self.flushed = false;
         self.writes = self.writes.saturating_add(1);
+        self.longest = self.longest.max(bytes.len());
         if self.writes > self.well && self.failing != Failing::Flush {
             self.failed = true;
             if self.failing == Failing::WriteOfNothing {
@@ -135,5 +138,6 @@ pub fn blank_tape(alloc: Global, piece: usize, failing: Failing, well: u64) -> T
         flushes: 0,
         flushed: false,
         failed: false,
+        longest: 0,
     }
 }

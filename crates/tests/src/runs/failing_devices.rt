@@ -2,6 +2,7 @@
 use crate::runs::devices::{Failing, MANY, blank_tape, script_of};
 use crate::runs::{PRESS, PRESSED, WORKERS, run_unheard, text_of};
 use clip_stream::{RunFault, StdSink, StdSource};
+use std::alloc::Global;
 use std::io;
 use std::io::{ErrorKind, Read, Write};
 use std::process::Abort;
@@ -109,6 +110,73 @@ fn each_write_that_fails_is_a_write_fault(rt: HostRuntime) -> Result<(), Fail> {
     for workers in [0, 2] {
         fails_to_write(&rt, workers, Failing::Write)?;
         fails_to_write(&rt, workers, Failing::WriteOfNothing)?;
+    }
+    Ok(())
+}
+
+/// How many queries hold of each article of the large match.
+const HOLDING: u64 = 100;
+
+/// The id of a query of the large match, of 250 bytes.
+fn large_id(alloc: Global, number: u64) -> Result<String, Fail> {
+    Ok(format!(in alloc; "{}{}", 1000 + number, "x".repeat(alloc, 246)?)?)
+}
+
+/// A register of queries that hold of each article, and a match of so many articles.
+fn large_lines(alloc: Global, articles: u64) -> Result<String, Fail> {
+    let mut text = String::from_str(alloc, r#"{"op":"register","queries":["#)?;
+    for number in 0..HOLDING {
+        text.push_str(if number > 0 { "," } else { "" })?;
+        let id = large_id(alloc, number)?;
+        text.push_str(&format!(in alloc; r#"{{"id":"{id}","query":"*:*"}}"#)?)?;
+    }
+    text.push_str("]}\n")?;
+    text.push_str(r#"{"op":"match","articles":["#)?;
+    for number in 0..articles {
+        text.push_str(if number > 0 { "," } else { "" })?;
+        text.push_str(&format!(in alloc; r#"{{"id":"a{number}","fields":{{"text":"tea"}}}}"#)?)?;
+    }
+    text.push_str("]}\n")?;
+    Ok(text)
+}
+
+/// The replies to them.
+fn large_replies(alloc: Global, articles: u64) -> Result<String, Fail> {
+    let mut text = format!(in alloc; "{{\"line\":1,\"registered\":{HOLDING}}}\n{{\"alerts\":[")?;
+    for number in 0..articles {
+        text.push_str(if number > 0 { "," } else { "" })?;
+        text.push_str(&format!(in alloc; r#"{{"article":"a{number}","queries":["#)?)?;
+        for holding in 0..HOLDING {
+            text.push_str(if holding > 0 { "," } else { "" })?;
+            let id = large_id(alloc, holding)?;
+            text.push_str(&format!(in alloc; "\"{id}\"")?)?;
+        }
+        text.push_str("]}")?;
+    }
+    text.push_str("],\"line\":2,\"notes\":[]}\n")?;
+    Ok(text)
+}
+
+/// A reply of 760 kB, to 30 articles of 25 kB each, is written in pieces of at most 64 KiB and one article, and whichever
+/// write fails, what was taken is a front of it, and nothing more is written.
+#[test]
+fn a_large_reply_flows(rt: HostRuntime) -> Result<(), Fail> {
+    let input = large_lines(rt.alloc(), 30)?;
+    let wanted = large_replies(rt.alloc(), 30)?;
+    for well in 0..14u64 {
+        let mut source = script_of(input.as_bytes(), 65_536, MANY);
+        let mut sink = blank_tape(rt.alloc(), 1_000_000, Failing::Write, well);
+        let outcome = run_unheard(&rt, 0, &mut source, &mut sink);
+        assert!(rt; sink.longest < 65_536 + 26_000);
+        assert!(rt; wanted.as_bytes().starts_with(&sink.taken));
+        if sink.failed {
+            assert!(rt; outcome.err() == Some(RunFault::Write));
+            assert!(rt; sink.writes == well + 1);
+        } else {
+            assert!(rt; outcome.err() == None);
+            assert!(rt; sink.taken.as_slice() == wanted.as_bytes());
+            assert!(rt; sink.writes > 8);
+        }
     }
     Ok(())
 }

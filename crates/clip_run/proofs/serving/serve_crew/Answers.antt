@@ -1,4 +1,4 @@
-use Rattle.std.proofs.Common.{◌≡◌, [], ◌∙◌}
+use Rattle.std.proofs.Common.{◌≡◌, [], ◌∙◌, refl}
 use Rattle.clip_stream.proofs.Faults.{on_err}
 use Rattle.clip_front.specs.Devices.{devices_at}
 use Rattle.clip_front.proofs.Progress.{goes_first, goes_on, goes_to_end, fault_first, breaks_handing, breaks_reading, breaks_answering, breaks_gathering}
@@ -34,7 +34,7 @@ pub returns-in_err-text-clause-front : goal.returns-in_err-text-clause-front
 returns-in_err-text-clause-front g c =
     let found = rw c.if-not-branch.false at c.in_ok-next_line.ensures.line in
     let broken = rw c.deref.ensures.value at c.in_err-text.ensures.err in
-    on_err _ (breaks_answering c.lines.invariant c.in_ok-hand_over.ensures.moved found c.in_ok-next_line.ensures.met broken)
+    on_err _ (breaks_answering [] c.lines.invariant c.in_ok-hand_over.ensures.moved found c.in_ok-next_line.ensures.met (broken, refl))
 
 pub returns-in_err-gather-clause-front : goal.returns-in_err-gather-clause-front
 returns-in_err-gather-clause-front g c =
