@@ -128,6 +128,7 @@ def a_nameless_client_ends_without_redis() -> None:
 def a_life_is_renewed() -> None:
     """A name with a life of two seconds lives for as long as its program does, and goes after it."""
     with folder() as name, Grid(Path(name), 2, 1) as grid:
+        need(grid.ended("submit", "--name", "desk", "--life", "0").returncode == 2, "a name without a life")
         client = grid.client("--name", "desk", "--life", "2")
         for number in (1, 2):
             client.send(COUNT)
