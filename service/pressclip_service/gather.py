@@ -11,8 +11,9 @@ import time
 
 from .names import GATHERER
 from .scripts import KEEP
-from .signs import Signs, State
+from .signs import Signs
 from .store import Store
+from .turns import State
 
 PAUSE_SECONDS = 0.25
 MOST_ANSWERS = 1_024

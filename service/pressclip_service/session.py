@@ -21,14 +21,17 @@ from .names import (CHANGES, CLEAR, CLIENT, COUNT, DELETE, KIND, LINE, LINE_NUMB
 from .parts import Heard, answer_of
 from .replies import Kind, count_in, kind_of
 from .scripts import NEED
-from .signs import STUCK_SECONDS, Signs, State, Turns
+from .signs import Signs
 from .snapshots import Replaced, Requests, Snapshot, is_request, lines_of, part_of, snapshot_of
 from .store import Entry, Store
 from .teller import Answer, Teller
+from .turns import State, Turns
 
 MOST_OWED = 1_024
 REQUESTS_AT_ONCE = 64
 IDLE_SECONDS = 1.0
+# A worker whose engine owes a reply for so long is stuck.
+STUCK_SECONDS = 5.0
 # So soon a worker that holds answers looks whether Redis has them still.
 LOOK_SECONDS = 0.2
 # Before an engine has taken as many changes as it can (4,294,967,295) another is built from the live queries.

@@ -7,8 +7,11 @@ from dataclasses import dataclass
 from typing import Iterator
 
 from .names import GATHERER, NUMBER, TIDIER, Id, Settings, worker_name
-from .signs import STUCK_SECONDS, Sign, State
 from .store import Store
+from .turns import Sign, State
+
+# Who gave no sign for so long is said to give none.
+SILENT_SECONDS = 5.0
 
 
 @dataclass(frozen=True)
@@ -40,7 +43,7 @@ class Standing:
         """What holds it up, as far as its signs say."""
         if self.seconds is None:
             return "no sign of it since Redis began"
-        if self.seconds > STUCK_SECONDS:
+        if self.seconds > SILENT_SECONDS:
             return f"no sign of it for {self.seconds:.0f} s, since request {self.number}"
         if self.state is State.STUCK:
             return f"its engine owes a reply behind request {self.number}"

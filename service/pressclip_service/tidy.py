@@ -7,9 +7,10 @@ import time
 from .errors import tell
 from .lives import forget_what_is_over
 from .names import TIDIER, Id, worker_name
-from .signs import Signs, State
+from .signs import Signs
 from .snapshots import Replaced, live_at, replace, snapshot_of
 from .store import PAUSE_SECONDS, Store
+from .turns import State
 
 
 class Tidier:

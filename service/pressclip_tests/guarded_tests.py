@@ -137,6 +137,7 @@ def one_redis_has_a_folder() -> None:
         port, other = free_port(), free_port()
         with Guarded(words, ["--port", str(port)]):
             wait_for(port)
+            need(Path(name, "r").stat().st_mode & 0o777 == 0o700, "others may look into the folder")
             second = subprocess.run([str(REDIS), *words, "--", "--port", str(other), "--bind", "127.0.0.1"],
                                     capture_output=True, timeout=60, check=False)
             need(second.returncode == 5 and b"another service/redis has the folder" in second.stderr, f"{second}")

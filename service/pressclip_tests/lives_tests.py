@@ -126,13 +126,14 @@ def a_nameless_client_ends_without_redis() -> None:
 
 
 def a_life_is_renewed() -> None:
-    """A name with a life of two seconds lives for as long as its program does, and goes after it."""
+    """A name with a life of four seconds lives for as long as its program does, and goes after it."""
     with folder() as name, Grid(Path(name), 2, 1) as grid:
-        client = grid.client("--name", "desk", "--life", "2")
+        need(grid.ended("submit", "--name", "desk", "--life", "0").returncode == 2, "a name without a life")
+        client = grid.client("--name", "desk", "--life", "4")
         for number in (1, 2):
             client.send(COUNT)
             need(client.wait_for_replies() == [b'{"count":0,"line":%d}' % number], f"no reply: {client.told()}")
-            time.sleep(3)
+            time.sleep(5)
             known = names(grid).get("desk")
             need(known is not None and known["line"] == number, f"{known}")
         client.close()

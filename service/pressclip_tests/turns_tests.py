@@ -11,6 +11,8 @@ import time
 from pathlib import Path
 from typing import Callable
 
+from pressclip_service.turns import Sign, State, Turns
+
 from .grid_runs import Chaos, Grid, Role, end
 from .inputs import Source, joined
 from .judge import Due, Failed, folder, need, same
@@ -156,6 +158,27 @@ def kept_once(grid: Grid, due: Due) -> None:
     need(grid.redis.asked("XLEN", PREFIX + "replies:desk") == str(count), "not each reply is kept once")
 
 
+def turns_are_counted_in_signs() -> None:
+    """Whose requests the replica 2 of 4 answers, by the signs of 0, 1 and 3 at each of its own; worked out by hand."""
+    turns, place = Turns(4, 2), iter(range(100))
+
+    def see(times: int, *states: State | None) -> frozenset[int]:
+        for _ in range(times):
+            number = next(place)
+            turns.see([Sign(number, number, state) if state else None for state in states])
+        return turns.mine
+
+    loading, ready, stuck = State.LOADING, State.READY, State.STUCK
+    for times, states, due in ((3, (ready, ready, ready), {2}), (4, (ready, None, ready), {2}),
+                               (1, (ready, None, ready), {1, 2}), (4, (stuck, None, ready), {1, 2}),
+                               (1, (stuck, None, ready), {0, 1, 2}), (9, (loading, None, ready), {0, 1, 2}),
+                               (1, (ready, None, ready), {1, 2}), (5, (ready, None, None), {1, 2}),
+                               (5, (None, None, None), {0, 1, 2, 3}), (1, (None, None, ready), {0, 1, 2}),
+                               (1, (None, ready, ready), {2})):
+        found = see(times, *states)
+        need(found == due, f"{states} {times} times: {sorted(found)}, and {sorted(due)} are due")
+
+
 def one_of_two_replicas_is_enough() -> None:
     """A replica of each of two shards is ended in the middle of an input, and later started again while the other one
     is ended: replies go on each time, with the bytes of one engine."""
@@ -290,6 +313,6 @@ def a_worker_ends_where_its_engine_always_does() -> None:
 
 
 TESTS = (a_worker_ends_where_its_engine_always_does, what_a_client_waits_for_is_told, a_reader_that_stops_is_told,
-         a_grid_that_was_never_made_is_told, the_status_says_who_is_where, one_of_two_replicas_is_enough,
-         a_replica_that_hangs_loses_its_turns, turns_are_taken_in_place, a_change_is_not_done_twice,
-         a_replica_that_never_was_is_replaced)
+         turns_are_counted_in_signs, a_grid_that_was_never_made_is_told, the_status_says_who_is_where,
+         one_of_two_replicas_is_enough, a_replica_that_hangs_loses_its_turns, turns_are_taken_in_place,
+         a_change_is_not_done_twice, a_replica_that_never_was_is_replaced)
