@@ -10,7 +10,7 @@ import fcntl
 import mmap
 import os
 from pathlib import Path
-from typing import Iterator
+from typing import Callable, Iterator
 
 from .errors import JournalLocked, StorageFailed
 from .folders import FILE_MODE, make_folder, set_aside, storage, sync_folder, write_whole
@@ -27,12 +27,15 @@ class NotReplaced(Exception):
 
 class Journal:
     """A journal that is open for more: nobody else has it open for that. `notes` says what was found and done as it was
-    opened."""
+    opened; meanwhile `each_record` is called at each one that was read.
 
-    def __init__(self, folder: Path) -> None:
+    Cost: reads the whole file once, and twice where it is of form 1."""
+
+    def __init__(self, folder: Path, each_record: Callable[[], None] = lambda: None) -> None:
         self.folder = folder
         self.path = folder / FILE
         self.notes: list[str] = []
+        self._each_record = each_record
         with storage(f"open the journal in {folder}"):
             make_folder(folder)
             self._lock = os.open(folder / LOCK, os.O_RDWR | os.O_CREAT, FILE_MODE)
@@ -60,7 +63,7 @@ class Journal:
                 self._begin()
         reading = Reading(self.path)
         for _ in reading.frames():
-            pass
+            self._each_record()
         self.changes, self.end, self.link = reading.changes, reading.end, reading.link
         with storage(f"open the journal in {self.folder}"):
             if reading.torn:
@@ -96,6 +99,7 @@ class Journal:
             journal = NewJournal.beginning(new, old.head.changes)
             for frame in Reading(self.path).frames():
                 journal.add(frame.kind, frame.number, frame.payload)
+                self._each_record()
             head = journal.seal()
         finally:
             os.close(new)

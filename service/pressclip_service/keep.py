@@ -6,7 +6,7 @@ import select
 import time
 from collections import deque
 from dataclasses import dataclass
-from typing import Iterator, Mapping, Sequence
+from typing import Callable, Iterator, Mapping, Sequence
 
 from .ends import Ends
 from .engine import Engine
@@ -184,16 +184,24 @@ class Keeper:
         """Serves the input to its end, or until an end is asked for."""
         while not self._is_done():
             self._turn()
-        self.engine.wait()
+        self._end_engine()
         self._end_rewriting()
         if self.input.failure:
             raise self.input.failure
+
+    def _end_engine(self) -> None:
+        """Waits until the engine has ended with its input."""
+        self.patience.begin()
+        ended = {self.engine.output: select.POLLIN}
+        while self.engine.output not in self._ready_of(ended, lambda: "waits for the engine's end"):
+            pass
+        self.engine.wait()
 
     def _end_rewriting(self) -> None:
         """Waits for the process that writes the journal anew, if one is at work; drops it where an end is asked for."""
         self.patience.begin()
         while self.rewriter.ended is not None and not self.termination.is_asked:
-            ready = self._ready_of({self.rewriter.ended: select.POLLIN}, "waits until the journal is written anew")
+            ready = self._ready_of({self.rewriter.ended: select.POLLIN}, lambda: "waits until the journal is rewritten")
             if self.rewriter.ended in ready:
                 self.rewriter.finish()
         self.rewriter.drop()
@@ -208,7 +216,7 @@ class Keeper:
         if self.input.has_ended and not self.engine.unsent and not self.engine.closed:
             self.engine.close_input()
             return
-        ready = self._ready_of(self._awaited(), f"waits for the engine's reply to {self.owed.first_name()}")
+        ready = self._ready_of(self._awaited(), lambda: f"waits for the engine's reply to {self.owed.first_name()}")
         if self.engine.output in ready:
             self._take_replies()
             self.patience.begin()
@@ -229,7 +237,7 @@ class Keeper:
             awaited[self.rewriter.ended] = select.POLLIN
         return awaited
 
-    def _ready_of(self, awaited: Mapping[int, int], what: str) -> set[int]:
+    def _ready_of(self, awaited: Mapping[int, int], what: Callable[[], str]) -> set[int]:
         """Those descriptors at which there is something to do, after a wait; where that is long, what it is for is
         told. None where a signal came."""
         poll = select.poll()
@@ -240,7 +248,7 @@ class Keeper:
         found = poll.poll(None if is_idle else 1_000 * self.patience.seconds_left())
         ready = {descriptor for descriptor, _ in found}
         if not ready:
-            self.patience.look(what)
+            self.patience.look(what())
         if self.termination.woken in ready:
             self.termination.take()
         return ready

@@ -10,6 +10,7 @@ from pathlib import Path
 from .errors import StorageFailed, tell
 from .journal import Journal, NotReplaced
 from .replies import Kind
+from .signals import held_back_from_children
 
 
 class Size:
@@ -48,8 +49,9 @@ class Rewriting:
         command = [sys.executable, str(script), "--journal", str(journal.folder), "--write-live", str(self._start),
                    "--descriptor", str(self._new)]
         try:
-            self._process = subprocess.Popen(command, stdin=subprocess.DEVNULL, stdout=subprocess.DEVNULL,
-                                             pass_fds=[self._new])
+            with held_back_from_children():
+                self._process = subprocess.Popen(command, stdin=subprocess.DEVNULL, stdout=subprocess.DEVNULL,
+                                                 pass_fds=[self._new])
         except OSError as error:
             journal.drop_new(self._new)
             raise NotReplaced(error.strerror) from error

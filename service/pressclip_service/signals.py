@@ -43,7 +43,7 @@ class Termination:
 @contextmanager
 def held_back_from_children() -> Iterator[None]:
     """A child that is started meanwhile never hears SIGTERM: a signal to all processes of a service would end it before
-    it has answered what it owes. It ends with its input."""
+    it has done what is owed. It ends with its input, or is ended by us."""
     before = signal.pthread_sigmask(signal.SIG_BLOCK, (signal.SIGTERM,))
     try:
         yield

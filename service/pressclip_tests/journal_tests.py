@@ -9,17 +9,21 @@ import zlib
 from pathlib import Path
 from random import Random
 
+from pressclip_service.errors import BrokenJournal
 from pressclip_service.frames import CHANGES, FORM, LIVE, Frame
 from pressclip_service.journal import Journal
 from pressclip_service.new_journal import write_live
+from pressclip_service.reading import Reading
 
 from .inputs import Source, joined
 from .judge import folder, need, replies_of_engine, same
 from .keep_runs import Keep, changes_in, dump_of, run_keep
-from .processes import PATIENCE_SECONDS
+from .processes import ENDED, PATIENCE_SECONDS
 
 COUNT = b'{"op":"count"}\n'
 QUERIES = 5_000
+TAKEN_OVER = 8
+MUTATED = 3_000
 SHOWN = b"".join(b'{"op":"show","id":"q%d"}\n' % number for number in (0, 1_023, 1_024, 2_500, QUERIES - 1))
 
 
@@ -135,6 +139,51 @@ def records_of_two_journals_do_not_mix() -> None:
         is_refused(journals[0], mixed, "records of two journals")
 
 
+def mutated(whole: bytes, dice: Random) -> bytes:
+    """The bytes with one bit changed, or a range of them dropped, doubled, zeroed, moved or cut off."""
+    start, end = sorted(dice.sample(range(len(whole) + 1), 2))
+    part = whole[start:end]
+    place = dice.randrange(len(whole))
+    half = len(part) // 2
+    return dice.choice([whole[:place] + bytes([whole[place] ^ (1 << dice.randrange(8))]) + whole[place + 1:],
+                        whole[:start] + whole[end:], whole[:end] + whole[start:],
+                        whole[:start] + bytes(len(part)) + whole[end:],
+                        whole[:start] + part[half:] + part[:half] + whole[end:], whole[:end]])
+
+
+def other_bytes_are_refused_or_a_front() -> None:
+    """What is read of a file with other bytes is a front of what was written, with all that was there when it took its
+    place, or nothing; where one bit is changed before the last record, nothing."""
+    with folder() as name:
+        journal = Journal(Path(name))
+        for start in range(0, 24, 3):
+            journal.append([registering(start, 3)])
+        start, new = journal.end, journal.begin_new()
+        write_live(journal.path, start, new)
+        journal.put_in_place(new, start)
+        synced = journal.end
+        for number in range(6):
+            journal.append([registering(number, 2), b'{"op":"delete","ids":["q%d"]}' % number])
+        journal.close()
+        whole = journal.path.read_bytes()
+        *_, last = FORM.frames(whole)
+        dice = Random(34)
+        fronts = 0
+        for _ in range(MUTATED):
+            text = mutated(whole, dice)
+            journal.path.write_bytes(text)
+            reading = Reading(journal.path)
+            try:
+                read = sum(1 for _ in reading.frames())
+            except BrokenJournal:
+                continue
+            fronts += 1
+            need(text[:reading.end] == whole[:reading.end] and reading.end >= synced and read > 0, "no front")
+            differs = [place for place, (one, other) in enumerate(zip(text, whole)) if one != other]
+            need(len(text) != len(whole) or len(differs) != 1 or differs[0] >= last.start, "one bit, and it is taken")
+        need(MUTATED // 20 < fronts < MUTATED // 2, f"{fronts} of {MUTATED} are fronts")
+
+
 def what_was_cut_off_is_kept() -> None:
     """A torn end goes into a file beside the journal, each into one of its own, and is named."""
     with folder() as name:
@@ -205,6 +254,33 @@ def a_journal_of_form_1_that_is_not_whole() -> None:
         is_refused(journal, live[:-3], "cut off in the last record of live queries")
 
 
+def ended_while_it_is_taken_over() -> None:
+    """`keep` ended by SIGKILL somewhere in its first start over a journal of form 1 with a torn end: the queries and
+    the count of changes stay, and the torn bytes stand in the journal or in a file beside it."""
+    lines = [registering(start, 10) for start in range(0, 10_000, 10)]
+    torn = frame_of_form_1(2, len(lines) - 2, registering(0, 20_000))[:-1]
+    whole = of_form_1(lines, 0)
+    dice = Random(33)
+    with folder() as name:
+        journal = Path(name)
+        file = journal / "journal"
+        file.write_bytes(whole + torn)
+        dumped = dump_of(journal)
+        for _ in range(TAKEN_OVER):
+            file.write_bytes(whole + torn)
+            for aside in journal.glob("journal.torn.*"):
+                aside.unlink()
+            kept = Keep(journal)
+            kept.turn(dice.uniform(0.1, 0.4))
+            kept.kill()
+            ENDED.append("keep")
+            same(dump_of(journal), dumped, "the dump")
+            need(changes_in(journal) == len(lines) - 2, f"{changes_in(journal)} changes")
+            beside = [aside.read_bytes() for aside in journal.glob("journal.torn.*")]
+            need(file.read_bytes() == whole + torn or torn in beside, "the torn bytes are gone")
+        need(run_keep(journal, COUNT)[:2] == (0, b'{"count":10000,"line":1}\n'), "another count")
+
+
 def a_journal_of_a_later_form_is_left_alone() -> None:
     """A form that is not known is status 3, and said."""
     with folder() as name:
@@ -231,5 +307,6 @@ def random_changes_are_chained() -> None:
 
 
 TESTS = (a_rewritten_journal_is_whole_or_broken, what_came_meanwhile_is_whole_too, records_of_two_journals_do_not_mix,
-         what_was_cut_off_is_kept, a_journal_of_form_1_is_taken_over, a_journal_of_form_1_that_is_not_whole,
-         a_journal_of_a_later_form_is_left_alone, random_changes_are_chained)
+         other_bytes_are_refused_or_a_front, what_was_cut_off_is_kept, a_journal_of_form_1_is_taken_over,
+         a_journal_of_form_1_that_is_not_whole, ended_while_it_is_taken_over, a_journal_of_a_later_form_is_left_alone,
+         random_changes_are_chained)
