@@ -62,8 +62,9 @@ class Crowd:
         return [kind for desk in self.desks for kind in desk.ended]
 
     def told(self) -> str:
-        """What the clients and all else told."""
-        return "\n".join([*(desk.client.told() for desk in self.desks), self.grid.told()])
+        """What the clients that go on and all else told."""
+        clients = [desk.client.told() for desk in self.desks if desk.client.status is None]
+        return "\n".join([*clients, self.grid.told()])
 
     def order(self) -> list[tuple[Chaos, int]]:
         """The lines that entered, in their order, by client and number: as their replies are kept, all of them."""

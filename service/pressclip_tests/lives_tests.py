@@ -132,7 +132,7 @@ def a_life_is_renewed() -> None:
         for number in (1, 2):
             client.send(COUNT)
             need(client.wait_for_replies() == [b'{"count":0,"line":%d}' % number], f"no reply: {client.told()}")
-            time.sleep(5)
+            time.sleep(3)
             known = names(grid).get("desk")
             need(known is not None and known["line"] == number, f"{known}")
         client.close()

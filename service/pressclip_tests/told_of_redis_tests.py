@@ -30,12 +30,15 @@ def settings_are_written_at_once() -> None:
     a grid waits and says that it was not made, and `init` makes the rest."""
     with folder() as name, Grid(Path(name), 1, 1) as grid:
         grid.redis.asked("HSET", "pressclip:half:settings", "shards", "2")
-        done = grid.ended("--grid", "half", "submit", text=COUNT)
-        need(done.returncode == 1 and b"there is no grid half" in done.stderr, f"{done}")
+        half = Role(grid, "--grid", "half", "worker", "--shard", "1", "--replica", "0")
+        wait_until(lambda: "waiting for the grid half to be made" in Path(half.told.name).read_text(), grid.told)
         need(grid.ended("--grid", "half", "init", "--shards", "3").returncode == 1, "made with another setting")
         grid.run("--grid", "half", "init", "--shards", "2")
         found = grid.redis.asked("HMGET", "pressclip:half:settings", "shards", "replicas", "limit")
         need(found == "2\n1\n1000000", found)
+        wait_until(lambda: "has the snapshot of 0-0" in Path(half.told.name).read_text(), grid.told)
+        half.kill()
+        half.told.close()
 
 
 def strange_entries_are_passed_over() -> None:

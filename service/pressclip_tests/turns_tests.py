@@ -13,7 +13,7 @@ from typing import Callable
 
 from .grid_runs import Chaos, Grid, Role, end
 from .inputs import Source, joined
-from .judge import Due, folder, need, same
+from .judge import Due, Failed, folder, need, same
 from .processes import Spoken, children_of, engine_of
 
 PREFIX = "pressclip:grid:"
@@ -25,7 +25,8 @@ def wait_until(holds: Callable[[], bool], what: Callable[[], str]) -> float:
     """After how many seconds it holds; `Failed` where that is too long."""
     start = time.monotonic()
     while not holds():
-        need(time.monotonic() - start < PATIENCE_SECONDS, what())
+        if time.monotonic() - start > PATIENCE_SECONDS:
+            raise Failed(what())
         time.sleep(0.1)
     return time.monotonic() - start
 
