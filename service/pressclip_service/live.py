@@ -3,14 +3,11 @@
 from __future__ import annotations
 
 import json
-import math
-from typing import Any, Iterable, Iterator, Mapping, Sequence
+from typing import Any, Iterable, Iterator
 
 from .lines import MOST_LINE_BYTES
 
 MOST_LISTED = 1_024
-# Segments of fewer queries are merged soon, and cost little until then.
-_FEW = 16
 
 
 def value_of(line: bytes) -> dict[str, Any]:
@@ -38,30 +35,6 @@ def register_lines(items: Iterable[bytes]) -> Iterator[bytes]:
         size += len(item) + 1
     if held:
         yield front + b",".join(held) + back
-
-
-def even_lines(queries: Sequence[Mapping[str, str]]) -> list[bytes]:
-    """One line that registers these queries, or two with a half each.
-
-    An engine merges four neighbouring segments whose lengths lie between the same two powers of 4. Parts of like
-    requests differ by a few queries, so where a power of 4 is near, some would lie above it and some below, and hardly
-    four neighbours would ever be alike. Their halves lie far from any, and so does what is merged of them. Queries of
-    which two have one id stay in one line, since its reply counts distinct ids.
-    """
-    count = len(queries)
-    if count < _FEW or not _is_near_a_power(count) or len({listing["id"] for listing in queries}) < count:
-        return [_registering(queries)]
-    return [_registering(queries[:count // 2]), _registering(queries[count // 2:])]
-
-
-def _registering(queries: Sequence[Mapping[str, str]]) -> bytes:
-    return text_of({"op": "register", "queries": queries})
-
-
-def _is_near_a_power(count: int) -> bool:
-    """Whether a power of 4 is less than a square root of 2 times as large, or as small."""
-    power: int = 4 ** round(math.log(count, 4))
-    return power * power < 2 * count * count and count * count < 2 * power * power
 
 
 class LiveQueries:

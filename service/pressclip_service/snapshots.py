@@ -9,7 +9,7 @@ from itertools import chain
 from typing import Iterator
 
 from .errors import ServiceError, tell
-from .live import LiveQueries, even_lines, text_of, value_of
+from .live import LiveQueries, text_of, value_of
 from .names import CHANGES, CLEAR, CLIENT, DELETE, KIND, KINDS, LINE, LINE_NUMBER, NUMBER, Id, shard_of
 from .scripts import PUSH, REPLACE
 from .store import BLOCK_MILLISECONDS, Entry, RequestsLost, Store
@@ -78,7 +78,7 @@ def part_of(kind: bytes, line: bytes, shard: int, shards: int) -> Part:
         ids = [name for name in value["ids"] if shard_of(name, shards) == shard]
         return ([text_of({"op": "delete", "ids": ids})] if ids else []), [], ids
     queries = [listing for listing in value["queries"] if shard_of(listing["id"], shards) == shard]
-    return (even_lines(queries) if queries else []), queries, []
+    return ([text_of({"op": "register", "queries": queries})] if queries else []), queries, []
 
 
 def is_request(entry: Entry) -> bool:
