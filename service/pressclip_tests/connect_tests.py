@@ -2,6 +2,7 @@
 
 from __future__ import annotations
 
+import fcntl
 import getpass
 import json
 import shutil
@@ -223,18 +224,19 @@ def nothing_is_lost_by_ends_with_kafka() -> None:
     with folder() as name, Kafka() as kafka:
         for line in pairs(count):
             kafka.put(line)
-        while kafka.ask("stands", "desk", "requests") < 2 * count:
+        for _ in range(kills):
             connect = kafka.connect(keep_of(Path(name) / "j"))
-            if kills:
-                time.sleep(dice.uniform(0.3, 1.0))
-                connect.process.kill()
-                connect.process.wait()
-                ENDED.append("connect to Kafka")
-                kills -= 1
-                continue
-            time.sleep(3)
-            connect.process.terminate()
-            need(connect.process.wait(PATIENCE_SECONDS) in (0, LOCKED), connect.told())
+            time.sleep(dice.uniform(0.3, 1.0))
+            connect.process.kill()
+            connect.process.wait()
+            ENDED.append("connect to Kafka")
+        connect = kafka.connect(keep_of(Path(name) / "j"))
+        while kafka.ask("stands", "desk", "requests") < 2 * count:
+            time.sleep(0.2)
+            if connect.process.poll() is not None:
+                connect.ends(LOCKED, None)
+                connect = kafka.connect(keep_of(Path(name) / "j"))
+        connect.ends(0)
         all_alerts_came(kafka.ask("get", "replies", 2 * count), count)
 
 
@@ -260,14 +262,16 @@ def nothing_is_lost_by_ends_with_mqtt() -> None:
         try:
             connect = broker.connect(keep_of(Path(name) / "j"))
             broker.put(pairs(count)[:count])
+            replies = broker.get(1)
             connect.process.kill()
             connect.process.wait()
             ENDED.append("connect to MQTT")
-            connect = connected(broker, keep_of(Path(name) / "j"))
+            wait_for_lock(Path(name) / "j")
+            connect = broker.connect(keep_of(Path(name) / "j"))
             broker.put(pairs(count)[count:])
             broker.stop()
             broker.start()
-            replies = broker.get(2 * count)
+            replies += broker.get(2 * count - 1)
             while '"a59"' not in "".join(replies):
                 more = broker.get(1)
                 need(bool(more), f"after {len(replies)} replies no more come, and one to the last article is due")
@@ -278,13 +282,10 @@ def nothing_is_lost_by_ends_with_mqtt() -> None:
             broker.stop()
 
 
-def connected(broker: Mosquitto, command: Sequence[str]) -> Connect:
-    """A process that is connected, once the `keep` of the one before has let go of the journal."""
-    while True:
-        connect = broker.connect(command)
-        time.sleep(1)
-        if connect.process.poll() != LOCKED:
-            return connect
+def wait_for_lock(journal: Path) -> None:
+    """Waits until the `keep` whose client was ended has let go of the journal."""
+    with open(journal / "lock") as lock:
+        fcntl.flock(lock, fcntl.LOCK_EX)
 
 
 def guarded(into: Path) -> Mosquitto:
