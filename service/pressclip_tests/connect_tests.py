@@ -262,6 +262,7 @@ def nothing_is_lost_by_ends_with_mqtt() -> None:
         try:
             connect = broker.connect(keep_of(Path(name) / "j"))
             broker.put(pairs(count)[:count])
+            replies = broker.get(1)
             connect.process.kill()
             connect.process.wait()
             ENDED.append("connect to MQTT")
@@ -270,7 +271,7 @@ def nothing_is_lost_by_ends_with_mqtt() -> None:
             broker.put(pairs(count)[count:])
             broker.stop()
             broker.start()
-            replies = broker.get(2 * count)
+            replies += broker.get(2 * count - 1)
             while '"a59"' not in "".join(replies):
                 more = broker.get(1)
                 need(bool(more), f"after {len(replies)} replies no more come, and one to the last article is due")
