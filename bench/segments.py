@@ -1,6 +1,7 @@
 """How many segments the engine holds after its lines. Replies do not tell it: it is worked out here, by the rule of
-merging: after each change that is accepted, the oldest four neighbouring segments of one level become one, which has
-those of their entries that are live, or none where none is."""
+merging. After each change that is accepted the oldest four neighbouring segments of one level become one, or, where
+there are no such four, all from the oldest on behind which one has a higher level, until there are none either. What
+becomes of them has those of their entries that are live, and there is none where none is."""
 
 from __future__ import annotations
 
@@ -29,7 +30,7 @@ class Shelf:
         self._listed = 0
 
     def take(self, lines: Iterable[bytes]) -> None:
-        """The changes of some lines, each with its merge turn. Every change is taken to be accepted."""
+        """The changes of some lines, each with its merge turns. Every change is taken to be accepted."""
         for line in lines:
             request = json.loads(line)
             if request["op"] == "register":
@@ -51,13 +52,21 @@ class Shelf:
             self.segments.append([seq for seq in range(first, self._listed + 1) if seq in self._seqs])
 
     def _merge(self) -> None:
+        while (turn := self._turn()) is not None:
+            first, past = turn
+            merged = [seq for segment in self.segments[first:past] for seq in segment if seq in self._seqs]
+            self.segments[first:past] = [merged] if merged else []
+
+    def _turn(self) -> tuple[int, int] | None:
+        """The place of the first segment that a turn merges, and that past the last."""
         levels = [level(len(segment)) for segment in self.segments]
         for first in range(len(levels) - MERGED_AT_ONCE + 1):
             if len(set(levels[first:first + MERGED_AT_ONCE])) == 1:
-                run = self.segments[first:first + MERGED_AT_ONCE]
-                merged = [seq for segment in run for seq in segment if seq in self._seqs]
-                self.segments[first:first + MERGED_AT_ONCE] = [merged] if merged else []
-                return
+                return first, first + MERGED_AT_ONCE
+        for first, here in enumerate(levels):
+            if any(here < behind for behind in levels[first:]):
+                return first, len(levels)
+        return None
 
 
 def segments_after(passes: Iterable[list[bytes]]) -> int:

@@ -198,7 +198,7 @@ impl Engine {
     /// where the text is no query, `Listener` where the listener is neither `mail` nor `feed`, `Full` where the
     /// registry has no room. `NoMemory` where an allocation failed, with nothing changed.
     ///
-    /// Cost: the reading of the text, and that of `Registrar::apply` and of a merge turn.
+    /// Cost: the reading of the text, and that of `Registrar::apply` and of `merge_all`.
     pub fn register(&mut self, listing: Listing) -> Result<(), Unread>
         ensures registers { Registers self.old self.new (listing_view listing) result }
         ensures unchanged { OnErr result (self.new ≡ self.old) }
@@ -218,7 +218,7 @@ impl Engine {
     /// With nothing changed: `Limit` where the id is not 1 to 256 bytes long, `Full` where the registry has no room for
     /// one command more, `NoMemory` where an allocation failed.
     ///
-    /// Cost: that of `Registrar::apply` and of a merge turn.
+    /// Cost: that of `Registrar::apply` and of `merge_all`.
     pub fn delete(&mut self, id: String) -> Result<u64, Unread>
         ensures deleted { OnOk result (self.new ≡ commanded self.old (Delete (string_bytes id ∷ []))) }
         ensures counted { IfOk result (λ count. count ≡ applied self.old.history (Delete (string_bytes id ∷ []))) }

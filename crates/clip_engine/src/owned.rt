@@ -5,7 +5,7 @@ ghost use Rattle.clip_standing.specs.Command.{command_of, answer_of};
 ghost use Rattle.clip_standing.specs.declared.command.Refused.TheVariants as refused;
 
 use clip_front::Registry;
-use clip_registry::{Registrar, merge_turn};
+use clip_registry::{Registrar, merge_all};
 use clip_standing::{Applied, Command, Refused};
 use clip_words::NoMemory;
 use std::alloc::Global;
@@ -13,15 +13,15 @@ use std::alloc::Global;
 /// The caller of each change.
 const CALLER: u32 = 1;
 
-/// A registrar. Each accepted change is followed by a merge turn.
+/// A registrar. Each accepted change is followed by merge turns.
 #[derive(Drop)]
 pub(crate) struct Owned {
     pub(crate) registrar: Registrar,
 }
 
 impl Owned {
-    /// Accepts a command, and takes a merge turn then, which is dropped where it is refused memory. After a refusal all
-    /// is as it was.
+    /// Accepts a command, and takes merge turns then, until segments are few or a turn is refused memory. After a
+    /// refusal of the command all is as it was.
     pub(crate) fn commit(&mut self, command: Command) -> Result<Applied, Refused>
         requires fits { IsTrue (fits (command_of command)) }
         ensures accepted { OnOk result (self.new.registrar.history
@@ -35,7 +35,7 @@ impl Owned {
     {
         match self.registrar.apply(CALLER, command) {
             Ok(applied) => {
-                let _ = merge_turn(&mut self.registrar);
+                let _ = merge_all(&mut self.registrar);
                 Ok(applied)
             }
             Err((_, why)) => Err(why),

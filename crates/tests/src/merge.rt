@@ -4,7 +4,7 @@ ghost use Rattle.std.specs.Arc.{arc_value};
 ghost use Rattle.clip_segment.specs.Segment.{all_entries};
 
 use crate::making::{entry, segment, segment_of};
-use clip_merge::{Live, merge, plan, purge};
+use clip_merge::{Live, merge, plan, plan_turn, purge};
 use clip_samples::owned;
 use clip_segment::Segment;
 use std::alloc::{AllocError, Global};
@@ -17,26 +17,37 @@ fn of_length(alloc: Global, length: u8) -> Result<Arc<Segment>, Fail> {
     Ok(Arc::new(alloc, segment_of(alloc, &owned(alloc, &texts)?)?)?)
 }
 
-/// Which of segments of these lengths are merged next.
-fn planned(alloc: Global, lengths: &[u8]) -> Result<Option<(usize, usize)>, Fail> {
+/// Segments of these lengths.
+fn of_lengths(alloc: Global, lengths: &[u8]) -> Result<Vec<Arc<Segment>>, Fail> {
     let mut segments = Vec::new(alloc);
     for length in lengths {
         segments.push(of_length(alloc, *length)?)?;
     }
-    Ok(plan(&segments))
+    Ok(segments)
 }
 
-/// Each some segments' lengths, and which of them are merged next.
-static PLANS: [(&[u8], Option<(usize, usize)>); 3] = [
-    (&[1, 1, 1, 1, 1], Some((0, 4))),
-    (&[4, 1, 1, 1], None),
-    (&[16, 5, 4, 15, 4], Some((1, 5))),
+/// From which segment on to before which segments are merged.
+type Place = Option<(usize, usize)>;
+
+/// Each some segments' lengths, where the oldest four of one level stand, and which of them a turn merges.
+static PLANS: [(&[u8], Place, Place); 7] = [
+    (&[1, 1, 1, 1, 1], Some((0, 4)), Some((0, 4))),
+    (&[4, 1, 1, 1], None, None),
+    (&[16, 5, 4, 15, 4], Some((1, 5)), Some((1, 5))),
+    (&[1, 5], None, Some((0, 2))),
+    (&[16, 4, 1, 5, 1], None, Some((2, 5))),
+    (&[17, 5, 5, 1, 1, 16, 3], None, Some((1, 7))),
+    (&[1, 5, 1, 1, 1, 1], Some((2, 6)), Some((2, 6))),
 ];
 
 #[test]
-fn four_neighbours_of_one_level_are_merged(rt: HostRuntime) -> Result<(), Fail> {
-    for (lengths, wanted) in &PLANS {
-        assert!(rt; planned(rt.alloc(), lengths)? == *wanted);
+fn four_neighbours_of_one_level_are_merged_or_else_all_from_a_lower_one_on(
+    rt: HostRuntime,
+) -> Result<(), Fail> {
+    for (lengths, run, turn) in &PLANS {
+        let segments = of_lengths(rt.alloc(), lengths)?;
+        assert!(rt; plan(&segments) == *run);
+        assert!(rt; plan_turn(&segments) == *turn);
     }
     Ok(())
 }

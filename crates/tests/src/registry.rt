@@ -1,6 +1,6 @@
 //! The registry, candidates and alerts: scripts worked by hand, and limits.
 use crate::script::{Step, answer, play};
-use clip_registry::Registrar;
+use clip_registry::{Registrar, merge_all};
 use clip_samples::standing;
 use clip_standing::Command;
 use std::alloc::Global;
@@ -158,6 +158,39 @@ fn registers(
 ) -> Result<bool, Fail> {
     let command = numbered(alloc, from, to)?;
     Ok(answer(alloc, registrar, 1, command)?.as_str() == wanted)
+}
+
+/// Registers a line of the queries of these numbers, and takes merge turns: how many segments stand then.
+fn segments_after(
+    alloc: Global,
+    registrar: &mut Registrar,
+    from: u32,
+    to: u32,
+) -> Result<usize, Fail> {
+    let command = numbered(alloc, from, to)?;
+    answer(alloc, registrar, 1, command)?;
+    merge_all(registrar)?;
+    Ok(registrar.view()?.segments().len())
+}
+
+/// The most segments that stand after one of 200 lines of 1 and of 5 queries in turn.
+fn most_of_mixed_sizes(alloc: Global) -> Result<usize, Fail> {
+    let mut registrar = Registrar::without_history(alloc);
+    let mut most = 0;
+    for pair in 0..100u32 {
+        let (from, to) = (pair * 6, pair * 6 + 6);
+        let small = segments_after(alloc, &mut registrar, from, from + 1)?;
+        let large = segments_after(alloc, &mut registrar, from + 1, to)?;
+        most = most.max(small).max(large);
+    }
+    Ok(most)
+}
+
+#[test]
+fn segments_of_mixed_sizes_are_few(rt: HostRuntime) -> Result<(), Fail> {
+    // 600 entries lie between 4 to the power 4 and 4 to the power 5: levels 0 to 4, of each three at most.
+    assert!(rt; most_of_mixed_sizes(rt.alloc())? <= 15);
+    Ok(())
 }
 
 /// What a registry of 999,424 queries gives once 576 more are registered.
