@@ -19,7 +19,7 @@ from dataclasses import dataclass, replace
 from typing import Sequence
 
 from .earlier import EarlierLines, digest_of
-from .errors import tell, write_all
+from .errors import read_block, tell, write_all
 from .hearing import Hearing
 from .lines import BLOCK_BYTES, LineCutter, is_blank
 from .lives import Life, forget
@@ -106,10 +106,11 @@ class Submitter:
             if self.number >= self.entered_before:
                 self.compared.set()
             readable, _, _ = select.select([INPUT], [], [], 1.0 if self.compared.is_set() else STALLED_SECONDS)
-            if readable:
-                self._take_block(os.read(INPUT, BLOCK_BYTES))
-            else:
+            block = read_block(INPUT, BLOCK_BYTES) if readable else None
+            if block is None:
                 self.compared.set()
+            else:
+                self._take_block(block)
         self.compared.set()
         while printer.is_alive():
             printer.join(1.0)

@@ -82,14 +82,16 @@ def a_closed_input_cannot_be_read() -> None:
 
 
 def a_grid_without_its_streams() -> None:
-    """A dump of a grid without standard output: status 6; without standard error it is the dump alone. Redis begins
-    with standard streams that are none of its files."""
+    """A dump of a grid without standard output: status 6; without standard error it is the dump alone. A client
+    without standard input: status 4. Redis begins with standard streams that are none of its files."""
     with folder() as name:
         grid = Grid(Path(name), 1, 1)
         need(grid.run("submit", text=DUMPED) == REGISTERED, "no reply")
         status, _, told = run_closed(grid.command("dump"), 1)
         need(status == 6 and b"can't be written" in told, f"dump: {status} {told!r}")
         need(run_closed(grid.command("dump"), 2)[:2] == (0, DUMPED), "another dump")
+        status, _, told = run_closed(grid.command("submit"), 0)
+        need(status == 4 and b"standard input can't be read" in told, f"submit: {status} {told!r}")
         grid.close()
         words = [str(REDIS), "--dir", name, "--", "--port", str(grid.redis.port), "--bind", "127.0.0.1"]
         process = subprocess.Popen(words, preexec_fn=closing(0, 1, 2))
