@@ -1,4 +1,4 @@
-use Rattle.std.proofs.Common.{◌≡◌, ◌++◌, [], ◌∙◌, map, refl, sym, ap, append-nil}
+use Rattle.std.proofs.Common.{◌≡◌, ◌++◌, [], ◌∙◌, map, refl, rules, sym, ap, append-nil}
 use Rattle.std.proofs.lemmas.List.{map-append}
 use Rattle.clip_listen.specs.Heard.{note_value, HearsFront}
 use Rattle.clip_stream.proofs.Faults.{on_err, on_ok}
@@ -23,3 +23,7 @@ returns-clause-notes g c =
     on_ok _
     (ap (map note_value) {y = c.args.self.now.notes.items ++ c.in_ok-said.said.items} c.in_ok-append.ensures.items ∙ map-append note_value c.args.self.now.notes.items c.in_ok-said.said.items
     ∙ ap (λ said. map note_value c.args.self.now.notes.items ++ said) c.in_ok-said.ensures.notes)
+
+-- proved by search alone: it stands here so that a wrong body is refused at once
+pub returns-clause-moved : goal.returns-clause-moved
+returns-clause-moved g c = search rules
