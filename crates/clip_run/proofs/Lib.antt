@@ -5,4 +5,6 @@ pub mod OnlyCaller
 pub mod Outcomes
 pub mod Owing
 pub mod Seats
+pub mod Sent
+pub mod Sharing
 pub mod Turns
