@@ -1,6 +1,7 @@
 -- What is owed, and what was given.
-use Rattle.std.proofs.Common.{◌≡◌, ℕ, zero, suc, ◌+◌, ◌<◌, List, [], ◌∷◌, ◌++◌, length, drop, map, refl, sym, ap, ap₂, ◌∙◌, subst, arith, append_assoc, append-nil}
-use Rattle.std.specs.Prelude.{Result, Ok, Err, OnOk, OnErr}
+use Rattle.std.proofs.Common.{◌≡◌, ℕ, zero, suc, ◌+◌, ◌<◌, ◌≤◌, List, [], ◌∷◌, ◌++◌, length, drop, map, refl, sym, ap, ap₂, ◌∙◌, subst, arith, add-one, append_assoc, append-nil}
+use Rattle.std.specs.Prelude.{Result, Ok, Err, OnOk, OnErr, Some}
+use Rattle.std.specs.List.{slice_get}
 use Rattle.std.proofs.lemmas.List.{map-append}
 use Rattle.clip_model.specs.Alerts.{Alert}
 use Rattle.clip_model.specs.History.{History}
@@ -24,7 +25,11 @@ use Rattle.clip_protocol.proofs.Meanings.{means_from}
 use Rattle.clip_front.proofs.OneOutcome.{outline_some}
 use Rattle.clip_front.proofs.Outcomes.{followed_assoc, followed_nothing, kept_append, given_kept}
 use Rattle.clip_front.specs.declared.settings.Settings.{Settings}
-use Rattle.clip_run.specs.Pending.{owed_by, owed_at}
+use Rattle.clip_run.specs.Crews.{CrewIs, course}
+use Rattle.clip_run.specs.Due.{due_to}
+use Rattle.clip_run.specs.Pending.{owed_by, owed_at, owed_from}
+use Rattle.clip_run.specs.declared.batch.Batch.{Batch}
+use Rattle.clip_run.specs.declared.batch.Pending.TheVariants as pending
 use Rattle.clip_run.specs.declared.batch.Pending.{Pending}
 use Rattle.clip_run.specs.Owed.{Owed, ready, matched, owed_of, owes, Course, Gave, Pays, Turns, BreaksOff, HearsOwed, PaysInto, with_owed}
 
@@ -186,13 +191,6 @@ breaks_turned s t u n line text p front =
           (front_after p.out.alerts (owes s.hearers t.owed).alerts s.hearers t.hearers u.hearers p.gave.heard (subst (λ o. HearsFront o.alerts t.hearers u.hearers) same front));
     }
 
--- ---- what was found of a batch
-
--- is what is owed to its line
-pub found_owed : (hearers : List Hearer) (item : Pending) (n : ℕ) (view : RegistryState) (articles : List ArticleValue) (found : List AlertsValue) → owed_by item ≡ matched n view.history articles → found ≡ map (alerts_due view) articles
-    → found_outcome hearers n found ≡ owed_of hearers (owed_by item)
-found_owed hearers item n view articles found is right = found_given view hearers n articles found right ∙ ap (owed_of hearers) (sym is)
-
 -- ---- texts that grow
 
 pub pays_into_none : (s : Course) (a : List ℕ) → PaysInto s s a a
@@ -258,24 +256,55 @@ turns_begun h new hearers rows settings owed t n line articles means same is =
 
 -- ---- lines that are settled, one after the other
 
+owed_more : (items : List Pending) (line : ℕ) → line < length items → map owed_by (drop line items) ≡ owed_at items line ∷ map owed_by (drop (suc line) items)
+owed_more [] line l = absurd (omega (arith, l))
+owed_more (x ∷ xs) zero l = refl
+owed_more (x ∷ xs) (suc line) l = owed_more xs line (omega (arith, l))
+
 -- an item of a list, and the rest of it
 pub owed_next : (items : List Pending) (line : ℕ) → line < length items → map owed_by (drop line items) ≡ owed_at items line ∷ map owed_by (drop (line + 1) items)
-owed_next [] line l = absurd (omega arith)
-owed_next (x ∷ xs) zero l = refl
-owed_next (x ∷ xs) (suc line) l = owed_next xs line (omega arith)
+owed_next items line l = owed_more items line l ∙ ap (λ n. owed_at items line ∷ map owed_by (drop n items)) (sym (add-one line))
 
 -- the settled line's text stands at the end
-pub pays_line : (s : Course) (hearers : List Hearer) (rows : List RowValue) (items : List Pending) (line : ℕ) (a b text : List ℕ) → line < length items
-    → hearers ≡ told_all (owed_of s.hearers (owed_at items line)).alerts s.hearers → rows ≡ s.rows ++ kept_rows s.settings.keeps_rows (owed_of s.hearers (owed_at items line)).rows
-    → text ≡ (owed_of s.hearers (owed_at items line)).text s.settings.form → b ≡ a ++ text
-    → PaysInto (with_owed s (map owed_by (drop line items))) (record { history = s.history; hearers = hearers; rows = rows; settings = s.settings; owed = map owed_by (drop (line + 1) items) }) a b
-pays_line s hearers rows items line a b text within heard kept is grown =
-    pays_into_first (with_owed s (map owed_by (drop line items))) (record { history = s.history; hearers = hearers; rows = rows; settings = s.settings; owed = map owed_by (drop (line + 1) items) }) (owed_at items line) a b text
-    (owed_next items line within) (record { heard = heard; rows = kept; settings = refl }) refl is grown
+pub pays_line : (s t : CrewIs) (hearers now : List Hearer) (items : List Pending) (line : ℕ) (a b text : List ℕ) → line < length items
+    → now ≡ told_all (owed_of hearers (owed_at items line)).alerts hearers → t ≡ record s { rows = s.rows ++ kept_rows s.settings.keeps_rows (owed_of hearers (owed_at items line)).rows }
+    → text ≡ (owed_of hearers (owed_at items line)).text s.settings.form → b ≡ a ++ text → PaysInto (with_owed (course s hearers) (map owed_by (drop line items))) (with_owed (course t now) (map owed_by (drop (line + 1) items))) a b
+pays_line s t hearers now items line a b text within heard same is grown =
+    pays_into_first (with_owed (course s hearers) (map owed_by (drop line items))) (with_owed (course t now) (map owed_by (drop (line + 1) items))) (owed_at items line) a b text
+    (owed_next items line within) (record { heard = heard; rows = ap (λ crew. crew.rows) same; settings = ap (λ crew. crew.settings) same }) (ap (λ crew. crew.history) same) is grown
 
 -- of the line that is settled a front was heard
 pub hears_line : (s t : Course) (items : List Pending) (line : ℕ) → line < length items → HearsFront (owed_of s.hearers (owed_at items line)).alerts s.hearers t.hearers → HearsOwed (with_owed s (map owed_by (drop line items))) t
 hears_line s t items line within front = hears_first (with_owed s (map owed_by (drop line items))) t (owed_at items line) (map owed_by (drop (line + 1) items)) (owed_next items line within) front
+
+-- what the line that was settled paid was heard
+pub hears_settled : (s t : CrewIs) (hearers now : List Hearer) (items : List Pending) (line : ℕ) → line < length items → now ≡ told_all (owed_of hearers (owed_at items line)).alerts hearers
+    → t ≡ record s { rows = s.rows ++ kept_rows s.settings.keeps_rows (owed_of hearers (owed_at items line)).rows } → HearsOwed (with_owed (course s hearers) (map owed_by (drop line items))) (course t now)
+hears_settled s t hearers now items line within heard same =
+    let text = (owed_of hearers (owed_at items line)).text s.settings.form in
+    let p = pays_line s t hearers now items line [] text text within heard same refl refl in
+    let u = with_owed (course t now) (map owed_by (drop (line + 1) items)) in
+    hears_after (with_owed (course s hearers) (map owed_by (drop line items))) u (course t now) p.0 p.1 (hears_none u (course t now) refl)
+
+-- ---- a line that is settled
+
+pub owed_past : (items : List Pending) (line : ℕ) → length items ≤ line → owed_at items line ≡ ready []
+owed_past [] line l = refl
+owed_past (x ∷ xs) zero l = absurd (omega (arith, l))
+owed_past (x ∷ xs) (suc line) l = owed_past xs line (omega (arith, l))
+
+-- a text tells nobody
+pub heard_none : (hearers : List Hearer) (o : Owed) (text : List ℕ) → o ≡ ready text → hearers ≡ told_all (owed_of hearers o).alerts hearers
+heard_none hearers o text is = subst (λ p. hearers ≡ told_all (owed_of hearers p).alerts hearers) (sym is) (sym (told_none hearers))
+
+-- and keeps no row
+pub kept_none : (crew : CrewIs) (hearers : List Hearer) (o : Owed) (text : List ℕ) → o ≡ ready text → crew ≡ record crew { rows = crew.rows ++ kept_rows crew.settings.keeps_rows (owed_of hearers o).rows }
+kept_none crew hearers o text is =
+    subst (λ p. crew ≡ record crew { rows = crew.rows ++ kept_rows crew.settings.keeps_rows (owed_of hearers p).rows }) (sym is) (ap (λ rows. record crew { rows = rows }) (none_posted crew.settings.keeps_rows crew.rows))
+
+-- what was found of a batch is what is owed to its line
+pub found_there : (hearers : List Hearer) (items : List Pending) (line : ℕ) (batch : Batch) (found : List AlertsValue) → slice_get items line ≡ Some (pending.Waiting batch) → found ≡ due_to batch → found_outcome hearers batch.number found ≡ owed_of hearers (owed_at items line)
+found_there hearers items line batch found is right = found_given batch.view hearers batch.number batch.drafts.items found right ∙ ap (λ item. owed_of hearers (owed_from item)) (sym is)
 
 -- ---- results
 

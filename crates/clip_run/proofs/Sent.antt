@@ -1,9 +1,13 @@
 -- Threads may share a group, and hand over what was found of its articles.
 use denote.RattleType.{RattleType}
 use denote.Param.Send.{IsSend, IsSync, sendable}
-use denote.Param.SendFields.{declared_send, declared_sync, variants_send, variants_sync}
+use denote.Param.SendFields.{declared_send, declared_sync, variants_send, variants_sync, as_row_send, as_row_sync}
+use denote.Struct.Field.{row_field}
 use Rattle.std.proofs.alloc.Global.TheSendSync as global_sent
 use Rattle.std.below.std_heap.proofs.GlobalAllocator.TheSendSync as allocator_sent
+use Rattle.std.specs.contracts.alloc.Global as global_type
+use Rattle.std.specs.contracts.impls.GlobalAllocator.TheImpl as global_allocator
+use Rattle.std.specs.contracts.sync.Arc as arc
 use Rattle.std.proofs.vec.Vec.TheSendSync as vec_sent
 use Rattle.std.proofs.sync.Arc.TheSendSync as arc_sent
 use Rattle.std.proofs.sync.atomic.AtomicUsize.TheSendSync as counter_sent
@@ -37,10 +41,14 @@ pending_sync = variants_sync pending.enum ((search parts, tt), ((batch_sync, tt)
 
 module _ (G : RattleType) (sent : IsSend G) (shared : IsSync G) where
   pub group_send : IsSend (group.the_row G)
-  group_send = declared_send (group.the_type G) (search (parts, pending_send, pending_sync), (settings_sent.the_send, (sent, (search parts, (search (sendable, counter_sent.the_send), tt)))))
+  group_send = declared_send (group.the_type G) (search (parts, pending_send, pending_sync), (settings_sent.the_send, (as_row_send (row_field G) sent, (search parts, (search (sendable, counter_sent.the_send), tt)))))
 
   pub group_sync : IsSync (group.the_row G)
-  group_sync = declared_sync (group.the_type G) (search (parts, pending_send, pending_sync), (settings_sent.the_sync, (shared, (search parts, (search (sendable, counter_sent.the_sync), tt)))))
+  group_sync = declared_sync (group.the_type G) (search (parts, pending_send, pending_sync), (settings_sent.the_sync, (as_row_sync (row_field G) shared, (search parts, (search (sendable, counter_sent.the_sync), tt)))))
+
+  -- lines that threads share
+  pub lines_send : IsSend (arc.the_row (group.the_row G) global_type.the_row global_allocator.ghosts)
+  lines_send = search (global, arc_sent.the_send, group_send, group_sync)
 
 answer_send : IsSend answer.the_row
 answer_send = declared_send answer.the_type (search sendable, (place_sent.the_send, (found_send, tt)))

@@ -1,5 +1,5 @@
 -- What is due to articles that wait.
-use Rattle.std.specs.Prelude.{◌≡◌, ℕ, List, [], map, Option, Some, None, IfSome}
+use Rattle.std.specs.Prelude.{◌≡◌, ℕ, List, [], map, Option, Some, None, IfSome, Result, IfOk}
 use Rattle.std.specs.List.{All, slice_get}
 use Rattle.clip_standing.specs.Alerts.{AlertsValue}
 use Rattle.clip_match.specs.Alerts.{alerts_due}
@@ -7,6 +7,7 @@ use Rattle.clip_protocol.specs.Found.{found_value}
 use Rattle.clip_protocol.specs.declared.found.Found.{Found}
 use Rattle.clip_front.specs.Steps.Found.{IsFor}
 use Rattle.clip_front.specs.declared.settings.Settings.{Settings}
+use Rattle.clip_words.specs.declared.NoMemory.{NoMemory}
 use Rattle.clip_run.specs.declared.batch.Batch.{Batch}
 use Rattle.clip_run.specs.declared.batch.Pending.{Pending}
 use Rattle.clip_run.specs.declared.batch.Pending.TheVariants as pending
@@ -54,3 +55,15 @@ abbrev pub AddsDue : Helper → List Answer → List Answer → Type 0
 AddsDue helper old new =
     (settings : Settings) (items : List Pending) → IsAskedFor settings items helper → AreDue settings items old
     → AreDue settings items new
+
+-- At whatever lines the batch waits at this place, and whose answers these are, what was found of the article is due.
+abbrev pub FindsOne : Settings → ℕ → Batch → ℕ → List Answer → List Answer → Result Found NoMemory → Type 0
+FindsOne settings line batch article old new result =
+    (items : List Pending) → slice_get items line ≡ Some (pending.Waiting batch) → AreDue settings items old
+    → AreDue settings items new × IfOk result (IsDue settings (due_to batch) article)
+
+-- Of helpers that were asked for one thing, some are left, and what was added is due to it.
+abbrev pub FinishesOne : List Helper → List Helper → List Answer → List Answer → Type 0
+FinishesOne helpers left old new =
+    (settings : Settings) (items : List Pending) → All (IsAskedFor settings items) helpers → AreDue settings items old
+    → All (IsAskedFor settings items) left × AreDue settings items new

@@ -1,12 +1,12 @@
 //! The server of a run with workers.
-ghost use Rattle.std.specs.Prelude.{◌≡◌, [], ◌∷◌, ◌++◌, map, false, Some, IfOk, OnOk, OnErr};
+ghost use Rattle.std.specs.Prelude.{◌≡◌, ◌<◌, [], ◌∷◌, ◌++◌, map, vec_len, false, Some, IfOk, OnOk, OnErr};
 ghost use Rattle.std.specs.List.{All, slice_get};
 ghost use Rattle.clip_front.specs.Outcome.{kept_rows};
-ghost use Rattle.clip_front.specs.Steps.Found.{IsFor};
+ghost use Rattle.clip_front.specs.Steps.Found.{IsFor, told_in, rows_in, found_text};
 ghost use Rattle.clip_listen.specs.Heard.{told_all, HearsFront};
 ghost use Rattle.clip_protocol.specs.Found.{found_value};
 ghost use Rattle.clip_run.specs.Crews.{CrewIs, course};
-ghost use Rattle.clip_run.specs.Due.{AreDue, due_to};
+ghost use Rattle.clip_run.specs.Due.{AreDue, FindsOne, due_to};
 ghost use Rattle.clip_run.specs.Owed.{owed_of, matched, with_owed, Turns, BreaksOff, HearsOwed, PaysInto};
 ghost use Rattle.clip_run.specs.Pending.{owed_at, owed_by};
 ghost use Rattle.clip_run.specs.declared.batch.Pending.TheVariants as pending;
@@ -108,8 +108,27 @@ impl<'r, 'd, 'g, R: Threads + Wait + Sync, N: DeskName, G: Gate + Clone + Send +
         }
     }
 
-    /// What is found of the articles of a batch that waits at this place of the lines, in order: what the answers have
-    /// of them, the first article last, and else what is found here.
+    /// What is found of an article of a batch that waits at this place of the lines: what the answers have of it, where
+    /// it is their last, and else what is found here.
+    fn find_one(
+        &mut self,
+        alloc: Global,
+        line: usize,
+        batch: &Batch,
+        article: usize,
+        answers: &mut Vec<Answer>,
+    ) -> Result<Found, NoMemory>
+        requires { article < vec_len batch.now.drafts }
+        ensures finds { FindsOne self.old.settings line batch.now article answers.old.items answers.new.items result }
+        ensures same { self.new ≡ self.old }
+    {
+        match take_answer(answers, line, article) {
+            Some(found) => Ok(found),
+            None => batch.find(alloc, &mut self.pool, article, self.books.settings, self.gate),
+        }
+    }
+
+    /// What is found of the articles of a batch that waits at this place of the lines, in order.
     fn find(
         &mut self,
         alloc: Global,
@@ -125,16 +144,35 @@ impl<'r, 'd, 'g, R: Threads + Wait + Sync, N: DeskName, G: Gate + Clone + Send +
         ensures due { OnOk result (AreDue self.old.settings items.now answers.new.items) }
         ensures same { self.new ≡ self.old }
     {
-        let settings = self.books.settings;
         let mut all = Vec::with_capacity(alloc, batch.drafts.len())?;
         for article in 0..batch.drafts.len() {
-            let found = match take_answer(answers, line, article) {
-                Some(found) => found,
-                None => batch.find(alloc, &mut self.pool, article, settings, self.gate)?,
-            };
+            let found = self.find_one(alloc, line, batch, article, answers)?;
             all.push(found)?;
         }
         Ok(all)
+    }
+
+    /// Delivers what was found of the articles of the line of this number, and gives the text of its reply.
+    fn deliver<A: Audience>(
+        &mut self,
+        alloc: Global,
+        audience: &mut A,
+        number: u64,
+        found: &[Found],
+    ) -> Result<Vec<u8>, NoMemory>
+        requires { All (IsFor self.old.settings) found.now }
+        ensures text { IfOk result (λ text. text.items
+            ≡ found_text self.old.settings.form (A.hearers audience.old) number (map found_value found.now)) }
+        ensures heard { OnOk result (A.hearers audience.new
+            ≡ told_all (told_in (map found_value found.now)) (A.hearers audience.old)) }
+        ensures crew { OnOk result (self.new ≡ record self.old {
+          rows = self.old.rows ++ kept_rows self.old.settings.keeps_rows
+              (rows_in (A.hearers audience.old) number (map found_value found.now));
+        }) }
+        ensures err { OnErr result (HearsFront (told_in (map found_value found.now))
+            (A.hearers audience.old) (A.hearers audience.new)) }
+    {
+        deliver_shown(alloc, audience, &mut self.books, number, found)
     }
 
     /// Gives what is owed to the line at a place of the lines: its text, once its alerts are delivered.
@@ -159,12 +197,14 @@ impl<'r, 'd, 'g, R: Threads + Wait + Sync, N: DeskName, G: Gate + Clone + Send +
         ensures err { OnErr result (HearsFront (owed_of (A.hearers audience.old) (owed_at items.now line)).alerts
             (A.hearers audience.old) (A.hearers audience.new)) }
     {
-        match items.get(line) {
-            None => Ok(Vec::new(alloc)),
-            Some(Pending::Ready(text)) => Ok(text.clone()?),
-            Some(Pending::Waiting(batch)) => {
+        let Some(item) = items.get(line) else {
+            return Ok(Vec::new(alloc));
+        };
+        match item {
+            Pending::Ready(text) => Ok(Vec::from_slice(alloc, text.as_slice())?),
+            Pending::Waiting(batch) => {
                 let found = self.find(alloc, items, line, batch, answers)?;
-                deliver_shown(alloc, audience, &mut self.books, batch.number, &found)
+                self.deliver(alloc, audience, batch.number, &found)
             }
         }
     }

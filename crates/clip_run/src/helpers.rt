@@ -2,7 +2,7 @@
 ghost use Rattle.std.specs.Prelude.{◌≡◌, IfSome};
 ghost use Rattle.std.specs.Arc.{arc_value};
 ghost use Rattle.std.specs.List.{All};
-ghost use Rattle.clip_run.specs.Due.{AddsDue, AreDue, IsAskedFor};
+ghost use Rattle.clip_run.specs.Due.{AddsDue, AreDue, FinishesOne, IsAskedFor};
 
 use crate::batch::Pending;
 use crate::group::{Answer, Group, order_last_first};
@@ -25,6 +25,19 @@ pub struct Asked {
     pub items: Snapshot<Vec<Pending>>,
     /// The settings.
     pub settings: Settings,
+}
+
+impl Asked {
+    /// What is due to articles of the group. Constant time.
+    fn of<G>(group: &Group<G>) -> Asked
+        ensures items { result.items.value.items ≡ group.now.items.items }
+        ensures settings { result.settings ≡ group.now.settings }
+    {
+        Asked {
+            items: Snapshot::of(&group.items),
+            settings: group.settings,
+        }
+    }
 }
 
 /// What a helper leaves.
@@ -75,13 +88,16 @@ impl Helper {
     ) -> Option<Helper>
         ensures { IfSome result (IsAskedFor (arc_value group.now).settings (arc_value group.now).items.items) }
     {
-        let came = Arc::new(alloc, AtomicBool::new(false)).ok()?;
-        let told = came.clone().ok()?;
-        let shared = group.clone().ok()?;
-        let asked = Asked {
-            items: Snapshot::of(&group.items),
-            settings: group.settings,
+        let Ok(came) = Arc::new(alloc, AtomicBool::new(false)) else {
+            return None;
         };
+        let Ok(told) = Arc::try_clone(&came) else {
+            return None;
+        };
+        let Ok(shared) = Arc::try_clone(group) else {
+            return None;
+        };
+        let asked = Asked::of(&shared);
         let work = move || help(alloc, &shared, pool, &told);
         match thread::spawn_with(rt, asked, work) {
             Ok(thread) => Some(Helper { thread, came }),
@@ -227,6 +243,21 @@ impl Helpers {
         let _ = self.pools.push(helped.pool);
     }
 
+    /// Finishes with the last of these helpers, if there is one.
+    fn finish_last<R: Threads>(
+        &mut self,
+        rt: &R,
+        helpers: &mut Vec<Helper>,
+        answers: &mut Vec<Answer>,
+    )
+        ensures { FinishesOne helpers.old.items helpers.new.items answers.old.items answers.new.items }
+    {
+        let Some(helper) = helpers.pop() else {
+            return;
+        };
+        self.finish(rt, helper, answers);
+    }
+
     /// What this thread and so many helpers find of the articles of a group, the first article last. Each takes
     /// articles until all are taken; this one waits for those that have taken one, and for no other. Where memory is
     /// refused, there may be articles of which nothing is found.
@@ -245,9 +276,7 @@ impl Helpers {
         let mut answers = group.take_articles(alloc, pool);
         self.learn(load, answers.len(), started.len());
         for _ in 0..started.len() {
-            if let Some(helper) = started.pop() {
-                self.finish(rt, helper, &mut answers);
-            }
+            self.finish_last(rt, &mut started, &mut answers);
         }
         order_last_first(&mut answers);
         answers

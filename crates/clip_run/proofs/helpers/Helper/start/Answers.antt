@@ -3,7 +3,7 @@ use mir.Syntax.{Sym}
 use denote.RattleType.{RattleType}
 use denote.Exit.{no}
 use denote.Param.{param}
-use denote.Param.Send.{IsSend, param_send, arg_send, sendable}
+use denote.Param.Send.{IsSend, IsSync, param_send, arg_send, sendable}
 use denote.Param.SendFields.{declared_send, as_row_send}
 use denote.Struct.Field.{row_field}
 use denote.Struct.Tuple.{TupleAt, type_at}
@@ -18,7 +18,7 @@ use Rattle.std.proofs.sync.atomic.AtomicBool.TheSendSync as flag_sent
 use Rattle.clip_words.specs.contracts.pool.WordPool as pool
 use Rattle.clip_words.proofs.pool.WordPool.TheSendSync as pool_sent
 use Rattle.clip_run.specs.contracts.group.Group as group
-use Rattle.clip_run.proofs.Sent.{group_send, group_sync, helped_send}
+use Rattle.clip_run.proofs.Sent.{lines_send, helped_send}
 use Rattle.clip_run.proofs.helpers.Helper.start.Goals as goal
 
 ruleset shared = (sendable, global_sent.the_send, global_sent.the_sync, allocator_sent.the_frees, arc_sent.the_send)
@@ -31,12 +31,14 @@ captures_send name A B C D a b c d =
 pub spawn_with-requires-send-F : goal.spawn_with-requires-send-F
 spawn_with-requires-send-F g c κs within =
     let G = param 1 g.row.G in
+    let sent : IsSend G = search (sendable, c.type_bounds.send-G) in
+    let synced : IsSync G = search (sendable, c.type_bounds.sync-G) in
     let lines = arc.the_row (group.the_row G) global.the_row global_allocator.ghosts in
     let told = arc.the_row flag.the_row global.the_row global_allocator.ghosts in
     param_send 2 _
     (arg_send _ no _
     (captures_send _ global.the_row lines pool.the_row told (search shared)
-    (search (shared, group_send, group_sync, c.type_bounds.send-G, c.type_bounds.sync-G)) pool_sent.the_send (search (shared, flag_sent.the_send, flag_sent.the_sync))))
+    (lines_send G sent synced) pool_sent.the_send (search (shared, flag_sent.the_send, flag_sent.the_sync))))
 
 pub spawn_with-requires-send-T : goal.spawn_with-requires-send-T
 spawn_with-requires-send-T g c κs within = param_send 3 _ (arg_send _ no _ helped_send)
