@@ -5,3 +5,5 @@ pub mod OnlyCaller
 pub mod Outcomes
 pub mod Owing
 pub mod Seats
+pub mod Sent
+pub mod Sharing

@@ -1,6 +1,7 @@
 -- What is owed, and what was given.
-use Rattle.std.proofs.Common.{◌≡◌, ℕ, List, [], ◌∷◌, ◌++◌, map, refl, sym, ap, ap₂, ◌∙◌, subst, append_assoc, append-nil}
-use Rattle.std.specs.Prelude.{Result, Ok, Err, OnOk, OnErr}
+use Rattle.std.proofs.Common.{◌≡◌, ℕ, zero, suc, ◌+◌, ◌<◌, ◌≤◌, List, [], ◌∷◌, ◌++◌, length, drop, map, refl, sym, ap, ap₂, ◌∙◌, subst, arith, add-one, append_assoc, append-nil}
+use Rattle.std.specs.Prelude.{Result, Ok, Err, OnOk, OnErr, Some}
+use Rattle.std.specs.List.{slice_get}
 use Rattle.std.proofs.lemmas.List.{map-append}
 use Rattle.clip_model.specs.Alerts.{Alert}
 use Rattle.clip_model.specs.History.{History}
@@ -24,9 +25,13 @@ use Rattle.clip_protocol.proofs.Meanings.{means_from}
 use Rattle.clip_front.proofs.OneOutcome.{outline_some}
 use Rattle.clip_front.proofs.Outcomes.{followed_assoc, followed_nothing, kept_append, given_kept}
 use Rattle.clip_front.specs.declared.settings.Settings.{Settings}
-use Rattle.clip_run.specs.Pending.{owed_by}
+use Rattle.clip_run.specs.Crews.{CrewIs, course}
+use Rattle.clip_run.specs.Due.{due_to}
+use Rattle.clip_run.specs.Pending.{owed_by, owed_at, owed_from}
+use Rattle.clip_run.specs.declared.batch.Batch.{Batch}
+use Rattle.clip_run.specs.declared.batch.Pending.TheVariants as pending
 use Rattle.clip_run.specs.declared.batch.Pending.{Pending}
-use Rattle.clip_run.specs.Owed.{Owed, ready, matched, owed_of, owes, Course, Gave, Pays, Turns, BreaksOff, HearsOwed, PaysInto, TakesBatch, TurnsInto}
+use Rattle.clip_run.specs.Owed.{Owed, ready, matched, owed_of, owes, Course, Gave, Pays, Turns, BreaksOff, HearsOwed, PaysInto, with_owed}
 
 -- ---- what was heard changes nothing that is owed
 
@@ -186,13 +191,6 @@ breaks_turned s t u n line text p front =
           (front_after p.out.alerts (owes s.hearers t.owed).alerts s.hearers t.hearers u.hearers p.gave.heard (subst (λ o. HearsFront o.alerts t.hearers u.hearers) same front));
     }
 
--- ---- what was found of a batch
-
--- is what is owed to its line
-pub found_owed : (hearers : List Hearer) (item : Pending) (n : ℕ) (view : RegistryState) (articles : List ArticleValue) (found : List AlertsValue) → owed_by item ≡ matched n view.history articles → found ≡ map (alerts_due view) articles
-    → found_outcome hearers n found ≡ owed_of hearers (owed_by item)
-found_owed hearers item n view articles found is right = found_given view hearers n articles found right ∙ ap (owed_of hearers) (sym is)
-
 -- ---- texts that grow
 
 pub pays_into_none : (s : Course) (a : List ℕ) → PaysInto s s a a
@@ -220,31 +218,18 @@ quiet_told text hearers n h (showing id) q e = λ i. record { text = λ form. e 
 quiet_told text hearers n h (matching articles) q e = absurd q
 
 -- a line that tells no alert
-pub turns_quiet : (s t : Course) (n : ℕ) (line text a : List ℕ) → TakesQuietly (names_in s.hearers) s.history t.history n line text → t ≡ record { history = t.history; hearers = s.hearers; rows = s.rows; settings = s.settings; owed = s.owed ++ ready text ∷ [] } → TurnsInto s t n line a a
-turns_quiet s t n line text a takes is = (
-  [],
-  turns_taken s t n line takes.meaning (ready text) takes.means (quiet_told text s.hearers n s.history takes.meaning takes.quiet (λ form. takes.replies form s.hearers))
-      (is ∙ ap (λ h. record { history = h; hearers = s.hearers; rows = s.rows; settings = s.settings; owed = s.owed ++ ready text ∷ [] }) takes.history),
-  sym (append-nil a),
-)
+pub turns_quiet : (s t : Course) (n : ℕ) (line text : List ℕ) → TakesQuietly (names_in s.hearers) s.history t.history n line text → t ≡ record { history = t.history; hearers = s.hearers; rows = s.rows; settings = s.settings; owed = s.owed ++ ready text ∷ [] } → Turns s t n line []
+turns_quiet s t n line text takes is =
+    turns_taken s t n line takes.meaning (ready text) takes.means (quiet_told text s.hearers n s.history takes.meaning takes.quiet (λ form. takes.replies form s.hearers))
+    (is ∙ ap (λ h. record { history = h; hearers = s.hearers; rows = s.rows; settings = s.settings; owed = s.owed ++ ready text ∷ [] }) takes.history)
 
--- a line whose articles are matched
-pub turns_batch : (s t : Course) (n : ℕ) (line : List ℕ) (articles : List ArticleValue) (a b : List ℕ) → Means (names_in s.hearers) s.history line (matching articles) → TakesBatch s t n articles a b → TurnsInto s t n line a b
-turns_batch s t n line articles a b means takes =
-    let u = takes.between in
-    let p = takes.pays.1 in
-    let named = subst (λ ns. Means ns s.history line (matching articles)) (sym (names_after p.out.alerts s.hearers u.hearers p.gave.heard)) means in
-    let here = subst (λ h. Means (names_in u.hearers) h line (matching articles)) (sym p.history) named in
-    let turns = turns_taken u t n line (matching articles) (matched n u.history articles) here refl takes.takes in
-    (takes.pays.0 ++ [], turns_after s u t n line takes.pays.0 [] p turns, takes.pays.2 ∙ ap (λ x. a ++ x) (sym (append-nil takes.pays.0)))
+-- a line whose articles wait
+pub turns_waiting : (s t : Course) (n : ℕ) (line : List ℕ) (articles : List ArticleValue) → Means (names_in s.hearers) s.history line (matching articles) → t ≡ with_owed s (s.owed ++ matched n s.history articles ∷ []) → Turns s t n line []
+turns_waiting s t n line articles means is = turns_taken s t n line (matching articles) (matched n s.history articles) means refl is
 
 -- the line was taken, and more was paid
-pub turns_paid : (s t u : Course) (n : ℕ) (line a b c : List ℕ) → a ≡ [] → TurnsInto s t n line a b → PaysInto t u b c → Turns s u n line c
-turns_paid s t u n line a b c none p q =
-    subst (Turns s u n line) (sym (q.2 ∙ ap (λ x. x ++ q.0) (p.2 ∙ ap (λ x. x ++ p.0) none))) (turns_then s t u n line p.0 q.0 p.1 q.1)
-
-pub breaks_paid : (s t u : Course) (n : ℕ) (line a b : List ℕ) → TurnsInto s t n line a b → HearsOwed t u → BreaksOff s u n line
-breaks_paid s t u n line a b p front = breaks_turned s t u n line p.0 p.1 front
+pub turns_paid : (s t u : Course) (n : ℕ) (line a b : List ℕ) → a ≡ [] → Turns s t n line [] → PaysInto t u a b → Turns s u n line b
+turns_paid s t u n line a b none p q = subst (Turns s u n line) (sym (q.2 ∙ ap (λ x. x ++ q.0) none)) (turns_then s t u n line [] q.0 p q.1)
 
 -- ---- what is pending
 
@@ -252,29 +237,74 @@ breaks_paid s t u n line a b p front = breaks_turned s t u n line p.0 p.1 front
 abbrev pub course_by : History → List Hearer → List RowValue → Settings → List Pending → Course
 course_by h hearers rows settings items = record { history = h; hearers = hearers; rows = rows; settings = settings; owed = map owed_by items }
 
-pub pays_same : (h : History) (hearers : List Hearer) (rows : List RowValue) (settings : Settings) (xs ys : List Pending) (a : List ℕ) → xs ≡ ys → PaysInto (course_by h hearers rows settings xs) (course_by h hearers rows settings ys) a a
-pays_same h hearers rows settings xs ys a e = subst (λ zs. PaysInto (course_by h hearers rows settings xs) (course_by h hearers rows settings zs) a a) e (pays_into_none (course_by h hearers rows settings xs) a)
-
-pub hears_item : (hearers now : List Hearer) (xs ys : List Pending) (item : Pending) → xs ≡ item ∷ ys → HearsFront (owed_of hearers (owed_by item)).alerts hearers now → HearsFront (owes hearers (map owed_by xs)).alerts hearers now
-hears_item hearers now xs ys item e front =
-    subst (λ zs. HearsFront (owes hearers (map owed_by zs)).alerts hearers now) (sym e) (front_of_more (owed_of hearers (owed_by item)).alerts (owes hearers (map owed_by ys)).alerts hearers now front)
-
 pub owed_last : (xs ys : List Pending) (item : Pending) → ys ≡ xs ++ item ∷ [] → map owed_by ys ≡ map owed_by xs ++ owed_by item ∷ []
 owed_last xs ys item e = ap (map owed_by) e ∙ map-append owed_by xs (item ∷ [])
 
 -- the line's text is pending
-pub turns_ready : (h new : History) (hearers : List Hearer) (rows : List RowValue) (settings : Settings) (xs ys : List Pending) (item : Pending) (n : ℕ) (line text a : List ℕ) → TakesQuietly (names_in hearers) h new n line text → ys ≡ xs ++ item ∷ [] → owed_by item ≡ ready text
-    → TurnsInto (course_by h hearers rows settings xs) (course_by new hearers rows settings ys) n line a a
-turns_ready h new hearers rows settings xs ys item n line text a takes e is =
-    turns_quiet (course_by h hearers rows settings xs) (course_by new hearers rows settings ys) n line text a takes
+pub turns_ready : (h new : History) (hearers : List Hearer) (rows : List RowValue) (settings : Settings) (xs ys : List Pending) (item : Pending) (n : ℕ) (line text : List ℕ) → TakesQuietly (names_in hearers) h new n line text → ys ≡ xs ++ item ∷ [] → owed_by item ≡ ready text
+    → Turns (course_by h hearers rows settings xs) (course_by new hearers rows settings ys) n line []
+turns_ready h new hearers rows settings xs ys item n line text takes e is =
+    turns_quiet (course_by h hearers rows settings xs) (course_by new hearers rows settings ys) n line text takes
     (ap (λ os. record { history = new; hearers = hearers; rows = rows; settings = settings; owed = os }) (owed_last xs ys item e ∙ ap (λ o. map owed_by xs ++ o ∷ []) is))
 
--- the line's batch was begun
-pub turns_begun : (h new : History) (hearers : List Hearer) (rows : List RowValue) (settings : Settings) (owed : List Owed) (t : Course) (n : ℕ) (line : List ℕ) (articles : List ArticleValue) (a b : List ℕ) → Means (names_in hearers) h line (matching articles) → new ≡ h
-    → TakesBatch (record { history = new; hearers = hearers; rows = rows; settings = settings; owed = owed }) t n articles a b → TurnsInto (record { history = h; hearers = hearers; rows = rows; settings = settings; owed = owed }) t n line a b
-turns_begun h new hearers rows settings owed t n line articles a b means same takes =
-    turns_batch (record { history = h; hearers = hearers; rows = rows; settings = settings; owed = owed }) t n line articles a b means
-    (subst (λ g. TakesBatch (record { history = g; hearers = hearers; rows = rows; settings = settings; owed = owed }) t n articles a b) same takes)
+-- the line's articles are pending
+pub turns_begun : (h new : History) (hearers : List Hearer) (rows : List RowValue) (settings : Settings) (owed : List Owed) (t : Course) (n : ℕ) (line : List ℕ) (articles : List ArticleValue) → Means (names_in hearers) h line (matching articles) → new ≡ h
+    → t ≡ record { history = new; hearers = hearers; rows = rows; settings = settings; owed = owed ++ matched n new articles ∷ [] } → Turns (record { history = h; hearers = hearers; rows = rows; settings = settings; owed = owed }) t n line []
+turns_begun h new hearers rows settings owed t n line articles means same is =
+    turns_waiting (record { history = h; hearers = hearers; rows = rows; settings = settings; owed = owed }) t n line articles means
+    (is ∙ ap (λ g. record { history = g; hearers = hearers; rows = rows; settings = settings; owed = owed ++ matched n g articles ∷ [] }) same)
+
+-- ---- lines that are settled, one after the other
+
+owed_more : (items : List Pending) (line : ℕ) → line < length items → map owed_by (drop line items) ≡ owed_at items line ∷ map owed_by (drop (suc line) items)
+owed_more [] line l = absurd (omega (arith, l))
+owed_more (x ∷ xs) zero l = refl
+owed_more (x ∷ xs) (suc line) l = owed_more xs line (omega (arith, l))
+
+-- an item of a list, and the rest of it
+pub owed_next : (items : List Pending) (line : ℕ) → line < length items → map owed_by (drop line items) ≡ owed_at items line ∷ map owed_by (drop (line + 1) items)
+owed_next items line l = owed_more items line l ∙ ap (λ n. owed_at items line ∷ map owed_by (drop n items)) (sym (add-one line))
+
+-- the settled line's text stands at the end
+pub pays_line : (s t : CrewIs) (hearers now : List Hearer) (items : List Pending) (line : ℕ) (a b text : List ℕ) → line < length items
+    → now ≡ told_all (owed_of hearers (owed_at items line)).alerts hearers → t ≡ record s { rows = s.rows ++ kept_rows s.settings.keeps_rows (owed_of hearers (owed_at items line)).rows }
+    → text ≡ (owed_of hearers (owed_at items line)).text s.settings.form → b ≡ a ++ text → PaysInto (with_owed (course s hearers) (map owed_by (drop line items))) (with_owed (course t now) (map owed_by (drop (line + 1) items))) a b
+pays_line s t hearers now items line a b text within heard same is grown =
+    pays_into_first (with_owed (course s hearers) (map owed_by (drop line items))) (with_owed (course t now) (map owed_by (drop (line + 1) items))) (owed_at items line) a b text
+    (owed_next items line within) (record { heard = heard; rows = ap (λ crew. crew.rows) same; settings = ap (λ crew. crew.settings) same }) (ap (λ crew. crew.history) same) is grown
+
+-- of the line that is settled a front was heard
+pub hears_line : (s t : Course) (items : List Pending) (line : ℕ) → line < length items → HearsFront (owed_of s.hearers (owed_at items line)).alerts s.hearers t.hearers → HearsOwed (with_owed s (map owed_by (drop line items))) t
+hears_line s t items line within front = hears_first (with_owed s (map owed_by (drop line items))) t (owed_at items line) (map owed_by (drop (line + 1) items)) (owed_next items line within) front
+
+-- what the line that was settled paid was heard
+pub hears_settled : (s t : CrewIs) (hearers now : List Hearer) (items : List Pending) (line : ℕ) → line < length items → now ≡ told_all (owed_of hearers (owed_at items line)).alerts hearers
+    → t ≡ record s { rows = s.rows ++ kept_rows s.settings.keeps_rows (owed_of hearers (owed_at items line)).rows } → HearsOwed (with_owed (course s hearers) (map owed_by (drop line items))) (course t now)
+hears_settled s t hearers now items line within heard same =
+    let text = (owed_of hearers (owed_at items line)).text s.settings.form in
+    let p = pays_line s t hearers now items line [] text text within heard same refl refl in
+    let u = with_owed (course t now) (map owed_by (drop (line + 1) items)) in
+    hears_after (with_owed (course s hearers) (map owed_by (drop line items))) u (course t now) p.0 p.1 (hears_none u (course t now) refl)
+
+-- ---- a line that is settled
+
+pub owed_past : (items : List Pending) (line : ℕ) → length items ≤ line → owed_at items line ≡ ready []
+owed_past [] line l = refl
+owed_past (x ∷ xs) zero l = absurd (omega (arith, l))
+owed_past (x ∷ xs) (suc line) l = owed_past xs line (omega (arith, l))
+
+-- a text tells nobody
+pub heard_none : (hearers : List Hearer) (o : Owed) (text : List ℕ) → o ≡ ready text → hearers ≡ told_all (owed_of hearers o).alerts hearers
+heard_none hearers o text is = subst (λ p. hearers ≡ told_all (owed_of hearers p).alerts hearers) (sym is) (sym (told_none hearers))
+
+-- and keeps no row
+pub kept_none : (crew : CrewIs) (hearers : List Hearer) (o : Owed) (text : List ℕ) → o ≡ ready text → crew ≡ record crew { rows = crew.rows ++ kept_rows crew.settings.keeps_rows (owed_of hearers o).rows }
+kept_none crew hearers o text is =
+    subst (λ p. crew ≡ record crew { rows = crew.rows ++ kept_rows crew.settings.keeps_rows (owed_of hearers p).rows }) (sym is) (ap (λ rows. record crew { rows = rows }) (none_posted crew.settings.keeps_rows crew.rows))
+
+-- what was found of a batch is what is owed to its line
+pub found_there : (hearers : List Hearer) (items : List Pending) (line : ℕ) (batch : Batch) (found : List AlertsValue) → slice_get items line ≡ Some (pending.Waiting batch) → found ≡ due_to batch → found_outcome hearers batch.number found ≡ owed_of hearers (owed_at items line)
+found_there hearers items line batch found is right = found_given batch.view hearers batch.number batch.drafts.items found right ∙ ap (λ item. owed_of hearers (owed_from item)) (sym is)
 
 -- ---- results
 
@@ -285,3 +315,7 @@ on_ok_more (Err e) p f = tt
 pub on_err_more : {A E : Type 0} {P Q : Type 0} (r : Result A E) → OnErr r P → (P → Q) → OnErr r Q
 on_err_more (Ok a) p f = tt
 on_err_more (Err e) p f = f p
+
+pub on_err_any : {A E : Type 0} {P : Type 0} (r : Result A E) → P → OnErr r P
+on_err_any (Ok a) p = tt
+on_err_any (Err e) p = p

@@ -82,22 +82,12 @@ HearsOwed old new = HearsFront (owes old.hearers old.owed).alerts old.hearers ne
 abbrev pub PaysInto : Course → Course → List ℕ → List ℕ → Type 0
 PaysInto old new before now = (text : List ℕ) × Pays old new text × (now ≡ before ++ text)
 
--- the course that owes one thing more
-abbrev pub owing : Course → Owed → Course
-owing s o = record {
+-- the course that owes these
+abbrev pub with_owed : Course → List Owed → Course
+with_owed s owed = record {
   history = s.history;
   hearers = s.hearers;
   rows = s.rows;
   settings = s.settings;
-  owed = s.owed ++ o ∷ [];
+  owed = owed;
 }
-
--- A front of what was owed was given, its text stands at the end, and a batch is owed to line n.
-pub record TakesBatch (old new : Course) (n : ℕ) (articles : List ArticleValue) (before now : List ℕ) : Type 0 where
-  pub between : Course
-  pub pays : PaysInto old between before now
-  pub takes : new ≡ owing between (matched n between.history articles)
-
--- line n was taken, and the text of what was given stands at the end
-abbrev pub TurnsInto : Course → Course → ℕ → List ℕ → List ℕ → List ℕ → Type 0
-TurnsInto old new n line before now = (text : List ℕ) × Turns old new n line text × (now ≡ before ++ text)

@@ -1,18 +1,18 @@
 -- What is owed, by what a run has pending.
-use Rattle.std.specs.Prelude.{◌≡◌, ⊤}
-use Rattle.clip_front.specs.declared.settings.Settings.{Settings}
+use Rattle.std.specs.Prelude.{ℕ, List, [], Option, Some, None}
+use Rattle.std.specs.List.{slice_get}
 use Rattle.clip_run.specs.Owed.{Owed, ready, matched}
 use Rattle.clip_run.specs.declared.batch.Pending.{Pending}
 use Rattle.clip_run.specs.declared.batch.Pending.TheVariants as pending
 
 abbrev pub owed_by : Pending → Owed
 owed_by (pending.Ready text) = ready text.items
-owed_by (pending.Matched f) = matched f.number f.due.view.value.history f.due.drafts.value.items
-owed_by (pending.InFlight f) =
-    matched f.number f.thread.promise.view.value.history f.thread.promise.drafts.value.items
+owed_by (pending.Waiting batch) = matched batch.number batch.view.history batch.drafts.items
 
--- a batch is matched for these settings
-abbrev pub GoesBy : Settings → Pending → Type 0
-GoesBy settings (pending.Ready text) = ⊤
-GoesBy settings (pending.Matched f) = f.due.settings ≡ settings
-GoesBy settings (pending.InFlight f) = f.thread.promise.settings ≡ settings
+-- what is owed to the line at a place, and an empty text past the last
+abbrev pub owed_from : Option Pending → Owed
+owed_from None = ready []
+owed_from (Some item) = owed_by item
+
+abbrev pub owed_at : List Pending → ℕ → Owed
+owed_at items line = owed_from (slice_get items line)

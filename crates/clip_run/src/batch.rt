@@ -1,30 +1,30 @@
-//! Batches that are matched while the run goes on.
-ghost use Rattle.std.specs.Prelude.{◌≡◌, IfOk};
-ghost use Rattle.clip_run.specs.Owed.{matched};
-ghost use Rattle.clip_run.specs.Due.{IsDue};
-ghost use Rattle.clip_run.specs.Pending.{owed_by, GoesBy};
+//! Lines that wait for their turn, and what is found of an article of one of them.
+ghost use Rattle.std.specs.Prelude.{◌≡◌, ◌<◌, vec_len, IfOk};
+ghost use Rattle.clip_standing.specs.Alerts.{alerts_value};
+ghost use Rattle.clip_protocol.specs.Found.{found_value};
+ghost use Rattle.clip_front.specs.Steps.Found.{IsFor};
+ghost use Rattle.clip_run.specs.Due.{IsDue, due_to};
 
-use crate::due::{Due, Matched};
-use crate::pieces::{match_drafts, match_drafts_in_pieces};
+use crate::finding::hits_found;
 use clip_front::Settings;
-use clip_match::Gate;
+use clip_match::{Gate, match_article_finding};
 use clip_protocol::{Found, JudgedDraft};
 use clip_registry::View;
+use clip_standing::Alerts;
 use clip_words::{NoMemory, WordPool};
 use std::alloc::Global;
-use std::thread;
-use std::thread::{PromisedHandle, Threads};
 
-/// How many articles a piece has at least, where a batch is cut.
-const LEAST_PIECE: usize = 2;
-
-/// A batch that a thread matches.
+/// The articles of a match line, and the registry at which they are matched.
 #[derive(Drop)]
-pub struct Flight {
+pub struct Batch {
     /// The number of its line.
     pub number: u64,
-    /// The thread.
-    pub thread: PromisedHandle<Result<Vec<Found>, NoMemory>, Due>,
+    /// Its own number, from 1, by which gates know it.
+    pub batch: u64,
+    /// The registry that the lines before its own leave.
+    pub view: View,
+    /// Its articles, which are not read yet.
+    pub drafts: Vec<JudgedDraft>,
 }
 
 /// What a run owes to a line.
@@ -32,88 +32,53 @@ pub struct Flight {
 pub enum Pending {
     /// The text of its reply.
     Ready(Vec<u8>),
-    /// Its batch was matched.
-    Matched(Matched),
-    /// Its batch is being matched.
-    InFlight(Flight),
+    /// Its articles are still to be matched.
+    Waiting(Batch),
 }
 
-/// Starts the reading and the matching of a batch in a thread, or does both here where none can be made.
-pub fn start_batch<R: Threads, G: Gate + Clone + Send + 'static>(
-    rt: &R,
-    alloc: Global,
-    number: u64,
-    view: View,
-    drafts: Vec<JudgedDraft>,
-    settings: Settings,
-    batch: u64,
-    gate: &G,
-) -> Result<Pending, NoMemory>
-    ensures owed { IfOk result (λ p. owed_by p ≡ matched number view.history drafts.items) }
-    ensures settings { IfOk result (λ p. GoesBy settings p) }
+/// What a run with these settings finds of an article: where rows are kept its alerts, and else what a reply shows of
+/// them, unless somebody is to hear them.
+fn found_of(alloc: Global, settings: Settings, alerts: Alerts) -> Result<Found, NoMemory>
+    ensures value { IfOk result (λ found. found_value found ≡ alerts_value alerts) }
+    ensures fit { IfOk result (λ found. IsFor settings found) }
 {
-    let gate = gate.clone()?;
-    let due = Due::to(&view, &drafts, settings);
-    let promise = Due::to(&view, &drafts, settings);
-    let work = move || {
-        let mut pool = WordPool::new(alloc);
-        match_drafts(alloc, &mut pool, &view, &drafts, settings, batch, 0, &gate)
-    };
-    match thread::spawn_with(rt, promise, work) {
-        Ok(thread) => Ok(Pending::InFlight(Flight { number, thread })),
-        Err(refused) => {
-            let found = (refused.value)()?;
-            Ok(Pending::Matched(Matched { number, due, found }))
-        }
-    }
-}
-
-/// Reads and matches a batch in so many pieces, while the caller waits. Where it is one piece, its articles share their
-/// words with those of the pool, and otherwise those of a piece with one another.
-pub fn match_here<R: Threads + Sync, G: Gate>(
-    rt: &R,
-    alloc: Global,
-    pool: &mut WordPool,
-    number: u64,
-    view: View,
-    drafts: Vec<JudgedDraft>,
-    settings: Settings,
-    batch: u64,
-    pieces: u32,
-    gate: &G,
-) -> Result<Pending, NoMemory>
-    ensures owed { IfOk result (λ p. owed_by p ≡ matched number view.history drafts.items) }
-    ensures settings { IfOk result (λ p. GoesBy settings p) }
-{
-    let due = Due::to(&view, &drafts, settings);
-    let found = if pieces > 1 {
-        match_drafts_in_pieces(rt, alloc, &view, &drafts, settings, batch, pieces, gate)?
+    if settings.keeps_rows {
+        Ok(Found::Alerts(alerts))
     } else {
-        match_drafts(alloc, pool, &view, &drafts, settings, batch, 0, gate)?
-    };
-    Ok(Pending::Matched(Matched { number, due, found }))
-}
-
-/// Into how many pieces a batch is cut: as many as there are workers, but so few that each has `LEAST_PIECE` articles.
-pub fn pieces_that_pay(articles: usize, workers: u32) -> u32 {
-    match u32::try_from(articles / LEAST_PIECE) {
-        Ok(most) => most.min(workers),
-        Err(_) => workers,
+        Found::shown(alloc, settings.form, alerts)
     }
 }
 
-impl Pending {
-    /// Whether a thread is at work for it. Constant time.
-    pub fn is_in_flight(&self) -> bool {
-        matches!(self, Pending::InFlight(_))
-    }
+/// The number of the piece that an article is.
+fn piece_of(article: usize) -> u32 {
+    u32::try_from(article).unwrap_or(u32::MAX)
 }
 
-impl Flight {
-    /// What its thread found. It waits for the thread.
-    pub fn join<R: Threads>(self, rt: &R) -> Result<Vec<Found>, NoMemory>
-        ensures { IfOk result (λ found. IsDue self.thread.promise found.items) }
+impl Batch {
+    /// What is found of one of its articles. It is read, with words that are shared with those of the pool, and then
+    /// matched between the gate's `enter` and its `leave`, as a piece of the batch, all on the thread that calls, which
+    /// also writes what a reply shows of alerts that nobody hears, and lets go of them.
+    ///
+    /// `NoMemory` where an allocation failed. Cost: that of `JudgedDraft::read`, of `match_article_finding` and of
+    /// `Found::shown`.
+    pub fn find<G: Gate>(
+        &self,
+        alloc: Global,
+        pool: &mut WordPool,
+        article: usize,
+        settings: Settings,
+        gate: &G,
+    ) -> Result<Found, NoMemory>
+        requires { article < vec_len self.now.drafts }
+        ensures { IfOk result (λ found. IsDue settings (due_to self.now) article found) }
     {
-        self.thread.join(rt)
+        let draft = &self.drafts[article];
+        let piece = piece_of(article);
+        let read = draft.read(alloc, pool)?;
+        let hits = hits_found(settings);
+        gate.enter(self.batch, piece);
+        let alerts = match_article_finding(alloc, &self.view, &read, hits);
+        gate.leave(self.batch, piece);
+        found_of(alloc, settings, alerts?)
     }
 }

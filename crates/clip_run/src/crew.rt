@@ -1,31 +1,38 @@
 //! The server of a run with workers.
-ghost use Rattle.std.specs.Prelude.{◌≡◌, ◌+◌, ◌<◌, [], ◌∷◌, ◌++◌, length, map, false, IfOk, OnOk, OnErr};
+ghost use Rattle.std.specs.Prelude.{◌≡◌, ◌<◌, [], ◌∷◌, ◌++◌, map, vec_len, false, Some, IfOk, OnOk, OnErr};
+ghost use Rattle.std.specs.List.{All, slice_get};
 ghost use Rattle.clip_front.specs.Outcome.{kept_rows};
+ghost use Rattle.clip_front.specs.Steps.Found.{IsFor, told_in, rows_in, found_text};
 ghost use Rattle.clip_listen.specs.Heard.{told_all, HearsFront};
+ghost use Rattle.clip_protocol.specs.Found.{found_value};
 ghost use Rattle.clip_run.specs.Crews.{CrewIs, course};
-ghost use Rattle.clip_run.specs.Owed.{owed_of, matched, Turns, BreaksOff, HearsOwed, PaysInto, TakesBatch, TurnsInto};
-ghost use Rattle.clip_run.specs.Pending.{owed_by, GoesBy};
+ghost use Rattle.clip_run.specs.Due.{AreDue, FindsOne, due_to};
+ghost use Rattle.clip_run.specs.Owed.{owed_of, matched, with_owed, Turns, BreaksOff, HearsOwed, PaysInto};
+ghost use Rattle.clip_run.specs.Pending.{owed_at, owed_by};
+ghost use Rattle.clip_run.specs.declared.batch.Pending.TheVariants as pending;
 
-use crate::batch::{Pending, match_here, pieces_that_pay, start_batch};
+use crate::batch::{Batch, Pending};
 use crate::caller::Caller;
+use crate::group::{Answer, Group, take_answer};
+use crate::helpers::{Helpers, Load};
 use clip_desk::DeskName;
 use clip_front::{Books, Settings, TakenUnread, deliver_shown, take_line_unread};
 use clip_ledger::Ledger;
 use clip_listen::Audience;
 use clip_match::Gate;
-use clip_protocol::JudgedDraft;
+use clip_protocol::{Found, JudgedDraft};
 use clip_words::{NoMemory, WordPool};
 use std::alloc::Global;
-use std::collections::VecDeque;
 use std::marker::Model;
-use std::sync::Wait;
+use std::mem;
+use std::sync::{Arc, Wait};
 use std::thread::Threads;
 
-/// The most batches in flight.
-const MOST_IN_FLIGHT: u32 = 32;
+/// The most batches that wait.
+const MOST_WAITING: u32 = 32;
 
 /// What answers the lines of a run: the only caller at a desk, its books, words of the articles that were matched on
-/// its thread, and what it owes.
+/// its thread, what it owes, and the threads that help it.
 #[derive(Drop)]
 pub struct Crew<'r, 'd, 'g, R, N: DeskName, G> {
     rt: &'r R,
@@ -33,18 +40,17 @@ pub struct Crew<'r, 'd, 'g, R, N: DeskName, G> {
     caller: Caller<'r, 'd, R, N>,
     books: Books,
     pool: WordPool,
-    pending: VecDeque<Pending>,
-    in_flight: u32,
-    most: u32,
-    workers: u32,
+    pending: Vec<Pending>,
+    waiting: u32,
+    load: Load,
     batches: u64,
+    helpers: Helpers,
 }
 
 impl<'r, 'd, 'g, R, N: DeskName, G> Model for Crew<'r, 'd, 'g, R, N, G> {
     ghost use Rattle.std.specs.Prelude.{map};
-    ghost use Rattle.std.specs.List.{All};
     ghost use Rattle.clip_run.specs.Crews.{CrewIs, crew_code};
-    ghost use Rattle.clip_run.specs.Pending.{owed_by, GoesBy};
+    ghost use Rattle.clip_run.specs.Pending.{owed_by};
 
     ghost Value = { CrewIs };
 
@@ -56,41 +62,6 @@ impl<'r, 'd, 'g, R, N: DeskName, G> Model for Crew<'r, 'd, 'g, R, N, G> {
       settings = c.books.settings;
       owed = map owed_by c.pending.items;
     } };
-
-    ghost invariant = { λ c. All (GoesBy c.books.settings) c.pending.items };
-}
-
-/// Gives what is owed to one line: its text, once its alerts are delivered. It waits for the thread that matches its
-/// batch.
-fn settle<R: Threads, A: Audience>(
-    rt: &R,
-    alloc: Global,
-    audience: &mut A,
-    books: &mut Books,
-    item: Pending,
-) -> Result<Vec<u8>, NoMemory>
-    requires { GoesBy books.old.settings item }
-    ensures text { IfOk result (λ text. text.items
-        ≡ (owed_of (A.hearers audience.old) (owed_by item)).text books.old.settings.form) }
-    ensures heard { OnOk result (A.hearers audience.new
-        ≡ told_all (owed_of (A.hearers audience.old) (owed_by item)).alerts (A.hearers audience.old)) }
-    ensures rows { OnOk result (books.new.ledger ≡ books.old.ledger ++ kept_rows books.old.settings.keeps_rows
-        (owed_of (A.hearers audience.old) (owed_by item)).rows) }
-    ensures settings { books.new.settings ≡ books.old.settings }
-    ensures err { OnErr result (HearsFront (owed_of (A.hearers audience.old) (owed_by item)).alerts
-        (A.hearers audience.old) (A.hearers audience.new)) }
-{
-    match item {
-        Pending::Ready(text) => Ok(text),
-        Pending::Matched(batch) => {
-            deliver_shown(alloc, audience, books, batch.number, &batch.found)
-        }
-        Pending::InFlight(flight) => {
-            let number = flight.number;
-            let found = flight.join(rt)?;
-            deliver_shown(alloc, audience, books, number, &found)
-        }
-    }
 }
 
 /// Adds a text at the end.
@@ -129,164 +100,230 @@ impl<'r, 'd, 'g, R: Threads + Wait + Sync, N: DeskName, G: Gate + Clone + Send +
             caller,
             books: Books::new(alloc, settings),
             pool: WordPool::new(alloc),
-            pending: VecDeque::new(alloc),
-            in_flight: 0,
-            most: settings.workers.min(MOST_IN_FLIGHT),
-            workers: settings.workers,
+            pending: Vec::new(alloc),
+            waiting: 0,
+            load: Load::none(),
             batches: 0,
+            helpers: Helpers::new(alloc, settings.workers),
         }
     }
 
-    /// Gives the oldest of what is owed.
-    fn pay_oldest<A: Audience>(
+    /// What is found of an article of a batch that waits at this place of the lines: what the answers have of it, where
+    /// it is their last, and else what is found here.
+    fn find_one(
+        &mut self,
+        alloc: Global,
+        line: usize,
+        batch: &Batch,
+        article: usize,
+        answers: &mut Vec<Answer>,
+    ) -> Result<Found, NoMemory>
+        requires { article < vec_len batch.now.drafts }
+        ensures finds { FindsOne self.old.settings line batch.now article answers.old.items answers.new.items result }
+        ensures same { self.new ≡ self.old }
+    {
+        match take_answer(answers, line, article) {
+            Some(found) => Ok(found),
+            None => batch.find(
+                alloc,
+                &mut self.pool,
+                article,
+                self.books.settings,
+                self.gate,
+            ),
+        }
+    }
+
+    /// What is found of the articles of a batch that waits at this place of the lines, in order.
+    fn find(
+        &mut self,
+        alloc: Global,
+        items: &[Pending],
+        line: usize,
+        batch: &Batch,
+        answers: &mut Vec<Answer>,
+    ) -> Result<Vec<Found>, NoMemory>
+        requires here { slice_get items.now line ≡ Some (pending.Waiting batch.now) }
+        requires due { AreDue self.old.settings items.now answers.old.items }
+        ensures found { IfOk result (λ found. map found_value found.items ≡ due_to batch.now) }
+        ensures fit { IfOk result (λ found. All (IsFor self.old.settings) found.items) }
+        ensures due { OnOk result (AreDue self.old.settings items.now answers.new.items) }
+        ensures same { self.new ≡ self.old }
+    {
+        let mut all = Vec::with_capacity(alloc, batch.drafts.len())?;
+        for article in 0..batch.drafts.len() {
+            let found = self.find_one(alloc, line, batch, article, answers)?;
+            all.push(found)?;
+        }
+        Ok(all)
+    }
+
+    /// Delivers what was found of the articles of the line of this number, and gives the text of its reply.
+    fn deliver<A: Audience>(
         &mut self,
         alloc: Global,
         audience: &mut A,
-        out: &mut Vec<u8>,
-    ) -> Result<(), NoMemory>
-        ensures ok { OnOk result (PaysInto (course self.old (A.hearers audience.old))
-            (course self.new (A.hearers audience.new)) out.old.items out.new.items) }
-        ensures fewer { 0 < length self.old.owed → length self.new.owed + 1 ≡ length self.old.owed }
-        ensures err { OnErr result (HearsOwed (course self.old (A.hearers audience.old))
-            (course self.new (A.hearers audience.new))) }
+        number: u64,
+        found: &[Found],
+    ) -> Result<Vec<u8>, NoMemory>
+        requires { All (IsFor self.old.settings) found.now }
+        ensures text { IfOk result (λ text. text.items
+            ≡ found_text self.old.settings.form (A.hearers audience.old) number (map found_value found.now)) }
+        ensures heard { OnOk result (A.hearers audience.new
+            ≡ told_all (told_in (map found_value found.now)) (A.hearers audience.old)) }
+        ensures crew { OnOk result (self.new ≡ record self.old {
+          rows = self.old.rows ++ kept_rows self.old.settings.keeps_rows
+              (rows_in (A.hearers audience.old) number (map found_value found.now));
+        }) }
+        ensures err { OnErr result (HearsFront (told_in (map found_value found.now))
+            (A.hearers audience.old) (A.hearers audience.new)) }
     {
-        let Some(item) = self.pending.pop_front() else {
-            return Ok(());
-        };
-        if item.is_in_flight() {
-            self.in_flight = self.in_flight.saturating_sub(1);
-        }
-        let text = settle(self.rt, alloc, audience, &mut self.books, item)?;
-        add_text(out, text)
+        deliver_shown(alloc, audience, &mut self.books, number, found)
     }
 
-    /// Gives what is owed, oldest first, until some batches are in flight and no more than these; so all where these
-    /// are 0.
+    /// Gives what is owed to the line at a place of the lines: its text, once its alerts are delivered.
+    fn settle<A: Audience>(
+        &mut self,
+        alloc: Global,
+        audience: &mut A,
+        items: &[Pending],
+        line: usize,
+        answers: &mut Vec<Answer>,
+    ) -> Result<Vec<u8>, NoMemory>
+        requires { AreDue self.old.settings items.now answers.old.items }
+        ensures text { IfOk result (λ text. text.items
+            ≡ (owed_of (A.hearers audience.old) (owed_at items.now line)).text self.old.settings.form) }
+        ensures heard { OnOk result (A.hearers audience.new
+            ≡ told_all (owed_of (A.hearers audience.old) (owed_at items.now line)).alerts (A.hearers audience.old)) }
+        ensures crew { OnOk result (self.new ≡ record self.old {
+          rows = self.old.rows ++ kept_rows self.old.settings.keeps_rows
+              (owed_of (A.hearers audience.old) (owed_at items.now line)).rows;
+        }) }
+        ensures due { OnOk result (AreDue self.old.settings items.now answers.new.items) }
+        ensures err { OnErr result (HearsFront (owed_of (A.hearers audience.old) (owed_at items.now line)).alerts
+            (A.hearers audience.old) (A.hearers audience.new)) }
+    {
+        let Some(item) = items.get(line) else {
+            return Ok(Vec::new(alloc));
+        };
+        match item {
+            Pending::Ready(text) => Ok(Vec::from_slice(alloc, text.as_slice())?),
+            Pending::Waiting(batch) => {
+                let found = self.find(alloc, items, line, batch, answers)?;
+                self.deliver(alloc, audience, batch.number, &found)
+            }
+        }
+    }
+
+    /// Gives what is owed to each of these lines, in order, where nothing else is owed.
+    fn settle_all<A: Audience>(
+        &mut self,
+        alloc: Global,
+        audience: &mut A,
+        items: &[Pending],
+        mut answers: Vec<Answer>,
+        out: &mut Vec<u8>,
+    ) -> Result<(), NoMemory>
+        requires settled { self.old.owed ≡ [] }
+        requires due { AreDue self.old.settings items.now answers.items }
+        ensures ok { OnOk result (PaysInto
+            (with_owed (course self.old (A.hearers audience.old)) (map owed_by items.now))
+            (course self.new (A.hearers audience.new)) out.old.items out.new.items) }
+        ensures settled { OnOk result (self.new.owed ≡ []) }
+        ensures err { OnErr result (HearsOwed
+            (with_owed (course self.old (A.hearers audience.old)) (map owed_by items.now))
+            (course self.new (A.hearers audience.new))) }
+    {
+        for line in 0..items.len() {
+            let text = self.settle(alloc, audience, items, line, &mut answers)?;
+            add_text(out, text)?;
+        }
+        Ok(())
+    }
+
+    /// Gives all that is owed. The articles that wait are shared out among this thread and helpers first, where there
+    /// are enough of them.
     fn pay<A: Audience>(
         &mut self,
         alloc: Global,
         audience: &mut A,
         out: &mut Vec<u8>,
-        most: u32,
     ) -> Result<(), NoMemory>
         ensures ok { OnOk result (PaysInto (course self.old (A.hearers audience.old))
             (course self.new (A.hearers audience.new)) out.old.items out.new.items) }
-        ensures all { OnOk result (most ≡ 0 → self.new.owed ≡ []) }
+        ensures all { OnOk result (self.new.owed ≡ []) }
         ensures err { OnErr result (HearsOwed (course self.old (A.hearers audience.old))
             (course self.new (A.hearers audience.new))) }
     {
-        for _ in 0..self.pending.len() {
-            if 0 < self.in_flight && self.in_flight <= most {
-                return Ok(());
-            }
-            self.pay_oldest(alloc, audience, out)?;
+        let items = mem::replace(&mut self.pending, Vec::new(alloc));
+        let load = mem::replace(&mut self.load, Load::none());
+        self.waiting = 0;
+        self.helpers.greet(self.rt);
+        let count = self.helpers.wanted(load, self.gate.may_hold());
+        if count == 0 {
+            return self.settle_all(alloc, audience, &items, Vec::new(alloc), out);
         }
-        Ok(())
+        let gate = self.gate.clone()?;
+        let group = Arc::new(alloc, Group::of(alloc, items, self.books.settings, gate)?)?;
+        let answers = self
+            .helpers
+            .answers(self.rt, alloc, &mut self.pool, &group, load, count);
+        self.settle_all(alloc, audience, &group.items, answers, out)
     }
 
-    /// Begins the matching of a batch, whose articles are read by the threads that match them. One that has articles
-    /// enough for all workers is matched here in pieces, and so is one behind which no other line stands read; any
-    /// other in a thread of its own.
-    fn begin(
+    /// Lets a batch wait, to be matched at the registry as it stands.
+    fn let_wait(
         &mut self,
-        alloc: Global,
         number: u64,
         drafts: Vec<JudgedDraft>,
-        has_more: bool,
+        bytes: usize,
     ) -> Result<(), NoMemory>
         ensures { OnOk result (self.new ≡ record self.old {
           owed = self.old.owed ++ matched number self.old.history drafts.items ∷ [];
         }) }
     {
-        self.pending.reserve(1)?;
         let view = self.caller.look()?;
         self.batches = self.batches.wrapping_add(1);
-        let pieces = pieces_that_pay(drafts.len(), self.workers);
-        let item = if has_more && pieces < self.workers {
-            start_batch(
-                self.rt,
-                alloc,
-                number,
-                view,
-                drafts,
-                self.books.settings,
-                self.batches,
-                self.gate,
-            )?
-        } else {
-            match_here(
-                self.rt,
-                alloc,
-                &mut self.pool,
-                number,
-                view,
-                drafts,
-                self.books.settings,
-                self.batches,
-                pieces,
-                self.gate,
-            )?
-        };
-        if item.is_in_flight() {
-            self.in_flight = self.in_flight.saturating_add(1);
-        }
-        self.pending.push_back_reserved(item);
+        self.load = self.load.with(drafts.len(), bytes);
+        self.waiting = self.waiting.saturating_add(1);
+        self.pending.push(Pending::Waiting(Batch {
+            number,
+            batch: self.batches,
+            view,
+            drafts,
+        }))?;
         Ok(())
-    }
-
-    /// Takes a batch, once fewer than the most are in flight.
-    fn take_batch<A: Audience>(
-        &mut self,
-        alloc: Global,
-        audience: &mut A,
-        number: u64,
-        drafts: Vec<JudgedDraft>,
-        has_more: bool,
-        out: &mut Vec<u8>,
-    ) -> Result<(), NoMemory>
-        ensures ok { OnOk result (TakesBatch (course self.old (A.hearers audience.old))
-            (course self.new (A.hearers audience.new)) number drafts.items out.old.items out.new.items) }
-        ensures err { OnErr result (HearsOwed (course self.old (A.hearers audience.old))
-            (course self.new (A.hearers audience.new))) }
-    {
-        let most = self.most.saturating_sub(1);
-        self.pay(alloc, audience, out, most)?;
-        self.begin(alloc, number, drafts, has_more)
     }
 
     /// Takes a line, and owes what it gives.
     fn take<A: Audience>(
         &mut self,
         alloc: Global,
-        audience: &mut A,
+        audience: &A,
         number: u64,
         bytes: &[u8],
-        has_more: bool,
-        out: &mut Vec<u8>,
     ) -> Result<(), NoMemory>
-        ensures ok { OnOk result (TurnsInto (course self.old (A.hearers audience.old))
-            (course self.new (A.hearers audience.new)) number bytes.now out.old.items out.new.items) }
-        ensures err { OnErr result (BreaksOff (course self.old (A.hearers audience.old))
-            (course self.new (A.hearers audience.new)) number bytes.now) }
+        ensures ok { OnOk result (Turns (course self.old (A.hearers audience.now))
+            (course self.new (A.hearers audience.now)) number bytes.now []) }
+        ensures err { OnErr result (BreaksOff (course self.old (A.hearers audience.now))
+            (course self.new (A.hearers audience.now)) number bytes.now) }
     {
         match take_line_unread(alloc, &mut self.caller, audience, number, bytes)? {
             TakenUnread::Text(text) => {
-                self.pending.push_back(Pending::Ready(text))?;
+                self.pending.push(Pending::Ready(text))?;
                 Ok(())
             }
-            TakenUnread::Drafts(drafts) => {
-                self.take_batch(alloc, audience, number, drafts, has_more, out)
-            }
+            TakenUnread::Drafts(drafts) => self.let_wait(number, drafts, bytes.len()),
         }
     }
 
-    /// The text of what is given now that the line of this number is taken: a front of what is owed. Where no other
-    /// line stands read already, nothing is owed after it.
+    /// The text of what is given now that the line of this number is taken: all that is owed, or nothing yet, where
+    /// another line stands read already. Where none does, nothing is owed after it.
     ///
     /// `NoMemory` where an allocation failed or a listener answers it; the listeners have heard a front of the alerts
-    /// of what was owed and of the line then. Cost: that of `take_line_unread`; for a batch that of a thread's start,
-    /// or of `match_drafts_in_pieces`; and that of `deliver_shown` for what is given. It waits for threads whose batch
-    /// is given.
+    /// of what was owed and of the line then. Cost: that of `take_line_unread`; and of what is given that of
+    /// `Batch::find` for each article, shared among the helpers and this thread, and that of `deliver_shown`. It waits
+    /// for helpers that have taken an article.
     pub fn answer<A: Audience>(
         &mut self,
         alloc: Global,
@@ -301,24 +338,22 @@ impl<'r, 'd, 'g, R: Threads + Wait + Sync, N: DeskName, G: Gate + Clone + Send +
         ensures err { OnErr result (BreaksOff (course self.old (A.hearers audience.old))
             (course self.new (A.hearers audience.new)) number bytes.now) }
     {
+        self.take(alloc, audience, number, bytes)?;
         let mut out = Vec::new(alloc);
-        self.take(alloc, audience, number, bytes, has_more, &mut out)?;
-        let most = if has_more { self.most } else { 0 };
-        self.pay(alloc, audience, &mut out, most)?;
+        if has_more && 0 < self.waiting && self.waiting < MOST_WAITING {
+            return Ok(out);
+        }
+        self.pay(alloc, audience, &mut out)?;
         Ok(out)
     }
 
-    /// Joins each thread that matches a batch, lets go what is owed, and tells the merging thread to stop. It waits for
-    /// the threads that match.
+    /// Joins each helper that is late, lets go what is owed, and tells the merging thread to stop. It waits for the
+    /// helpers.
     pub fn stop(&mut self)
         ensures { self.new.rows ≡ self.old.rows }
     {
         self.caller.dismiss();
-        for _ in 0..self.pending.len() {
-            if let Some(Pending::InFlight(flight)) = self.pending.pop_front() {
-                let _ = flight.join(self.rt);
-            }
-        }
+        self.helpers.stop(self.rt);
     }
 
     /// The ledger of the run.

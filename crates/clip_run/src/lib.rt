@@ -1,14 +1,14 @@
-//! Runs: lines in, replies out, on one thread or with workers. With workers batches are read and matched in threads and
-//! segments merged in another, and the replies are those of a run alone.
+//! Runs: lines in, replies out, on one thread or with workers. With workers the articles of lines that stand read are
+//! shared out among threads and segments merged in another, and the replies are those of a run alone.
 #![tactic(auto)]
 
 mod alone;
 mod batch;
 mod caller;
 mod crew;
-mod due;
 mod finding;
-mod pieces;
+mod group;
+mod helpers;
 mod serving;
 mod session;
 

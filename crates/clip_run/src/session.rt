@@ -28,7 +28,7 @@ use std::thread::{Threads, join_mut};
 /// The tag of the desk of a run.
 const TAG: u64 = 1;
 
-/// Answers the lines, joins the threads that match, and tells the merging thread to stop.
+/// Answers the lines, joins the helpers, and tells the merging thread to stop.
 fn serve_and_stop<
     R: Threads + Wait + Sync,
     N: DeskName,
@@ -173,11 +173,11 @@ fn run_desk<
 /// Reads requests, a JSON object a line, and writes the replies in the order of the lines. Each alert of a match is
 /// told to the listener of its query, whose note stands in the reply. `Listeners` are an audience.
 ///
-/// With workers, batches are matched in threads while further lines are taken, up to the lesser of `workers` and 32
-/// at a time, each at the registry that the lines before its own leave; another thread merges after each accepted
-/// change. Whatever order these take, the replies, what is heard and the ledger are those of `run_alone`, which does
-/// it all with 0 workers. Alerts are told and replies written on the thread that calls this, in the order of the
-/// lines.
+/// With workers, the articles of match lines that stand read, of up to 32 at a time, are shared out one by one among
+/// the thread that calls this and helpers, each at the registry that the lines before its own leave; another thread
+/// merges after each accepted change. So few articles that they are matched before a helper comes have none. Whatever
+/// order these take, the replies, what is heard and the ledger are those of `run_alone`, which does it all with 0
+/// workers. Alerts are told and replies written on the thread that calls this, in the order of the lines.
 ///
 /// Before it asks the reader for more bytes, each line that was read whole is answered, and the replies are written and
 /// flushed: a client that waits for a reply before it sends its next line gets it. At the end, and after a fault, each
@@ -191,9 +191,9 @@ fn run_desk<
 /// failed, or a write took nothing; `NoMemory` where an allocation failed outside of a merge, a listener answers it, or
 /// the desk's call does. After a fault nothing more is written, and no more is delivered.
 ///
-/// Cost: that of `run_alone`, of which matches and merges are shared among threads; for each batch that is not
-/// matched alone the start of a thread; and for each change a view. Memory: that of `run_alone`, with up to 32
-/// batches, what was found of them, and the replies to the lines that wait behind them.
+/// Cost: that of `run_alone`, of which matches and merges are shared among threads; for 32 match lines or fewer the
+/// start of as many threads as there are workers but one; and for each change a view. Memory: that of `run_alone`, with
+/// up to 32 batches, what was found of them, and the replies to the lines that wait behind them.
 pub fn run<
     R: Threads + Wait + Sync,
     S: Source,

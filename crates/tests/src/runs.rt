@@ -5,6 +5,7 @@ ghost use Rattle.clip_front.specs.Devices.{AreFresh, devices_at};
 mod devices;
 mod failing_devices;
 mod gates;
+mod groups;
 mod heard;
 mod lines;
 mod replies_on_a_pipe;

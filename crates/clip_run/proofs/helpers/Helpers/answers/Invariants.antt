@@ -1,0 +1,10 @@
+use Rattle.std.specs.Arc.{arc_value}
+use Rattle.std.specs.List.{All}
+use Rattle.clip_run.specs.Due.{AreDue, IsAskedFor}
+use Rattle.clip_run.proofs.helpers.Helpers.answers.Given as goal
+
+abbrev pub invariant-loop : goal.invariant-loop
+invariant-loop g l = record {
+  asked : All (IsAskedFor (arc_value l.group).settings (arc_value l.group).items.items) l.started.items;
+  due : AreDue (arc_value l.group).settings (arc_value l.group).items.items l.answers.items;
+}

@@ -1,0 +1,159 @@
+//! Lines whose articles are shared out among threads, article by article.
+ghost use Rattle.std.specs.Prelude.{◌≡◌, IfOk, IfSome, IsPermutation};
+ghost use Rattle.clip_run.specs.Due.{IsDueAt, AreDue, TakesAnswer};
+
+use crate::batch::{Batch, Pending};
+use clip_front::Settings;
+use clip_match::Gate;
+use clip_protocol::Found;
+use clip_words::{NoMemory, WordPool};
+use std::alloc::Global;
+use std::sync::atomic::AtomicUsize;
+use std::sync::atomic::Ordering::SeqCst;
+
+/// Where an article of a group stands.
+#[derive(Clone, Copy, Debug)]
+pub struct Place {
+    /// The place of its line among the lines.
+    pub line: usize,
+    /// Its place among the articles of its line.
+    pub article: usize,
+}
+
+/// What was found of an article of a group.
+#[derive(Drop)]
+pub struct Answer {
+    /// Its number among the articles of the group.
+    pub number: usize,
+    /// Where it stands.
+    pub place: Place,
+    /// What was found.
+    pub found: Found,
+}
+
+/// Lines whose articles are shared out among threads: who is free takes the next one.
+#[derive(Drop)]
+pub struct Group<G> {
+    /// What is owed to its lines.
+    pub items: Vec<Pending>,
+    /// How the run replies.
+    pub settings: Settings,
+    gate: G,
+    places: Vec<Place>,
+    next: AtomicUsize,
+}
+
+/// Adds the places of the articles of a line.
+fn add_places(places: &mut Vec<Place>, line: usize, batch: &Batch) -> Result<(), NoMemory> {
+    for article in 0..batch.drafts.len() {
+        places.push(Place { line, article })?;
+    }
+    Ok(())
+}
+
+/// The places of the articles of these lines, in order.
+fn places_of(alloc: Global, items: &[Pending]) -> Result<Vec<Place>, NoMemory> {
+    let mut places = Vec::new(alloc);
+    for (line, item) in items.iter().enumerate() {
+        if let Pending::Waiting(batch) = item {
+            add_places(&mut places, line, batch)?;
+        }
+    }
+    Ok(places)
+}
+
+impl<G: Gate + Drop> Group<G> {
+    /// The group of these lines, of which no article is taken yet. `NoMemory` where an allocation failed. Its cost is
+    /// linear in the articles.
+    pub fn of(
+        alloc: Global,
+        items: Vec<Pending>,
+        settings: Settings,
+        gate: G,
+    ) -> Result<Group<G>, NoMemory>
+        ensures items { IfOk result (λ group. group.items.items ≡ items.items) }
+        ensures settings { IfOk result (λ group. group.settings ≡ settings) }
+    {
+        let places = places_of(alloc, &items)?;
+        Ok(Group {
+            items,
+            settings,
+            gate,
+            places,
+            next: AtomicUsize::new(0),
+        })
+    }
+
+    /// How many articles it has. Constant time.
+    pub fn len(&self) -> usize {
+        self.places.len()
+    }
+
+    /// What is found of the article of this number and place, or none where memory is refused.
+    fn answer(
+        &self,
+        alloc: Global,
+        pool: &mut WordPool,
+        number: usize,
+        place: Place,
+    ) -> Option<Answer>
+        ensures { IfSome result (λ answer. IsDueAt self.now.settings self.now.items.items answer) }
+    {
+        let Some(Pending::Waiting(batch)) = self.items.get(place.line) else {
+            return None;
+        };
+        if place.article >= batch.drafts.len() {
+            return None;
+        }
+        match batch.find(alloc, pool, place.article, self.settings, &self.gate) {
+            Ok(found) => Some(Answer {
+                number,
+                place,
+                found,
+            }),
+            Err(_) => None,
+        }
+    }
+
+    /// Takes articles until all are taken, and gives what is found of them, whose words are shared with those of the
+    /// pool. Where memory is refused, it takes no more. Cost: that of `Batch::find` for each article that it takes.
+    pub fn take_articles(&self, alloc: Global, pool: &mut WordPool) -> Vec<Answer>
+        ensures { AreDue self.now.settings self.now.items.items result.items }
+    {
+        let mut answers = Vec::new(alloc);
+        for _ in 0..self.places.len() {
+            let number = self.next.fetch_add(1, SeqCst);
+            let Some(place) = self.places.get(number) else {
+                break;
+            };
+            let Some(answer) = self.answer(alloc, pool, number, *place) else {
+                break;
+            };
+            if answers.push(answer).is_err() {
+                break;
+            }
+        }
+        answers
+    }
+}
+
+/// Orders answers by their numbers, the first one last, so that `take_answer` finds them.
+pub fn order_last_first(answers: &mut Vec<Answer>)
+    ensures { IsPermutation answers.old.items answers.new.items }
+{
+    answers.sort_unstable_by_key(|answer: &Answer| -> usize { usize::MAX - answer.number });
+}
+
+/// Takes what was found of the article at a place, if that is the last of the answers, and else none. Constant time.
+pub fn take_answer(answers: &mut Vec<Answer>, line: usize, article: usize) -> Option<Found>
+    ensures { TakesAnswer answers.old.items answers.new.items line article result }
+{
+    let Some(answer) = answers.pop() else {
+        return None;
+    };
+    if answer.place.line == line && answer.place.article == article {
+        return Some(answer.found);
+    }
+    let _ = answers.push(answer);
+    None
+}
