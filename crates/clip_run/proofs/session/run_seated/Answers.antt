@@ -7,6 +7,7 @@ use denote.Param.Send.{IsSend, IsSync, param_send, arg_send, sendable}
 use denote.Param.SendFields.{declared_send, as_row_send}
 use denote.Struct.Field.{row_field, shr_ref_field}
 use denote.Struct.Tuple.{TupleAt, type_at}
+use Rattle.std.proofs.Common.{ap}
 use Rattle.std.specs.contracts.alloc.Global as global
 use Rattle.std.specs.contracts.impls.GlobalAllocator.TheImpl as global_allocator
 use Rattle.std.proofs.alloc.Global.TheSendSync as global_sent
@@ -43,3 +44,29 @@ join_mut-lines-requires-send-F g c κs within =
     (arg_send _ no _
     (captures_send _ desk_row rt nudged
     (search (sendable, synced)) (search (sendable, c.type_bounds.sync-R)) (search (sendable, global_sent.the_send, global_sent.the_sync, allocator_sent.the_frees, nudge_sent.the_send, nudge_sent.the_sync, receiver_sent.the_sync) depth 12)))
+
+pub join_mut-lines-requires-after_bounds : goal.join_mut-lines-requires-after_bounds
+join_mut-lines-requires-after_bounds g c κs within =
+    let bounds = c.type_bounds in
+    let new = c.crew_at-crew.ensures in (
+      tt,
+      (
+        bounds.static-G,
+        (
+          (search (sendable, bounds.sync-R), search (sendable, bounds.sync-G), param_send 5 _ (arg_send _ no _ bounds.send-G)),
+          (
+            c.requires.fresh,
+            (
+              (ap (λ crew. crew.history) new, ap (λ crew. crew.rows) new, ap (λ crew. crew.owed) new),
+              (
+                param_send 1 _ (arg_send _ no _ bounds.send-N),
+                param_send 5 _ (arg_send _ no _ bounds.send-G),
+                search (sendable, bounds.sync-R),
+                search (sendable, bounds.sync-N),
+                search (sendable, bounds.sync-G),
+              ),
+            ),
+          ),
+        ),
+      ),
+    )

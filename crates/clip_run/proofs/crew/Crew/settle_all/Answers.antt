@@ -1,4 +1,4 @@
-use Rattle.std.proofs.Common.{◌≡◌, ◌<◌, length, drop, map, ap, subst, ◌∙◌, refl, arith}
+use Rattle.std.proofs.Common.{◌<◌, length, drop, map, ap, subst, ◌∙◌, refl, arith}
 use Rattle.clip_stream.proofs.Faults.{on_err}
 use Rattle.clip_run.specs.Crews.{course}
 use Rattle.clip_run.specs.Due.{AreDue}
