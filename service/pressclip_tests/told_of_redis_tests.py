@@ -17,7 +17,7 @@ from .grid_runs import Grid, Role, end
 from .inputs import Source, joined
 from .judge import Due, folder, need, replies_of_engine, same
 from .processes import engine_of
-from .turns_tests import wait_until
+from .turns_tests import standings, wait_until
 
 PREFIX = "pressclip:grid:"
 DATA = Path(__file__).resolve().parents[2] / "crates" / "examples" / "data"
@@ -135,8 +135,8 @@ def need_ended(role: Role, words: str) -> None:
 
 
 def an_emptied_redis_is_told() -> None:
-    """After FLUSHALL all roles end with status 1 and say what happened, and so do a client that waits for a reply and
-    one that submits on."""
+    """After FLUSHALL all roles that have given a sign end with status 1 and say what happened, and so do a client that
+    waits for a reply and one that submits on."""
     words = "the grid grid is gone from Redis, as after FLUSHALL"
     with folder() as name, Grid(Path(name), 2, 1) as grid:
         waiting, idle = grid.client(), grid.client("--name", "desk")
@@ -150,6 +150,7 @@ def an_emptied_redis_is_told() -> None:
         waiting.send(COUNT)
         waiting.turn(1)
         wait_until(lambda: grid.redis.asked("XLEN", PREFIX + "requests") == "3", waiting.told)
+        wait_until(lambda: all(role.get("seconds", 0) is not None for role in standings(grid).values()), grid.told)
         grid.redis.asked("FLUSHALL")
         idle.send(COUNT)
         for role in (*grid.workers, *grid.others):
