@@ -119,7 +119,8 @@ const HOLDING: u64 = 100;
 
 /// The id of a query of the large match, of 250 bytes.
 fn large_id(alloc: Global, number: u64) -> Result<String, Fail> {
-    Ok(format!(in alloc; "{}{}", 1000 + number, "x".repeat(alloc, 246)?)?)
+    let padded = number.saturating_add(1000);
+    Ok(format!(in alloc; "{padded}{}", "x".repeat(alloc, 246)?)?)
 }
 
 /// A register of queries that hold of each article, and a match of so many articles.

@@ -4,7 +4,7 @@ ghost use Rattle.std.specs.Prelude.{◌≤◌};
 use crate::runs::devices::{Failing, MANY, blank_tape, script_of};
 use crate::runs::{WORKERS, with_workers};
 use clip_front::Settings;
-use clip_listen::Listeners;
+use clip_listen::{Listeners, Named};
 use clip_match::{Gate, OpenGate};
 use clip_run::{Form, run};
 use clip_samples::{add_listener, folder};
@@ -38,7 +38,7 @@ const FIRST: &str = r#"{"op":"register","queries":[{"id":"k","query":"tea","list
 /// that ends with that word, and of one that has the next round's word, for which no query is registered yet; and a
 /// delete of the query.
 fn add_lines(lines: &mut String, round: u64) -> Result<(), AllocError> {
-    let next = round + 1;
+    let next = round.saturating_add(1);
     let register = r#"{"op":"register","queries":"#;
     writeln!(
         lines,
@@ -59,7 +59,12 @@ fn add_lines(lines: &mut String, round: u64) -> Result<(), AllocError> {
 
 /// The replies to the lines of a round.
 fn add_replies(replies: &mut String, round: u64) -> Result<(), AllocError> {
-    let (first, second, third) = (3 * round + 2, 3 * round + 3, 3 * round + 4);
+    let before = round.saturating_mul(3);
+    let (first, second, third) = (
+        before.saturating_add(2),
+        before.saturating_add(3),
+        before.saturating_add(4),
+    );
     writeln!(replies, r#"{{"line":{first},"registered":1}}"#)?;
     write!(replies, r#"{{"alerts":[{{"article":"s","queries":["k"]}},"#)?;
     write!(replies, r#"{{"article":"l","queries":["k{round}"]}},"#)?;
@@ -69,6 +74,17 @@ fn add_replies(replies: &mut String, round: u64) -> Result<(), AllocError> {
     )?;
     writeln!(replies, r#""notes":["mail: k in s"]}}"#)?;
     writeln!(replies, r#"{{"deleted":1,"line":{third}}}"#)
+}
+
+/// Each of these listeners has heard of one alert a round.
+fn hears_each_round<R: Abort>(rt: &R, parts: &[Named]) -> Result<(), Fail> {
+    for part in parts {
+        let Some(heard) = part.1.heard() else {
+            return Err("a listener keeps nothing".into());
+        };
+        assert!(rt; heard.len() as u64 == ROUNDS);
+    }
+    Ok(())
 }
 
 /// What a run with these settings and this gate writes, whose listener `mail` has heard of one alert a round.
@@ -96,10 +112,7 @@ fn written<R: Threads + Wait + Sync + Abort + AllocGlobal, G: Gate + Clone + Sen
         gate,
     )?;
     assert!(rt; ended.lines == 3 * ROUNDS + 1);
-    let parts = listeners.into_parts();
-    for part in &parts {
-        assert!(rt; part.1.heard().map(|heard| heard.len() as u64) == Some(ROUNDS));
-    }
+    hears_each_round(rt, &listeners.into_parts())?;
     Ok(sink.taken)
 }
 
