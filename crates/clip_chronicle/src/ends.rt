@@ -114,8 +114,8 @@ pub fn show<R: Wait>(
     publish_here(rt, writer, next)
 }
 
-/// Publishes a view with what was seen, as `show` does, and is never refused: it tries again, and so waits until a count
-/// of holders falls or memory comes.
+/// Publishes a view with what was seen, as `show` does, and is never refused: it tries again, and so waits until a
+/// count of holders falls or memory comes.
 pub fn show_surely<R: Wait>(rt: &R, writer: &mut WriterEnd, view: View, seen_history: SeenHistory)
     requires log { seen_history.seen.log ≡ view.history }
     requires book { seen_history.seen.book ≡ writer.old.desk.shown.value.seen_history.seen.book }

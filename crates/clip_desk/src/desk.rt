@@ -1,5 +1,6 @@
 //! The desk that callers in threads share.
-ghost use Rattle.std.specs.Prelude.{◌≡◌, ◌≢◌, ◌↔◌, ℕ, ◌+◌, ◌<◌, ◌≤◌, List, [], ◌∷◌, ◌++◌, slice_get, IfOk, IfErr, OnOk, OnErr, IsTrue, IsFalse, vec_len, map};
+ghost use Rattle.std.specs.Prelude.{◌≡◌, ◌≢◌, ◌↔◌, ℕ, ◌+◌, ◌<◌, ◌≤◌, List, [], ◌∷◌, ◌++◌, slice_get, IfOk, IfErr, OnOk};
+ghost use Rattle.std.specs.Prelude.{OnErr, IsTrue, IsFalse, vec_len, map};
 ghost use mathlib.Core.List.{IsPrefix};
 ghost use Rattle.clip_model.specs.History.{own, fits, has_room, applied, with_command, IsLegal};
 ghost use Rattle.clip_model.specs.History as model;

@@ -43,10 +43,10 @@ impl<N: DeskName, L: UpdateListener> Locked<N, L> {
         Ok(())
     }
 
-    /// Begins the merge of a turn: a job over the oldest four neighbouring segments of one level, or, where there are no
-    /// such four, over all segments from the oldest on behind which one has a higher level. `None` where there is none
-    /// either; then segments are few: three at most for each level up to that of all their entries together. `NoMemory`
-    /// where an allocation failed. It costs that of `Registrar::begin_turn`.
+    /// Begins the merge of a turn: a job over the oldest four neighbouring segments of one level, or, where there are
+    /// no such four, over all segments from the oldest on behind which one has a higher level. `None` where there is
+    /// none either; then segments are few: three at most for each level up to that of all their entries together.
+    /// `NoMemory` where an allocation failed. It costs that of `Registrar::begin_turn`.
     pub fn begin_turn(&self) -> Result<Option<MergeJob>, NoMemory>
         ensures begun { IfOk result (λ job. IfSome job (IsTurnBegun self.now.registry)) }
         ensures nothing { result ≡ Ok None → (first : ℕ) → IsRun self.now.registry.segments first → ⊥ }

@@ -1,5 +1,6 @@
 //! An engine: lines and plain calls over one registrar.
-ghost use Rattle.std.specs.Prelude.{◌≡◌, ◌⊎◌, [], ◌∷◌, IfOk, IfErr, OnOk, OnErr, Err, None, IsTrue, IsFalse, true, false};
+ghost use Rattle.std.specs.Prelude.{◌≡◌, ◌⊎◌, [], ◌∷◌, IfOk, IfErr, OnOk, OnErr, Err, None, IsTrue, IsFalse, true};
+ghost use Rattle.std.specs.Prelude.{false};
 ghost use Rattle.std.specs.Prelude.{string_bytes, option_map};
 ghost use Rattle.std.specs.FinMap as finite;
 ghost use Rattle.clip_model.specs.History.{Delete, applied, fits, has_room, replay};

@@ -1,11 +1,13 @@
 //! Keys and weight of a query.
-ghost use Rattle.std.specs.Prelude.{◌≡◌, ℕ, ◌++◌, ◌∷◌, [], ◌≤◌, List, map, true, length, take, drop, IfOk, vec_len, option_map};
+ghost use Rattle.std.specs.Prelude.{◌≡◌, ℕ, ◌++◌, ◌∷◌, [], ◌≤◌, List, map, true, length, take, drop, IfOk, vec_len};
+ghost use Rattle.std.specs.Prelude.{option_map};
 ghost use Rattle.std.specs.Str.{chars};
 ghost use Rattle.std.specs.Arc.{arc_str_bytes};
 ghost use Rattle.clip_grammar.specs.Tree.{tree_of};
 ghost use Rattle.clip_grammar.specs.declared.query.Occur.{Occur};
 ghost use Rattle.clip_extract.specs.Keys.{KeyValue, key_of};
-ghost use Rattle.clip_extract.specs.Extraction.{Extracted, heaviest, word_extract, front_extract, unnarrowed, extract, query_keys, query_weight};
+ghost use Rattle.clip_extract.specs.Extraction.{Extracted, heaviest, word_extract, front_extract, unnarrowed, extract};
+ghost use Rattle.clip_extract.specs.Extraction.{query_keys, query_weight};
 ghost use Rattle.clip_extract.specs.Fronts.{key_front};
 ghost use Rattle.clip_extract.specs.Steps.Groups.{group_from, next_found, counts, outweighs, kept_from};
 ghost use Rattle.clip_extract.specs.Steps.Leaves.{Adds, IsNoGroup, word_found, leaf_found};

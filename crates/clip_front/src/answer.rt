@@ -190,7 +190,8 @@ pub fn take_line_unread<A: Audience, H: Registry>(
     }
 }
 
-/// As `take_line_unread`, and reads the articles of a match, whose words are shared with those of the pool.
+/// Does what a line asks for, as `take_line_unread` does, and reads the articles of a match, whose words are shared
+/// with those of the pool.
 ///
 /// `NoMemory` where an allocation failed. Cost: that of `take_line_unread`, and of `articles_of` for a match.
 pub fn take_line<A: Audience, H: Registry>(

@@ -142,7 +142,7 @@ pub fn deliver_shown<A: Audience>(
     found_text(alloc, form, number, found, &notes)
 }
 
-/// As `deliver_shown`, of alerts of which none are shown already.
+/// Delivers the alerts of a line's articles, of which none are shown already, as `deliver_shown` does.
 ///
 /// `NoMemory` and cost as of `deliver_shown`.
 pub fn deliver_found<A: Audience>(
@@ -229,7 +229,8 @@ impl MatchReply {
         ensures rows { OnOk result (books.new.ledger ≡ books.old.ledger ++ kept_rows books.old.settings.keeps_rows
             (rows_of_article (A.hearers audience.old) self.old.number (alerts_of alerts.now))) }
         ensures settings { books.new.settings ≡ books.old.settings }
-        ensures moved { OnOk result (HandsOver (W.taken flow.old.writer.now) (flow.old.outbox.now ++ item_text self.old.has_article
+        ensures moved { OnOk result (HandsOver (W.taken flow.old.writer.now)
+            (flow.old.outbox.now ++ item_text self.old.has_article
             (alerts_data books.old.settings.form (alerts_by_id (alerts_value alerts.now))))
             (W.taken flow.new.writer.now) flow.new.outbox.now) }
         ensures well { OnOk result (W.has_failed flow.new.writer.now ≡ W.has_failed flow.old.writer.now) }

@@ -10,7 +10,8 @@ use std::alloc::Global;
 
 /// What hears alerts, and says each in its style.
 pub trait Listener: Drop {
-    ghost use Rattle.std.specs.Prelude.{◌≡◌, Bool, List, [], ◌∷◌, ◌++◌, option_map, map, IfOk, OnOk, OnErr, string_bytes};
+    ghost use Rattle.std.specs.Prelude.{◌≡◌, Bool, List, [], ◌∷◌, ◌++◌, option_map, map, IfOk, OnOk, OnErr};
+    ghost use Rattle.std.specs.Prelude.{string_bytes};
     ghost use Rattle.clip_model.specs.Alerts.{Alert};
     ghost use Rattle.clip_standing.specs.Alerts.{alert_value};
     ghost use Rattle.clip_listen.specs.Heard.{StyleValue, text_of, tells};

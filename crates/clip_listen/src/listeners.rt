@@ -1,10 +1,12 @@
 //! Listeners by name, and the delivery of alerts to them.
-ghost use Rattle.std.specs.Prelude.{◌≡◌, [], ◌∷◌, ◌++◌, map, option_map, IsTrue, true, false, bytes_eq, Some, IfOk, OnOk, OnErr, IfErr, string_bytes};
+ghost use Rattle.std.specs.Prelude.{◌≡◌, [], ◌∷◌, ◌++◌, map, option_map, IsTrue, true, false, bytes_eq, Some, IfOk};
+ghost use Rattle.std.specs.Prelude.{OnOk, OnErr, IfErr, string_bytes};
 ghost use Rattle.std.specs.Arc.{arc_str_bytes};
 ghost use Rattle.std.specs.List.{position_from, cons_option};
 ghost use Rattle.std.specs.Option.{ForSome};
 ghost use Rattle.clip_standing.specs.Alerts.{alert_value};
-ghost use Rattle.clip_listen.specs.Heard.{hearer, text_of, told_all, note_of, notes_of, note_value, alerts_of, HearsFront, distinct, names_of};
+ghost use Rattle.clip_listen.specs.Heard.{hearer, text_of, told_all, note_of, notes_of, note_value, alerts_of};
+ghost use Rattle.clip_listen.specs.Heard.{HearsFront, distinct, names_of};
 ghost use Rattle.clip_listen.specs.Steps.Index.{Indexes};
 
 use crate::listener::Listener;

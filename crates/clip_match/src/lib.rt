@@ -13,7 +13,5 @@ mod trying;
 pub use gate::{Gate, OpenGate};
 pub use held::HitsFound;
 pub use matching::{match_article, match_article_finding, match_batch, match_batch_finding};
-pub use pieces::{
-    articles_in, match_piece, match_piece_finding, match_pieces, match_pieces_finding,
-};
+pub use pieces::{match_piece, match_pieces};
 pub use trying::{Tried, holding};

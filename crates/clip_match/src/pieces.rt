@@ -1,13 +1,11 @@
 //! The alerts of a batch, matched in pieces by threads.
 ghost use Rattle.std.specs.Prelude.{◌≡◌, ◌+◌, ◌*◌, ◌/◌, ◌%◌, ◌^◌, ◌<◌, ◌≤◌, map, min, max, length, IfOk};
-ghost use Rattle.std.specs.List.{All};
 ghost use Rattle.std.specs.Thread.{IsSync};
 ghost use Rattle.clip_standing.specs.Alerts.{alerts_value};
-ghost use Rattle.clip_match.specs.Alerts.{HaveHits, alerts_due};
+ghost use Rattle.clip_match.specs.Alerts.{alerts_due};
 
 use crate::gate::Gate;
-use crate::held::HitsFound;
-use crate::matching::match_batch_finding;
+use crate::matching::match_batch;
 use clip_meaning::Article;
 use clip_registry::View;
 use clip_standing::Alerts;
@@ -29,27 +27,8 @@ pub fn match_piece<G: Gate>(
 ) -> Result<Vec<Alerts>, NoMemory>
     ensures { IfOk result (λ found. map alerts_value found.items ≡ map (alerts_due view.now) articles.now) }
 {
-    let hits = HitsFound::WhenAsked;
-    match_piece_finding(alloc, view, articles, hits, batch, piece, gate)
-}
-
-/// The alerts of a piece of a batch: `match_batch_finding` between the gate's `enter` and its `leave`.
-///
-/// `NoMemory` as of `match_article_finding`. Cost: that of `match_batch_finding`, and of the gate.
-pub fn match_piece_finding<G: Gate>(
-    alloc: Global,
-    view: &View,
-    articles: &[Article],
-    hits: HitsFound,
-    batch: u64,
-    piece: u32,
-    gate: &G,
-) -> Result<Vec<Alerts>, NoMemory>
-    ensures due { IfOk result (λ found. map alerts_value found.items ≡ map (alerts_due view.now) articles.now) }
-    ensures hits { IfOk result (λ found. All (HaveHits hits) found.items) }
-{
     gate.enter(batch, piece);
-    let found = match_batch_finding(alloc, view, articles, hits);
+    let found = match_batch(alloc, view, articles);
     gate.leave(batch, piece);
     found
 }
@@ -75,33 +54,11 @@ pub fn match_pieces<R: Threads + Sync, G: Gate>(
 ) -> Result<Vec<Alerts>, NoMemory>
     ensures { IfOk result (λ found. map alerts_value found.items ≡ map (alerts_due view.now) articles.now) }
 {
-    let hits = HitsFound::WhenAsked;
-    match_pieces_finding(rt, alloc, view, articles, hits, batch, workers, gate)
-}
-
-/// The alerts of each article of a batch, those of `match_batch_finding`, whatever the number of workers: where the hits
-/// are found at once, each alert carries its own.
-///
-/// `NoMemory` as of `match_article_finding`, after all pieces have ended. Cost: that of `match_batch_finding`, shared
-/// among the pieces, and the start of a thread for each piece but one. It waits for its threads.
-pub fn match_pieces_finding<R: Threads + Sync, G: Gate>(
-    rt: &R,
-    alloc: Global,
-    view: &View,
-    articles: &[Article],
-    hits: HitsFound,
-    batch: u64,
-    workers: u32,
-    gate: &G,
-) -> Result<Vec<Alerts>, NoMemory>
-    ensures due { IfOk result (λ found. map alerts_value found.items ≡ map (alerts_due view.now) articles.now) }
-    ensures hits { IfOk result (λ found. All (HaveHits hits) found.items) }
-{
     if articles.is_empty() {
         return Ok(Vec::new(alloc));
     }
     let pieces = pieces_of(articles.len(), workers.max(1));
-    match_from(rt, alloc, view, articles, hits, batch, 0, pieces, gate)
+    match_from(rt, alloc, view, articles, batch, 0, pieces, gate)
 }
 
 /// The lesser of two numbers.
@@ -116,7 +73,7 @@ fn pieces_of(articles: usize, workers: u32) -> u32
 
 /// How many of so many articles are in the first ones of their pieces, whose sizes differ by at most one: the first
 /// pieces have one more than the others. Constant time.
-pub fn articles_in(first: u32, pieces: u32, articles: usize) -> usize
+fn articles_in(first: u32, pieces: u32, articles: usize) -> usize
     requires { (0 < pieces) × (first ≤ pieces) }
     ensures cut { result ≡ articles / pieces * first + min (articles % pieces) first }
     ensures within { result ≤ articles }
@@ -134,18 +91,16 @@ fn match_from<R: Threads + Sync, G: Gate>(
     alloc: Global,
     view: &View,
     articles: &[Article],
-    hits: HitsFound,
     batch: u64,
     number: u32,
     pieces: u32,
     gate: &G,
 ) -> Result<Vec<Alerts>, NoMemory>
     requires { (0 < pieces) × (number + pieces < 2 ^ 32) }
-    ensures due { IfOk result (λ found. map alerts_value found.items ≡ map (alerts_due view.now) articles.now) }
-    ensures hits { IfOk result (λ found. All (HaveHits hits) found.items) }
+    ensures { IfOk result (λ found. map alerts_value found.items ≡ map (alerts_due view.now) articles.now) }
 {
     if pieces == 1 {
-        return match_piece_finding(alloc, view, articles, hits, batch, number, gate);
+        return match_piece(alloc, view, articles, batch, number, gate);
     }
     let low = pieces / 2;
     let high = pieces - low;
@@ -155,16 +110,14 @@ fn match_from<R: Threads + Sync, G: Gate>(
         rt,
         move || -> Result<Vec<Alerts>, NoMemory>
             requires { IsSync R.row × IsSync G.row × (0 < low) × (number + low < 2 ^ 32) }
-            ensures due { IfOk result (λ found.
+            ensures { IfOk result (λ found.
                 map alerts_value found.items ≡ map (alerts_due view.entry.now) front.entry.now) }
-            ensures hits { IfOk result (λ found. All (HaveHits hits) found.items) }
-        { match_from(rt, alloc, view, front, hits, batch, number, low, gate) },
+        { match_from(rt, alloc, view, front, batch, number, low, gate) },
         move || -> Result<Vec<Alerts>, NoMemory>
             requires { IsSync R.row × IsSync G.row × (0 < high) × (up + high < 2 ^ 32) }
-            ensures due { IfOk result (λ found.
+            ensures { IfOk result (λ found.
                 map alerts_value found.items ≡ map (alerts_due view.entry.now) back.entry.now) }
-            ensures hits { IfOk result (λ found. All (HaveHits hits) found.items) }
-        { match_from(rt, alloc, view, back, hits, batch, up, high, gate) },
+        { match_from(rt, alloc, view, back, batch, up, high, gate) },
     );
     let mut all = first?;
     let mut rest = second?;

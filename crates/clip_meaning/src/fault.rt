@@ -2,7 +2,8 @@
 ghost use Rattle.std.specs.Prelude.{◌≡◌, length};
 ghost use Rattle.std.specs.List.{list_all, list_any};
 ghost use Rattle.std.specs.Str.{bytes_eq};
-ghost use Rattle.clip_meaning.specs.Article.{is_name_byte, begins_with_digit, is_field_name, has_twice, names, pairs_of, fault_of};
+ghost use Rattle.clip_meaning.specs.Article.{is_name_byte, begins_with_digit, is_field_name, has_twice, names};
+ghost use Rattle.clip_meaning.specs.Article.{pairs_of, fault_of};
 
 use clip_words::{NoMemory, is_id};
 use std::alloc::{AllocError, AllocFailed};

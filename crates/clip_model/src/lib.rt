@@ -2,7 +2,8 @@
 //! and the alerts that are due to an article. Limits, definitions and laws alone.
 #![tactic(auto)]
 
-ghost use Rattle.clip_model.specs.Laws.{ReplaysOn, FrontsAreLegal, GoesOn, ListedAreCounted, RegisteredAreListed, SeqsAreListed, DeadStaysDead};
+ghost use Rattle.clip_model.specs.Laws.{ReplaysOn, FrontsAreLegal, GoesOn, ListedAreCounted, RegisteredAreListed};
+ghost use Rattle.clip_model.specs.Laws.{SeqsAreListed, DeadStaysDead};
 
 mod limits;
 mod shards;

@@ -1,6 +1,7 @@
 //! A registry that is divided over processes.
 
-ghost use Rattle.clip_model.specs.Shards.{PartsAreRegistered, PartsAlert, PartsAreMerged, PartsAreCounted, PartsCount, PartsAreHeard, PartsAreHeardMerged, PartsAreLegal, PartsGoOn, PartsHaveRoom};
+ghost use Rattle.clip_model.specs.Shards.{PartsAreRegistered, PartsAlert, PartsAreMerged, PartsAreCounted, PartsCount};
+ghost use Rattle.clip_model.specs.Shards.{PartsAreHeard, PartsAreHeardMerged, PartsAreLegal, PartsGoOn, PartsHaveRoom};
 
 /// A registry that is divided over processes by the ids of its queries answers as one: where each process is told of
 /// every command only the ids of its part, the processes hold together just the queries of the whole, their alerts

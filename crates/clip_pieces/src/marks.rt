@@ -1,5 +1,6 @@
 //! Sets of numbers.
-ghost use Rattle.std.specs.Prelude.{◌≡◌, ℕ, ◌+◌, ◌≤◌, ◌++◌, ◌<◌, ◌&&◌, ◌||◌, not, false, true, IfOk, OnOk, bit_and, count_by, length, replicate, slice_index_or, slice_set};
+ghost use Rattle.std.specs.Prelude.{◌≡◌, ℕ, ◌+◌, ◌≤◌, ◌++◌, ◌<◌, ◌&&◌, ◌||◌, not, false, true, IfOk, OnOk, bit_and};
+ghost use Rattle.std.specs.Prelude.{count_by, length, replicate, slice_index_or, slice_set};
 ghost use Rattle.clip_pieces.specs.Marked.{both, marked, marked_from};
 ghost use Rattle.clip_pieces.specs.Steps.Bits.{bits_of, is_set};
 ghost use Rattle.clip_pieces.specs.declared.marks.TheConstants.{MOST_NUMBERS};

@@ -1,5 +1,6 @@
 //! Lists that lie one after another in one buffer.
-ghost use Rattle.std.specs.Prelude.{◌≡◌, ◌-◌, ◌<◌, ◌≤◌, ◌++◌, ◌∷◌, [], OnOk, OnErr, length, take, drop, unwrap_or, slice_get, slice_index};
+ghost use Rattle.std.specs.Prelude.{◌≡◌, ◌-◌, ◌<◌, ◌≤◌, ◌++◌, ◌∷◌, [], OnOk, OnErr, length, take, drop, unwrap_or};
+ghost use Rattle.std.specs.Prelude.{slice_get, slice_index};
 
 use clip_words::NoMemory;
 use std::alloc::Global;

@@ -1,5 +1,6 @@
 //! `SharedFlags` and its methods.
-ghost use Rattle.std.specs.Prelude.{◌≡◌, ℕ, ◌<◌, ◌*◌, ◌/◌, false, [], ◌∷◌, ◌++◌, length, OnOk, OnErr, slice_get, slice_index_or, slice_set};
+ghost use Rattle.std.specs.Prelude.{◌≡◌, ℕ, ◌<◌, ◌*◌, ◌/◌, false, [], ◌∷◌, ◌++◌, length, OnOk, OnErr, slice_get};
+ghost use Rattle.std.specs.Prelude.{slice_index_or, slice_set};
 ghost use Rattle.clip_pieces.specs.Steps.Bits.{bits_of, flags_of};
 
 use crate::list::SharedList;

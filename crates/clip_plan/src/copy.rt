@@ -8,7 +8,7 @@ use clip_words::NoMemory;
 use std::alloc::Global;
 use std::sync::ArcStr;
 
-/// The same words again. Their texts are shared.
+/// A copy of a list of words. Their texts are shared.
 fn copied_words(alloc: Global, words: &[ArcStr]) -> Result<Vec<ArcStr>, NoMemory>
     ensures { IfOk result (λ copy. map arc_str_bytes copy.items ≡ map arc_str_bytes words.now) }
 {

@@ -11,12 +11,14 @@
 //! | 5 | `d` | passed: the outermost is met | |
 //!
 //! In one without a the outermost group can't hold after step 0, and the rest is passed.
-ghost use Rattle.std.specs.Prelude.{◌≡◌, ℕ, ◌<◌, ◌≤◌, Bool, false, List, [], IfOk, map, length, reverse, unwrap_or, slice_get};
+ghost use Rattle.std.specs.Prelude.{◌≡◌, ℕ, ◌<◌, ◌≤◌, Bool, false, List, [], IfOk, map, length, reverse, unwrap_or};
+ghost use Rattle.std.specs.Prelude.{slice_get};
 ghost use Rattle.clip_grammar.specs.Tree.{Tree, tree_of};
 ghost use Rattle.clip_meaning.specs.Meaning.{holds};
 ghost use Rattle.clip_extract.specs.Keys.{KeyValue};
 ghost use Rattle.clip_plan.specs.Plan.{Mark, decoded, plan_of};
-ghost use Rattle.clip_plan.specs.Steps.Judging.{no_clauses, counted, tally_holds, is_needless, mark_holds, meant, marked, passed, onward, LeadTo};
+ghost use Rattle.clip_plan.specs.Steps.Judging.{no_clauses, counted, tally_holds, is_needless, mark_holds, meant};
+ghost use Rattle.clip_plan.specs.Steps.Judging.{marked, passed, onward, LeadTo};
 
 use crate::first_words::NO_TERM;
 use crate::plans::Plans;

@@ -2,7 +2,8 @@
 ghost use Rattle.std.specs.Prelude.{◌≡◌, option_map, map, string_bytes};
 ghost use Rattle.serde_json.specs.Find.{as_str};
 ghost use Rattle.serde_json.specs.View.{view, items_view, members_view};
-ghost use Rattle.clip_protocol.specs.Steps.Outline.{ReadsAs, all_of, fields_of, plain_listing_of, heard_listing_of, listing_of, draft_of, operation_of, operation_in};
+ghost use Rattle.clip_protocol.specs.Steps.Outline.{ReadsAs, all_of, fields_of, plain_listing_of, heard_listing_of};
+ghost use Rattle.clip_protocol.specs.Steps.Outline.{listing_of, draft_of, operation_of, operation_in};
 ghost use Rattle.clip_protocol.specs.Steps.Views.{fields_view, listing_view, draft_view};
 
 use crate::members::{has_members, items_of, members_of, text_of, three_members, two_members};

@@ -25,7 +25,7 @@ pub fn own_copy(alloc: Global, keeps: bool, held: &Option<Arc<State>>) -> Result
     }
 }
 
-/// The same state, or `NoMemory` where the count of its holders is at its end.
+/// Another holder of a state, or none where there is none; `NoMemory` where the count of its holders is at its end.
 pub fn copy_of(held: &Option<Arc<State>>) -> Result<Option<Arc<State>>, NoMemory>
     ensures { (keeps : Bool) → IfOk result (λ copy. state_or_beginning keeps copy ≡ state_or_beginning keeps held.now) }
 {

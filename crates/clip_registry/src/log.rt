@@ -37,7 +37,7 @@ impl Model for Log {
     ghost invariant = { IsLog };
 }
 
-/// The same list, or none.
+/// Another holder of a list, or none where there is none.
 fn same_list(
     kept: &Option<SharedList<Shared<HistoryEntry>>>,
 ) -> Result<Option<SharedList<Shared<HistoryEntry>>>, AllocError>
@@ -49,7 +49,7 @@ fn same_list(
     }
 }
 
-/// The same entry, or none.
+/// Another holder of an entry, or none where there is none.
 fn same_entry(
     last: &Option<Shared<HistoryEntry>>,
 ) -> Result<Option<Shared<HistoryEntry>>, AllocError>

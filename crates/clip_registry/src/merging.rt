@@ -228,8 +228,8 @@ impl Merged {
         Ok(live)
     }
 
-    /// The segments, with that of the merge in the place of its sources from `first` on, or with none there where it has
-    /// no entries. `NoMemory` where an allocation failed.
+    /// The segments, with that of the merge in the place of its sources from `first` on, or with none there where it
+    /// has no entries. `NoMemory` where an allocation failed.
     pub(crate) fn put_in(
         self,
         alloc: Global,

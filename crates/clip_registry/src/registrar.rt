@@ -1,5 +1,6 @@
 //! The registrar: it applies commands one by one.
-ghost use Rattle.std.specs.Prelude.{◌≡◌, ◌-◌, ◌<◌, ◌≤◌, ℕ, true, false, Ok, None, length, IfOk, IfErr, IfSome, OnOk, OnErr, IsTrue, IsFalse, slice_get, option_map, option_copied};
+ghost use Rattle.std.specs.Prelude.{◌≡◌, ◌-◌, ◌<◌, ◌≤◌, ℕ, true, false, Ok, None, length, IfOk, IfErr, IfSome, OnOk};
+ghost use Rattle.std.specs.Prelude.{OnErr, IsTrue, IsFalse, slice_get, option_map, option_copied};
 ghost use Rattle.clip_merge.specs.Plan.{AreFew, IsRun};
 ghost use Rattle.clip_model.specs.History.{fits, has_room, applied, own, IsLegal};
 ghost use Rattle.clip_standing.specs.Command.{command_of, answer_of, shared_entry};
@@ -176,9 +177,9 @@ impl Registrar {
     ///
     /// `NoMemory` where an allocation failed, with nothing changed and the merge dropped.
     ///
-    /// Cost: a step for each segment, each of which is shared by a new list; for each entry of the sources a comparison of
-    /// its seq and texts, and where it is live a search by halves; and a copy like that of a command, of which nothing
-    /// else is changed. A stale merge copies nothing.
+    /// Cost: a step for each segment, each of which is shared by a new list; for each entry of the sources a comparison
+    /// of its seq and texts, and where it is live a search by halves; and a copy like that of a command, of which
+    /// nothing else is changed. A stale merge copies nothing.
     pub fn install(&mut self, merged: Merged) -> Result<Installed, NoMemory>
         ensures done { result ≡ Ok Installed.Done → IsInstalled self.old self.new merged }
         ensures stale { result ≡ Ok Installed.Stale → IsStale self.old merged }

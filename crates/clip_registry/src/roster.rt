@@ -1,5 +1,6 @@
 //! The registered queries by id, with how many were ever listed and which of their seqs are live.
-ghost use Rattle.std.specs.Prelude.{◌≡◌, ℕ, ◌<◌, ◌≤◌, ◌^◌, suc, map, option_map, option_copied, IfOk, OnOk, string_bytes, [], ◌∷◌};
+ghost use Rattle.std.specs.Prelude.{◌≡◌, ℕ, ◌<◌, ◌≤◌, ◌^◌, suc, map, option_map, option_copied, IfOk, OnOk};
+ghost use Rattle.std.specs.Prelude.{string_bytes, [], ◌∷◌};
 ghost use Rattle.std.specs.Arc.{arc_value};
 ghost use Rattle.std.specs.List.{All};
 ghost use Rattle.clip_segment.specs.Segment.{all_entries};

@@ -32,7 +32,7 @@ impl Trail {
         Trail {}
     }
 
-    /// The same commands. Costs nothing.
+    /// A trail of just these commands. Costs nothing.
     #[inline(always)]
     pub fn again(&self) -> Trail
         ensures { result.history ≡ self.now.history }

@@ -37,9 +37,9 @@ pub fn merge_turn(registrar: &mut Registrar) -> Result<MergeTurn, NoMemory>
 /// all their entries together. What is registered stays as it is. `NoMemory` where an allocation failed; the turns
 /// before stay taken, and a later call may take the others.
 ///
-/// Cost: that of `merge_turn` for each turn, each of which leaves fewer segments. Where each call finds one segment more
-/// than the one before left, and no entry dies, an entry is rewritten at most once for each level that it rises, and
-/// once more.
+/// Cost: that of `merge_turn` for each turn, each of which leaves fewer segments. Where each call finds one segment
+/// more than the one before left, and no entry dies, an entry is rewritten at most once for each level that it rises,
+/// and once more.
 pub fn merge_all(registrar: &mut Registrar) -> Result<(), NoMemory>
     ensures turns { TakesTurns registrar.old registrar.new }
     ensures few { OnOk result (AreFew registrar.new.segments) }

@@ -36,7 +36,8 @@ impl Model for View {
 }
 
 impl View {
-    /// The same view once more, or `NoMemory` where the count of the registry's holders is at its end. Constant time.
+    /// A copy of this view, which shares its state, or `NoMemory` where the count of the registry's holders is at its
+    /// end. Constant time.
     pub fn copy(&self) -> Result<View, NoMemory>
         ensures { IfOk result (λ copy. copy ≡ self.now) }
     {

@@ -183,13 +183,13 @@ impl<A: Audience, W: Sink> Server<A, W> for RunServer {
 /// ids for its own; a delete searches the ids for each that it lists. A merge turn takes a step for each segment and,
 /// where there are some to merge, a look-up for each key of each of their entries. While no query is replaced or
 /// taken out, an entry is rewritten at most once for each level that it rises, and once more, so at most about log4 n
-/// times where n queries are registered; a merge that leaves dead entries out may stay at its level. A purge takes a step for each
-/// entry, and rewrites the segments that have a dead one. A match costs for each article its words, a look-up of its
-/// keys in each segment, and its candidates, and not the registry, and for each alert with a listener a look-up of
-/// the name and what that listener takes. Memory: one line and what it asks for, up to 64 KiB of gathered replies and
-/// what is shown of one article more, the alerts of one article and the notes of one line, at most 4,096 words of the
-/// last articles, the registered queries, and those that no merge or purge has left out yet, with their index, and a
-/// row for each alert where rows are kept.
+/// times where n queries are registered; a merge that leaves dead entries out may stay at its level. A purge takes a
+/// step for each entry, and rewrites the segments that have a dead one. A match costs for each article its words, a
+/// look-up of its keys in each segment, and its candidates, and not the registry, and for each alert with a listener a
+/// look-up of the name and what that listener takes. Memory: one line and what it asks for, up to 64 KiB of gathered
+/// replies and what is shown of one article more, the alerts of one article and the notes of one line, at most 4,096
+/// words of the last articles, the registered queries, and those that no merge or purge has left out yet, with their
+/// index, and a row for each alert where rows are kept.
 pub fn run_alone<R: Source, W: Sink, A: Audience>(
     alloc: Global,
     reader: &mut R,

@@ -1,5 +1,6 @@
 //! Segments: entries in the order of their seqs, with an index over their queries.
-ghost use Rattle.std.specs.Prelude.{◌≡◌, ℕ, ◌==◌, ◌<◌, ◌≤◌, IfOk, IfSome, None, Some, length, map, option_map, vec_items};
+ghost use Rattle.std.specs.Prelude.{◌≡◌, ℕ, ◌==◌, ◌<◌, ◌≤◌, IfOk, IfSome, None, Some, length, map, option_map};
+ghost use Rattle.std.specs.Prelude.{vec_items};
 ghost use Rattle.std.specs.Arc.{arc_value};
 ghost use Rattle.std.specs.List.{All, AllPairs, slice_get};
 ghost use Rattle.std.specs.Option.{option_copied};
@@ -117,8 +118,8 @@ impl Segment {
     ///
     /// `NoMemory` where an allocation failed, and where the kept queries have more than 4,294,967,295 terms. Cost: that
     /// of `Index::select`, so a comparison for each term of each segment and of those before it; a step for each flag
-    /// and each position under a term; and for each kept query a step for each word and each leaf. No query is looked at
-    /// and no text is copied but ends of ranges.
+    /// and each position under a term; and for each kept query a step for each word and each leaf. No query is looked
+    /// at and no text is copied but ends of ranges.
     pub fn select(
         alloc: Global,
         segments: &[Arc<Segment>],

@@ -1,8 +1,11 @@
 //! Cuts what a reader gives into lines.
-ghost use Rattle.std.specs.Prelude.{◌≡◌, ◌≢◌, ◌+◌, ◌-◌, ◌<◌, ◌≤◌, ◌++◌, ◌⊎◌, [], length, take, drop, true, false, is_err, is_ok, IfOk, OnOk, OnErr, IfSome, IfNone, MatchOption, MatchBool, Err, IfErr};
+ghost use Rattle.std.specs.Prelude.{◌≡◌, ◌≢◌, ◌+◌, ◌-◌, ◌<◌, ◌≤◌, ◌++◌, ◌⊎◌, [], length, take, drop, true, false};
+ghost use Rattle.std.specs.Prelude.{is_err, is_ok, IfOk, OnOk, OnErr, IfSome, IfNone, MatchOption, MatchBool, Err};
+ghost use Rattle.std.specs.Prelude.{IfErr};
 ghost use Rattle.std.specs.Io.KnownBytes.{Consumes, IsAtEnd, Keeps};
 ghost use Rattle.clip_stream.specs.Lines.{LinesReadComeFirst};
-ghost use Rattle.clip_stream.specs.Steps.Reading.{has_feed, first_line, after_line, cut, fuel, FindsLine, IsFeedOf, Reads};
+ghost use Rattle.clip_stream.specs.Steps.Reading.{has_feed, first_line, after_line, cut, fuel, FindsLine, IsFeedOf};
+ghost use Rattle.clip_stream.specs.Steps.Reading.{Reads};
 
 use crate::device::Source;
 use crate::fault::RunFault;

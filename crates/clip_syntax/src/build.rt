@@ -5,7 +5,8 @@ ghost use Rattle.clip_grammar.specs.Shape as shape;
 ghost use Rattle.clip_grammar.specs.Shape.{Written, written_tree, words_tree, fold_end, beside_and};
 ghost use Rattle.clip_grammar.specs.Steps.Parser.{begins_colon, begins_and};
 ghost use Rattle.clip_grammar.specs.Tree.{Tree, clauses_of, tree_of, end_of};
-ghost use Rattle.clip_syntax.specs.Steps.Building.{fresh, item_field, add, add_prefix, add_span, add_words, open_group, close, read, group_of, state_of};
+ghost use Rattle.clip_syntax.specs.Steps.Building.{fresh, item_field, add, add_prefix, add_span, add_words, open_group};
+ghost use Rattle.clip_syntax.specs.Steps.Building.{close, read, group_of, state_of};
 ghost use Rattle.clip_syntax.specs.Steps.Items.{items_words, words_of_items};
 ghost use Rattle.clip_syntax.specs.Steps.TokenOf.{token_of, IfWritten};
 

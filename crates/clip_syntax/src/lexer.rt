@@ -3,12 +3,15 @@
 //! A text is here the slice of its characters, and what is left of it a later part of that slice.
 ghost use Rattle.std.specs.Prelude.{◌≡◌, [], ◌<◌, length, map, IfOk, IfSome, IsTrue, if◌then◌else◌, string_bytes};
 ghost use Rattle.std.specs.Option.{option_map};
-ghost use Rattle.clip_grammar.specs.Characters.{is_white, is_start, is_one_of, is_hex, hex_value, is_code, code_value, quotable_char, end_char};
-ghost use Rattle.clip_grammar.specs.Steps.Lexer.{ending_at, piece_at, code_at, escape_at, pieces_at, quoted_at, word_at, range_at, lexeme_at, span_white, gap_at, to_at, bracket_at};
+ghost use Rattle.clip_grammar.specs.Characters.{is_white, is_start, is_one_of, is_hex, hex_value, is_code, code_value};
+ghost use Rattle.clip_grammar.specs.Characters.{quotable_char, end_char};
+ghost use Rattle.clip_grammar.specs.Steps.Lexer.{ending_at, piece_at, code_at, escape_at, pieces_at, quoted_at};
+ghost use Rattle.clip_grammar.specs.Steps.Lexer.{word_at, range_at, lexeme_at, span_white, gap_at, to_at, bracket_at};
 ghost use Rattle.clip_syntax.specs.Steps.Lexing.{with_tokens, token_and_rest, tokens_and_rest, IsLexed};
 ghost use Rattle.std.specs.List.{list_any};
 ghost use Rattle.clip_syntax.specs.Steps.Glyphs.{class_test, and_rest, glyph_and_rest, glyphs_and_rest, glyphs_after};
-ghost use Rattle.clip_grammar.specs.Tokens.{text_of, is_spelled, is_bare, is_wild, has_operator, is_and, is_or, ends_in_star, word_token, sign_token};
+ghost use Rattle.clip_grammar.specs.Tokens.{text_of, is_spelled, is_bare, is_wild, has_operator, is_and, is_or};
+ghost use Rattle.clip_grammar.specs.Tokens.{ends_in_star, word_token, sign_token};
 ghost use Rattle.clip_syntax.specs.Steps.TokenOf.{token_of};
 ghost use Rattle.clip_syntax.specs.Steps.Ends.{text_and_rest, end_text_and_rest, end_with, quoted_end_at, bare_end_at};
 ghost use Rattle.clip_grammar.specs.Tree.{end_of};

@@ -81,7 +81,8 @@ fn first_of_lead(leads: &[u64], part: &Range<usize>, lead: u64) -> usize
     low
 }
 
-/// The same, where it is likely this place.
+/// The first place in a part whose lead is not below this one, as `first_of_lead` finds it; a place that is likely
+/// to be it is looked at first.
 fn first_near(leads: &[u64], part: &Range<usize>, lead: u64, likely: usize) -> usize
     requires within { part.now.end ≤ length leads.now }
     requires rise { NeverFall leads.now part.now.start part.now.end }
@@ -260,8 +261,9 @@ impl<'a> FieldTerms<'a> {
     }
 
     /// Adds the numbers of the fronts that are fronts of the words of an article's field, whose leads these are. Both
-    /// rise, so one walk over them tells which fronts may be had; only these are looked for. Cost: a step for each front
-    /// of the field and for each of these words, and a search by halves among the words for each front that may be had.
+    /// rise, so one walk over them tells which fronts may be had; only these are looked for. Cost: a step for each
+    /// front of the field and for each of these words, and a search by halves among the words for each front that may
+    /// be had.
     pub(crate) fn add_fronts_of(
         &self,
         field: &Field,

@@ -62,7 +62,7 @@ impl<'a> Head<'a> {
         Head { key, lead, length }
     }
 
-    /// The same key.
+    /// A copy, which borrows the key that this one has.
     fn copy(&self) -> Head<'a>
         ensures { result ≡ self.now }
     {

@@ -86,8 +86,8 @@ impl Terms {
 
     /// These keys, which are in order, each once.
     ///
-    /// `NoMemory` where an allocation failed, and where there are more than `MOST_TERMS`. Cost: a step for each key; for
-    /// each field some searches by halves. Texts are shared.
+    /// `NoMemory` where an allocation failed, and where there are more than `MOST_TERMS`. Cost: a step for each key;
+    /// for each field some searches by halves. Texts are shared.
     pub fn of_heads(alloc: Global, heads: &[Head]) -> Result<Terms, NoMemory>
         requires { IsStrictlySortedBy key_cmp heads.now }
         ensures { IfOk result (λ terms. terms ≡ heads.now) }

@@ -16,11 +16,11 @@ pub enum Event {
     /// step for each segment and each entry of four.
     Begin(u64),
     /// The merge of this number is run and installed: `Installed` or `Stale`, or `Unknown` where none is open under the
-    /// number. Cost: that of `MergeJob::run` and `Registrar::install`, so a comparison for each term of four segments, a
-    /// step for each position and each step of a plan in them, and one for each segment.
+    /// number. Cost: that of `MergeJob::run` and `Registrar::install`, so a comparison for each term of four segments,
+    /// a step for each position and each step of a plan in them, and one for each segment.
     Install(u64),
-    /// Dead entries are purged: `Purged`. Cost: that of `Registrar::purge`, so a step for each entry, and in segments with
-    /// dead entries that of `Segment::select`.
+    /// Dead entries are purged: `Purged`. Cost: that of `Registrar::purge`, so a step for each entry, and in segments
+    /// with dead entries that of `Segment::select`.
     Purge,
     /// A view is taken for a batch of articles, under this number: `Looked`, or `Used` for a number of an open batch,
     /// and `TooMany` where `MOST_BATCHES` are open or there are more than `MOST_ARTICLES` articles. No article is read.

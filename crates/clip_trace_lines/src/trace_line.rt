@@ -69,7 +69,8 @@ impl TraceLine {
     ghost use Rattle.clip_protocol.specs.LineMeaning.{asks};
     ghost use Rattle.clip_trace_lines.specs.TraceLine.{SaysLine, SaysRequest};
     ghost use Rattle.clip_trace_lines.specs.TraceRequest as request;
-    ghost use Rattle.clip_trace_lines.specs.Steps.TraceOutline.{ReadsTrace, limited, said_view, trace_line, trace_request_view};
+    ghost use Rattle.clip_trace_lines.specs.Steps.TraceOutline.{ReadsTrace, limited, said_view, trace_line};
+    ghost use Rattle.clip_trace_lines.specs.Steps.TraceOutline.{trace_request_view};
 
     /// A caller registers a list of queries, each of whose ids may be one.
     fn registering(

@@ -2,7 +2,8 @@
 ghost use Rattle.std.specs.Prelude.{◌≡◌, option_map};
 ghost use Rattle.serde_json.specs.View.{view, members_view};
 ghost use Rattle.clip_protocol.specs.Steps.Outline.{ReadsAs};
-ghost use Rattle.clip_trace_lines.specs.Steps.TraceOutline.{take_caller, split_caller, called, numbered_of, operation_of, operation_in};
+ghost use Rattle.clip_trace_lines.specs.Steps.TraceOutline.{take_caller, split_caller, called, numbered_of};
+ghost use Rattle.clip_trace_lines.specs.Steps.TraceOutline.{operation_of, operation_in};
 
 use clip_protocol::{
     Draft, Listing, Refusal, UNSHAPED, Unread, drafts_of, has_members, items_of, listings_of,
@@ -131,7 +132,8 @@ fn numbered(value: Value, name: &str) -> Result<u64, Unread>
 }
 
 impl TraceRequest {
-    ghost use Rattle.clip_trace_lines.specs.Steps.TraceOutline.{register_of, delete_of, clear_of, look_of, trace_request_of, trace_request_view};
+    ghost use Rattle.clip_trace_lines.specs.Steps.TraceOutline.{register_of, delete_of, clear_of, look_of};
+    ghost use Rattle.clip_trace_lines.specs.Steps.TraceOutline.{trace_request_of, trace_request_view};
 
     #[tactic(auto, unfolding(crate::specs::Steps::TraceOutline::register_of))]
     fn register(alloc: Global, value: Value) -> Result<TraceRequest, Unread>

@@ -158,8 +158,8 @@ fn large_replies(alloc: Global, articles: u64) -> Result<String, Fail> {
     Ok(text)
 }
 
-/// A reply of 760 kB, to 30 articles of 25 kB each, is written in pieces of at most 64 KiB and one article, and whichever
-/// write fails, what was taken is a front of it, and nothing more is written.
+/// A reply of 760 kB, to 30 articles of 25 kB each, is written in pieces of at most 64 KiB and one article, and
+/// whichever write fails, what was taken is a front of it, and nothing more is written.
 #[test]
 fn a_large_reply_flows(rt: HostRuntime) -> Result<(), Fail> {
     let input = large_lines(rt.alloc(), 30)?;
