@@ -131,7 +131,7 @@ fn change_each<N: DeskName, R: Wait>(
     Ok(())
 }
 
-/// Does the work at a desk, and gives a last look.
+/// Does the work at a desk, and returns a last look.
 fn work_at<N: DeskName, R: Wait>(
     rt: &R,
     alloc: Global,

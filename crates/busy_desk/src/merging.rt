@@ -23,9 +23,9 @@ const ARTICLE_WORDS: u64 = 20;
 /// Whether the merger is told of commits.
 #[derive(Clone, Copy, PartialEq, Eq)]
 pub enum Merger {
-    /// It is nudged after each.
+    /// The merger is nudged after each commit.
     Nudged,
-    /// It is told nothing, and merges nothing.
+    /// The merger is told nothing, and merges nothing.
     Idle,
 }
 
@@ -57,7 +57,7 @@ impl Times {
         self.count
     }
 
-    /// The mean of them in nanoseconds, or 0 where there was none.
+    /// The mean of the calls in nanoseconds, or 0 where there was none.
     pub fn mean(&self) -> u128 {
         self.total
             .as_nanos()
@@ -65,7 +65,7 @@ impl Times {
             .unwrap_or(0)
     }
 
-    /// The longest of them in nanoseconds.
+    /// The longest of the calls in nanoseconds.
     pub fn longest(&self) -> u128 {
         self.longest.as_nanos()
     }
@@ -85,7 +85,7 @@ pub struct Looks {
 pub struct Report {
     /// The commits.
     pub commits: Times,
-    /// The looks beside them.
+    /// The looks beside the commits.
     pub looks: Looks,
     /// How many segments there were in the end.
     pub segments: usize,
@@ -104,7 +104,7 @@ struct Room<N: DeskName> {
     merger: Merger,
 }
 
-/// Registers one query by each commit, and gives the times of the commits alone.
+/// Registers one query by each commit, and returns the times of the commits alone.
 fn commit_all<N: DeskName, R: Wait + Clock>(
     rt: &R,
     room: &Room<N>,

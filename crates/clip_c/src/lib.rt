@@ -10,7 +10,7 @@ ghost use Rattle.clip_engine.specs.Texts.{fields_of};
 use clip_engine::{Field, Kept, Slot};
 use std::alloc::Global;
 
-/// How many bytes of room a slot needs, at an address that 8 divides.
+/// How many bytes of memory a slot needs, at an address that 8 divides.
 #[unsafe(no_mangle)]
 pub extern "C" fn clip_size() -> usize {
     size_of::<Kept>()
@@ -25,7 +25,7 @@ pub extern "C" fn clip_open(alloc: Global, slot: &mut Slot, hits: bool)
     slot.put(Kept::new(alloc, hits));
 }
 
-/// Ends an engine, and gives its memory back. The room stays the caller's.
+/// Ends an engine, and gives its memory back. The slot's memory stays the caller's.
 #[unsafe(no_mangle)]
 pub extern "C" fn clip_close(slot: &mut Slot)
     requires { IsSome slot.old.kept }
@@ -111,8 +111,8 @@ pub extern "C" fn clip_match(
     code
 }
 
-/// Copies the bytes that are kept to where there is room for them, and keeps none then; where the room is not of their
-/// size it changes nothing. Whether they were copied.
+/// Copies the bytes that are kept into a buffer of just their size, and keeps none then; into a buffer of another size
+/// it copies nothing and changes nothing. Whether they were copied.
 #[unsafe(no_mangle)]
 pub extern "C" fn clip_take(slot: &mut Slot, room: &mut [u8]) -> bool
     requires { IsSome slot.old.kept }

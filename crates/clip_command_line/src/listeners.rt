@@ -27,7 +27,7 @@ pub fn feed(alloc: Global) -> Result<Teller<Style>, NoMemory>
     Ok(Teller::new(Render::in_style(style)?))
 }
 
-/// The two under their names.
+/// The listeners `mail` and `feed`, under their names.
 pub fn named(
     alloc: Global,
     mail: Box<dyn Listener + Send>,

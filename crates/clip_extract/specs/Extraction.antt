@@ -18,11 +18,11 @@ pub record Extracted : Type 0 where
 abbrev pub unnarrowed : Extracted
 unnarrowed = record { keys = Any ∷ []; weight = 0 }
 
--- a word weighs as many as it has characters
+-- a word weighs as much as it has characters
 abbrev pub word_extract : List ℕ → List ℕ → Extracted
 word_extract field word = record { keys = Word field word ∷ []; weight = length (chars word) }
 
--- so does a front; nothing is narrowed by an empty one
+-- a front weighs as much as it has characters; nothing is narrowed by an empty one
 abbrev pub front_extract : List ℕ → List ℕ → Extracted
 front_extract field [] = unnarrowed
 front_extract field (b ∷ bs) = record { keys = Front field (b ∷ bs) ∷ []; weight = length (chars (b ∷ bs)) }
@@ -35,12 +35,12 @@ heavier a b = if nat_lt a.weight b.weight then b else a
 abbrev pub together : Extracted → Extracted → Extracted
 together a b = record { keys = a.keys ++ b.keys; weight = min a.weight b.weight }
 
--- the heaviest, the first on a tie; nothing of none
+-- the heaviest of a list, the first on a tie; `None` of an empty list
 abbrev pub heaviest : List Extracted → Option Extracted
 heaviest [] = None
 heaviest (e ∷ es) = Some (fold heavier e es)
 
--- all keys, and the least weight; nothing of none
+-- all keys of a list, and their least weight; `None` of an empty list
 abbrev pub union : List Extracted → Option Extracted
 union [] = None
 union (e ∷ es) = Some (fold together e es)

@@ -7,7 +7,7 @@ use Rattle.clip_extract.specs.declared.key.TheConstants.{MOST_FRONT_CHARACTERS}
 unfoldable pub key_front : List ℕ → List ℕ
 key_front text = encode_utf8_all (take MOST_FRONT_CHARACTERS (chars text))
 
--- what a list begins with, one element and more
+-- the prefixes of a list, of one element and more
 abbrev pub fronts_of : List ℕ → List (List ℕ)
 fronts_of [] = []
 fronts_of (c ∷ cs) = (c ∷ []) ∷ map (λ front. c ∷ front) (fronts_of cs)

@@ -20,8 +20,8 @@ use clip_words::NoMemory;
 use std::alloc::Global;
 use std::sync::ArcStr;
 
-/// What stands among a group's clauses so far: nothing, Should children with their least weight, or a Must child with
-/// its weight.
+/// What was found among a group's clauses so far: nothing, Should children with their least weight, or a Must child
+/// with its weight.
 #[derive(Clone, Copy)]
 enum Found {
     Nothing,
@@ -54,7 +54,7 @@ fn heaviest_word(words: &[ArcStr]) -> Option<(&ArcStr, u64)>
     Some((best, most))
 }
 
-/// Whether a clause more can change what stands.
+/// Whether a clause more can change what was found.
 fn counts(found: Found, occur: Occur) -> bool
     ensures { result ≡ counts found occur }
 {
@@ -65,7 +65,7 @@ fn counts(found: Found, occur: Occur) -> bool
     }
 }
 
-/// What stands with one clause more, whose child has this weight.
+/// What is found with one clause more, whose child has this weight.
 fn next_found(found: Found, occur: Occur, weight: u64) -> Found
     ensures { result ≡ next_found found occur weight }
 {
@@ -78,7 +78,7 @@ fn next_found(found: Found, occur: Occur, weight: u64) -> Found
     }
 }
 
-/// The weight of what stands.
+/// The weight of what was found.
 #[tactic(auto, unfolding(crate::specs::Steps::Groups::group_with))]
 fn weight_found(found: Found) -> u64
     ensures { (keys : List KeyValue) → (group_from found keys []).weight ≡ result }
@@ -90,7 +90,7 @@ fn weight_found(found: Found) -> u64
 }
 
 /// What a query that is no group is found by: nothing that narrows the articles down, a word of a field with its
-/// weight, or the front of a prefix in a field.
+/// weight, or the first characters of a prefix in a field.
 #[derive(Clone, Copy)]
 enum Leaf<'a> {
     Any,
@@ -161,7 +161,7 @@ fn remove(keys: &mut Vec<Key>, start: usize, end: usize)
     keys.drain(start..end);
 }
 
-/// Whether a Must child of this weight takes the place of what stands.
+/// Whether a Must child of this weight takes the place of what was found.
 fn outweighs(found: Found, weight: u64) -> bool
     ensures { result ≡ outweighs found weight }
 {
@@ -208,7 +208,7 @@ fn shared_front(alloc: Global, text: &ArcStr) -> Result<ArcStr, NoMemory>
     Ok(ArcStr::from_str(alloc, front)?)
 }
 
-/// Adds the key of a front of a field, or Any for an empty one, and gives its weight.
+/// Adds the key of a front of a field, or Any for an empty one, and returns its weight.
 fn push_front(
     alloc: Global,
     field: &ArcStr,
@@ -230,7 +230,7 @@ fn push_front(
     Ok(weight)
 }
 
-/// Adds the key of a query that is no group, and gives its weight.
+/// Adds the key of a query that is no group, and returns its weight.
 fn add_leaf_key(alloc: Global, query: &Query, keys: &mut Vec<Key>) -> Result<u64, NoMemory>
     requires { IsNoGroup query.now }
     ensures added { IfOk result (λ _. Adds (extract (tree_of query.now)) keys.old.items keys.new.items) }
@@ -246,7 +246,7 @@ fn add_leaf_key(alloc: Global, query: &Query, keys: &mut Vec<Key>) -> Result<u64
     }
 }
 
-/// Adds a query's keys, and gives its weight.
+/// Adds a query's keys, and returns its weight.
 pub(crate) fn add_keys(alloc: Global, query: &Query, keys: &mut Vec<Key>) -> Result<u64, NoMemory>
     ensures added { IfOk result (λ _. Adds (extract (tree_of query.now)) keys.old.items keys.new.items) }
     ensures weight { IfOk result (λ weight. weight ≡ query_weight (tree_of query.now)) }
@@ -277,8 +277,9 @@ pub(crate) fn add_keys(alloc: Global, query: &Query, keys: &mut Vec<Key>) -> Res
 ///
 /// As Lucene's term-filtered presearcher extracts terms: of a word its key, of a phrase that of its heaviest word, of a
 /// prefix its first characters, at most `MOST_FRONT_CHARACTERS`, of a group those of its heaviest Must child or,
-/// without one, of all its Should children; Any for what nothing narrows. A word or a front weighs as many as it has
-/// characters, and the first stands on a tie. Texts are shared with the query, but for a front that has to be cut.
+/// without one, of all its Should children; Any for what nothing narrows. The weight of a word or a front is the number
+/// of its characters, and of equal weights the first counts. Texts are shared with the query, but for a front that has
+/// to be cut.
 ///
 /// `NoMemory` where an allocation failed. Cost: one walk over the query, which moves the keys that are kept at most
 /// once for each group around them, and a sort of the keys.

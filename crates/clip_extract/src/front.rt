@@ -1,4 +1,4 @@
-//! Fronts of words.
+//! Fronts: the prefixes of words that may be keys.
 ghost use Rattle.std.specs.Prelude.{◌≡◌, ◌∷◌, [], MatchOption};
 ghost use Rattle.std.specs.List.{list_any};
 ghost use Rattle.clip_extract.specs.Covering.{front_keys};

@@ -21,7 +21,7 @@ struct Ranking<'a> {
     second: Option<Weighed<'a>>,
 }
 
-/// The heavier of what stands, if anything does, and of the next; what stands on a tie.
+/// The heavier of a query, if there is one, and of the next; the first of them on a tie.
 fn heavier<'a>(standing: Option<Weighed<'a>>, next: Weighed<'a>) -> Weighed<'a>
     ensures { weighed result ≡ heavier_of (option_map weighed standing.entry) (weighed next.entry) }
 {
@@ -91,7 +91,7 @@ fn are_words(keys: &[Key]) -> bool
     true
 }
 
-/// These keys, if all of them are words, and else none.
+/// The keys, if all of them are words, and else none.
 fn only_words(mut keys: Vec<Key>) -> Vec<Key>
     ensures { map key_of result.items ≡ only_words (map key_of keys.items) }
 {

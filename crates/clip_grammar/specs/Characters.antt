@@ -10,7 +10,7 @@ is_among cs c = list_any (λ d. c == d) cs
 abbrev pub is_one_of : String → ℕ → Bool
 is_one_of text = is_among (codes text)
 
--- space, tab, line feed, carriage return and the ideographic space
+-- white space: space, tab, line feed, carriage return and the ideographic space
 abbrev pub white_chars : List ℕ
 white_chars = 0x3000 ∷ codes " \t\n\r"
 
@@ -23,19 +23,19 @@ is_start c = not (is_white c || is_one_of "+-!():^[]\"{}~*?\\/" c)
 
 -- ---- where a character may stand with no backslash
 
--- first in a word
+-- first in a word the character may stand with no backslash
 abbrev pub first_char : ℕ → Bool
 first_char c = is_start c || is_one_of "*?" c
 
--- later in a word
+-- later in a word the character may stand with no backslash
 abbrev pub word_char : ℕ → Bool
 word_char c = is_start c || is_one_of "*?+-" c
 
--- between quotes
+-- between quotes the character may stand with no backslash
 abbrev pub quotable_char : ℕ → Bool
 quotable_char c = not (is_one_of "\"\\" c)
 
--- in the bare end of a range
+-- in the bare end of a range the character may stand with no backslash
 abbrev pub end_char : ℕ → Bool
 end_char c = not (is_white c || is_one_of "]}\\" c)
 

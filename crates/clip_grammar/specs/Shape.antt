@@ -21,12 +21,12 @@ pub data Joint : Type 0 where
   Or : Joint
 
 mutual
-  -- one clause or more
+  -- the clauses of a query as they are written, one or more
   pub data Written : Type 0 where
     one : WrittenClause → Written
     more : WrittenClause → Joint → Written → Written
 
-  -- a sign or none, a field or none, and an item; `*:*` takes no field
+  -- a clause as it is written: a sign or none, a field or none, and an item; `*:*` takes no field
   pub data WrittenClause : Type 0 where
     item : Sign → Option (List ℕ) → Item → WrittenClause
     everything : Sign → WrittenClause

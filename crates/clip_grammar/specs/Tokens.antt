@@ -61,7 +61,7 @@ is_spelled _ _ = false
 abbrev pub is_wild : Glyph → Bool
 is_wild g = is_bare 42 g || is_bare 63 g
 
--- all but the last
+-- all glyphs but the last
 abbrev pub front_of : List Glyph → List Glyph
 front_of gs = take (length gs - 1) gs
 

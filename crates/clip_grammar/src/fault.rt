@@ -11,7 +11,7 @@ pub enum QueryFault {
     /// The text has more than `MOST_TEXT_BYTES` bytes.
     #[error("the query is too long")]
     TooLong,
-    /// The text is not spelled by lexemes. The payload is the greatest number of bytes at its front that are.
+    /// The text is not spelled by lexemes. The payload is the greatest number of its first bytes that are.
     #[error("no lexeme begins at byte {0}")]
     Lexical(usize),
     /// The text uses a form that is left out: `&&` or `||` in a longer word, a wild card other than one last star, a

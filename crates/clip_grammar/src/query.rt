@@ -5,11 +5,11 @@ use std::sync::ArcStr;
 /// How a clause counts in its group.
 #[derive(Clone, Copy, Debug)]
 pub enum Occur {
-    /// It has to hold.
+    /// The clause has to hold.
     Must,
-    /// One of these has to hold, where no clause of the group must.
+    /// Where no clause of the group has to hold, one of its `Should` clauses has to.
     Should,
-    /// It may not hold.
+    /// The clause may not hold.
     MustNot,
 }
 
@@ -24,7 +24,7 @@ pub enum Bound {
     Without(String),
 }
 
-/// What is asked of an article. Fields stand as they are written; words, fronts and ends of ranges are folded.
+/// What is asked of an article. Fields stand as they are written; words, prefixes and ends of ranges are folded.
 ///
 /// Texts are shared, but for the ends of ranges. Dropping recurses along the tree: in a query that was read 66 levels
 /// at most, which are the outermost group, 64 groups in parentheses and a leaf.
@@ -40,7 +40,7 @@ pub enum Query {
         field: ArcStr,
         words: Vec<ArcStr>,
     },
-    /// Some word of the field begins with the front.
+    /// Some word of the field begins with this prefix.
     Prefix {
         field: ArcStr,
         front: ArcStr,

@@ -24,7 +24,7 @@ pub struct Row {
     pub listener: Option<ArcStr>,
     /// Where in the article the query holds, in order.
     pub hits: Vec<Hit>,
-    /// What that listener said, if it is here.
+    /// What the query's listener said, if it is here.
     pub text: Option<ArcStr>,
 }
 

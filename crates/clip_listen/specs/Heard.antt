@@ -35,7 +35,7 @@ pub record Hearer : Type 0 where
   pub heard : List Alert
   pub keeps : Bool
 
--- what a listener tells of what it heard: all of it, where it keeps that
+-- what a listener reports of what it heard: all of it, where it keeps that
 abbrev pub tells : Bool → List Alert → Option (List Alert)
 tells keeps heard = cond keeps (Some heard) None
 

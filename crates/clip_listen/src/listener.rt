@@ -16,13 +16,13 @@ pub trait Listener: Drop {
     ghost use Rattle.clip_standing.specs.Alerts.{alert_value};
     ghost use Rattle.clip_listen.specs.Heard.{StyleValue, text_of, tells};
 
-    /// How it says an alert.
+    /// The style in which it says an alert.
     ghost style: { Self → StyleValue };
 
     /// The alerts that it has heard, in order.
     ghost heard: { Self → List Alert };
 
-    /// Whether it keeps them.
+    /// Whether it keeps the alerts that it has heard.
     ghost keeps: { Self → Bool };
 
     /// Hears an alert and says it in its style.
@@ -41,8 +41,8 @@ pub trait Listener: Drop {
         ensures { option_map (λ alerts. map alert_value alerts.now) result ≡ tells (keeps self.now) (heard self.now) };
 }
 
-/// Says each alert by its render, keeps what it heard and tells it. It takes memory for each alert, and what the alert
-/// shares, its query and its article, stays in memory with it.
+/// Says each alert by its render, keeps what it heard and can report it. It takes memory for each alert, and what the
+/// alert shares, its query and its article, stays in memory with it.
 #[derive(Drop)]
 pub struct Folder<W: Wording> {
     render: Render<W>,

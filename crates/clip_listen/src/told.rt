@@ -20,20 +20,20 @@ impl Model for Told {
     ghost also_owns = { λ _. ftrue };
 }
 
-// A struct with `also_owns` has neither by itself. This one owns nothing.
+// A struct with `also_owns` is neither `Send` nor `Sync` by itself, and `Told` owns nothing.
 unsafe impl Send for Told {}
 
 unsafe impl Sync for Told {}
 
 impl Told {
-    /// No alert. Costs nothing.
+    /// The list of no alerts. Costs nothing.
     pub fn new() -> Told
         ensures { result.alerts ≡ [] }
     {
         Told {}
     }
 
-    /// These alerts, and then this one. Costs nothing.
+    /// The list with one alert more. Costs nothing.
     #[inline(always)]
     pub fn then(&self, _alert: &Alert) -> Told
         ensures { result.alerts ≡ self.now.alerts ++ alert_value _alert.now ∷ [] }

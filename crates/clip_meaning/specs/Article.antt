@@ -40,7 +40,7 @@ article_code =
 
 -- ---- which may be one
 
--- an ASCII letter, a digit or `_`
+-- the byte is an ASCII letter, a digit or `_`
 abbrev pub is_name_byte : ℕ → Bool
 is_name_byte byte = is_ascii_alphanumeric byte || byte == 95
 
@@ -49,7 +49,7 @@ abbrev pub begins_with_digit : List ℕ → Bool
 begins_with_digit [] = false
 begins_with_digit (first ∷ _) = is_ascii_digit first
 
--- 1 to `MOST_NAME_BYTES` ASCII letters, digits and `_`, no digit first
+-- the text is 1 to `MOST_NAME_BYTES` ASCII letters, digits and `_`, no digit first
 unfoldable pub is_field_name : List ℕ → Bool
 is_field_name name = nat_lt 0 (length name) && nat_le (length name) MOST_NAME_BYTES && list_all is_name_byte name
     && not (begins_with_digit name)

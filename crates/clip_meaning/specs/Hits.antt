@@ -48,7 +48,7 @@ abbrev mutual
   is_named Tree.All name words w = false
   is_named (Tree.Group clauses) name words w = is_named_by clauses name words w
 
-  -- some clause that asks has such a leaf
+  -- some leaf of a clause that asks names the word, which stands beside its position
   pub is_named_by : Clauses → (name : List ℕ) → (words : List (List ℕ)) → List ℕ × ℕ → Bool
   is_named_by none name words w = false
   is_named_by (clause occur child others) name words w =

@@ -9,6 +9,6 @@ abbrev pub numbered : ℕ → List (List ℕ) → List (List ℕ × ℕ)
 numbered start [] = []
 numbered start (word ∷ words) = (word, start) ∷ numbered (start + 1) words
 
--- by word, and of one word by position
+-- postings compare by word, and those of one word by position
 abbrev pub posting_cmp : List ℕ × ℕ → List ℕ × ℕ → Ordering
 posting_cmp = then_cmp (on (λ p. p.0) bytes_cmp) (on (λ p. p.1) nat_cmp)

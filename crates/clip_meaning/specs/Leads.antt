@@ -2,7 +2,7 @@
 use Rattle.std.specs.Prelude.{◌≡◌, ℕ, ◌+◌, ◌*◌, ◌<◌, ◌==◌, Bool, List, [], ◌∷◌, zero, suc}
 use Rattle.std.specs.List.{AllByRecursion}
 
--- each is a byte
+-- each number is a byte
 abbrev pub AreBytes : List ℕ → Type 0
 AreBytes text = AllByRecursion (λ b. b < 256) text
 
@@ -12,7 +12,7 @@ lead_after lead zero text = lead
 lead_after lead (suc left) [] = lead_after (lead * 256) left []
 lead_after lead (suc left) (byte ∷ text) = lead_after (lead * 256 + byte) left text
 
--- the number of the first eight bytes
+-- the number of a text's first eight bytes
 unfoldable pub lead_of : List ℕ → ℕ
 lead_of text = lead_after 0 8 text
 

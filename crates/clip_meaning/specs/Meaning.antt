@@ -18,7 +18,7 @@ abbrev pub has_run : List (List ℕ) → List (List ℕ) → Bool
 has_run [] phrase = false
 has_run (w ∷ ws) phrase = starts_with bytes_eq (w ∷ ws) phrase || has_run ws phrase
 
--- there is a word
+-- the list has a word
 abbrev pub is_nonempty : List (List ℕ) → Bool
 is_nonempty [] = false
 is_nonempty (w ∷ ws) = true
@@ -27,7 +27,7 @@ is_nonempty (w ∷ ws) = true
 abbrev pub has_phrase : List (List ℕ) → List (List ℕ) → Bool
 has_phrase words phrase = is_nonempty phrase && has_run words phrase
 
--- the word begins with the front
+-- the word begins with the prefix
 abbrev pub begins_with : List ℕ → List ℕ → Bool
 begins_with front word = starts_with (λ b c. b == c) word front
 
@@ -54,17 +54,17 @@ abbrev pub meets_must : Occur × Bool → Bool
 meets_must (Must, held) = held
 meets_must _ = true
 
--- a MustNot child has not to hold
+-- a clause and whether its child holds: a MustNot child may not hold
 abbrev pub meets_must_not : Occur × Bool → Bool
 meets_must_not (MustNot, held) = not held
 meets_must_not _ = true
 
--- a Must clause
+-- the clause is a Must clause
 abbrev pub is_must : Occur × Bool → Bool
 is_must (Must, _) = true
 is_must _ = false
 
--- a Should child that holds
+-- the clause is a Should clause, and its child holds
 abbrev pub meets_should : Occur × Bool → Bool
 meets_should (Should, held) = held
 meets_should _ = false

@@ -69,7 +69,7 @@ impl Article {
 
     /// The article of an id and of pairs of a field's name and its text, where it may be one. Its words are shared with
     /// those of the pool: articles that are read one after another with one pool take few allocations, since most of
-    /// their words stand in one of the last. The cost is that of `read`.
+    /// their words occur in one of the last. The cost is that of `read`.
     ///
     /// # Errors
     ///

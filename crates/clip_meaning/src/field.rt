@@ -108,8 +108,8 @@ impl Field {
     }
 
     /// The postings of the words of a lead: those of all words that have it as the number of their first eight bytes.
-    /// Takes no memory. Cost: about the logarithm of the number of words, and a step for each that is given; no text is
-    /// looked at.
+    /// Takes no memory. Cost: about the logarithm of the number of words, and a step for each that is returned; no text
+    /// is looked at.
     pub fn of_lead(&self, lead: u64) -> &[Posting]
         ensures { (test : List ℕ × ℕ → Bool) → list_any test result.now
             ≡ list_any (λ p. has_lead lead p && test p) (numbered 0 self.now.1) }
@@ -117,7 +117,7 @@ impl Field {
         self.index.of_lead(lead)
     }
 
-    /// Whether a word begins with the front, as in Lucene's PrefixQuery. Takes no memory. Compares about the logarithm
+    /// Whether a word begins with a prefix, as in Lucene's PrefixQuery. Takes no memory. Compares about the logarithm
     /// of the number of words.
     pub fn has_front(&self, front: &str) -> bool
         ensures front { result ≡ list_any (begins_with front.now) self.now.1 }
@@ -158,7 +158,7 @@ impl Field {
         }
     }
 
-    /// Raises the flags of the words that begin with a front. Compares about the logarithm of the number of words, and
+    /// Raises the flags of the words that begin with a prefix. Compares about the logarithm of the number of words, and
     /// takes a step for each such word.
     pub(crate) fn mark_front(&self, front: &str, flags: &mut Vec<u8>)
         requires { length flags.old.items ≡ length self.now.1 }

@@ -57,7 +57,7 @@ fn mark_phrase(field: &Field, name: &str, phrase: &[ArcStr], flags: &mut Vec<u8>
     }
 }
 
-/// Raises the flags of the words that begin with a front, where the field has the name.
+/// Raises the flags of the words that begin with a prefix, where the field has the name.
 fn mark_front(field: &Field, name: &str, front: &str, flags: &mut Vec<u8>)
     requires { length flags.old.items ≡ length field.now.1 }
     ensures long { length flags.new.items ≡ length flags.old.items }
@@ -166,7 +166,7 @@ fn add_hits(
 ///
 /// - `Term`: each word of its field that it equals.
 /// - `Phrase`: each word of each place where it stands; an empty phrase names none.
-/// - `Prefix`: each word of its field that begins with the front.
+/// - `Prefix`: each word of its field that begins with the prefix.
 /// - `Span`: each word of its field between the bounds.
 /// - `All`: none.
 /// - `Group`: what its Must and Should children name; what stands below a MustNot clause, however deep, names none.

@@ -23,7 +23,7 @@ use std::sync::ArcStr;
 
 /// A word of a field and its position among the field's words, counted from 0. Contracts see the pair of both.
 ///
-/// The word's lead stands beside it, by which most words are told apart without a look at their texts.
+/// The word's lead is kept beside it, by which most words are told apart without a look at their texts.
 #[derive(Debug, Drop)]
 pub struct Posting {
     lead: u64,
@@ -249,7 +249,7 @@ impl WordIndex {
         postings.split_at(place).0
     }
 
-    /// The postings of the words that begin with the front.
+    /// The postings of the words that begin with a prefix.
     pub(crate) fn with_front(&self, front: &str) -> &[Posting]
         ensures { result.now ≡ filter (λ p. begins_with front.now p.0) self.now }
     {
@@ -285,7 +285,7 @@ impl WordIndex {
         }
     }
 
-    /// Whether a word begins with the front.
+    /// Whether a word begins with a prefix.
     pub(crate) fn has_front(&self, front: &str) -> bool
         ensures { result ≡ list_any (λ p. begins_with front.now p.0) self.now }
     {
@@ -306,7 +306,7 @@ impl WordIndex {
     }
 }
 
-/// How many of the postings at the front are of words of a lead.
+/// How many of the first postings are of words of a lead.
 fn count_of_lead(postings: &[Posting], lead: u64) -> usize
     ensures within { result ≤ length postings.now }
     ensures count { result ≡ prefix_len (has_lead lead) postings.now }

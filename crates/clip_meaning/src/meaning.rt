@@ -33,7 +33,7 @@ fn has_phrase(article: &Article, field: &str, phrase: &[ArcStr]) -> bool
     }
 }
 
-/// Whether a word of an article's field begins with the front.
+/// Whether a word of an article's field begins with a prefix.
 fn has_front(article: &Article, field: &str, front: &str) -> bool
     ensures { result ≡ list_any (begins_with front.now) (words_in article.now.fields field.now) }
 {
@@ -54,7 +54,7 @@ fn has_between(article: &Article, field: &str, low: &Bound, high: &Bound) -> boo
     }
 }
 
-/// What stands among a group's clauses so far, when the group may still hold.
+/// What was found among the clauses of a group that were asked so far, where the group may still hold.
 #[derive(Clone, Copy)]
 struct Tally {
     has_must: bool,
@@ -89,7 +89,7 @@ fn counted(tally: Tally, occur: Occur, held: bool) -> Option<Tally>
 /// - `Term`: the word is among the field's words.
 /// - `Phrase`: its words stand next to each other in order in the field (Lucene's PhraseQuery with no slop); an empty
 ///   phrase never holds.
-/// - `Prefix`: a word of the field begins with the front (PrefixQuery).
+/// - `Prefix`: a word of the field begins with the prefix (PrefixQuery).
 /// - `Span`: a word of the field lies between the bounds, by the bytes of UTF-8; `With` lets its end in, `Without` does
 ///   not, `Free` has no end (TermRangeQuery).
 /// - `All`: always.

@@ -103,7 +103,7 @@ applied h command = applied_to (replay h) command
 
 -- ---- legality
 
--- it lists no more than it may, and ids that may be ones
+-- the command lists no more than it may, and ids that may be ids
 abbrev pub fits : Command → Bool
 fits (Register standings) = nat_le (length standings) MOST_LISTED
 fits (Delete ids) = nat_le (length ids) MOST_LISTED && list_all is_id ids
@@ -114,7 +114,7 @@ abbrev pub own : History → ℕ → List Command
 own h caller = map (λ e. e.command) (filter (λ e. e.caller == caller) h)
 
 -- Callers are in their range, each caller's numbers are 1, 2, 3, .. in order, each command fits,
--- no front of the history replays to more queries than may be live, and it is not too long.
+-- no prefix of the history replays to more queries than may be live, and it is not too long.
 pub record IsLegal (h : History) : Type 0 where
   pub callers : (before after : History) (e : HistoryEntry) → h ≡ before ++ e ∷ after
       → (0 < e.caller) × (e.caller ≤ MOST_CALLERS)

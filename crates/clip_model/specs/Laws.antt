@@ -4,11 +4,11 @@ use Rattle.std.specs.FinMap as finite
 use Rattle.clip_model.specs.declared.limits.TheConstants.{MOST_CALLERS}
 use Rattle.clip_model.specs.History.{History, HistoryEntry, Command, Registered, IsLegal, replay, listed, listed_queries, after_command, is_live, with_command, has_room, fits}
 
--- one entry more is one command more
+-- the registry after one entry more is that after the entry's command
 abbrev pub ReplaysOn : Type 0
 ReplaysOn = (h : History) (e : HistoryEntry) → replay (h ++ e ∷ []) ≡ after_command (listed h) e.command (replay h)
 
--- each front of a legal history is legal
+-- each prefix of a legal history is legal
 abbrev pub FrontsAreLegal : Type 0
 FrontsAreLegal = (before after : History) → IsLegal (before ++ after) → IsLegal before
 
@@ -28,7 +28,7 @@ pub record IsListed (h : History) (id : List ℕ) (r : Registered) : Type 0 wher
   pub to : r.seq ≤ listed h
   pub place : slice_get (listed_queries h) (r.seq - 1) ≡ Some r.standing
 
--- each registered query was listed, in the place that its seq tells
+-- each registered query was listed, in the place of its seq
 abbrev pub RegisteredAreListed : Type 0
 RegisteredAreListed = (h : History) (id : List ℕ) (r : Registered) → finite.get (replay h) id ≡ Some r → IsListed h id r
 

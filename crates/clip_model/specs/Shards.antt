@@ -104,7 +104,7 @@ abbrev pub PartsAreHeard : Type 0
 PartsAreHeard = (keeps : List ℕ → Bool) (h : History) (name : List ℕ) (article : ArticleValue)
     → heard name (kept keeps h) article ≡ filter (λ a. keeps a.query) (heard name h article)
 
--- and of all parts, merged by id, what it hears of the whole
+-- a listener hears of all parts, merged by id, what it hears of the whole
 abbrev pub PartsAreHeardMerged : Type 0
 PartsAreHeardMerged = (d : Division) (h : History) (name : List ℕ) (article : ArticleValue)
     → merged_of d.parts (λ k. heard name (shard d k h) article) ≡ heard name h article
@@ -118,7 +118,7 @@ abbrev pub PartsGoOn : Type 0
 PartsGoOn = (keeps : List ℕ → Bool) (h : History) (caller : ℕ) (command : Command)
     → kept keeps (with_command h caller command) ≡ with_command (kept keeps h) caller (kept_command keeps command)
 
--- and has room where the whole has
+-- a part has room for its part of a command where the whole has room for the command
 abbrev pub PartsHaveRoom : Type 0
 PartsHaveRoom = (keeps : List ℕ → Bool) (h : History) (command : Command) → IsTrue (has_room h command)
     → IsTrue (has_room (kept keeps h) (kept_command keeps command))

@@ -3,7 +3,7 @@
 ghost use Rattle.clip_model.specs.Shards.{PartsAreRegistered, PartsAlert, PartsAreMerged, PartsAreCounted, PartsCount};
 ghost use Rattle.clip_model.specs.Shards.{PartsAreHeard, PartsAreHeardMerged, PartsAreLegal, PartsGoOn, PartsHaveRoom};
 
-/// A registry that is divided over processes by the ids of its queries answers as one: where each process is told of
+/// A registry that is divided over processes by the ids of its queries answers as one: where each process is given of
 /// every command only the ids of its part, the processes hold together just the queries of the whole, their alerts
 /// merged by id are those of the whole, for each listener too, their counts add up to those of the whole, and each has
 /// a legal history.

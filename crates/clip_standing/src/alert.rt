@@ -1,4 +1,4 @@
-//! Alerts: what is told of an article.
+//! Alerts: which queries hold of an article.
 ghost use Rattle.std.specs.Prelude.{◌≡◌, map, true, IfOk, IfSome, is_some, option_map};
 ghost use Rattle.std.specs.Arc.{arc_str_bytes};
 ghost use Rattle.std.specs.Option.{option_copied};
@@ -93,7 +93,7 @@ impl Alert {
         self.standing.shared_listener()
     }
 
-    /// The hits, where they were found when the alert was made: those that `hits` gives. Takes constant time.
+    /// The hits, where they were found when the alert was made: those that `hits` returns. Takes constant time.
     pub fn found_hits(&self) -> Option<&[Hit]>
         ensures found { is_some result ≡ has_hits self.now }
         ensures hits { IfSome result (λ hits. map hit_value hits.now ≡ (alert_value self.now).hits) }

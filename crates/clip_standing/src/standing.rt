@@ -251,7 +251,7 @@ impl Standing {
         Ok(self.kept.get_or_init(move || made))
     }
 
-    /// Where in the article the query holds, as `clip_meaning::hits` gives it. The query's tree is made at the first
+    /// Where in the article the query holds, as `clip_meaning::hits` finds it. The query's tree is made at the first
     /// call and kept as long as the standing query is.
     ///
     /// `NoMemory` where an allocation failed. Cost: that of `clip_meaning::hits`, and at the first call the reading of

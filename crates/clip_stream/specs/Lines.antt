@@ -4,7 +4,7 @@ use Rattle.std.specs.Io.KnownBytes.{Consumes}
 
 -- ---- lines
 
--- the byte in front of the first line
+-- the lines with the byte put before the first of them
 abbrev pub onto_first : ℕ → List (List ℕ) → List (List ℕ)
 onto_first b [] = (b ∷ []) ∷ []
 onto_first b (line ∷ lines) = (b ∷ line) ∷ lines
@@ -16,7 +16,7 @@ lines_of (b ∷ bytes) = if b == 10 then [] ∷ lines_of bytes else onto_first b
 
 -- ---- lines that were read
 
--- the byte in front of the first line, where there is one
+-- the lines with the byte put before the first of them, where there is one
 abbrev pub onto_ended : ℕ → List (List ℕ) → List (List ℕ)
 onto_ended b [] = []
 onto_ended b (line ∷ lines) = (b ∷ line) ∷ lines
@@ -36,14 +36,14 @@ abbrev pub LinesReadComeFirst : Type 0
 LinesReadComeFirst = (met_end : Bool) (bytes rest : List ℕ) → (met_end ≡ true → rest ≡ [])
     → (later : List (List ℕ)) × (lines_of (bytes ++ rest) ≡ lines_read met_end bytes ++ later)
 
--- ---- by what a reader tells
+-- ---- by what a reader reports
 
--- It holds of the input: of the bytes that were left, or of some bytes where a reader doesn't tell them.
+-- The property holds of the input: of the bytes that were left, or of some bytes where a reader doesn't report them.
 abbrev pub OfInput : Option (List ℕ) → (List ℕ → Type 0) → Type 0
 OfInput None P = (input : List ℕ) × P input
 OfInput (Some input) P = P input
 
--- It holds of the lines that were read, where this was left before and after: of those of the bytes that were given, or
--- of some bytes where a reader doesn't tell them.
+-- The property holds of the lines that were read, where this was left before and after: of those of the bytes that were
+-- given, or of some bytes where a reader doesn't report them.
 abbrev pub OfLinesRead : Option (List ℕ) → Option (List ℕ) → Bool → (List (List ℕ) → Type 0) → Type 0
 OfLinesRead old new met_end P = (bytes : List ℕ) × Consumes old new bytes × P (lines_read met_end bytes)

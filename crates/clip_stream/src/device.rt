@@ -15,20 +15,20 @@ pub struct Failed;
 
 /// What a run reads from.
 pub trait Source {
-    /// The bytes left, where it tells them.
+    /// The bytes left, where the reader reports them.
     ghost left: { Self → Option (List ℕ) };
 
     /// Whether a call has failed.
     ghost has_failed: { Self → Bool };
 
-    /// How often it was read.
+    /// How often the reader was read.
     ghost reads: { Self → ℕ };
 
-    /// Whether a read met the end: it had room, and gave nothing.
+    /// Whether a read met the end: it returned 0, though the buffer had a byte or more.
     ghost met_end: { Self → Bool };
 
-    /// Reads some bytes to the front of the buffer, and says how many: none only at the end, or
-    /// where the buffer has no room. After `Failed` no byte is lost.
+    /// Reads some bytes into the beginning of the buffer, and returns how many: 0 only at the end, or where the buffer
+    /// is empty. After `Failed` no byte is lost.
     fn read(&mut self, buffer: &mut [u8]) -> Result<usize, Failed>
         requires { reads self.old < 2 ^ 63 }
         ensures bound { ReadsAtMost result buffer.new }
@@ -40,7 +40,7 @@ pub trait Source {
 
 /// What a run writes to.
 pub trait Sink {
-    /// The bytes taken, where it tells them.
+    /// The bytes taken, where the writer reports them.
     ghost taken: { Self → Option (List ℕ) };
 
     /// Whether a call has failed: an error, or a write that took nothing of some bytes.
@@ -49,7 +49,7 @@ pub trait Sink {
     /// Whether a flush has gone well since the last write that took bytes.
     ghost is_flushed: { Self → Bool };
 
-    /// Takes a front of the bytes, and says how many bytes it has. After `Failed` none is taken.
+    /// Takes a prefix of the bytes, and returns its length. After `Failed` none is taken.
     fn write(&mut self, bytes: &[u8]) -> Result<usize, Failed>
         ensures bound { WritesAtMost result bytes.now }
         ensures bytes { WriteAppends (taken self.old) (taken self.new) result bytes.now }

@@ -10,7 +10,7 @@ use crate::outbox::Outbox;
 pub struct Flow<'w, W: Sink> {
     /// The writer.
     pub writer: &'w mut W,
-    /// What it has not taken yet.
+    /// What the writer has not taken yet.
     pub outbox: &'w mut Outbox,
 }
 

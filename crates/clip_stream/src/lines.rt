@@ -1,4 +1,4 @@
-//! Cuts what a reader gives into lines.
+//! Cuts what is read into lines.
 ghost use Rattle.std.specs.Prelude.{◌≡◌, ◌≢◌, ◌+◌, ◌-◌, ◌<◌, ◌≤◌, ◌++◌, ◌⊎◌, [], length, take, drop, true, false};
 ghost use Rattle.std.specs.Prelude.{is_err, is_ok, IfOk, OnOk, OnErr, IfSome, IfNone, MatchOption, MatchBool, Err};
 ghost use Rattle.std.specs.Prelude.{IfErr};
@@ -15,7 +15,7 @@ use memchr::memchr;
 use std::alloc::Global;
 use std::marker::Model;
 
-/// How many bytes a read may give.
+/// How many bytes a read may return.
 const CHUNK: usize = 65_536;
 
 /// How many bytes of a line are kept: one more than a line may have tells that it is too long.
@@ -70,7 +70,7 @@ fn extend_cut(line: &mut Vec<u8>, bytes: &[u8]) -> Result<(), NoMemory>
 }
 
 impl LineReader {
-    /// Nothing read yet.
+    /// A reader of lines that has read nothing.
     pub fn new(alloc: Global) -> Result<LineReader, NoMemory>
         ensures { IfOk result (λ r. (r.pending ≡ []) × (r.reads_left ≡ MOST_READS)
             × (r.is_at_end ≡ false)) }

@@ -31,7 +31,7 @@ impl Outbox {
     ghost use Rattle.std.specs.Io.KnownBytes.{Appends, Keeps};
     ghost use Rattle.clip_stream.specs.Device.{AppendsFront, HandsOver};
 
-    /// Nothing gathered yet.
+    /// An outbox with nothing gathered.
     pub fn new(alloc: Global) -> Outbox
         ensures { result ≡ [] }
     {

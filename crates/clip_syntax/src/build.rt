@@ -178,7 +178,7 @@ impl Builder {
         Ok(())
     }
 
-    /// Reads a token, of which the rest tells what follows.
+    /// Reads a token; the rest is what follows it.
     fn read(&mut self, alloc: Global, token: &Token, rest: &[Token]) -> Result<(), NoMemory>
         ensures { IfOk result (λ _. state_of self.new ≡ read (token_of token.now)
             (begins_colon (map token_of rest.now)) (begins_and (map token_of rest.now)) (state_of self.old)) }
@@ -206,7 +206,7 @@ impl Builder {
 
 /// The query that the tokens write. Items that name no field are in `text`.
 ///
-/// `words` has the words of each plain or quoted item in order, as `item_words` gives them.
+/// `words` has the words of each plain or quoted item in order, as `item_words` returns them.
 /// The cost is linear in the tokens and the bytes of their texts: no word is copied, and a field is shared.
 #[tactic(auto, unfolding(crate::specs::Steps::Building::read_all))]
 pub fn build(alloc: Global, tokens: &[Token], words: Vec<Vec<ArcStr>>) -> Result<Query, NoMemory>

@@ -74,7 +74,7 @@ fn is_start(c: char) -> bool
         )
 }
 
-/// Whether the character may stand there with no backslash. A star and a question mark may stand in a word.
+/// Whether the character may stand at the place with no backslash. A star and a question mark may stand in a word.
 fn allows(place: Place, c: char) -> bool
     ensures { result ≡ class_test place c }
 {
@@ -121,7 +121,7 @@ fn code_char(a: char, b: char, c: char, d: char) -> Option<char>
     char::from_u32(value)
 }
 
-/// What stands after `\u`.
+/// The character whose code stands after `\u`, and what is left.
 fn code(text: &[char]) -> Option<(Glyph, &[char])>
     ensures found { option_map and_rest result ≡ option_map glyph_and_rest (code_at text.now) }
     ensures shorter { IfSome result (λ found. length found.1.now < length text.now) }
@@ -136,7 +136,7 @@ fn code(text: &[char]) -> Option<(Glyph, &[char])>
     }
 }
 
-/// What stands after a backslash.
+/// The character that a backslash before the text escapes, and what is left.
 #[tactic(auto, unfolding(clip_grammar::specs::Steps::Lexer::escape_at))]
 fn escape(text: &[char]) -> Option<(Glyph, &[char])>
     ensures found { option_map and_rest result ≡ option_map glyph_and_rest (escape_at text.now) }
@@ -149,7 +149,7 @@ fn escape(text: &[char]) -> Option<(Glyph, &[char])>
     }
 }
 
-/// One character or escape at the front of the text, and what is left.
+/// The first character or escape of the text, and what is left.
 #[tactic(auto, unfolding(clip_grammar::specs::Steps::Lexer::piece_at))]
 fn piece(text: &[char], place: Place) -> Option<(Glyph, &[char])>
     ensures found { option_map and_rest result ≡ option_map glyph_and_rest (piece_at (class_test place) text.now) }
@@ -162,7 +162,7 @@ fn piece(text: &[char], place: Place) -> Option<(Glyph, &[char])>
     }
 }
 
-/// The glyphs, and then those of the characters and escapes at the front of the text, and what is left.
+/// The glyphs, followed by those of the characters and escapes that the text begins with, and what is left.
 #[tactic(auto, using(crate::proofs::Glyphs::glyph_step, crate::proofs::Glyphs::glyph_end))]
 fn pieces(
     mut glyphs: Vec<Glyph>,
@@ -327,7 +327,7 @@ fn sign_token(c: char) -> Token
     }
 }
 
-/// What stands after an opening quote.
+/// The quoted text after an opening quote, and what is left.
 #[tactic(auto, unfolding(clip_grammar::specs::Steps::Lexer::quoted_at))]
 fn quoted(alloc: Global, text: &[char]) -> Result<Option<(Token, &[char])>, NoMemory>
     ensures { IfOk result (λ found. option_map token_and_rest found ≡ option_map with_tokens (quoted_at text.now)) }
@@ -340,7 +340,7 @@ fn quoted(alloc: Global, text: &[char]) -> Result<Option<(Token, &[char])>, NoMe
     Ok(Some((Token::Phrase(text_of(alloc, &glyphs)?), rest)))
 }
 
-/// A word at the front of the text, as long as it goes on.
+/// The word that the text begins with, as long as it goes on, and what is left.
 #[tactic(auto, unfolding(clip_grammar::specs::Steps::Lexer::word_at))]
 fn word(alloc: Global, text: &[char]) -> Result<Option<(Token, &[char])>, NoMemory>
     ensures { IfOk result (λ found. option_map token_and_rest found ≡ option_map with_tokens (word_at text.now)) }
@@ -459,7 +459,7 @@ fn end_with(closed: bool, text: Option<String>) -> Bound
     }
 }
 
-/// What stands after the opening bracket of a range.
+/// The range after its opening bracket, and what is left.
 fn range(alloc: Global, left: char, text: &[char]) -> Result<Option<(Token, &[char])>, NoMemory>
     ensures { IfOk result (λ found. option_map token_and_rest found ≡ option_map with_tokens (range_at left text.now)) }
 {

@@ -49,7 +49,7 @@ fn tokens_of(alloc: Global, text: &str) -> Result<Vec<Token>, QueryFault>
 ///
 /// The first of these that holds:
 /// `TooLong`: the text has more than `MOST_TEXT_BYTES` bytes.
-/// `Lexical(at)`: from byte `at` on it is not cut into lexemes; no longer part of its front is.
+/// `Lexical(at)`: the text is cut into lexemes up to byte `at`, and no further.
 /// `LeftOut`: it uses a form that is not supported.
 /// `Structure`: its lexemes are not clauses.
 /// `NoWords`: a word or a quoted text that is asked for has no words.

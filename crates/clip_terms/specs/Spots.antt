@@ -23,7 +23,7 @@ pub record SpotsValue : Type 0 where
 abbrev pub spots_among : List KeyValue → FieldValue → SpotsValue
 spots_among terms field = record { terms = terms; field = field }
 
--- by this code a type whose value holds both has a model
+-- by this code a type whose value holds terms and a field has a model
 abbrev pub spots_code : Coded SpotsValue
 spots_code =
     code_by (List KeyValue × FieldValue) (coded× (coded_list key_code) (coded× bytes_code (coded_list bytes_code)))
@@ -44,6 +44,6 @@ abbrev pub covers_from : FieldValue → List KeyValue → (position start : ℕ)
 covers_from field run position start =
     starts_with is_same (drop start (field_keys field)) run && is_within start (length run) position
 
--- somewhere they do
+-- the keys stand somewhere in the field next to each other, and the position is one of theirs
 abbrev pub is_covered : FieldValue → List KeyValue → (position : ℕ) → Bool
 is_covered field run position = list_any (λ start. covers_from field run position start.1) (numbered 0 field.1)

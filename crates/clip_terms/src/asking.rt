@@ -87,7 +87,7 @@ fn place_words(
     Ok(())
 }
 
-/// Adds a key for each word of a field, in the byte order of the words, each once; and gives for each word, in the
+/// Adds a key for each word of a field, in the byte order of the words, each once; and returns for each word, in the
 /// order of the text, the place of its key.
 fn add_field(alloc: Global, field: &Field, keys: &mut Vec<Key>) -> Result<Vec<usize>, NoMemory>
     ensures keys { OnOk result (map key_of keys.new.items ≡ map key_of keys.old.items ++ ordered_keys field.now) }
@@ -156,7 +156,7 @@ impl<'a> Asking<'a> {
         &self.lengths
     }
 
-    /// How many keys each field has of these. Constant time.
+    /// How many of the article's keys each field has. Constant time.
     pub(crate) fn counts(&self) -> &[usize]
         ensures { result.now ≡ map (λ field. length (ordered_keys field)) (finite.entries self.now.fields) }
     {

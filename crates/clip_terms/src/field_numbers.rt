@@ -86,7 +86,7 @@ fn spots_of(
     Ok(spots)
 }
 
-/// The spots of an anchor that are looked at with no other one.
+/// A number with so few spots is rare, and no rarer one is looked for.
 const FEW_SPOTS: usize = 8;
 
 /// Whether a run is looked for from its start on, since at these spots this may take longer.
@@ -145,7 +145,7 @@ impl FieldNumbers {
         &self.numbers
     }
 
-    /// The spots of a number. Cost: two searches by halves.
+    /// The spots of a number. Cost: two binary searches.
     fn of_number(&self, number: u32) -> &[Spot]
         ensures { HasEach self.now number result.now }
     {
@@ -184,8 +184,8 @@ impl FieldNumbers {
         rarest
     }
 
-    /// Whether the numbers of a run stand somewhere next to each other, in order. Takes no memory. Cost: two searches
-    /// by halves for each number of the run while all before it are frequent; then a step for each position of the
+    /// Whether the numbers of a run stand somewhere next to each other, in order. Takes no memory. Cost: two binary
+    /// searches for each number of the run while all before it are frequent; then a step for each position of the
     /// rarest of these and each number of the run, or, where that is less, one for each word and each number.
     pub(crate) fn has_run(&self, run: &[u32]) -> bool
         requires { 0 < length run.now }

@@ -23,7 +23,7 @@ use std::ops::Range;
 ///
 /// A word is searched for by its first eight bytes, as a number, among those of the field's words, which lie side by
 /// side; texts are compared only where these bytes are the same and the length does not settle it, since one of them is
-/// longer. Fronts are found likewise among the field's fronts.
+/// longer. Fronts are found by such a search among the field's fronts.
 #[derive(Drop)]
 pub struct FieldTerms<'a> {
     keys: &'a [Key],
@@ -204,8 +204,8 @@ impl<'a> FieldTerms<'a> {
         self.field == field
     }
 
-    /// The number of a word of the field, `None` where it is no term. Takes no memory. Cost: a search by halves among
-    /// the field's words.
+    /// The number of a word of the field, `None` where it is no term. Takes no memory. Cost: a binary search among the
+    /// field's words.
     pub fn word(&self, word: &str) -> Option<u32>
         ensures { result ≡ number_of self.now.terms (Word self.now.field word.now) }
     {
@@ -229,14 +229,14 @@ impl<'a> FieldTerms<'a> {
         }
     }
 
-    /// For each of the first of these leads, where a word of that lead likely stands. Cost: as of searches by halves,
+    /// For each of the first of these leads, where a word of that lead likely stands. Cost: that of binary searches,
     /// which wait for memory together.
     pub(crate) fn likely_places(&self, leads: &[u64]) -> [usize; SIDE_BY_SIDE] {
         likely_places(self.leads, &self.words, leads)
     }
 
-    /// The number of a front of the field, `None` where it is no term. Takes no memory. Cost: a search by halves among
-    /// the field's fronts.
+    /// The number of a front of the field, `None` where it is no term. Takes no memory. Cost: a binary search among the
+    /// field's fronts.
     pub fn front(&self, text: &str) -> Option<u32>
         ensures { result ≡ number_of self.now.terms (Front self.now.field text.now) }
     {
@@ -262,7 +262,7 @@ impl<'a> FieldTerms<'a> {
 
     /// Adds the numbers of the fronts that are fronts of the words of an article's field, whose leads these are. Both
     /// rise, so one walk over them tells which fronts may be had; only these are looked for. Cost: a step for each
-    /// front of the field and for each of these words, and a search by halves among the words for each front that may
+    /// front of the field and for each of these words, and a binary search among the words for each front that may
     /// be had.
     pub(crate) fn add_fronts_of(
         &self,

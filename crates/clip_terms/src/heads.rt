@@ -62,7 +62,7 @@ impl<'a> Head<'a> {
         Head { key, lead, length }
     }
 
-    /// A copy, which borrows the key that this one has.
+    /// A copy of a head, which borrows the same key.
     fn copy(&self) -> Head<'a>
         ensures { result ≡ self.now }
     {
@@ -111,7 +111,7 @@ fn lesser<'a, 'b>(
     }
 }
 
-/// Adds keys.
+/// Adds copies of heads, which borrow the same keys.
 fn add_all<'a>(heads: &[Head<'a>], all: &mut Vec<Head<'a>>) -> Result<(), NoMemory>
     ensures { OnOk result (all.new.items ≡ all.old.items ++ heads.now) }
 {
@@ -157,7 +157,7 @@ fn one_of<'a>(other: &'a ArcStr, text: &'a ArcStr) -> &'a ArcStr
     }
 }
 
-/// A field, that of the last key where it is the same.
+/// A field's name, as the last key has it where that is of the same field.
 fn shared_field<'a>(last: Option<&'a Key>, field: &'a ArcStr) -> &'a ArcStr
     ensures { arc_str_bytes result.now ≡ arc_str_bytes field.now }
 {

@@ -24,7 +24,7 @@ impl LikelyPlaces {
         }
     }
 
-    /// Forgets those that are left.
+    /// Forgets the places that are left.
     pub(crate) fn clear(&mut self) {
         self.used = SIDE_BY_SIDE;
     }

@@ -86,7 +86,7 @@ fn add_known(number: Option<u32>, numbers: &mut Vec<u32>) -> Result<(), NoMemory
     Ok(())
 }
 
-/// Those that are numbers, in order.
+/// The numbers of the keys that have one, in order.
 pub(crate) fn known_numbers(alloc: Global, by_key: &[Option<u32>]) -> Result<Vec<u32>, NoMemory>
     ensures { IfOk result (λ numbers. numbers.items ≡ known by_key.now) }
 {

@@ -103,7 +103,7 @@ fn find<'a>(parts: &'a [FieldPart], field: &str) -> Option<&'a FieldPart>
     part_at(parts, place, field)
 }
 
-/// Where the words of a field stand, and its fronts. Searches by halves among the parts, and where the field has none
+/// Where the words of a field stand, and its fronts. A binary search among the parts, and where none is the field's,
 /// among the keys.
 pub(crate) fn ranges_of(
     keys: &[Key],

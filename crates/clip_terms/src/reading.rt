@@ -182,7 +182,7 @@ impl<'a> Reading<'a> {
     }
 
     /// Whether the words of these numbers stand in some field next to each other, in order; no numbers never do. Takes
-    /// no memory. Cost: a step for each number; in each field two searches by halves for each number while those before
+    /// no memory. Cost: a step for each number; in each field two binary searches for each number while those before
     /// it are frequent, and then a step for each place of the rarest of these and each number, or, where that is less,
     /// for each word of the field and each number, times the logarithm of their count.
     pub fn has_run(&self, run: &[u32]) -> bool

@@ -21,7 +21,7 @@ struct Span {
     upto: usize,
 }
 
-/// No lengths.
+/// A span of no lengths.
 const NO_SPAN: Span = Span {
     period: 0,
     from: 1,

@@ -128,7 +128,7 @@ impl<'a> FieldSpots<'a> {
     }
 
     /// Raises the flags of the positions at which the term of a number stands. Takes no memory. Cost: where the term is
-    /// of this field and the article has it a search by halves among the field's words and a step for each of those
+    /// of this field and the article has it a binary search among the field's words and a step for each of those
     /// that begin with the same eight bytes; constant where it isn't or doesn't.
     pub fn mark_term(&self, number: u32, flags: &mut FieldFlags)
         requires { length flags.old ≡ length self.now.field.1 }
@@ -145,7 +145,7 @@ impl<'a> FieldSpots<'a> {
     }
 
     /// Raises the flags of the positions that the terms of these numbers cover where they stand next to each other, in
-    /// order; no numbers cover none. Takes no memory. Cost: two searches by halves for each number while those before
+    /// order; no numbers cover none. Takes no memory. Cost: two binary searches for each number while those before
     /// it are frequent, and then a step for each place of the rarest of these and each number, or, where that is less,
     /// for each word of the field and each number, times the logarithm of their count.
     pub fn mark_run(&self, run: &[u32], flags: &mut FieldFlags)

@@ -62,10 +62,10 @@ impl Model for Terms {
 }
 
 impl Terms {
-    /// These keys in order, each once.
+    /// The table of these keys, in order and each once.
     ///
     /// `NoMemory` where an allocation failed, and where there are more than `MOST_TERMS`. Cost: n log n comparisons of
-    /// n keys, and a step for each; for each field some searches by halves. Texts are shared.
+    /// n keys, and a step for each; for each field some binary searches. Texts are shared.
     pub fn of(keys: Vec<Key>) -> Result<Terms, NoMemory>
         ensures { IfOk result (λ terms. terms ≡ in_order (map key_of keys.items)) }
     {
@@ -84,10 +84,10 @@ impl Terms {
         })
     }
 
-    /// These keys, which are in order, each once.
+    /// The table of these keys, which are in order, each once.
     ///
     /// `NoMemory` where an allocation failed, and where there are more than `MOST_TERMS`. Cost: a step for each key;
-    /// for each field some searches by halves. Texts are shared.
+    /// for each field some binary searches. Texts are shared.
     pub fn of_heads(alloc: Global, heads: &[Head]) -> Result<Terms, NoMemory>
         requires { IsStrictlySortedBy key_cmp heads.now }
         ensures { IfOk result (λ terms. terms ≡ heads.now) }
@@ -121,7 +121,7 @@ impl Terms {
         self.keys.is_empty()
     }
 
-    /// The number of a key, `None` where it is no term. Takes no memory. Cost: a search by halves among the fields, and
+    /// The number of a key, `None` where it is no term. Takes no memory. Cost: a binary search among the fields, and
     /// one among the words or the fronts of the key's field, by the first bytes of its text.
     pub fn number(&self, key: &Key) -> Option<u32>
         ensures { result ≡ number_of self.now (key_of key.now) }
@@ -136,8 +136,7 @@ impl Terms {
         }
     }
 
-    /// The terms of one field, to look its words and fronts up. Takes no memory. Cost: searches by halves among the
-    /// terms.
+    /// The terms of one field, to look its words and fronts up. Takes no memory. Cost: binary searches among the terms.
     pub fn of_field<'a>(&'a self, field: &'a str) -> FieldTerms<'a>
         ensures { result ≡ record { terms = self.now; field = field.now } }
     {
@@ -174,7 +173,7 @@ impl Terms {
         &self.lengths
     }
 
-    /// Where the words of a field stand, and its fronts. Takes no memory. Cost: a search by halves among the fields.
+    /// Where the words of a field stand, and its fronts. Takes no memory. Cost: a binary search among the fields.
     pub(crate) fn ranges_of(&self, field: &str) -> (Range<usize>, Range<usize>)
         ensures words { IsPart self.now (heading (Word field.now [])) result.0.start result.0.end }
         ensures fronts { IsPart self.now (heading (Front field.now [])) result.1.start result.1.end }
@@ -192,7 +191,7 @@ impl Terms {
 
     /// The numbers of other terms, in their order; none of one that is no term here.
     ///
-    /// `NoMemory` where an allocation failed. Cost: a search by halves for each of them, by the first bytes of its
+    /// `NoMemory` where an allocation failed. Cost: a binary search for each of them, by the first bytes of its
     /// text, which are known; a text is looked at where it is longer than these.
     pub fn numbers(&self, alloc: Global, others: &Terms) -> Result<Vec<Option<u32>>, NoMemory>
         ensures { IfOk result (λ numbers. numbers.items ≡ map (number_of self.now) others.now) }

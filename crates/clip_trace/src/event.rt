@@ -29,7 +29,7 @@ pub enum Event {
     /// none is open under the number or none of its articles is left. Cost: that of `match_article`, so a step for each
     /// word of the article, and a look-up in each segment for each of its keys.
     Piece(u64),
-    /// The rest of the batch is matched, and its alerts are given: `Finished`, or `Unknown` where none is open under
+    /// The rest of the batch is matched, and its alerts are returned: `Finished`, or `Unknown` where none is open under
     /// the number. Cost: that of `match_article` for each article that is left.
     Finish(u64),
 }

@@ -60,7 +60,7 @@ impl Tracer {
         }
     }
 
-    /// Plays an event, and gives the answer that is due to it, which may be a refusal: the first that holds of
+    /// Plays an event, and returns the answer that is due to it, which may be a refusal: the first that holds of
     /// `Unknown`, `Used`, `TooMany` and `Full`, with nothing changed. `NoMemory` where an allocation failed, with
     /// nothing changed. Cost: that of the event.
     pub fn step(&mut self, event: Event) -> Result<TraceAnswer, NoMemory>
@@ -208,7 +208,7 @@ impl Tracer {
     }
 }
 
-/// Plays events from the beginning, and gives their answers, in order. `NoMemory` where an allocation failed. Cost:
+/// Plays events from the beginning, and returns their answers, in order. `NoMemory` where an allocation failed. Cost:
 /// that of each event.
 pub fn trace(alloc: Global, events: Vec<Event>) -> Result<Vec<TraceAnswer>, NoMemory>
     ensures each { IfOk result (λ answers. length answers.items ≡ length events.items) }

@@ -19,7 +19,7 @@ use Rattle.clip_trace_lines.specs.TraceLine.{Said, nothing, refusal, refusal_at,
 abbrev pub found_shown : Found → List ℕ × List Alert
 found_shown f = (f.article, f.alerts)
 
--- the reply that tells an answer
+-- the reply that reports an answer
 abbrev pub reply_to : Answer → Reply
 reply_to answer.Unknown = reply.stepped (codes "unknown")
 reply_to answer.Used = reply.stepped (codes "used")
@@ -66,7 +66,7 @@ pub record TracesAll (old new : Option (List ℕ)) (lines : ℕ) (input : List �
   pub replies : Appends old new text
   pub counted : lines ≡ length (lines_of input)
 
--- For some first ones of these lines, what was written is a front of their replies.
+-- For some first ones of these lines, what was written is a prefix of their replies.
 pub record TracesFront (old new : Option (List ℕ)) (lines : List (List ℕ)) : Type 0 where
   pub front : List (List ℕ)
   pub later : List (List ℕ)

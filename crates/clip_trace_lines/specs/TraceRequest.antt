@@ -6,7 +6,7 @@ use Rattle.clip_protocol.specs.Reply.{number_of}
 use Rattle.clip_protocol.specs.Request as request
 use Rattle.clip_protocol.specs.Request.{Listing, Draft, object_of, array_of, listing_value, draft_value, within}
 
--- commands, each with its caller, if it tells one, and the other events
+-- commands, each with its caller, if it names one, and the other events
 pub data TraceRequest : Type 0 where
   register : Option ℕ → List Listing → TraceRequest
   delete : Option ℕ → List (List ℕ) → TraceRequest
@@ -20,7 +20,7 @@ pub data TraceRequest : Type 0 where
 
 -- ---- the value that asks for it
 
--- the member for a caller, if one is told, before the others
+-- the member for a caller, if one is named, before the others
 abbrev pub with_caller : Option ℕ → List (List ℕ × Data) → List (List ℕ × Data)
 with_caller None ms = ms
 with_caller (Some caller) ms = (codes "caller", number_of caller) ∷ ms
@@ -44,7 +44,7 @@ trace_value (finish batch) = object_of ((codes "batch", number_of batch) ∷ (co
 
 -- ---- limits
 
--- caller 1 where none is told
+-- caller 1 where none is named
 abbrev pub caller_of : Option ℕ → ℕ
 caller_of None = 1
 caller_of (Some caller) = caller

@@ -11,7 +11,7 @@ use clip_trace::{TraceAnswer, Tracer};
 use clip_words::NoMemory;
 use std::alloc::Global;
 
-/// The reply that tells an answer.
+/// The reply that reports an answer.
 fn reply_to(answer: TraceAnswer) -> Reply
     ensures { reply_view result ≡ reply_to (answer_of answer) }
 {
@@ -32,7 +32,7 @@ fn reply_to(answer: TraceAnswer) -> Reply
     }
 }
 
-/// Plays the event of a line, if it says one, and gives the reply.
+/// Plays the event of a line, if it has one, and returns the reply.
 fn respond(tracer: &mut Tracer, line: TraceLine) -> Result<Reply, NoMemory>
     ensures { IfOk result (λ reply. Responds tracer.old tracer.new (said_view line) (reply_view reply)) }
 {

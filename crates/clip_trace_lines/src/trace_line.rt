@@ -35,7 +35,7 @@ pub enum TraceLine {
 /// The line is beyond a limit.
 const LIMITED: Unread = Unread::Refused(Refusal::Limit);
 
-/// The caller of a command, caller 1 where none is told, if it is in its range.
+/// The caller of a command, caller 1 where none is named, if it is in its range.
 fn caller_of(caller: Option<u64>) -> Option<u32>
     ensures { result ≡ (if is_caller (caller_told caller) then Some (caller_told caller) else None) }
 {

@@ -12,7 +12,7 @@ use clip_protocol::{
 use serde_json::{Map, Value};
 use std::alloc::Global;
 
-/// What a line of a trace may ask for. A command has the number of its caller, where it tells one.
+/// What a line of a trace may ask for. A command has the number of its caller, where it names one.
 #[derive(Drop)]
 pub enum TraceRequest {
     /// Register these queries.
@@ -31,7 +31,7 @@ pub enum TraceRequest {
     Look(u64, Vec<Draft>),
     /// Match the next article of the batch of this number.
     Piece(u64),
-    /// Match the rest of the batch of this number, and give its alerts.
+    /// Match the rest of the batch of this number, and return its alerts.
     Finish(u64),
 }
 
@@ -87,7 +87,7 @@ impl TraceOperation {
     }
 }
 
-/// Takes the caller out, which the first member tells, and gives the other members.
+/// The caller that the first member names, and the other members.
 fn take_caller(mut members: Map<String, Value>) -> Option<(Option<u64>, Map<String, Value>)>
     ensures { option_map (λ p. (p.0, members_view p.1.entries)) result ≡ take_caller (members_view members.entries) }
 {
@@ -95,7 +95,7 @@ fn take_caller(mut members: Map<String, Value>) -> Option<(Option<u64>, Map<Stri
     Some((Some(caller), members))
 }
 
-/// No caller, where there are so many members, or the one that the first tells, and the other members.
+/// No caller where there are just so many members, and else the one that the first member names; and the other members.
 fn split_caller(
     members: Map<String, Value>,
     others: usize,
@@ -110,14 +110,14 @@ fn split_caller(
     }
 }
 
-/// The caller of a command, if it tells one, and its other members, of which there are so many.
+/// The caller of a command, if it names one, and its other members, of which there are so many.
 fn called(value: Value, others: usize) -> Option<(Option<u64>, Map<String, Value>)>
     ensures { option_map (λ p. (p.0, members_view p.1.entries)) result ≡ called others (view value) }
 {
     split_caller(members_of(value)?, others)
 }
 
-/// The number under this name, which stands beside the operation alone.
+/// The number under this name, where the object has that member and the operation alone.
 #[tactic(auto, unfolding(crate::specs::Steps::TraceOutline::numbered_of))]
 fn numbered(value: Value, name: &str) -> Result<u64, Unread>
     ensures { ReadsAs Refusal.Shape (λ n. n) (numbered_of name.now (view value)) result }

@@ -43,7 +43,7 @@ impl<W: Sink> Server<(), W> for TraceServer {
 }
 
 /// Reads the events of a trace, a JSON object a line, plays them one by one, and writes the replies in the order of the
-/// lines. The ledger of what it gives is empty.
+/// lines. The ledger that it returns is empty.
 ///
 /// Before it asks the reader for more bytes, each reply to a line that was read whole is written and flushed; between
 /// two reads the replies are gathered, so that the writer gets few writes. Each event is played as the lines before it
@@ -66,7 +66,7 @@ pub fn run_trace<R: Source, W: Sink>(
     requires fresh { AreFresh (devices_at R.Source W.Sink reader.old writer.old) }
 
     // What was written and flushed is the replies to the lines of the input, by answers that are due, and the lines are
-    // counted. Where the reader doesn't tell its bytes, there is some input of which this holds.
+    // counted. Where the reader doesn't report its bytes, there is some input of which this holds.
     ensures outcome { IfOk result (λ ended. OfInput (R.left reader.old)
         (TracesAll (W.taken writer.old) (W.taken writer.new) ended.lines)) }
     ensures ledger { IfOk result (λ ended. ended.ledger ≡ []) }
@@ -74,7 +74,7 @@ pub fn run_trace<R: Source, W: Sink>(
     // What was written was flushed and no device has failed, where the run ended well, and each fault has its reason.
     ensures honest { IsHonest result (devices_at R.Source W.Sink reader.new writer.new) }
 
-    // After a fault, what was written is a front of the replies to some first ones of the lines that were read.
+    // After a fault, what was written is a prefix of the replies to some first ones of the lines that were read.
     ensures front { OnErr result (OfLinesRead (R.left reader.old) (R.left reader.new) (R.met_end reader.new)
         (TracesFront (W.taken writer.old) (W.taken writer.new))) }
 {

@@ -15,7 +15,7 @@ const MOST_KEPT_BYTES: usize = 64;
 /// Words that were met lately, at most one at each of its places. A word that is met again while it is there gets no
 /// text of its own, so that prose takes few allocations: most of its words are common ones.
 ///
-/// It keeps at most 4,096 words of at most 64 bytes each. What it gives does not depend on what it keeps.
+/// It keeps at most 4,096 words of at most 64 bytes each. What it returns does not depend on what it keeps.
 #[derive(Debug)]
 pub struct WordPool {
     words: Vec<Option<ArcStr>>,

@@ -7,7 +7,7 @@ use clip_standing::Alert;
 use clip_words::NoMemory;
 use std::alloc::Global;
 
-/// A desk of the newspaper. It keeps the alerts of its queries, in a list whose room is taken when the day begins.
+/// A desk of the newspaper. It keeps the alerts of its queries, in a list whose memory is taken when the day begins.
 #[derive(Drop)]
 pub struct Desk {
     render: Render<Style>,
@@ -15,7 +15,7 @@ pub struct Desk {
 }
 
 impl Desk {
-    /// A desk that has heard nothing, with room for so many alerts; for more it takes memory as it hears them.
+    /// A desk that has heard nothing, with memory for so many alerts; for more it takes memory as it hears them.
     pub fn new(alloc: Global, render: Render<Style>, room: usize) -> Result<Desk, NoMemory>
         ensures style { IfOk result (λ desk. ⟦<Desk as Listener>⟧.style desk ≡ style_value render.style) }
         ensures heard { IfOk result (λ desk. ⟦<Desk as Listener>⟧.heard desk ≡ []) }

@@ -121,7 +121,7 @@ fn show<R: Print + AllocGlobal>(rt: &R, kept: &[Alert]) -> Result<()> {
     Ok(())
 }
 
-/// Says how many rows of the ledger are each listener's, and what it has kept, where it tells that.
+/// Says how many rows of the ledger are each listener's, and what it has kept, where it reports that.
 fn report<R: Print + AllocGlobal>(rt: &R, listeners: Listeners, ledger: &Ledger) -> Result<()> {
     for (name, listener) in &listeners.into_parts() {
         let rows = ledger.total(name);

@@ -43,7 +43,7 @@ const EXAMPLES: [&str; 21] = [
 /// The examples that are run with hits: of each the replies stand in NAME.hits.
 const WITH_HITS: [&str; 4] = ["deep_queries", "hits", "random_phrases", "random_queries"];
 
-/// The traces, in files of the same kind.
+/// The traces: of each the events stand in NAME.jsonl, and the replies in NAME.out.
 const TRACES: [&str; 8] = [
     "late_install",
     "install_after_clear",
@@ -60,14 +60,14 @@ const TRACES: [&str; 8] = [
 enum Outcome {
     /// The replies are those that are shown.
     AsShown,
-    /// They are others.
+    /// The replies are others.
     Differs,
     /// The run ended in a fault.
     Fault,
 }
 
 impl Outcome {
-    /// What is said of it.
+    /// What is printed of an outcome.
     fn word(self) -> &'static str {
         match self {
             Outcome::AsShown => "as shown",

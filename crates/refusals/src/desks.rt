@@ -36,7 +36,7 @@ fn refused_after<R: Print>(rt: &R, seat: &mut Seat, before: u64)
     }
 }
 
-/// Commits a register after so many commands. It comes back where it is refused; a receipt is told by its place.
+/// Commits a register after so many commands. It comes back where it is refused; of a receipt its place is printed.
 fn of_commit<N: DeskName, R: Print + Wait>(
     rt: &R,
     alloc: Global,
@@ -67,7 +67,7 @@ fn of_commit<N: DeskName, R: Print + Wait>(
     }
 }
 
-/// Looks.
+/// Takes a look.
 fn of_look<R: Print>(rt: &R, seat: &mut Seat) -> bool
     ensures { (seat.new.book ≡ seat.old.book) × (seat.new.callers ≡ seat.old.callers) }
 {
@@ -133,7 +133,7 @@ fn pop_seat<N: DeskName>(seats: &mut Vec<Seat>) -> Option<Seat>
     seats.pop()
 }
 
-/// Each call at a desk of these parts.
+/// Makes each call at a desk of these parts.
 fn use_desk<N: DeskName, R: Print + Wait>(rt: &R, alloc: Global, parts: DeskParts<UpdateLog>)
     requires book { (parts.book ≡ N.book) × (parts.callers ≡ N.callers) }
     requires heard { N.heard_before ≡ all_heard parts.updates }
@@ -158,7 +158,7 @@ fn use_desk<N: DeskName, R: Print + Wait>(rt: &R, alloc: Global, parts: DeskPart
     }
 }
 
-/// Each call.
+/// Makes each call on a desk.
 pub fn play<R: Print + Wait + AllocGlobal>(rt: &R) -> Option<()> {
     let parts = parts(rt)?;
     use_desk::<Brand, _>(rt, rt.alloc(), parts);

@@ -16,7 +16,7 @@ fn alerts(alloc: Global) -> Option<Alerts> {
     match_article(alloc, &view, &article).ok()
 }
 
-/// Delivers alerts to two listeners that have heard nothing, and gives the notes.
+/// Delivers alerts to two listeners that have heard nothing, and returns the notes.
 fn of_deliver<R: Print + AllocGlobal>(rt: &R, alerts: &Alerts) -> Option<Vec<Note>> {
     let alloc = rt.alloc();
     let mut parts: Vec<Named> = Vec::new(alloc);
@@ -46,7 +46,7 @@ fn of_post<R: Print>(rt: &R, ledger: &mut Ledger, alerts: &Alerts, notes: &[Note
     }
 }
 
-/// Each call.
+/// Makes each call on listeners and a ledger.
 pub fn play<R: Print + AllocGlobal>(rt: &R) -> Option<()> {
     let alloc = rt.alloc();
     let alerts = alerts(alloc)?;

@@ -1,5 +1,5 @@
-//! Makes public calls that take memory: each is told by its name, and in the next line by what it answers, as a number,
-//! or as refused. A refused call is made once more.
+//! Makes public calls that take memory: of each is printed its name, and in the next line what it answers, as a number,
+//! or that it was refused. A refused call is made once more.
 //!
 //! `bench/refusals` runs this once for each allocation of each call, which it has refused.
 #![tactic(auto)]

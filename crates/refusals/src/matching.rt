@@ -94,7 +94,7 @@ fn three_articles(alloc: Global) -> Option<Vec<Article>> {
     Some(list)
 }
 
-/// Each call.
+/// Makes each call that matches articles.
 pub fn play<R: Print + Threads + Sync + AllocGlobal>(rt: &R) -> Option<()> {
     let view = three_queries(rt.alloc())?;
     let articles = three_articles(rt.alloc())?;

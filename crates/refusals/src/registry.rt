@@ -101,7 +101,7 @@ fn purge<R: Print>(rt: &R, alloc: Global, registrar: &mut Registrar) -> Option<(
     Some(())
 }
 
-/// Each call.
+/// Makes each call on a registrar.
 pub fn play<R: Print + AllocGlobal>(rt: &R) -> Option<()> {
     let alloc = rt.alloc();
     let mut registrar = Registrar::new(alloc);

@@ -1,4 +1,4 @@
-//! What is told of calls. Where standard output takes a line no more, the line is missing.
+//! What is printed of calls. Where standard output takes a line no more, the line is missing.
 
 /// Names the call that is made next.
 pub fn call<R: Print>(rt: &R, name: &str) {

@@ -1,4 +1,4 @@
-//! What the words of a command line ask for, and how a run's end is told.
+//! What the words of a command line ask for, and how a run's end is reported.
 use clip_command_line::command_line::mode;
 use clip_command_line::{Mode, ending};
 use clip_run::Form;

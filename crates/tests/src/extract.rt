@@ -39,7 +39,7 @@ static ROWS: [(&str, &str); 26] = [
     ("+*:* -spam +tea", "text:tea 3"),
     // Should beside Must
     ("coffee +tea -spam", "text:tea 3"),
-    // ties: the first stands
+    // ties: the first counts
     ("+mat +(tea ink)", "text:mat 3"),
     ("+(tea ink) +mat", "text:ink text:tea 3"),
     // characters and not bytes
@@ -76,7 +76,7 @@ static SECONDS: [(&str, &str); 20] = [
     ("+tea +coffee", "text:tea "),
     ("+coffee +tea", "text:tea "),
     ("tea AND coffee AND cream", "text:cream "),
-    // ties: the first that is left stands
+    // ties: the first that is left counts
     ("+tea +mat +ink", "text:mat "),
     ("+tea +coffee +mat", "text:tea "),
     ("+coffee +cream +sugar", "text:cream "),

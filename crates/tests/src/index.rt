@@ -79,7 +79,7 @@ static TEXTS: [&str; 64] = [
     "(+title:{te TO tea] +title:{extraordinary TO milk])",
 ];
 
-/// The words that they are made of.
+/// The words that the queries of `TEXTS` are made of.
 const WORDS: &str = "tea teapot te milk mat été extraordinarily extraordinary";
 
 /// The places of queries by their keys.

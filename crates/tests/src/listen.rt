@@ -103,7 +103,7 @@ fn add_heard(text: &mut String, name: &str, heard: &[Alert]) -> Result<(), Alloc
     text.push_str("\n")
 }
 
-/// Adds what each listener heard that tells it, as lines.
+/// Adds what each listener heard that reports it, as lines.
 fn add_all_heard(text: &mut String, parts: &[Named]) -> Result<(), AllocError> {
     for part in parts {
         if let Some(heard) = part.1.heard() {
@@ -120,7 +120,7 @@ fn desk(alloc: Global, number: u32) -> Result<(String, Box<Teller<Style>>), NoMe
     Ok((format!(in alloc; "desk{number}")?, teller))
 }
 
-/// What is said of the alerts on queries, and what each listener heard that tells it, as lines.
+/// What is said of the alerts on queries, and what each listener heard that reports it, as lines.
 fn told(
     alloc: Global,
     parts: Vec<Named>,
@@ -199,7 +199,7 @@ fn a_listener_that_keeps_nothing_sends_each_of_its_alerts_once(
     Ok(())
 }
 
-/// Which of the listeners that were handed back tell what they heard, a letter for each; `taken` where none
+/// Which of the listeners that were handed back report what they heard, a letter for each; `taken` where none
 /// were.
 fn handed_back(alloc: Global, parts: Vec<Named>) -> Result<String, AllocError> {
     let Err(twice) = Listeners::new(parts) else {

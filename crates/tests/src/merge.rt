@@ -82,7 +82,7 @@ fn singles(alloc: Global) -> Result<Vec<Arc<Segment>>, Fail>
     Ok(vec![in alloc; one, two, three, four]?)
 }
 
-/// Those segments merged, where all but the second entry are live.
+/// Four segments of one entry each, merged where all but the second entry are live.
 fn merged(alloc: Global) -> Result<Segment, Fail> {
     let live = Live::of(vec![in alloc; 1, 3, 4]?);
     Ok(merge(alloc, &singles(alloc)?, &live)?)

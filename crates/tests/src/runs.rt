@@ -105,7 +105,7 @@ pub const PRESS: [&str; 2] = [
     r#"{"op":"match","articles":[{"id":"a1","fields":{"text":"The PRESS office"}}]}"#,
 ];
 
-/// The replies to them.
+/// The replies to `PRESS`.
 pub const PRESSED: [&str; 2] = [
     r#"{"line":1,"registered":1}"#,
     r#"{"alerts":[{"article":"a1","queries":["q1"]}],"line":2,"notes":[]}"#,

@@ -1,4 +1,5 @@
-//! Query texts with their trees, or their faults, worked out by hand.
+//! Query texts with their trees, or their faults, worked out by hand. In each text of lines a line is a query's text,
+//! an arrow, and its tree or its fault.
 use crate::making::spelled;
 use crate::showing::tree;
 use clip_grammar::fault::QueryFault;
@@ -21,8 +22,7 @@ fn tree_or_fault(alloc: Global, text: &str) -> Result<String, AllocError> {
     }
 }
 
-/// Words and blanks. Each line of this text and of those below is a query's text, an arrow, and its tree or its
-/// fault.
+/// Words and blanks.
 const WORDS: &str = "\
 tea => (text=tea)
 tea\u{3000}coffee => (text=tea text=coffee)

@@ -107,7 +107,7 @@ pub fn lines(alloc: Global, log: &UpdateLog) -> Result<String, AllocError> {
     Ok(text)
 }
 
-/// What is left of listeners that are told the four, each with whether it is marked.
+/// What is left of listeners that are told a register, a delete, a clear and a purge, each with whether it is marked.
 fn after_four<L: UpdateListener>(alloc: Global, listeners: Vec<L>) -> Result<Vec<(L, bool)>, Fail> {
     let mut listeners = UpdateListeners::new(alloc, listeners)
         .ok()

@@ -3,7 +3,7 @@ use Rattle.std.specs.Prelude.{ℕ, List, [], ◌∷◌, ◌++◌, map, take, dro
 use Rattle.std.specs.Str.{chars, encode_utf8_all}
 use Rattle.clip_extract.specs.Fronts.{fronts_of}
 
--- those that have the word's first bytes, up to `end`, and at most so many characters more
+-- the fronts of a word that have its first bytes, up to `end`, and at most so many characters more
 abbrev pub fronts_after : List ℕ → (end left : ℕ) → List (List ℕ)
 fronts_after word end left = map (λ cs. take end word ++ encode_utf8_all cs)
     (fronts_of (take left (chars (drop end word))))

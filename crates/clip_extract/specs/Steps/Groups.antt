@@ -7,7 +7,7 @@ use Rattle.clip_extract.specs.Extraction.{Extracted, unnarrowed, heavier, togeth
 use Rattle.clip_extract.specs.declared.extraction.Found.{Found}
 use Rattle.clip_extract.specs.declared.extraction.Found.TheVariants.{Nothing, Optional, Required}
 
--- with what was found before, if anything was
+-- what a list gives, with what was found before it, if anything was
 abbrev pub go_on : (List Extracted → Option Extracted) → (Extracted → Extracted → Extracted) → Option Extracted
     → List Extracted → Option Extracted
 go_on start step None es = start es
@@ -18,7 +18,7 @@ unfoldable pub group_with : Option Extracted → Option Extracted → List (Occu
 group_with must should cs = unwrap_or (go_on heaviest heavier must (musts cs))
     (unwrap_or (go_on union together should (shoulds cs)) unnarrowed)
 
--- the same, after these keys
+-- what is extracted of a group's clauses to come, after these keys of what was found
 abbrev pub group_from : Found → List KeyValue → List (Occur × Extracted) → Extracted
 group_from Nothing keys cs = group_with None None cs
 group_from (Optional weight) keys cs = group_with None (Some (record { keys = keys; weight = weight })) cs
@@ -56,7 +56,7 @@ kept found Must weight before more = if outweighs found weight then more else be
 kept found Should weight before more = before ++ more
 kept found MustNot weight before more = before ++ more
 
--- the same of the keys from `start` on, where those of the clause begin at `middle`
+-- of a group's keys, which begin at `start`, those that are kept where those of one clause more begin at `middle`
 abbrev pub kept_from : Found → Occur → ℕ → (start middle : ℕ) → List KeyValue → List KeyValue
 kept_from found occur weight start middle keys =
     kept found occur weight (drop start (take middle keys)) (drop middle keys)

@@ -18,11 +18,11 @@ use Rattle.clip_extract.specs.Extraction.{Extracted, unnarrowed, front_extract}
 abbrev pub IsNoGroup : Query → Type 0
 IsNoGroup query = (clauses : Vec (Occur × Query) Global) → query ≡ Group clauses → ⊥
 
--- what a word that was found with its weight gives
+-- what is extracted of a word that was found with its weight
 abbrev pub word_found : (field word : List ℕ) → ℕ → Extracted
 word_found field word weight = record { keys = key.Word field word ∷ []; weight = weight }
 
--- what a query that is no group gives, by what it is found by
+-- what is extracted of a query that is no group, by what it is found by
 abbrev pub leaf_found : Leaf → Extracted
 leaf_found Any = unnarrowed
 leaf_found (Word field word weight) = word_found (arc_str_bytes field.now) (arc_str_bytes word.now) weight

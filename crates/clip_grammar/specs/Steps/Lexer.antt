@@ -1,9 +1,9 @@
--- The front of a text, cut as the lexer cuts it: what is found there, and what is left.
+-- The beginning of a text, cut as the lexer cuts it: what is found there, and what is left.
 use Rattle.std.specs.Prelude.{◌≡◌, ℕ, zero, suc, Bool, ◌&&◌, ◌==◌, List, [], ◌∷◌, length, Option, Some, None, if◌then◌else◌}
 use Rattle.clip_grammar.specs.Lexemes.{Piece, Bare, Escape, Code, RangeEnd, BareEnd, QuotedEnd, Lexeme, Blank, Word, Quoted, Range, Sign, Foreign, is_gap, is_end}
 use Rattle.clip_grammar.specs.Characters.{is_white, is_one_of, is_code, first_char, word_char, quotable_char, end_char}
 
--- one piece, and what is left
+-- the first piece of a text, and what is left
 abbrev pub code_at : List ℕ → Option (Piece × List ℕ)
 code_at (a ∷ b ∷ c ∷ d ∷ cs) = if is_code a b c d then Some (Code a b c d, cs) else None
 code_at _ = None
@@ -16,7 +16,7 @@ unfoldable pub piece_at : (ℕ → Bool) → List ℕ → Option (Piece × List 
 piece_at test [] = None
 piece_at test (c ∷ cs) = if c == 92 then escape_at cs else (if test c then Some (Bare c, cs) else None)
 
--- the pieces at the front, at most n of them
+-- the first pieces of a text, at most n of them, and what is left
 abbrev pub go_on : (List ℕ → List Piece × List ℕ) → List ℕ → Option (Piece × List ℕ) → List Piece × List ℕ
 go_on more cs None = ([], cs)
 go_on more cs (Some found) = (found.0 ∷ (more found.1).0, (more found.1).1)
@@ -28,7 +28,7 @@ pieces_within test (suc n) cs = go_on (pieces_within test n) cs (piece_at test c
 unfoldable pub pieces_at : (ℕ → Bool) → List ℕ → List Piece × List ℕ
 pieces_at test cs = pieces_within test (length cs) cs
 
--- after an opening quote
+-- a quoted text after its opening quote, and what is left
 abbrev pub close_quote : List Piece × List ℕ → Option (Lexeme × List ℕ)
 close_quote (ps, []) = None
 close_quote (ps, c ∷ cs) = if c == 34 then Some (Quoted ps, cs) else None
@@ -36,7 +36,7 @@ close_quote (ps, c ∷ cs) = if c == 34 then Some (Quoted ps, cs) else None
 unfoldable pub quoted_at : List ℕ → Option (Lexeme × List ℕ)
 quoted_at cs = close_quote (pieces_at quotable_char cs)
 
--- the white space at the front
+-- the white space that a text begins with, and what is left
 unfoldable pub span_white : List ℕ → List ℕ × List ℕ
 span_white [] = ([], [])
 span_white (c ∷ cs) = if is_white c then (c ∷ (span_white cs).0, (span_white cs).1) else ([], c ∷ cs)
@@ -44,7 +44,7 @@ span_white (c ∷ cs) = if is_white c then (c ∷ (span_white cs).0, (span_white
 unfoldable pub gap_at : List ℕ → Option (List ℕ × List ℕ)
 gap_at cs = let gap = span_white cs in if is_gap gap.0 then Some gap else None
 
--- TO, and a closing bracket
+-- what is left after TO; a closing bracket, and what is left
 unfoldable pub to_at : List ℕ → Option (List ℕ)
 to_at [] = None
 to_at (a ∷ []) = None
@@ -54,7 +54,7 @@ unfoldable pub bracket_at : List ℕ → Option (ℕ × List ℕ)
 bracket_at [] = None
 bracket_at (c ∷ cs) = if is_one_of "]}" c then Some (c, cs) else None
 
--- an end of a range
+-- the first end of a range in a text, and what is left
 abbrev pub close_end : List Piece × List ℕ → Option (RangeEnd × List ℕ)
 close_end (ps, []) = None
 close_end (ps, c ∷ cs) = if c == 34 && is_end (QuotedEnd ps) then Some (QuotedEnd ps, cs) else None
@@ -71,7 +71,7 @@ abbrev pub ◌>>=◌ : {A B : Type 0} → Option A → (A → Option B) → Opti
 None >>= f = None
 (Some x) >>= f = f x
 
--- after an opening bracket
+-- a range after its opening bracket, and what is left
 unfoldable pub range_at : ℕ → List ℕ → Option (Lexeme × List ℕ)
 range_at left cs = do
   low ← ending_at (span_white cs).1

@@ -32,7 +32,7 @@ pub record Frame : Type 0 where
   pub clauses : Clauses
   pub pending : Pending
 
--- the clauses so far, and then these
+-- the clauses so far of a group, followed by other ones
 abbrev pub written_after : Clauses → Written → Written
 written_after [] w = w
 written_after (c ∷ cs) w = written_after cs (more c.0 c.1 w)
@@ -41,7 +41,7 @@ abbrev pub ended : List Frame → Clauses → Pending → Option Written
 ended [] ((c, Beside) ∷ cs) Nothing = Some (written_after cs (one c))
 ended _ _ _ = None
 
--- the clauses with one more
+-- the clauses so far of a group, with one more
 abbrev pub with_clause : Clauses → WrittenClause → Clauses
 with_clause cs c = (c, Beside) ∷ cs
 

@@ -7,20 +7,20 @@ use Rattle.clip_meaning.specs.Hits.{hit_value, hits}
 use Rattle.clip_model.specs.Standing.{Standing}
 use Rattle.clip_standing.specs.declared.found.FoundHits.TheInside.{Inside}
 
--- those of an alert among those of all alerts of its article
+-- the hits of an alert, cut from those of all alerts of its article
 abbrev pub found_value : Inside → List (List ℕ × ℕ)
 found_value found = map hit_value (take (found.end - found.start) (drop found.start found.all.value.items))
 
--- they stand in the list
+-- the hits of an alert lie within those of all alerts of its article
 pub record AreWithin (found : Inside) : Type 0 where
   pub low : found.start ≤ found.end
   pub high : found.end ≤ length found.all.value.items
 
--- those that were found are the hits of the standing query in the article
+-- the hits that were found, if they were, are those of the standing query in the article
 abbrev pub AreFound : Standing → ArticleValue → Option (List (List ℕ × ℕ)) → Type 0
 AreFound standing article found = IfSome found (λ list. list ≡ hits standing.tree article.fields)
 
--- any two proofs of it are one
+-- any two proofs of `AreFound` are one
 pub one_way_found : (standing : Standing) (article : ArticleValue) (found : Option (List (List ℕ × ℕ)))
     → IsProp (AreFound standing article found)
 one_way_found standing article None x y = refl

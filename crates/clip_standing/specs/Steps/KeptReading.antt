@@ -13,7 +13,7 @@ use Rattle.clip_grammar.proofs.Uniqueness.{one_tree}
 abbrev pub KeptReading : List ℕ → Type 0
 KeptReading text = (tree : Tree) × ∥ Reads text tree ∥₁
 
--- there is just one
+-- there is just one tree that the text is read as
 pub one_tree_of : (text : List ℕ) → IsProp (KeptReading text)
 one_tree_of text x y = Σ_prop_path (λ tree. ∥∥₁_prop)
     (∥∥₁_rec (Coded-set tree_code x.0 y.0)

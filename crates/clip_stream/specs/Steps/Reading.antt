@@ -65,7 +65,7 @@ pub record FindsLine (found : Bool) (old new : Reading) (left_old left_new : Opt
     pub reads : Reads old new left_old left_new
     pub takes : TakesLine found new.is_at_end (old.pending ++ reads.bytes) line new.pending
 
--- The front of a line was taken from what was pending and what the reader gave.
+-- The beginning of a line was taken from what was pending and what the reader gave.
 pub record Gathers (old now : Reading) (left_old left : Option (List ℕ)) (line : List ℕ) : Type 0 where
   pub reads : Reads old now left_old left
   pub front : List ℕ

@@ -16,8 +16,8 @@ use Rattle.clip_syntax.specs.Steps.Items.{words_of_items}
 use Rattle.clip_syntax.specs.declared.build.OpenGroup.{OpenGroup}
 use Rattle.clip_syntax.specs.declared.build.Builder.{Builder}
 
--- a group whose clauses are still read: those before, the field where no nearer one is written, and what stands before
--- the next item
+-- a group whose clauses are still read: the clauses before, the field where no nearer one is written, and what stands
+-- before the next item
 pub record Group : Type 0 where
   pub clauses : List (Occur × Tree)
   pub field : List ℕ
@@ -30,18 +30,18 @@ pub record State : Type 0 where
   pub group : Group
   pub words : List (List (List ℕ))
 
--- nothing stands before the next item
+-- the group of these clauses, where nothing stands before the next item
 abbrev pub fresh : List (Occur × Tree) → List ℕ → Group
 fresh clauses field = record { clauses = clauses; field = field; occur = Should; nearer = None }
 
 abbrev pub item_field : Group → List ℕ
 item_field g = unwrap_or g.nearer g.field
 
--- one clause more, before an AND or not
+-- the group with one clause more, before an AND or not
 abbrev pub add : Group → (before_and : Bool) → Tree → Group
 add g before_and tree = fresh (g.clauses ++ (beside_and before_and g.occur, tree) ∷ []) g.field
 
--- a prefix more, and a range more
+-- the group with a prefix more; the group with a range more
 abbrev pub add_prefix : Group → (before_and : Bool) → (text : List ℕ) → Group
 add_prefix g before_and text = add g before_and (Tree.Prefix (item_field g) (fold_of text))
 
@@ -54,7 +54,7 @@ with_occur occur s = record s { group = record s.group { occur = occur } }
 abbrev pub with_group : State → Group → State
 with_group s group = record s { group = group }
 
--- an item that has the next words
+-- what is read, with an item more that has the next words
 abbrev pub add_words : State → (before_and : Bool) → List (List (List ℕ)) → State
 add_words s before_and [] = s
 add_words s before_and (words ∷ more) =
@@ -92,7 +92,7 @@ unfoldable pub read_all : List Token → State → State
 read_all [] s = s
 read_all (t ∷ ts) s = read_all ts (read t (begins_colon ts) (begins_and ts) s)
 
--- before the first token
+-- what is read before the first token
 abbrev pub start : List (List (List ℕ)) → State
 start words = record { around = []; group = fresh [] (codes "text"); words = words }
 

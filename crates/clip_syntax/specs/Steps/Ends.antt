@@ -10,7 +10,7 @@ use Rattle.clip_grammar.specs.Tokens.{Token, Range, End, Free, glyph_of, is_spel
 use Rattle.clip_grammar.specs.declared.glyph.Glyph.{Glyph}
 use Rattle.clip_syntax.specs.Steps.Glyphs.{glyphs_after}
 
--- the text of an end, and none for a star as it stands
+-- the text of a bare end, and none for a star as it stands
 abbrev pub free_text : List Glyph → Option (List ℕ)
 free_text gs = if is_spelled (codes "*") gs then None else Some (text_of gs)
 
@@ -18,7 +18,7 @@ abbrev pub end_text : RangeEnd → Option (List ℕ)
 end_text (BareEnd ps) = free_text (map glyph_of ps)
 end_text (QuotedEnd ps) = Some (text_of (map glyph_of ps))
 
--- the same of the code's text
+-- the text of an end that the code has read, and what is left
 abbrev pub text_and_rest : Option (String Global) × Bor (List ℕ) → Option (List ℕ) × List ℕ
 text_and_rest found = (option_map string_bytes found.0, found.1.now)
 
@@ -41,14 +41,14 @@ abbrev pub bare_end_of : List Glyph × List ℕ → Option (Option (List ℕ) ×
 bare_end_of ([], cs) = None
 bare_end_of (g ∷ gs, cs) = if is_spelled (codes "TO") (g ∷ gs) then None else Some (free_text (g ∷ gs), cs)
 
--- the same, of the text
+-- an end at the start of a text, and what is left: a quoted one after its opening quote; a bare one
 abbrev pub quoted_end_at : List ℕ → Option (Option (List ℕ) × List ℕ)
 quoted_end_at cs = quoted_end_of (glyphs_after [] (pieces_at quotable_char cs))
 
 abbrev pub bare_end_at : List ℕ → Option (Option (List ℕ) × List ℕ)
 bare_end_at cs = bare_end_of (glyphs_after [] (pieces_at end_char cs))
 
--- what stands after an opening bracket
+-- the range after its opening bracket, and what is left
 unfoldable pub range_tokens : ℕ → List ℕ → Option (List Token × List ℕ)
 range_tokens left cs = do
   low ← option_map end_text_and_rest (ending_at (span_white cs).1)

@@ -9,7 +9,7 @@ use Rattle.clip_grammar.specs.declared.glyph.Glyph.{Glyph}
 use Rattle.clip_syntax.specs.declared.lexer.Place.{Place}
 use Rattle.clip_syntax.specs.declared.lexer.Place.TheVariants as place
 
--- the characters that may stand there with no backslash
+-- the characters that may stand at a place with no backslash
 abbrev pub class_test : Place → ℕ → Bool
 class_test place.WordStart = first_char
 class_test place.Word = word_char

@@ -1,4 +1,4 @@
--- What the lexer says of a front.
+-- What the lexer says of the beginning of a text.
 use Rattle.std.specs.Prelude.{◌≡◌, ℕ, List, [], ◌∷◌, map, Option, None, option_to_list}
 use Rattle.std.specs.Borrow.{Bor}
 use Rattle.clip_grammar.specs.Lexemes.{Lexeme}
@@ -22,6 +22,6 @@ pub record IsLexing (text : List ℕ) (tokens : List Token) (rest : List ℕ) : 
   pub finds : Finds text lexemes rest
   pub says : tokens ≡ tokens_of lexemes
 
--- and no more is found
+-- these tokens are said of the text, and no more is found in it
 abbrev pub IsLexed : List ℕ → List Token → List ℕ → Type 0
 IsLexed text tokens rest = IsLexing text tokens rest × (lexeme_at rest ≡ None)

@@ -10,7 +10,7 @@ use Rattle.clip_syntax.specs.declared.token.Token.{Token}
 abbrev pub accepts_after : Progress → List spec.Token → Bool
 accepts_after p ts = accepts ts p.depth p.may_end p.stage
 
--- the same of what is left after a step, and not where no step is
+-- after a step the tokens that are left go on as clauses; where no step is, they don't
 abbrev pub next_accepts : Option (Progress × Bor (List Token)) → Bool
 next_accepts None = false
 next_accepts (Some next) = accepts_after next.0 (map token_of next.1.now)

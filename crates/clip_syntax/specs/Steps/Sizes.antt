@@ -3,7 +3,7 @@ use Rattle.std.specs.Prelude.{ℕ, ◌+◌, ◌-◌, max, Bool, true, false, Lis
 use Rattle.clip_grammar.specs.Tokens as token
 use Rattle.clip_grammar.specs.Tokens.{Token}
 
--- The token counts as a node. A field is one such and a colon, and `*:*` is two and a colon.
+-- The token counts as a node. A field is one such token and a colon, and `*:*` is two and a colon.
 abbrev pub is_node : Token → Bool
 is_node (token.Plain _) = true
 is_node (token.Front _) = true

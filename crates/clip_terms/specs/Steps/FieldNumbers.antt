@@ -12,7 +12,7 @@ abbrev pub spot_of : Option ℕ → (position : ℕ) → List Spot
 spot_of None position = []
 spot_of (Some number) position = record { number = number; position = position } ∷ []
 
--- those of postings
+-- the spots of postings, where their words have numbers
 abbrev pub spots_of : (numbers : List (Option ℕ)) → List (List ℕ × ℕ) → List Spot
 spots_of numbers [] = []
 spots_of numbers (p ∷ postings) = spot_of (number_at numbers p.1) p.1 ++ spots_of numbers postings
@@ -40,12 +40,12 @@ pub record IsAnchor (numbers : List (Option ℕ)) (run : List ℕ) (anchor : Anc
 abbrev pub begins_before : (run : List ℕ) (numbers : List (Option ℕ)) (place : ℕ) → Spot → Bool
 begins_before run numbers place spot = nat_le place spot.position && begins_with run (drop (spot.position - place) numbers)
 
--- and the position is one of its
+-- the run stands so that its number of this place is at the spot, and the position is one of the run's
 abbrev pub covers_before : (run : List ℕ) (numbers : List (Option ℕ)) (place position : ℕ) → Spot → Bool
 covers_before run numbers place position spot =
     begins_before run numbers place spot && is_within (spot.position - place) (length run) position
 
--- somewhere among the numbers, of which the first is that of `start`, the run stands, and the position is one of its
+-- somewhere among the numbers, of which the first is that of `start`, the run stands, and the position is the run's
 abbrev pub is_covered_from : (run : List ℕ) (position start : ℕ) → List (Option ℕ) → Bool
 is_covered_from run position start [] = false
 is_covered_from run position start (m ∷ numbers) =

@@ -15,7 +15,7 @@ other_fronts [] (front ∷ fronts) = front ∷ other_fronts [] fronts
 other_fronts (last ∷ lasts) (front ∷ fronts) =
     cond (bytes_eq last front) (other_fronts lasts fronts) (front ∷ other_fronts lasts fronts)
 
--- of each word those that the word before it does not have
+-- of each word the fronts that the word before it does not have
 abbrev pub asked_fronts : (last : List ℕ) → List (List ℕ) → List (List ℕ)
 asked_fronts last [] = []
 asked_fronts last (word ∷ words) = other_fronts (fronts last) (fronts word) ++ asked_fronts word words
@@ -26,7 +26,7 @@ pub record AddsNumbersOf (terms keys : List KeyValue) (old new : List ℕ) : Typ
   pub among : (n : ℕ) → n < length terms
       → list_any (nat_eq n) new ≡ (list_any (nat_eq n) old || list_any (is_same (term_at terms n)) keys)
 
--- The same of the terms below a number alone.
+-- The new numbers are the old ones and, of the terms below a number, those that are among some keys, in any order.
 pub record AddsNumbersBelow (terms keys : List KeyValue) (upto : ℕ) (old new : List ℕ) : Type 0 where
   pub within : All (λ n. n < length terms) old → All (λ n. n < length terms) new
   pub below : (n : ℕ) → n < upto → n < length terms

@@ -22,11 +22,11 @@ AreLeads [] (lead ∷ leads) = ⊥
 AreLeads (term ∷ terms) [] = ⊥
 AreLeads (term ∷ terms) (lead ∷ leads) = IsLead (text_of term) lead × AreLeads terms leads
 
--- a number up to eight is the text's length
+-- where the short length is at most eight, it is the text's length
 abbrev pub IsShortLength : (text : List ℕ) → (short : ℕ) → Type 0
 IsShortLength text short = short ≤ 8 → length text ≡ short
 
--- beside each term stands such a number for its text
+-- beside each term stands the short length of its text
 abbrev pub AreShortLengths : List KeyValue → (lengths : List ℕ) → Type 0
 AreShortLengths [] [] = Unit {0}
 AreShortLengths [] (short ∷ lengths) = ⊥
@@ -41,16 +41,16 @@ pub record IsPart (terms : List KeyValue) (head : ℕ × List ℕ) (start end : 
   pub all : (n : ℕ) (d : KeyValue) → n < length terms → heading (slice_index_or terms n d) ≡ head
       → (start ≤ n) × (n < end)
 
--- there each text is below those after it
+-- from `start` up to `end` each text is below those after it
 abbrev pub TextsRise : List KeyValue → (start end : ℕ) → Type 0
 TextsRise terms start end = (m n : ℕ) (d : KeyValue) → start ≤ m → m < n → n < end
     → bytes_cmp (text_of (slice_index_or terms m d)) (text_of (slice_index_or terms n d)) ≡ Less
 
--- and no lead is below one before it
+-- from `start` up to `end` no lead is below one before it
 abbrev pub NeverFall : List ℕ → (start end : ℕ) → Type 0
 NeverFall leads start end = (m n : ℕ) → start ≤ m → m < n → n < end → slice_index leads m ≤ slice_index leads n
 
--- where the text stands there, and `None` where it does not
+-- the place of the text from `start` up to `end`, and `None` where it is not there
 abbrev pub IsPlaceOf : List KeyValue → (start end : ℕ) → (text : List ℕ) → Option ℕ → Type 0
 IsPlaceOf terms start end text place =
     MatchOption place

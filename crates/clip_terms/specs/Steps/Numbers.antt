@@ -2,7 +2,7 @@
 use Rattle.std.specs.Prelude.{◌≡◌, ℕ, ◌<◌, Bool, true, nat_eq, List, [], ◌∷◌, ◌++◌, Option, None, option_to_list, unwrap_or, slice_get}
 use Rattle.std.specs.List.{list_any}
 
--- those that are numbers
+-- the numbers of a list in which some are missing
 abbrev pub known : List (Option ℕ) → List ℕ
 known [] = []
 known (o ∷ numbers) = option_to_list o ++ known numbers

@@ -13,7 +13,7 @@ use Rattle.clip_terms.specs.declared.repeats.TheConstants.{MOST_SPANS}
 pub record Returns (run : List ℕ) (shift length : ℕ) : Type 0 where
   pub same : (j : ℕ) → j + shift < length → slice_index run (j + shift) ≡ slice_index run j
 
--- they don't after fewer numbers, if these are some
+-- a run's first `length` numbers do not stand again after fewer numbers than `shift`, but for none
 abbrev pub NoneBelow : (run : List ℕ) (shift length : ℕ) → Type 0
 NoneBelow run shift length = (d : ℕ) → 0 < d → d < shift → Returns run d length → ⊥
 

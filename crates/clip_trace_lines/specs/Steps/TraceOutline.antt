@@ -42,15 +42,15 @@ number_in d = option_and_then as_u64 (as_number d)
 abbrev pub with_first_number : Data × Members → Option (Option ℕ × Members)
 with_first_number p = option_map (λ caller. (Some caller, p.1)) (number_in p.0)
 
--- the caller that the first member tells, and the other members
+-- the caller that the first member names, and the other members
 abbrev pub take_caller : Members → Option (Option ℕ × Members)
 take_caller ms = option_and_then with_first_number (take_member (codes "caller") ms)
 
--- no caller, where there are so many members, or the one that the first tells, and the other members
+-- no caller where there are just so many members, and else the one that the first member names; and the other members
 abbrev pub split_caller : ℕ → Members → Option (Option ℕ × Members)
 split_caller others ms = if members_len ms == others then Some (None, ms) else take_caller ms
 
--- the same of an object
+-- the caller of an object, if it names one, and its other members, of which there are so many
 abbrev pub called : ℕ → Data → Option (Option ℕ × Members)
 called others d = option_and_then (split_caller others) (as_object d)
 

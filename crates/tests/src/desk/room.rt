@@ -37,7 +37,7 @@ pub struct Way<N: DeskName> {
 
 /// What the threads share.
 pub struct Room<N: DeskName> {
-    /// What all take memory from.
+    /// What all threads take memory from.
     pub alloc: Global,
     /// The desk.
     pub desk: Desk<N, UpdateLog>,

@@ -80,7 +80,7 @@ fn each_read_or_flush_that_fails_is_a_fault(rt: HostRuntime) -> Result<(), Fail>
     fails_to_read_or_flush(&rt, 2)
 }
 
-/// Whichever write of a run by so many workers fails, the run ends with a write fault after a front of its replies.
+/// Whichever write of a run by so many workers fails, the run ends with a write fault after a prefix of its replies.
 fn fails_to_write<H: Threads + Wait + Sync + Abort + AllocGlobal>(
     rt: &H,
     workers: u32,
@@ -141,7 +141,7 @@ fn large_lines(alloc: Global, articles: u64) -> Result<String, Fail> {
     Ok(text)
 }
 
-/// The replies to them.
+/// The replies to the register and the match of `large_lines`.
 fn large_replies(alloc: Global, articles: u64) -> Result<String, Fail> {
     let mut text = format!(in alloc; "{{\"line\":1,\"registered\":{HOLDING}}}\n{{\"alerts\":[")?;
     for number in 0..articles {
@@ -159,7 +159,7 @@ fn large_replies(alloc: Global, articles: u64) -> Result<String, Fail> {
 }
 
 /// A reply of 760 kB, to 30 articles of 25 kB each, is written in pieces of at most 64 KiB and one article, and
-/// whichever write fails, what was taken is a front of it, and nothing more is written.
+/// whichever write fails, what was taken is a prefix of it, and nothing more is written.
 #[test]
 fn a_large_reply_flows(rt: HostRuntime) -> Result<(), Fail> {
     let input = large_lines(rt.alloc(), 30)?;

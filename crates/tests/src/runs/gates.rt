@@ -82,7 +82,7 @@ const LINES: [&str; 3] = [
     r#"{"op":"match","articles":[{"id":"a2","fields":{"text":"milk"}}]}"#,
 ];
 
-/// The replies to them.
+/// The replies to `LINES`.
 const REPLIES: [&str; 3] = [
     r#"{"line":1,"registered":2}"#,
     r#"{"alerts":[{"article":"a1","queries":["q1"]}],"line":2,"notes":[]}"#,

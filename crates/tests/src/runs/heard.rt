@@ -30,7 +30,7 @@ const LINES: [&str; 4] = [
     r#"{"op":"count"}"#,
 ];
 
-/// The replies to them.
+/// The replies to `LINES`.
 const REPLIES: [&str; 4] = [
     r#"{"line":1,"registered":4}"#,
     concat!(
@@ -53,7 +53,7 @@ fn named(
     Ok(parts)
 }
 
-/// The queries of the alerts that were heard, a space after each, or `-` where they aren't told.
+/// The queries of the alerts that were heard, a space after each, or `-` where they aren't reported.
 fn queries_of(alloc: Global, heard: Option<&[Alert]>) -> Result<String, AllocError> {
     let Some(heard) = heard else {
         return String::from_str(alloc, "-");
