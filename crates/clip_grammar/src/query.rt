@@ -35,7 +35,7 @@ pub enum Query {
         field: ArcStr,
         word: ArcStr,
     },
-    /// The words stand in the field one after the other.
+    /// The words are in the field one after the other.
     Phrase {
         field: ArcStr,
         words: Vec<ArcStr>,

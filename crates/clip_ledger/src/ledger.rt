@@ -83,7 +83,7 @@ impl Ledger {
     }
 }
 
-/// A row for each alert, in order, where the notes stand in any order. Cost: a walk over the notes for each alert.
+/// A row for each alert, in order, where the notes are in any order. Cost: a walk over the notes for each alert.
 fn rows_by_search(
     alloc: Global,
     line: u64,

@@ -74,7 +74,7 @@ pub record HearsFront (alerts : List Alert) (old new : List Hearer) : Type 0 whe
 
 -- ---- names
 
--- no name stands among those after it
+-- no name is among those after it
 abbrev pub distinct : List (List ℕ) → Bool
 distinct [] = true
 distinct (name ∷ names) = not (list_any (bytes_eq name) names) && distinct names

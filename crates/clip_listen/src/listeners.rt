@@ -80,7 +80,7 @@ fn keep(notes: &mut Vec<Note>, note: Option<Note>) -> Result<(), NoMemory>
     Ok(())
 }
 
-/// Listeners by name; no name stands twice. An index has a copy of each name with its place, where there was memory for
+/// Listeners by name; no name occurs twice. An index has a copy of each name with its place, where there was memory for
 /// one.
 pub struct Listeners {
     parts: Vec<Named>,
@@ -209,7 +209,7 @@ impl Listeners {
         Ok(Listeners { parts, index })
     }
 
-    /// Where the listener of a name stands. Cost: one search among the names; a walk over them where there is no index.
+    /// Where the listener of a name is. Cost: one search among the names; a walk over them where there is no index.
     fn place(&self, name: &str) -> Option<usize>
         ensures { result ≡ position_from (bytes_eq name.now) 0 (names_of self.now.parts.items) }
     {

@@ -1,4 +1,4 @@
-//! Where listeners stand, by their names.
+//! Where listeners are, by their names.
 ghost use Rattle.std.specs.Prelude.{◌≡◌, IfOk, bytes_eq, is_some, not};
 ghost use Rattle.std.specs.List.{position_from};
 ghost use Rattle.std.specs.Option.{ForSome};
@@ -29,7 +29,7 @@ pub(crate) fn index_of(alloc: Global, parts: &[Named]) -> Result<Option<Index>, 
     Ok(Some(index))
 }
 
-/// Where the listener of a name stands. Cost: a walk over the names.
+/// Where the listener of a name is. Cost: a walk over the names.
 pub(crate) fn place_by_walk(parts: &[Named], name: &str) -> Option<usize>
     ensures { result ≡ position_from (bytes_eq name.now) 0 (names_of parts.now) }
 {

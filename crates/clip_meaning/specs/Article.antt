@@ -54,7 +54,7 @@ unfoldable pub is_field_name : List ℕ → Bool
 is_field_name name = nat_lt 0 (length name) && nat_le (length name) MOST_NAME_BYTES && list_all is_name_byte name
     && not (begins_with_digit name)
 
--- some name stands twice
+-- some name occurs twice
 abbrev pub has_twice : List (List ℕ) → Bool
 has_twice [] = false
 has_twice (name ∷ others) = list_any (bytes_eq name) others || has_twice others

@@ -24,7 +24,7 @@ hit_value hit = (arc_str_bytes hit.field, hit.position)
 abbrev pub is_within : (start count position : ℕ) → Bool
 is_within start count position = nat_le start position && nat_lt position (start + count)
 
--- the phrase stands in the words from `start` on, and the position is one of its words'
+-- the phrase occurs in the words from `start` on, and the position is one of its words'
 abbrev pub covers : List (List ℕ) → List (List ℕ) → (position start : ℕ) → Bool
 covers words phrase position start =
     starts_with bytes_eq (drop start words) phrase && is_within start (length phrase) position

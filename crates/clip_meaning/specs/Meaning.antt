@@ -13,7 +13,7 @@ use Rattle.clip_meaning.specs.Article.{Fields, words_in}
 
 -- ---- words
 
--- the words of the phrase stand somewhere next to each other, in order
+-- the words of the phrase are somewhere next to each other, in order
 abbrev pub has_run : List (List ℕ) → List (List ℕ) → Bool
 has_run [] phrase = false
 has_run (w ∷ ws) phrase = starts_with bytes_eq (w ∷ ws) phrase || has_run ws phrase
@@ -23,7 +23,7 @@ abbrev pub is_nonempty : List (List ℕ) → Bool
 is_nonempty [] = false
 is_nonempty (w ∷ ws) = true
 
--- the phrase has a word, and its words stand somewhere next to each other, in order
+-- the phrase has a word, and its words are somewhere next to each other, in order
 abbrev pub has_phrase : List (List ℕ) → List (List ℕ) → Bool
 has_phrase words phrase = is_nonempty phrase && has_run words phrase
 

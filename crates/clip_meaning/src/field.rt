@@ -95,9 +95,9 @@ impl Field {
         self.index.has_word(word)
     }
 
-    /// Whether the words of a phrase stand next to each other in order, as in Lucene's PhraseQuery with no slop; an
-    /// empty phrase never does. Looks only where the phrase's first word stands: at worst these places times the words
-    /// of the phrase.
+    /// Whether the words of a phrase are next to each other in order, as in Lucene's PhraseQuery with no slop; false
+    /// for an empty phrase. Looks only where the phrase's first word occurs: at worst these places times the words of
+    /// the phrase.
     pub(crate) fn has_phrase(&self, phrase: &[ArcStr]) -> bool
         ensures { result ≡ has_phrase self.now.1 (map arc_str_bytes phrase.now) }
     {
@@ -145,7 +145,7 @@ impl Field {
         mark_all(flags, self.index.occurrences(word));
     }
 
-    /// Raises the flags of the positions that a phrase covers. Looks only where the phrase's first word stands: at
+    /// Raises the flags of the positions that a phrase covers. Looks only where the phrase's first word occurs: at
     /// worst these places times the words of the phrase.
     pub(crate) fn mark_phrase(&self, phrase: &[ArcStr], flags: &mut Vec<u8>)
         ensures long { length flags.new.items ≡ length flags.old.items }
@@ -192,14 +192,14 @@ fn words_from(words: &[ArcStr], position: usize) -> &[ArcStr]
     }
 }
 
-/// Whether a phrase stands at a posting.
+/// Whether a phrase begins at a posting.
 fn stands_at(words: &[ArcStr], phrase: &[ArcStr], posting: &Posting) -> bool
     ensures { result ≡ stands_at (map arc_str_bytes words.now) (map arc_str_bytes phrase.now) posting.now }
 {
     starts_with(words_from(words, posting.position()), phrase)
 }
 
-/// Whether a phrase stands at one of the postings.
+/// Whether a phrase begins at one of the postings.
 fn stands_at_any(words: &[ArcStr], postings: &[Posting], phrase: &[ArcStr]) -> bool
     ensures { result ≡ list_any (stands_at (map arc_str_bytes words.now) (map arc_str_bytes phrase.now)) postings.now }
 {
@@ -211,7 +211,7 @@ fn stands_at_any(words: &[ArcStr], postings: &[Posting], phrase: &[ArcStr]) -> b
     false
 }
 
-/// Raises the flags of the words of a phrase at those of the postings where it stands.
+/// Raises the flags of the words of a phrase at those of the postings where it begins.
 fn mark_runs(words: &[ArcStr], postings: &[Posting], phrase: &[ArcStr], flags: &mut Vec<u8>)
     ensures long { length flags.new.items ≡ length flags.old.items }
     ensures raised { AreRaised flags.old.items flags.new.items

@@ -165,7 +165,7 @@ fn add_hits(
 /// the fields' names and then by position, each once.
 ///
 /// - `Term`: each word of its field that it equals.
-/// - `Phrase`: each word of each place where it stands; an empty phrase names none.
+/// - `Phrase`: each word of each place where it occurs; an empty phrase names none.
 /// - `Prefix`: each word of its field that begins with the prefix.
 /// - `Span`: each word of its field between the bounds.
 /// - `All`: none.

@@ -23,7 +23,7 @@ fn has_word(article: &Article, field: &str, word: &str) -> bool
     }
 }
 
-/// Whether a phrase stands in an article's field.
+/// Whether a phrase occurs in an article's field.
 fn has_phrase(article: &Article, field: &str, phrase: &[ArcStr]) -> bool
     ensures { result ≡ has_phrase (words_in article.now.fields field.now) (map arc_str_bytes phrase.now) }
 {
@@ -87,7 +87,7 @@ fn counted(tally: Tally, occur: Occur, held: bool) -> Option<Tally>
 /// Whether a query holds of an article.
 ///
 /// - `Term`: the word is among the field's words.
-/// - `Phrase`: its words stand next to each other in order in the field (Lucene's PhraseQuery with no slop); an empty
+/// - `Phrase`: its words are next to each other in order in the field (Lucene's PhraseQuery with no slop); an empty
 ///   phrase never holds.
 /// - `Prefix`: a word of the field begins with the prefix (PrefixQuery).
 /// - `Span`: a word of the field lies between the bounds, by the bytes of UTF-8; `With` lets its end in, `Without` does

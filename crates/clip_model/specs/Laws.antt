@@ -21,7 +21,7 @@ GoesOn = (h : History) (caller : ℕ) (command : Command) → IsLegal h → 0 < 
 abbrev pub ListedAreCounted : Type 0
 ListedAreCounted = (h : History) → length (listed_queries h) ≡ listed h
 
--- The query stands under its id, and with seq n it is the n-th of the queries that were listed.
+-- The query is under its id, and with seq n it is the n-th of the queries that were listed.
 pub record IsListed (h : History) (id : List ℕ) (r : Registered) : Type 0 where
   pub key : r.standing.id ≡ id
   pub from : 0 < r.seq

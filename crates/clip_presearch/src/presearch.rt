@@ -27,7 +27,7 @@ fn find_positions<'a>(
     reading.sharers(positions)
 }
 
-/// Adds the live ones of a segment's entries that share a key with an article, in order. They stand at these positions.
+/// Adds the live ones of a segment's entries that share a key with an article, in order. They are at these positions.
 fn add_candidates<'a>(
     view: &View,
     segment: &'a Segment,

@@ -7,7 +7,7 @@ use clip_words::NoMemory;
 use std::marker::Model;
 use std::sync::Arc;
 
-/// The hits of an alert. They stand side by side in a list that the alerts of its article share, so that to find the
+/// The hits of an alert. They lie side by side in a list that the alerts of its article share, so that to find the
 /// hits of many alerts takes the memory of one list. Contracts see the hits.
 #[derive(Debug, Drop)]
 pub struct FoundHits {

@@ -21,13 +21,13 @@ const CHUNK: usize = 65_536;
 /// How many bytes of a line are kept: one more than a line may have tells that it is too long.
 const KEPT: usize = MOST_LINE_BYTES + 1;
 
-/// What was read and not yet taken, where its first line feed stands, and how many reads are left.
+/// What was read and not yet taken, where its first line feed is, and how many reads are left.
 #[derive(Drop)]
 pub struct LineReader {
     buffer: Vec<u8>,
     start: usize,
     end: usize,
-    /// Where the first line feed of what is pending stands, counted from its start: each byte is looked at once.
+    /// Where the first line feed of what is pending is, counted from its start: each byte is looked at once.
     feed: Option<usize>,
     reads_left: u64,
     is_at_end: bool,
@@ -51,7 +51,7 @@ impl Model for LineReader {
         × IsFeedOf r.feed (take (r.end - r.start) (drop r.start r.buffer.items)) };
 }
 
-/// Where the first line feed stands.
+/// Where the first line feed is.
 fn feed_of(bytes: &[u8]) -> Option<usize>
     ensures { IsFeedOf result bytes.now }
 {

@@ -40,7 +40,7 @@ word_part_keys fields = in_order (Any ∷ flat_map field_keys (finite.entries fi
 abbrev pub has_key : Fields → KeyValue → Bool
 has_key fields key = list_any (is_same key) (article_keys fields)
 
--- the keys of the run stand somewhere next to each other, in order
+-- the keys of the run are somewhere next to each other, in order
 abbrev pub stands_in : List KeyValue → List KeyValue → Bool
 stands_in run [] = false
 stands_in run (k ∷ ks) = starts_with is_same (k ∷ ks) run || stands_in run ks
@@ -49,6 +49,6 @@ abbrev pub is_run : List KeyValue → Bool
 is_run [] = false
 is_run (k ∷ ks) = true
 
--- the run has a key, and in some field its keys stand next to each other, in order
+-- the run has a key, and in some field its keys are next to each other, in order
 abbrev pub has_run : Fields → List KeyValue → Bool
 has_run fields run = is_run run && list_any (λ field. stands_in run (field_keys field)) (finite.entries fields)

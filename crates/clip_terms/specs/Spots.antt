@@ -39,11 +39,11 @@ is_word_of name (Front field front) = false
 abbrev pub is_at : FieldValue → (position : ℕ) → KeyValue → Bool
 is_at field position key = is_same (Word field.0 (get_or field.1 position [])) key
 
--- the keys stand in the field from `start` on next to each other, and the position is one of theirs
+-- the keys are in the field from `start` on next to each other, and the position is one of theirs
 abbrev pub covers_from : FieldValue → List KeyValue → (position start : ℕ) → Bool
 covers_from field run position start =
     starts_with is_same (drop start (field_keys field)) run && is_within start (length run) position
 
--- the keys stand somewhere in the field next to each other, and the position is one of theirs
+-- the keys are somewhere in the field next to each other, and the position is one of theirs
 abbrev pub is_covered : FieldValue → List KeyValue → (position : ℕ) → Bool
 is_covered field run position = list_any (λ start. covers_from field run position start.1) (numbered 0 field.1)

@@ -6,7 +6,7 @@ use Rattle.clip_extract.specs.Keys.{KeyValue, Any, is_same}
 abbrev pub term_at : List KeyValue → ℕ → KeyValue
 term_at terms n = unwrap_or (slice_get terms n) Any
 
--- the number of a key among the terms: where it stands first
+-- the number of a key among the terms: where it is first
 abbrev pub number_of : List KeyValue → KeyValue → Option ℕ
 number_of [] key = None
 number_of (term ∷ terms) key = if is_same key term then Some 0 else option_map suc (number_of terms key)

@@ -1,4 +1,4 @@
-//! Articles that are ready to be asked: the keys of their words, and which of them stands at each place.
+//! Articles that are ready to be asked: the keys of their words, and which of them is at each place.
 ghost use Rattle.std.specs.Prelude.{◌≡◌, ◌++◌, None, IfOk, OnOk, List, All, map, length, option_map};
 ghost use Rattle.std.specs.Arc.{arc_str_bytes};
 ghost use Rattle.std.specs.FinMap as finite;

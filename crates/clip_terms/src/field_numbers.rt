@@ -1,4 +1,4 @@
-//! The words of a field by the numbers of their terms, and the runs of numbers that stand among them.
+//! The words of a field by the numbers of their terms, and the runs of numbers that occur among them.
 ghost use Rattle.std.specs.Prelude.{◌≡◌, ◌<◌, nat_lt, nat_le, IfOk, OnOk, map, length, ◌++◌};
 ghost use Rattle.std.specs.List.{list_any};
 ghost use Rattle.clip_meaning.specs.Steps.Marks.{AreRaised};
@@ -42,7 +42,7 @@ struct Anchor<'a> {
 }
 
 /// The numbers of a field's words in the order of its text, none of a word that is no term; and in the order of the
-/// numbers where each of them stands. Contracts see the numbers.
+/// numbers where each of them is. Contracts see the numbers.
 #[derive(Drop)]
 pub(crate) struct FieldNumbers {
     numbers: Vec<Option<u32>>,
@@ -94,7 +94,7 @@ fn is_often(spots: usize, run: usize, words: usize) -> bool {
     spots.saturating_mul(run) > words.saturating_add(run)
 }
 
-/// Whether a run stands where its number of a place is at one of these spots.
+/// Whether a run occurs where its number of a place is at one of these spots.
 fn stands_about_any(numbers: &[Option<u32>], run: &[u32], anchor: &Anchor<'_>) -> bool
     ensures { result
         ≡ list_any (begins_before run.now numbers.now anchor.now.place) anchor.now.spots.now }
@@ -107,7 +107,7 @@ fn stands_about_any(numbers: &[Option<u32>], run: &[u32], anchor: &Anchor<'_>) -
     false
 }
 
-/// Raises the flags of a run's positions where its number of a place is at one of these spots and the run stands.
+/// Raises the flags of a run's positions where its number of a place is at one of these spots and the run occurs.
 fn mark_about(numbers: &[Option<u32>], run: &[u32], anchor: &Anchor<'_>, flags: &mut FieldFlags)
     ensures long { length flags.new ≡ length flags.old }
     ensures raised { AreRaised flags.old flags.new
@@ -184,7 +184,7 @@ impl FieldNumbers {
         rarest
     }
 
-    /// Whether the numbers of a run stand somewhere next to each other, in order. Takes no memory. Cost: two binary
+    /// Whether the numbers of a run are somewhere next to each other, in order. Takes no memory. Cost: two binary
     /// searches for each number of the run while all before it are frequent; then a step for each position of the
     /// rarest of these and each number of the run, or, where that is less, one for each word and each number.
     pub(crate) fn has_run(&self, run: &[u32]) -> bool
@@ -200,7 +200,7 @@ impl FieldNumbers {
         stands_about_any(&self.numbers, run, &rarest)
     }
 
-    /// Raises the flags of the positions at which the numbers of a run stand next to each other, in order. Takes no
+    /// Raises the flags of the positions at which the numbers of a run are next to each other, in order. Takes no
     /// memory. Cost: that of `has_run`, and a step for each flag that is raised.
     pub(crate) fn mark_run(&self, run: &[u32], flags: &mut FieldFlags)
         requires { 0 < length run.now }

@@ -19,7 +19,7 @@ use std::cmp::Ordering;
 use std::marker::Model;
 use std::ops::Range;
 
-/// The terms of one field, and where they stand among all terms. Contracts see the terms and the name of the field.
+/// The terms of one field, and where they are among all terms. Contracts see the terms and the name of the field.
 ///
 /// A word is searched for by its first eight bytes, as a number, among those of the field's words, which lie side by
 /// side; texts are compared only where these bytes are the same and the length does not settle it, since one of them is
@@ -121,7 +121,7 @@ fn is_past(leads: &[u64], place: usize, lead: u64, short: u8) -> bool
     *first > lead && *first - lead >= span
 }
 
-/// Where the key of a text stands among keys whose texts rise.
+/// Where the key of a text is among keys whose texts rise.
 fn place_among(
     keys: &[Key],
     leads: &[u64],
@@ -148,7 +148,7 @@ fn place_among(
     None
 }
 
-/// Where the key of a text stands among keys whose texts rise. Mostly this is the first key of the text's lead, or no
+/// Where the key of a text is among keys whose texts rise. Mostly this is the first key of the text's lead, or no
 /// key has that lead: so the first is looked for by leads alone, from the place on where it is likely, and a key is
 /// looked at only where it has the lead.
 fn place_of(
@@ -212,7 +212,7 @@ impl<'a> FieldTerms<'a> {
         self.word_near(&Sought::of(word), self.words.start)
     }
 
-    /// The number of a word of the field, `None` where it is no term, that likely stands at a place if it is one.
+    /// The number of a word of the field, `None` where it is no term, which is likely at a place if it is one.
     pub(crate) fn word_near(&self, word: &Sought<'_>, likely: usize) -> Option<u32>
         ensures { result ≡ number_of self.now.terms (Word self.now.field word.now) }
     {
@@ -229,7 +229,7 @@ impl<'a> FieldTerms<'a> {
         }
     }
 
-    /// For each of the first of these leads, where a word of that lead likely stands. Cost: that of binary searches,
+    /// For each of the first of these leads, where a word of that lead likely is. Cost: that of binary searches,
     /// which wait for memory together.
     pub(crate) fn likely_places(&self, leads: &[u64]) -> [usize; SIDE_BY_SIDE] {
         likely_places(self.leads, &self.words, leads)

@@ -12,7 +12,7 @@ use std::alloc::Global;
 use std::marker::Model;
 use std::sync::ArcStr;
 
-/// A flag for each word of a field, and where the last of those stands that may be up. Contracts see the flags.
+/// A flag for each word of a field, and an end of those that may be up. Contracts see the flags.
 #[derive(Drop)]
 pub struct FieldFlags {
     flags: Vec<u8>,

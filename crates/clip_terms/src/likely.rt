@@ -1,4 +1,4 @@
-//! Where words likely stand among terms, by searches that go on side by side.
+//! Where words likely are among terms, by searches that go on side by side.
 ghost use Rattle.std.specs.Prelude.{◌<◌, ◌≤◌, length};
 
 use crate::field_terms::{FieldTerms, step_if};
@@ -7,7 +7,7 @@ use std::ops::Range;
 /// How many searches go on side by side.
 pub(crate) const SIDE_BY_SIDE: usize = 32;
 
-/// Where some words, one after another, likely stand among the words of a field. Nothing rests on it but how long
+/// Where some words, one after another, likely are among the words of a field. Nothing rests on it but how long
 /// look-ups take.
 #[derive(Drop)]
 pub(crate) struct LikelyPlaces {

@@ -45,7 +45,7 @@ fn starts_with(numbers: &[Option<u32>], run: &[u32]) -> bool
     true
 }
 
-/// Whether a run stands where its number of this place is at a spot.
+/// Whether a run occurs where its number of this place is at a spot.
 pub(crate) fn stands_about(numbers: &[Option<u32>], run: &[u32], place: usize, spot: &Spot) -> bool
     ensures { result ≡ begins_before run.now numbers.now place spot.now }
 {

@@ -52,7 +52,7 @@ fn key_number<'a>(
 }
 
 /// The numbers of keys, beside which their leads and short lengths are given, in order; none of a key that is no term.
-/// Keys of one field stand side by side.
+/// Keys of one field are side by side.
 pub(crate) fn key_numbers<'a>(
     alloc: Global,
     terms: &'a Terms,

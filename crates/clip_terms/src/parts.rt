@@ -16,7 +16,7 @@ use std::cmp::Ordering;
 use std::ops::Range;
 use std::sync::ArcStr;
 
-/// A field, and where its words and its fronts stand.
+/// A field, and where its words and its fronts are.
 #[derive(Debug, Drop)]
 pub(crate) struct FieldPart {
     field: ArcStr,
@@ -103,7 +103,7 @@ fn find<'a>(parts: &'a [FieldPart], field: &str) -> Option<&'a FieldPart>
     part_at(parts, place, field)
 }
 
-/// Where the words of a field stand, and its fronts. A binary search among the parts, and where none is the field's,
+/// Where the words of a field are, and its fronts. A binary search among the parts, and where none is the field's,
 /// among the keys.
 pub(crate) fn ranges_of(
     keys: &[Key],
@@ -127,7 +127,7 @@ pub(crate) fn ranges_of(
     }
 }
 
-/// Where the words of a field stand, whose part is likely at this place. Looks there first.
+/// Where the words of a field are, whose part is likely at this place. Looks there first.
 pub(crate) fn words_of(
     keys: &[Key],
     parts: &[FieldPart],

@@ -20,7 +20,7 @@ use clip_words::NoMemory;
 use std::alloc::Global;
 use std::marker::Model;
 
-/// An article as it is asked by the numbers of terms: which terms are keys of it, and which term stands at each place.
+/// An article as it is asked by the numbers of terms: which terms are keys of it, and which term is at each place.
 /// Contracts see the terms and the article.
 #[derive(Drop)]
 pub struct Reading<'a> {
@@ -181,7 +181,7 @@ impl<'a> Reading<'a> {
         self.marks.is_marked(number as usize)
     }
 
-    /// Whether the words of these numbers stand in some field next to each other, in order; no numbers never do. Takes
+    /// Whether the words of these numbers are in some field next to each other, in order; false for no numbers. Takes
     /// no memory. Cost: a step for each number; in each field two binary searches for each number while those before
     /// it are frequent, and then a step for each place of the rarest of these and each number, or, where that is less,
     /// for each word of the field and each number, times the logarithm of their count.
@@ -239,7 +239,7 @@ impl<'a> Reading<'a> {
     }
 }
 
-/// Whether the numbers of a run stand next to each other, in order, in one of the fields.
+/// Whether the numbers of a run are next to each other, in order, in one of the fields.
 fn stands_in_any(fields: &[FieldNumbers], run: &[u32]) -> bool
     requires { 0 < length run.now }
     ensures { result ≡ list_any (stands_among run.now) fields.now }

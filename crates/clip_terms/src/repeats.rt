@@ -28,7 +28,7 @@ const NO_SPAN: Span = Span {
     upto: 0,
 };
 
-/// Where a run is laid beside words: the position of its first number, and how many of its numbers stand there.
+/// Where a run is laid beside words: the position of its first number, and how many of its numbers occur there.
 #[derive(Clone, Copy, Debug)]
 pub(crate) struct Aligned {
     pub(crate) start: usize,
@@ -47,7 +47,7 @@ pub(crate) struct Repeats<'a> {
     known: usize,
 }
 
-/// How many of a run's numbers stand from a position of it on, where so many are known to.
+/// How many of a run's numbers occur from a position of it on, where so many are known to.
 fn returning(run: &[u32], at: Aligned) -> Aligned
     requires within { at.start + at.kept ≤ length run.now }
     requires returns { Returns run.now at.start (at.start + at.kept) }
@@ -66,7 +66,7 @@ fn returning(run: &[u32], at: Aligned) -> Aligned
     Aligned { start, kept }
 }
 
-/// How many of a run's numbers stand from a position among others on, where so many are known to.
+/// How many of a run's numbers occur from a position among others on, where so many are known to.
 fn agreeing(numbers: &[Option<u32>], run: &[u32], at: Aligned) -> Aligned
     requires within { at.start ≤ length numbers.now }
     requires short { at.kept ≤ length run.now }
@@ -85,7 +85,7 @@ fn agreeing(numbers: &[Option<u32>], run: &[u32], at: Aligned) -> Aligned
     Aligned { start, kept }
 }
 
-/// Whether a number stands at a position.
+/// Whether a number is at a position.
 fn stands(numbers: &[Option<u32>], position: usize, number: u32) -> bool
     ensures { result ≡ is_number (get_or numbers.now position None) number }
 {
@@ -185,7 +185,7 @@ impl<'a> Repeats<'a> {
         }
     }
 
-    /// Where the run stands among numbers next, from where it is laid on, if it does.
+    /// Where the run occurs among numbers next, from where it is laid on, if it does.
     pub(crate) fn next_from(&self, numbers: &[Option<u32>], at: Aligned) -> Option<Aligned>
         requires repeats { AreRepeats self.now }
         requires some { 0 < length self.now.run.now }

@@ -1,4 +1,4 @@
-//! Where the words of a field stand, by the numbers of their terms.
+//! Where the words of a field are, by the numbers of their terms.
 ghost use Rattle.std.specs.Prelude.{◌≡◌, [], ◌∷◌, map, length, drop};
 ghost use Rattle.std.specs.List.{list_any};
 ghost use Rattle.clip_meaning.specs.Steps.Marks.{AreRaised};
@@ -40,7 +40,7 @@ impl<'a> Model for FieldSpots<'a> {
     ghost invariant = { AreSpots };
 }
 
-/// Whether this number stands at a position.
+/// Whether this number is at a position.
 fn is_number_at(numbers: &[Option<u32>], position: usize, number: u32) -> bool
     ensures { result ≡ begins_with (number ∷ []) (drop position numbers.now) }
 {
@@ -50,7 +50,7 @@ fn is_number_at(numbers: &[Option<u32>], position: usize, number: u32) -> bool
     }
 }
 
-/// Raises the flags at those of the postings where this number stands.
+/// Raises the flags at those of the postings where this number is.
 fn mark_places(postings: &[Posting], numbers: &[Option<u32>], number: u32, flags: &mut FieldFlags)
     ensures long { length flags.new ≡ length flags.old }
     ensures raised { AreRaised flags.old flags.new
@@ -127,7 +127,7 @@ impl<'a> FieldSpots<'a> {
         }
     }
 
-    /// Raises the flags of the positions at which the term of a number stands. Takes no memory. Cost: where the term is
+    /// Raises the flags of the positions at which the term of a number occurs. Takes no memory. Cost: where the term is
     /// of this field and the article has it a binary search among the field's words and a step for each of those
     /// that begin with the same eight bytes; constant where it isn't or doesn't.
     pub fn mark_term(&self, number: u32, flags: &mut FieldFlags)
@@ -144,7 +144,7 @@ impl<'a> FieldSpots<'a> {
         );
     }
 
-    /// Raises the flags of the positions that the terms of these numbers cover where they stand next to each other, in
+    /// Raises the flags of the positions that the terms of these numbers cover where they are next to each other, in
     /// order; no numbers cover none. Takes no memory. Cost: two binary searches for each number while those before
     /// it are frequent, and then a step for each place of the rarest of these and each number, or, where that is less,
     /// for each word of the field and each number, times the logarithm of their count.

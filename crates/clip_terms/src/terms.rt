@@ -21,7 +21,7 @@ pub const MOST_TERMS: usize = 4_294_967_295;
 
 /// Keys in order, each once and numbered from 0. Contracts see the list of the keys.
 ///
-/// The leads and the short lengths of their texts stand beside them, by which most are told apart without a look at
+/// The leads and the short lengths of their texts are kept beside them, by which most are told apart without a look at
 /// them, and where the words and the fronts of each field stand.
 #[derive(Debug)]
 pub struct Terms {
@@ -173,7 +173,7 @@ impl Terms {
         &self.lengths
     }
 
-    /// Where the words of a field stand, and its fronts. Takes no memory. Cost: a binary search among the fields.
+    /// Where the words of a field are, and its fronts. Takes no memory. Cost: a binary search among the fields.
     pub(crate) fn ranges_of(&self, field: &str) -> (Range<usize>, Range<usize>)
         ensures words { IsPart self.now (heading (Word field.now [])) result.0.start result.0.end }
         ensures fronts { IsPart self.now (heading (Front field.now [])) result.1.start result.1.end }
@@ -181,7 +181,7 @@ impl Terms {
         ranges_of(&self.keys, &self.parts, field)
     }
 
-    /// Where the words of a field stand, which is likely the field of this place among those of the terms. Takes no
+    /// Where the words of a field are, which is likely the field of this place among those of the terms. Takes no
     /// memory. Cost: a comparison with the field of that place, and where it is another one that of `ranges_of`.
     pub(crate) fn words_of(&self, field: &str, likely: usize) -> Range<usize>
         ensures { IsPart self.now (heading (Word field.now [])) result.start result.end }

@@ -40,7 +40,7 @@ impl Model for Tracer {
     ghost invariant = { IsTracerInside };
 }
 
-/// Where the number stands among the open merges or batches. Cost: a step for each.
+/// Where the number is among the open merges or batches. Cost: a step for each.
 fn place_of<T>(numbered: &[(u64, T)], number: u64) -> Option<usize>
     ensures { result ≡ position (λ n. n.0 == number) numbered.now }
 {

@@ -15,7 +15,7 @@ use std::sync::Wait;
 use std::thread::Threads;
 use std::{fs, io};
 
-/// The examples: of each the requests stand in NAME.jsonl, and the replies in NAME.out.
+/// The examples: of each the requests are in NAME.jsonl, and the replies in NAME.out.
 const EXAMPLES: [&str; 21] = [
     "alerts",
     "changes",
@@ -40,10 +40,10 @@ const EXAMPLES: [&str; 21] = [
     "syntax",
 ];
 
-/// The examples that are run with hits: of each the replies stand in NAME.hits.
+/// The examples that are run with hits: of each the replies are in NAME.hits.
 const WITH_HITS: [&str; 4] = ["deep_queries", "hits", "random_phrases", "random_queries"];
 
-/// The traces: of each the events stand in NAME.jsonl, and the replies in NAME.out.
+/// The traces: of each the events are in NAME.jsonl, and the replies in NAME.out.
 const TRACES: [&str; 8] = [
     "late_install",
     "install_after_clear",

@@ -30,12 +30,12 @@ static ROWS: [Row; 17] = [
     ("\"a b a b c\"", &[("text", "a b a b a b c a b a b")], "text@2 text@3 text@4 text@5 text@6 "),
     ("\"a b a c a b d\"", &[("text", "a b a c a b a c a b d a b a c a b")],
         "text@4 text@5 text@6 text@7 text@8 text@9 text@10 "),
-    // a phrase whose first words stand at the end
+    // a phrase whose first words are at the end
     ("tea \"a a b\"", &[("text", "b tea a a")], "text@1 "),
     // a leaf inside and outside of a group that is excluded, and below two exclusions
     ("tea -(tea +milk)", &[("text", "tea")], "text@0 "),
     ("tea -(coffee -milk)", &[("text", "milk tea")], "text@1 "),
-    // a leaf whose own group does not hold, and a phrase that does not stand
+    // a leaf whose own group does not hold, and a phrase that does not occur
     ("(+tea +milk) OR coffee", &[("text", "tea, coffee")], "text@0 text@1 "),
     ("tea \"green leaf\"", &[("text", "green tea leaf")], "text@1 "),
     // other fields, and none

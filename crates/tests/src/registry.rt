@@ -160,7 +160,7 @@ fn registers(
     Ok(answer(alloc, registrar, 1, command)?.as_str() == wanted)
 }
 
-/// Registers a line of the queries of these numbers, and takes merge turns: how many segments stand then.
+/// Registers a line of the queries of these numbers, and takes merge turns: how many segments there are then.
 fn segments_after(
     alloc: Global,
     registrar: &mut Registrar,
@@ -173,7 +173,7 @@ fn segments_after(
     Ok(registrar.view()?.segments().len())
 }
 
-/// The most segments that stand after one of 200 lines of 1 and of 5 queries in turn.
+/// The most segments that there are after one of 200 lines of 1 and of 5 queries in turn.
 fn most_of_mixed_sizes(alloc: Global) -> Result<usize, Fail> {
     let mut registrar = Registrar::without_history(alloc);
     let mut most = 0;

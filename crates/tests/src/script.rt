@@ -175,7 +175,7 @@ fn played(alloc: Global, registrar: &mut Registrar, step: &Step) -> Result<Strin
     viewed(alloc, &registrar.view()?, step)
 }
 
-/// Plays a script: each step gives what stands beside it.
+/// Plays a script: each step gives what is beside it.
 pub fn play(
     rt: &impl Abort,
     alloc: Global,

@@ -17,14 +17,14 @@ abbrev pub after_line : List ℕ → List ℕ
 after_line [] = []
 after_line (b ∷ bytes) = if b == 10 then bytes else after_line bytes
 
--- the first line feed stands at this place of the bytes
+-- the first line feed is at this place of the bytes
 pub record FeedsAt (bytes : List ℕ) (i : ℕ) : Type 0 where
   pub has : has_feed bytes ≡ true
   pub within : i < length bytes
   pub first : first_line bytes ≡ take i bytes
   pub after : after_line bytes ≡ drop (i + 1) bytes
 
--- the first line feed of the bytes stands at this place, or there is none
+-- the first line feed of the bytes is at this place, or there is none
 abbrev pub IsFeedOf : Option ℕ → List ℕ → Type 0
 IsFeedOf feed bytes = MatchOption feed (has_feed bytes ≡ false) (λ i. FeedsAt bytes i)
 
@@ -49,7 +49,7 @@ pub record Reads (old new : Reading) (left_old left_new : Option (List ℕ)) : T
   pub given : Consumes left_old left_new bytes
   pub idle : old.is_at_end ≡ true → (bytes ≡ []) × (new.is_at_end ≡ true)
 
--- a line stands whole in these bytes: one that a line feed ends, or what is there at the end
+-- these bytes have a whole line: one that a line feed ends, or what is there at the end
 abbrev pub HasLine : Bool → List ℕ → Type 0
 HasLine met_end bytes = (has_feed bytes ≡ true) ⊎ ((met_end ≡ true) × (0 < length bytes))
 

@@ -1,4 +1,4 @@
--- The numbers of a field's words, where each stands, and the runs among them.
+-- The numbers of a field's words, where each is, and the runs among them.
 use Rattle.std.specs.Prelude.{◌≡◌, ℕ, ◌+◌, ◌-◌, ◌<◌, ◌≤◌, nat_le, Bool, true, false, ◌&&◌, ◌||◌, List, [], ◌∷◌, ◌++◌, length, drop, get_or, slice_index, Option, Some, None}
 use Rattle.std.specs.List.{list_any}
 use Rattle.clip_meaning.specs.Hits.{is_within}
@@ -36,16 +36,16 @@ pub record IsAnchor (numbers : List (Option ℕ)) (run : List ℕ) (anchor : Anc
   pub within : anchor.place < length run
   pub spots : HasEach numbers (slice_index run anchor.place) anchor.spots.now
 
--- the run stands so that its number of this place is at the spot
+-- the run occurs so that its number of this place is at the spot
 abbrev pub begins_before : (run : List ℕ) (numbers : List (Option ℕ)) (place : ℕ) → Spot → Bool
 begins_before run numbers place spot = nat_le place spot.position && begins_with run (drop (spot.position - place) numbers)
 
--- the run stands so that its number of this place is at the spot, and the position is one of the run's
+-- the run occurs so that its number of this place is at the spot, and the position is one of the run's
 abbrev pub covers_before : (run : List ℕ) (numbers : List (Option ℕ)) (place position : ℕ) → Spot → Bool
 covers_before run numbers place position spot =
     begins_before run numbers place spot && is_within (spot.position - place) (length run) position
 
--- somewhere among the numbers, of which the first is that of `start`, the run stands, and the position is the run's
+-- somewhere among the numbers, of which the first is that of `start`, the run occurs, and the position is the run's
 abbrev pub is_covered_from : (run : List ℕ) (position start : ℕ) → List (Option ℕ) → Bool
 is_covered_from run position start [] = false
 is_covered_from run position start (m ∷ numbers) =

@@ -11,7 +11,7 @@ abbrev pub field_terms_of : Inside → FieldTermsValue
 field_terms_of t = record { terms = map key_of t.keys.now; field = t.field.now }
 
 -- The terms are in order, each once, and not too many; their leads and short lengths are theirs; and the field's words
--- stand from `words.start` up to `words.end`, its fronts from `fronts.start` up to `fronts.end`.
+-- are from `words.start` up to `words.end`, its fronts from `fronts.start` up to `fronts.end`.
 pub record AreFieldTerms (t : Inside) : Type 0 where
   pub strict : IsStrictlySortedBy key_cmp (map key_of t.keys.now)
   pub few : length t.keys.now ≤ MOST_TERMS

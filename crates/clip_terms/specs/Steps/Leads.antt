@@ -7,7 +7,7 @@ use Rattle.clip_words.specs.Order.{bytes_cmp}
 use Rattle.clip_meaning.specs.Leads.{IsLead}
 use Rattle.clip_extract.specs.Keys.{KeyValue, rank, field_of, text_of}
 
--- what a key's text stands under
+-- what a key's text is listed under
 abbrev pub heading : KeyValue → ℕ × List ℕ
 heading key = (rank key, field_of key)
 
@@ -15,7 +15,7 @@ heading key = (rank key, field_of key)
 abbrev pub heading_cmp : ℕ × List ℕ → ℕ × List ℕ → Ordering
 heading_cmp = then_cmp (on (λ h. h.0) nat_cmp) (on (λ h. h.1) bytes_cmp)
 
--- beside each term stands the lead of its text
+-- beside each term is the lead of its text
 abbrev pub AreLeads : List KeyValue → (leads : List ℕ) → Type 0
 AreLeads [] [] = Unit {0}
 AreLeads [] (lead ∷ leads) = ⊥
@@ -26,14 +26,14 @@ AreLeads (term ∷ terms) (lead ∷ leads) = IsLead (text_of term) lead × AreLe
 abbrev pub IsShortLength : (text : List ℕ) → (short : ℕ) → Type 0
 IsShortLength text short = short ≤ 8 → length text ≡ short
 
--- beside each term stands the short length of its text
+-- beside each term is the short length of its text
 abbrev pub AreShortLengths : List KeyValue → (lengths : List ℕ) → Type 0
 AreShortLengths [] [] = Unit {0}
 AreShortLengths [] (short ∷ lengths) = ⊥
 AreShortLengths (term ∷ terms) [] = ⊥
 AreShortLengths (term ∷ terms) (short ∷ lengths) = IsShortLength (text_of term) short × AreShortLengths terms lengths
 
--- from `start` up to `end` stand just the terms under the heading
+-- from `start` up to `end` are just the terms under the heading
 pub record IsPart (terms : List KeyValue) (head : ℕ × List ℕ) (start end : ℕ) : Type 0 where
   pub rises : start ≤ end
   pub within : end ≤ length terms

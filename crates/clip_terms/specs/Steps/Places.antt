@@ -9,7 +9,7 @@ pub record AreOfWords (postings : List (List ℕ × ℕ)) (count : ℕ) : Type 0
   pub long : length words ≡ count
   pub each : All (λ p. slice_get words p.1 ≡ Some p.0) postings
 
--- at the posting's position stands the place of its word's key
+-- at the posting's position is the place of its word's key
 abbrev pub IsPlaced : (field : List ℕ) → List KeyValue → (places : List ℕ) → List ℕ × ℕ → Type 0
 IsPlaced field keys places p = term_at keys (slice_index places p.1) ≡ Word field p.0
 

@@ -9,11 +9,11 @@ use Rattle.clip_terms.specs.declared.repeats.Span.{Span}
 use Rattle.clip_terms.specs.declared.repeats.Repeats.{Repeats}
 use Rattle.clip_terms.specs.declared.repeats.TheConstants.{MOST_SPANS}
 
--- of a run's first `length` numbers each stands again `shift` later, as far as they go
+-- of a run's first `length` numbers each occurs again `shift` later, as far as they go
 pub record Returns (run : List ℕ) (shift length : ℕ) : Type 0 where
   pub same : (j : ℕ) → j + shift < length → slice_index run (j + shift) ≡ slice_index run j
 
--- a run's first `length` numbers do not stand again after fewer numbers than `shift`, but for none
+-- a run's first `length` numbers do not occur again after fewer numbers than `shift`, but for none
 abbrev pub NoneBelow : (run : List ℕ) (shift length : ℕ) → Type 0
 NoneBelow run shift length = (d : ℕ) → 0 < d → d < shift → Returns run d length → ⊥
 
@@ -47,7 +47,7 @@ pub record Moves (run : List ℕ) (at next : Aligned) : Type 0 where
   pub same : (j : ℕ) → j < next.kept → slice_index run (j + shift) ≡ slice_index run j
   pub least : NoneBelow run shift at.kept
 
--- so many of a run's numbers stand from a position on
+-- so many of a run's numbers occur from a position on
 abbrev pub Agree : (run : List ℕ) (numbers : List (Option ℕ)) (at : Aligned) → Type 0
 Agree run numbers at = (j : ℕ) → j < at.kept → is_number (get_or numbers (at.start + j) None) (slice_index run j) ≡ true
 
@@ -55,7 +55,7 @@ Agree run numbers at = (j : ℕ) → j < at.kept → is_number (get_or numbers (
 abbrev pub NowhereIn : (run : List ℕ) (numbers : List (Option ℕ)) (from upto : ℕ) → Type 0
 NowhereIn run numbers from upto = (p : ℕ) → from ≤ p → p < upto → begins_with run (drop p numbers) ≡ false
 
--- There the run stands, and nowhere before it from where it was laid on.
+-- There the run occurs, and nowhere before it from where it was laid on.
 pub record IsNext (run : List ℕ) (numbers : List (Option ℕ)) (at found : Aligned) : Type 0 where
   pub from : at.start ≤ found.start
   pub inside : found.start < length numbers
@@ -63,8 +63,8 @@ pub record IsNext (run : List ℕ) (numbers : List (Option ℕ)) (at found : Ali
   pub agree : Agree run numbers found
   pub nowhere : NowhereIn run numbers at.start found.start
 
--- The flags are those of before, and those of a run's positions where it stands before a position; from there on all are
--- up before an end.
+-- The flags are those of before, and those of a run's positions where it occurs before a position; from there on all
+-- are up before an end.
 pub record AreMarked (run : List ℕ) (numbers : List (Option ℕ)) (old new : List ℕ) (start end : ℕ) : Type 0 where
   pub long : length new ≡ length old
   pub kept : (k : ℕ) → k < length old → is_up (get_or old k 0) ≡ true → is_up (get_or new k 0) ≡ true

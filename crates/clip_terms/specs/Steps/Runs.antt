@@ -12,7 +12,7 @@ begins_with [] numbers = true
 begins_with (n ∷ run) [] = false
 begins_with (n ∷ run) (m ∷ numbers) = is_number m n && begins_with run numbers
 
--- the numbers of the run stand somewhere next to each other, in order
+-- the numbers of the run are somewhere next to each other, in order
 abbrev pub stands_among : (run : List ℕ) → List (Option ℕ) → Bool
 stands_among run [] = false
 stands_among run (m ∷ numbers) = begins_with run (m ∷ numbers) || stands_among run numbers

@@ -25,7 +25,7 @@ abbrev pub IsOfArticle : Fields → FieldValue → Type 0
 IsOfArticle fields field = (key : KeyValue) → has_key fields key ≡ false
     → list_any (λ w. is_same (Word field.0 w) key) field.1 ≡ false
 
--- the numbers of the run stand from the posting on, and the position is one of theirs
+-- the numbers of the run occur from the posting on, and the position is one of theirs
 abbrev pub covers_at : (run : List ℕ) (numbers : List (Option ℕ)) (position : ℕ) → List ℕ × ℕ → Bool
 covers_at run numbers position posting =
     begins_with run (drop posting.1 numbers) && is_within posting.1 (length run) position
@@ -34,7 +34,7 @@ covers_at run numbers position posting =
 abbrev pub spots_value : Inside → SpotsValue
 spots_value spots = record { terms = spots.reading.now.terms; field = spots.field.now }
 
--- The terms are in order, each once; each word's number stands at its position; the field is one of the article's; and
+-- The terms are in order, each once; each word's number is at its position; the field is one of the article's; and
 -- the range is that of the terms which are words of it.
 pub record AreSpots (spots : Inside) : Type 0 where
   pub strict : IsStrictlySortedBy key_cmp spots.reading.now.terms

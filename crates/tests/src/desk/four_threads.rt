@@ -313,7 +313,7 @@ fn check_closed<R: Abort>(rt: &R, alloc: Global, registrar: &Registrar) {
     );
 }
 
-/// Checks that the caller's commands stand in the history once each and in order.
+/// Checks that the caller's commands are in the history once each and in order.
 fn check_caller<R: Abort>(rt: &R, history: &History<'_>, caller: u32, steps: &[Step]) {
     let mut steps = steps.iter();
     let mut made = 0u64;

@@ -90,7 +90,7 @@ fn run_nudges<N: DeskName, R: Wait + Abort>(rt: &R, alloc: Global, parts: DeskPa
     desk.end(rt);
 }
 
-/// Serves a channel in which `Merge` and `Stop` stand.
+/// Serves a channel that holds `Merge` and `Stop`.
 fn serve_two<N: DeskName, R: Wait + Abort>(rt: &R, alloc: Global, desk: &Desk<N, UpdateLog>) {
     let (sender, nudges) = match unbounded(alloc) {
         Ok(ends) => ends,

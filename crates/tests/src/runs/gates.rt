@@ -89,7 +89,7 @@ const REPLIES: [&str; 3] = [
     r#"{"alerts":[{"article":"a2","queries":["q2"]}],"line":3,"notes":[]}"#,
 ];
 
-/// The lines are answered by the replies where this gate stands before the batches.
+/// The lines are answered by the replies where this gate is before the batches.
 fn is_answered_behind<R: Threads + Wait + Sync + Abort + AllocGlobal>(
     rt: &R,
     gate: &Crossing,

@@ -1,4 +1,4 @@
-//! Traces over devices that fail. Whole traces stand in files that `examples` plays.
+//! Traces over devices that fail. Whole traces are in files that `examples` plays.
 use crate::runs::devices::{Failing, MANY, blank_tape, script_of};
 use clip_stream::RunFault;
 use clip_trace_lines::run_trace;
