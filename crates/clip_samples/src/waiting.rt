@@ -3,7 +3,7 @@ use std::sync::atomic::AtomicBool;
 use std::sync::atomic::Ordering::SeqCst;
 use std::thread::yield_now;
 
-/// So many turns are waited at most.
+/// How many turns are waited at most.
 const MOST_TURNS: u32 = 1_000_000;
 
 /// Waits until a flag is set, up to the limit: whether it was.

@@ -6,7 +6,7 @@ use clip_samples::owned;
 use clip_stream::RunFault;
 use std::test::Fail;
 
-/// Each some words, and what they ask for.
+/// Rows: some words, and what they ask for.
 static WORDS: [(&[&str], Option<Mode>); 20] = [
     (&["run"], Some(Mode::Run(4, Form::Plain))),
     (&["trace"], Some(Mode::Trace)),

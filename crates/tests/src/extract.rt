@@ -8,7 +8,7 @@ use clip_syntax::read_query;
 use std::alloc::Global;
 use std::test::Fail;
 
-/// Each the text of a query, and its keys and its weight.
+/// Rows: the text of a query, and its keys and its weight.
 #[rattlefmt::skip]
 static ROWS: [(&str, &str); 26] = [
     ("+tea +coffee", "text:coffee 6"),
@@ -70,7 +70,7 @@ fn a_query_has_the_keys_and_the_weight_of_the_table(rt: HostRuntime) -> Result<(
     Ok(())
 }
 
-/// Each the text of a query, and its second keys.
+/// Rows: the text of a query, and its second keys.
 #[rattlefmt::skip]
 static SECONDS: [(&str, &str); 20] = [
     ("+tea +coffee", "text:tea "),
@@ -118,7 +118,7 @@ fn a_query_has_the_second_keys_of_its_other_required_children(rt: HostRuntime) -
 /// Fields, each a name and a text.
 type Fields = &'static [(&'static str, &'static str)];
 
-/// Each the fields of an article, and its keys.
+/// Rows: the fields of an article, and its keys.
 static ARTICLES: [(Fields, &str); 6] = [
     (&[("text", "tea")], "* text:tea text:t* text:te* text:tea* "),
     // folded, and in characters

@@ -126,7 +126,7 @@ fn an_index_has_under_each_key_what_a_map_has(rt: HostRuntime) -> Result<(), Fai
     Ok(())
 }
 
-/// So many texts of queries of two words: one that each has, and one of its own.
+/// The texts of so many queries of two words: one that each has, and one of its own.
 fn numbered_texts(alloc: Global, count: u32) -> Result<Vec<String>, Fail> {
     let mut texts = Vec::new(alloc);
     for number in 0..count {

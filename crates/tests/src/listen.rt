@@ -145,7 +145,7 @@ static QUERIES: [(&str, Option<&str>); 7] = [
     ("q7", Some("desk0")),
 ];
 
-/// What is said of their alerts, and what `mail` heard.
+/// What is said of the alerts on `QUERIES`, and what `mail` heard.
 const TOLD: &str = "\
 card q1 card q1 on a1
 feed q2 feed q2/a1

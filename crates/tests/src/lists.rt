@@ -88,7 +88,8 @@ fn marked(alloc: Global, bound: usize, given: &[usize]) -> Result<Vec<u32>, Fail
     Ok(numbers)
 }
 
-/// Each a bound, and which of the numbers of the test below are marked under it.
+/// Rows: a bound, and which of the numbers are marked below it that `marks_are_read_off_over_the_borders_of_words`
+/// marks.
 static MARKED: [(usize, &[u32]); 8] = [
     (0, &[]),
     (1, &[0]),

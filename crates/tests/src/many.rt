@@ -47,10 +47,10 @@ fn is_wanted(i: u64, short: &[u64], long: &[u64]) -> bool {
     }
 }
 
-/// So many queries are registered.
+/// How many queries are registered.
 const MANY: u64 = 10000;
 
-/// So many of the first ids are taken by later queries.
+/// How many of the first ids are taken by later queries.
 const REPLACED: u64 = 1000;
 
 /// A register of the queries of these numbers.
@@ -108,7 +108,7 @@ fn finds(
 /// Numbers.
 type Numbers = &'static [u64];
 
-/// Each the text of an article, and the numbers of its words after `w` and after `word`.
+/// Rows: the text of an article, and the numbers of its words after `w` and after `word`.
 static ROWS: [(&str, Numbers, Numbers); 4] = [
     ("", &[], &[]),
     ("w1 w2 w3 w4 w5 w6 w7 w8", &[1, 2, 3, 4, 5, 6, 7, 8], &[]),

@@ -8,7 +8,7 @@ use std::test::Fail;
 /// Fields, each a name and a text.
 type Fields = &'static [(&'static str, &'static str)];
 
-/// Each an id, fields, and the article or why it is refused: its id, and of each field the name, the words, and
+/// Rows: an id, fields, and the article or why it is refused: its id, and of each field the name, the words, and
 /// the postings, each a word and its position.
 #[rattlefmt::skip]
 static ARTICLES: [(&str, Fields, &str); 21] = [

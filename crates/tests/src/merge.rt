@@ -29,7 +29,7 @@ fn of_lengths(alloc: Global, lengths: &[u8]) -> Result<Vec<Arc<Segment>>, Fail> 
 /// From which segment on to before which segments are merged.
 type Place = Option<(usize, usize)>;
 
-/// Each some segments' lengths, where the oldest four of one level are, and which of them a turn merges.
+/// Rows: some segments' lengths, where the oldest four of one level are, and which of them a turn merges.
 static PLANS: [(&[u8], Place, Place); 7] = [
     (&[1, 1, 1, 1, 1], Some((0, 4)), Some((0, 4))),
     (&[4, 1, 1, 1], None, None),

@@ -88,7 +88,7 @@ fn sums<R: Threads + Abort + Sync>(
     Ok(gate.sums())
 }
 
-/// Each a number of workers, and the sum of the marks of three articles' pieces.
+/// Rows: a number of workers, and the sum of the marks of three articles' pieces.
 #[rattlefmt::skip]
 const SUMS: [(u32, u64); 6] = [(0, 1), (1, 1), (2, 101), (3, 10101), (4, 10101), (64, 10101)];
 

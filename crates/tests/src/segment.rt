@@ -7,7 +7,7 @@ use clip_words::NoMemory;
 use std::alloc::{AllocError, Global};
 use std::test::Fail;
 
-/// Each an id and a query's text, and the standing query or why it is refused.
+/// Rows: an id and a query's text, and the standing query or why it is refused.
 static STANDINGS: [(&str, &str, &str); 6] = [
     (
         "q1",
@@ -61,7 +61,7 @@ fn positions(alloc: Global, segment: &Segment, word: &str) -> Result<String, All
     places(alloc, segment.with_key(&key))
 }
 
-/// Each a word, and the positions of the entries that hold it.
+/// Rows: a word, and the positions of the entries that hold it.
 static HOLDERS: [(&str, &str); 3] = [("coffee", "0 1 "), ("tea", "0 "), ("milk", "")];
 
 #[test]

@@ -3,7 +3,7 @@ use clip_words::{NoMemory, WordPool, fold, shared_words, words};
 use std::alloc::{AllocError, Global};
 use std::test::Fail;
 
-/// Each a text, its words with a bar after each, and its folding.
+/// Rows: a text, its words with a bar after each, and its folding.
 #[rattlefmt::skip]
 static ROWS: [(&str, &str, &str); 5] = [
     ("Can't stop 3.14 Wi-Fi, Straße", "can't|stop|3.14|wi|fi|strasse|", "can't stop 3.14 wi-fi, strasse"),

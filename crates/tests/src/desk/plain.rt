@@ -4,10 +4,10 @@ use clip_standing::Command;
 use std::alloc::{AllocError, Global};
 use std::collections::BTreeMap;
 
-/// So many commands a list has.
+/// How many commands a list has.
 pub const STEPS: u64 = 2000;
 
-/// So many ids it names at most; later registers take the places of earlier ones.
+/// How many ids a list names at most; later registers take the places of earlier ones.
 const IDS: u64 = 1499;
 
 /// What a list says at one place.

@@ -12,7 +12,7 @@ use std::process::Abort;
 use std::sync::Wait;
 use std::thread::yield_now;
 
-/// So many turns a caller waits for a receipt at most.
+/// How many turns a caller waits for a receipt at most.
 const MOST_TURNS: u32 = 1_000_000;
 
 /// Waits for a receipt, up to the limit of turns, and learns it.

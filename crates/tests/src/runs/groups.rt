@@ -25,7 +25,7 @@ impl Gate for Silent {
     fn leave(&self, _batch: u64, _piece: u32) {}
 }
 
-/// So many rounds: more match lines than may wait.
+/// How many rounds there are: more match lines than may wait.
 const ROUNDS: u64 = 40;
 
 /// How often a long article has the word that it begins with.
