@@ -1,11 +1,12 @@
 -- The marks and the words of a group, clause by clause.
-use Rattle.std.proofs.Common.{◌≡◌, ℕ, zero, suc, ◌+◌, ◌-◌, ◌<◌, ◌≤◌, List, [], ◌∷◌, ◌++◌, map, length, take, get_or, Vec, Global, Result, OnOk, refl, sym, ap, ◌∙◌, subst, arith, append_assoc, IsTrue}
+use Rattle.std.proofs.Common.{◌≡◌, ◌⊎◌, inl, inr, ℕ, zero, suc, ◌+◌, ◌-◌, ◌<◌, ◌≤◌, List, [], ◌∷◌, ◌++◌, map, length, take, get_or, Vec, Global, Result, OnOk, refl, sym, ap, ◌∙◌, subst, arith, append_assoc, IsTrue}
 use Rattle.std.proofs.lemmas.List.{append-nil, length-append, length_push, take_all, take_more}
 use Rattle.std.proofs.lemmas.Result.{on_ok_weaker}
 use Rattle.std.proofs.Math.ListN.{set}
 use Rattle.std.proofs.Math.Seq.{set-append_seam}
-use Rattle.clip_grammar.specs.Tree.{Tree, Clauses, clauses_of, tree_of, nodes, clause_nodes}
+use Rattle.clip_grammar.specs.Tree.{Tree, Clauses, none, clause, clauses_of, tree_of, nodes, clause_nodes}
 use Rattle.clip_grammar.specs.declared.query.Occur.{Occur}
+use Rattle.clip_grammar.specs.declared.query.Occur.TheVariants.{Must, Should, MustNot}
 use Rattle.clip_grammar.specs.declared.query.Query.{Query}
 use Rattle.clip_grammar.specs.declared.query.Query.TheViews.{Group}
 use Rattle.clip_grammar.proofs.Trees.{tree_of_group}
@@ -13,12 +14,18 @@ use Rattle.clip_extract.specs.Keys.{KeyValue}
 use Rattle.clip_plan.specs.Plan.{Mark, Open, Close, clause_marks, group_marks, plan_of, word_keys, clause_word_keys, are_terms}
 use Rattle.clip_plan.specs.declared.step.Step.{Step}
 use Rattle.clip_plan.specs.declared.step.Step.TheVariants as step
-use Rattle.clip_plan.specs.Steps.Plans.{Adds}
+use Rattle.clip_plan.specs.Steps.Plans.{Adds, bare}
+use Rattle.clip_plan.proofs.Bare.{bare_words, bare_nodes, group_clause, group_plan}
 use Rattle.clip_plan.proofs.Numbering.{are_parts}
 use Rattle.clip_plan.proofs.Standing.{adds_then, adds_step, adds_behind, as_many}
 
 abbrev pub trees : List (Occur × Query) → Clauses
 trees cs = clauses_of (map (λ c. (c.0, tree_of c.1)) cs)
+
+group_tree : (query : Query) (v : Vec (Occur × Query) Global) (cs : List (Occur × Query)) → query ≡ Group v
+    → cs ≡ v.items → tree_of query ≡ Tree.Group (trees cs)
+group_tree query v cs group items =
+    ap tree_of group ∙ tree_of_group v ∙ ap (λ l. Tree.Group (trees l)) (sym items)
 
 -- ---- marks
 
@@ -52,15 +59,13 @@ words_of terms (x ∷ xs) zero c h lt is = subst (λ (y : Occur × Query). IsTru
 words_of terms (x ∷ xs) (suc i) c h lt is = words_of terms xs i c
     (are_parts terms (word_keys (tree_of x.1)) (clause_word_keys (trees xs)) h).1 (omega arith) is
 
--- the words of a group's clause are terms, as those of the group
-pub child_words : (terms : List KeyValue) (query : Query) (v : Vec (Occur × Query) Global)
-    (cs : List (Occur × Query)) (i : ℕ) (c : Occur × Query) → query ≡ Group v → cs ≡ v.items
-    → IsTrue (are_terms terms (word_keys (tree_of query))) → i < length cs → c ≡ get_or cs i c
-    → IsTrue (are_terms terms (word_keys (tree_of c.1)))
-child_words terms query v cs i c group items h lt is =
+-- the words of a clause of the group that is left of a query are terms, as those of the query
+pub child_words : (terms : List KeyValue) (tree : Tree) (cs : List (Occur × Query)) (i : ℕ) (c : Occur × Query)
+    → bare tree ≡ Tree.Group (trees cs) → IsTrue (are_terms terms (word_keys tree)) → i < length cs
+    → c ≡ get_or cs i c → IsTrue (are_terms terms (word_keys (tree_of c.1)))
+child_words terms tree cs i c left h lt is =
     words_of terms cs i c
-    (subst (λ (l : List (Occur × Query)). IsTrue (are_terms terms (clause_word_keys (trees l)))) (sym items)
-    (subst (λ (t : Tree). IsTrue (are_terms terms (word_keys t))) (ap tree_of group ∙ tree_of_group v) h))
+    (subst (λ (keys : List KeyValue). IsTrue (are_terms terms keys)) (sym (bare_words tree) ∙ ap word_keys left) h)
     lt is
 
 -- ---- size
@@ -71,14 +76,64 @@ smaller [] i c lt is = absurd (omega arith)
 smaller (x ∷ xs) zero c lt is = omega (arith, ap (λ (y : Occur × Query). nodes (tree_of y.1)) is)
 smaller (x ∷ xs) (suc i) c lt is = omega (arith, smaller xs i c (omega arith) is)
 
--- a clause's child has fewer nodes than the group
-pub child_nodes : (query : Query) (v : Vec (Occur × Query) Global) (cs : List (Occur × Query)) (i : ℕ)
-    (c : Occur × Query) → query ≡ Group v → cs ≡ v.items → i < length cs → c ≡ get_or cs i c
-    → nodes (tree_of c.1) < nodes (tree_of query)
-child_nodes query v cs i c group items lt is =
-    let whole : nodes (tree_of query) ≡ clause_nodes (trees cs) + 1 = ap nodes (ap tree_of group ∙ tree_of_group v)
-    ∙ ap (λ l. clause_nodes (trees l) + 1) (sym items) in
-    omega (arith, whole, smaller cs i c lt is)
+-- the child of such a clause has fewer nodes than the query
+pub child_nodes : (tree : Tree) (cs : List (Occur × Query)) (i : ℕ) (c : Occur × Query)
+    → bare tree ≡ Tree.Group (trees cs) → i < length cs → c ≡ get_or cs i c → nodes (tree_of c.1) < nodes tree
+child_nodes tree cs i c left lt is = omega (arith, bare_nodes tree, ap nodes left, smaller cs i c lt is)
+
+-- ---- what is left of a query
+
+-- it is this group
+pub group_left : (query left : Query) (v : Vec (Occur × Query) Global) (cs : List (Occur × Query))
+    → tree_of left ≡ bare (tree_of query) → left ≡ Group v → cs ≡ v.items
+    → bare (tree_of query) ≡ Tree.Group (trees cs)
+group_left query left v cs is group items = sym is ∙ group_tree left v cs group items
+
+only_tree : (query : Query) (v : Vec (Occur × Query) Global) (c : Occur × Query) → query ≡ Group v
+    → length v.items ≡ 1 → c ≡ get_or v.items 0 c → tree_of query ≡ Tree.Group (clause c.0 (tree_of c.1) none)
+only_tree query v c group one is = group_tree query v v.items group refl
+    ∙ ap (λ l. Tree.Group (trees l)) (only v.items one is)
+  where
+    only : (cs : List (Occur × Query)) → length cs ≡ 1 → c ≡ get_or cs 0 c → cs ≡ c ∷ []
+    only [] one is = absurd (omega (arith, one))
+    only (x ∷ []) one is = ap (λ y. y ∷ []) (sym is)
+    only (x ∷ y ∷ xs) one is = absurd (omega (arith, one))
+
+-- of a group whose only clause must or may hold, what is left of its child
+pub child_left : (query : Query) (v : Vec (Occur × Query) Global) (c : Occur × Query) → query ≡ Group v
+    → length v.items ≡ 1 → c ≡ get_or v.items 0 c → (c.0 ≡ Must) ⊎ (c.0 ≡ Should)
+    → bare (tree_of c.1) ≡ bare (tree_of query)
+child_left query v c group one is asks = by_occur asks ∙ sym (ap bare (only_tree query v c group one is))
+  where
+    by_occur : (c.0 ≡ Must) ⊎ (c.0 ≡ Should)
+        → bare (tree_of c.1) ≡ bare (Tree.Group (clause c.0 (tree_of c.1) none))
+    by_occur (inl must) = ap (λ o. bare (Tree.Group (clause o (tree_of c.1) none))) (sym must)
+    by_occur (inr should) = ap (λ o. bare (Tree.Group (clause o (tree_of c.1) none))) (sym should)
+
+-- of a group whose only clause is excluded, the group
+pub excluded_left : (query : Query) (v : Vec (Occur × Query) Global) (c : Occur × Query) → query ≡ Group v
+    → length v.items ≡ 1 → c ≡ get_or v.items 0 c → c.0 ≡ MustNot → bare (tree_of query) ≡ tree_of query
+excluded_left query v c group one is excluded = subst (λ t. bare t ≡ t)
+    (sym (only_tree query v c group one is ∙ ap (λ o. Tree.Group (clause o (tree_of c.1) none)) excluded)) refl
+
+-- of a group with no clause, or with several, the group
+pub whole_left : (query : Query) (v : Vec (Occur × Query) Global) → query ≡ Group v → (length v.items ≡ 1 → ⊥)
+    → bare (tree_of query) ≡ tree_of query
+whole_left query v group apart = subst (λ t. bare t ≡ t) (sym (group_tree query v v.items group refl))
+    (whole v.items apart)
+  where
+    several : (occur o : Occur) (child c : Tree) (others : Clauses)
+        → bare (Tree.Group (clause occur child (clause o c others)))
+        ≡ Tree.Group (clause occur child (clause o c others))
+    several Must o child c others = refl
+    several Should o child c others = refl
+    several MustNot o child c others = refl
+
+    whole : (cs : List (Occur × Query)) → (length cs ≡ 1 → ⊥)
+        → bare (Tree.Group (trees cs)) ≡ Tree.Group (trees cs)
+    whole [] apart = refl
+    whole (x ∷ []) apart = absurd (apart refl)
+    whole (x ∷ y ∷ xs) apart = several x.0 y.0 (tree_of x.1) (tree_of y.1) (trees xs)
 
 -- ---- what is added
 
@@ -97,14 +152,12 @@ clause_added {terms} {runs₀} {runs₁} {runs₂} {queries₀} {queries₁} {qu
 
 -- all clauses of a plan
 pub plan_added : {terms : List KeyValue} {runs new_runs : List (List ℕ)} {queries new_queries : List Query}
-    {steps new : List Step} (query : Query) (v : Vec (Occur × Query) Global) (cs : List (Occur × Query)) (i : ℕ)
-    → query ≡ Group v → cs ≡ v.items → length cs ≤ i
-    → Adds terms runs queries steps new_runs new_queries new (group_marks (trees (take i cs)))
-    → Adds terms runs queries steps new_runs new_queries new (plan_of (tree_of query))
-plan_added {terms} {runs} {new_runs} {queries} {new_queries} {steps} {new} query v cs i group items le f =
+    {steps new : List Step} (tree : Tree) (cs : List (Occur × Query)) (i : ℕ) → bare tree ≡ Tree.Group (trees cs)
+    → length cs ≤ i → Adds terms runs queries steps new_runs new_queries new (group_marks (trees (take i cs)))
+    → Adds terms runs queries steps new_runs new_queries new (plan_of tree)
+plan_added {terms} {runs} {new_runs} {queries} {new_queries} {steps} {new} tree cs i left le f =
     subst (Adds terms runs queries steps new_runs new_queries new)
-    (all_marks cs i le ∙ ap (λ l. group_marks (trees l)) items
-    ∙ sym (ap plan_of (ap tree_of group ∙ tree_of_group v))) f
+    (all_marks cs i le ∙ sym (group_plan tree (trees cs) left)) f
 
 -- Steps behind a group's beginning, put between its beginning and its end: at the place of the first stands then how
 -- many they are.
@@ -139,29 +192,28 @@ inside_count {more = more} front first f =
 
 -- a group as a clause, where its beginning says how many steps there are behind it, and the last step is its end
 pub group_added : {terms : List KeyValue} {runs new_runs : List (List ℕ)} {queries new_queries : List Query}
-    {steps most : List Step} (query : Query) (v : Vec (Occur × Query) Global) (cs : List (Occur × Query)) (i : ℕ)
-    (occur : Occur) (first : Step) (count : ℕ) (new : List Step) → query ≡ Group v → cs ≡ v.items → length cs ≤ i
+    {steps most : List Step} (tree : Tree) (cs : List (Occur × Query)) (i : ℕ) (occur : Occur) (first : Step)
+    (count : ℕ) (new : List Step) → bare tree ≡ Tree.Group (trees cs) → length cs ≤ i
     → Adds terms runs queries (steps ++ first ∷ []) new_runs new_queries most (group_marks (trees (take i cs)))
     → length steps + 1 + count ≡ length most
     → new ≡ set most (length steps) (step.Open occur count) ++ step.Close occur ∷ []
-    → Adds terms runs queries steps new_runs new_queries new (clause_marks occur (tree_of query))
-group_added {terms} {runs} {new_runs} {queries} {new_queries} {steps} {most} query v cs i occur first count new group
-    items le f many e =
+    → Adds terms runs queries steps new_runs new_queries new (clause_marks occur tree)
+group_added {terms} {runs} {new_runs} {queries} {new_queries} {steps} {most} tree cs i occur first count new left le f
+    many e =
     subst (Adds terms runs queries steps new_runs new_queries new)
-    (ap (λ ms. Open occur (length ms) ∷ ms ++ Close occur ∷ [])
-    (all_marks cs i le ∙ ap (λ l. group_marks (trees l)) items)
-    ∙ sym (ap (clause_marks occur) (ap tree_of group ∙ tree_of_group v)))
+    (ap (λ ms. Open occur (length ms) ∷ ms ++ Close occur ∷ []) (all_marks cs i le)
+    ∙ sym (group_clause occur tree (trees cs) left))
     (group_ended occur first count new f (omega (arith, inside_count steps first f, many)) e)
 
 -- a group that was ended, if its end was added
 pub group_closed : {T E : Type 0} (r : Result T E) {terms : List KeyValue} {runs new_runs : List (List ℕ)}
-    {queries new_queries : List Query} (steps most : List Step) (query : Query) (v : Vec (Occur × Query) Global)
-    (cs : List (Occur × Query)) (i : ℕ) (occur : Occur) (first : Step) (opening : ℕ) (new : List Step)
-    → query ≡ Group v → cs ≡ v.items → length cs ≤ i → opening ≡ length steps
+    {queries new_queries : List Query} (steps most : List Step) (tree : Tree) (cs : List (Occur × Query)) (i : ℕ)
+    (occur : Occur) (first : Step) (opening : ℕ) (new : List Step) → bare tree ≡ Tree.Group (trees cs)
+    → length cs ≤ i → opening ≡ length steps
     → Adds terms runs queries (steps ++ first ∷ []) new_runs new_queries most (group_marks (trees (take i cs)))
     → OnOk r (new ≡ set most opening (step.Open occur (length most - opening - 1)) ++ step.Close occur ∷ [])
-    → OnOk r (Adds terms runs queries steps new_runs new_queries new (clause_marks occur (tree_of query)))
-group_closed r steps most query v cs i occur first opening new group items le at f =
-    on_ok_weaker r (λ e. group_added query v cs i occur first (length most - length steps - 1) new group items le f
+    → OnOk r (Adds terms runs queries steps new_runs new_queries new (clause_marks occur tree))
+group_closed r steps most tree cs i occur first opening new left le at f =
+    on_ok_weaker r (λ e. group_added tree cs i occur first (length most - length steps - 1) new left le f
     (omega (arith, inside_count steps first f))
     (e ∙ ap (λ n. set most n (step.Open occur (length most - n - 1)) ++ step.Close occur ∷ []) at))

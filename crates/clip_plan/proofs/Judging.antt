@@ -11,7 +11,7 @@ use Rattle.clip_grammar.specs.declared.query.Occur.TheVariants.{Must, Should, Mu
 use Rattle.clip_meaning.specs.Article.{Fields}
 use Rattle.clip_meaning.specs.Meaning.{holds, verdicts, group_holds, meets_must, meets_must_not, meets_should, is_must}
 use Rattle.clip_extract.specs.Keys.{KeyValue, Word}
-use Rattle.clip_plan.specs.Plan.{Asks, Has, Run, Is, Mark, Leaf, Open, Close, group_marks, plan_of, decoded}
+use Rattle.clip_plan.specs.Plan.{Asks, Has, Run, Is, Mark, Leaf, Open, Close, clause_marks, group_marks, plan_of, decoded}
 use Rattle.clip_plan.specs.Steps.Plans.{mark_of, first_words}
 use Rattle.clip_plan.specs.declared.first_words.FirstWords.{FirstWords}
 use Rattle.clip_plan.specs.declared.first_words.TheConstants.{NO_TERM}
@@ -107,6 +107,17 @@ kept_ends : (t : Tally) (vs : List (Occur × Bool)) → (counted_all t vs).end �
 kept_ends t [] = refl
 kept_ends t (v ∷ vs) = kept_ends (counted t v.0 v.1) vs ∙ kept_end t v.0 v.1
 
+-- a group of one clause that asks
+alone_must : (held : Bool) → group_holds ((Must, held) ∷ []) ≡ held
+unfolding group_holds
+alone_must true = refl
+alone_must false = refl
+
+alone_should : (held : Bool) → group_holds ((Should, held) ∷ []) ≡ held
+unfolding group_holds
+alone_should true = refl
+alone_should false = refl
+
 only_must : (end : ℕ) (b : Bool) → tally_holds (counted (no_clauses end) Must b) ≡ b
 only_must end true = refl
 only_must end false = refl
@@ -171,15 +182,77 @@ module _ (fields : Fields) (verdict : Bool) where
   no_open (next ∷ around) occur inside marks ms place t f is = let close : Open occur inside ∷ ms ≡ Close f.0 ∷ f.1 =
       is ∙ f.2 in cc
 
+  -- ---- what is next
+
+  -- the end of the group that is open, or the first mark of a clause of it
+  data Next (around : List Tally) (marks : List (Mark KeyValue)) (place : ℕ) (top : Tally) : Type 0 where
+    AtEnd : Ends fields verdict around marks place top → Next around marks place top
+    AtLeaf : (occur : Occur) (asks : Asks KeyValue) (cs : Clauses) (others : List (Mark KeyValue))
+        → marks ≡ Leaf occur asks ∷ (group_marks cs ++ others)
+        → Ends fields verdict around others (place + suc (length (group_marks cs)))
+        (counted_all (counted top occur (leaf_holds fields asks)) (verdicts cs fields)) → Next around marks place top
+    AtGroup : (occur : Occur) (inner cs : Clauses) (others : List (Mark KeyValue))
+        → marks ≡ Open occur (length (group_marks inner)) ∷
+        (((group_marks inner ++ Close occur ∷ []) ++ group_marks cs) ++ others)
+        → Ends fields verdict around others (place + suc
+        (length ((group_marks inner ++ Close occur ∷ []) ++ group_marks cs)))
+        (counted_all (counted top occur (group_holds (verdicts inner fields))) (verdicts cs fields))
+        → Next around marks place top
+
+  -- where a clause's child is said to hold in other words
+  end_by : (around : List Tally) (others : List (Mark KeyValue)) (end : ℕ) (top : Tally) (occur : Occur)
+      (cs : Clauses) (held now : Bool) → held ≡ now
+      → Ends fields verdict around others end (counted_all (counted top occur held) (verdicts cs fields))
+      → Ends fields verdict around others end (counted_all (counted top occur now) (verdicts cs fields))
+  end_by around others end top occur cs held now same = subst
+      (λ b. Ends fields verdict around others end (counted_all (counted top occur b) (verdicts cs fields))) same
+
+  first_of : (around : List Tally) (marks others : List (Mark KeyValue)) (place : ℕ) (top : Tally) (occur : Occur)
+      (tree : Tree) (cs : Clauses) → marks ≡ (clause_marks occur tree ++ group_marks cs) ++ others
+      → Ends fields verdict around others (place + length (clause_marks occur tree ++ group_marks cs))
+      (counted_all (counted top occur (holds tree fields)) (verdicts cs fields)) → Next around marks place top
+  first_of around marks others place top occur (Tree.Term field word) cs is end =
+      AtLeaf occur (Has (Word field word)) cs others is
+      (end_by around others _ top occur cs _ _ (sym (has_word_key fields field word)) end)
+  first_of around marks others place top occur (Tree.Phrase field words) cs is end =
+      AtLeaf occur (Run (map (Word field) words)) cs others is
+      (end_by around others _ top occur cs _ _ (sym (has_word_run fields field words)) end)
+  first_of around marks others place top occur (Tree.Prefix field front) cs is end =
+      AtLeaf occur (Is (Tree.Prefix field front)) cs others is end
+  first_of around marks others place top occur (Tree.Span field low high) cs is end =
+      AtLeaf occur (Is (Tree.Span field low high)) cs others is end
+  first_of around marks others place top occur Tree.All cs is end = AtLeaf occur (Is Tree.All) cs others is end
+  first_of around marks others place top occur (Tree.Group (clause Must child none)) cs is end =
+      first_of around marks others place top occur child cs is
+      (end_by around others _ top occur cs _ _ (alone_must (holds child fields)) end)
+  first_of around marks others place top occur (Tree.Group (clause Should child none)) cs is end =
+      first_of around marks others place top occur child cs is
+      (end_by around others _ top occur cs _ _ (alone_should (holds child fields)) end)
+  first_of around marks others place top occur (Tree.Group inner) cs is end =
+      AtGroup occur inner cs others is end
+
+  next_by : (around : List Tally) (marks others : List (Mark KeyValue)) (place : ℕ) (top : Tally)
+      (clauses : Clauses) → marks ≡ group_marks clauses ++ others
+      → Ends fields verdict around others (place + length (group_marks clauses))
+      (counted_all top (verdicts clauses fields)) → Next around marks place top
+  next_by around marks others place top none is end = AtEnd (subst (λ l. Ends fields verdict around l place top)
+      (sym is) (ends_moved around others (place + 0) place top top (omega arith) refl end))
+  next_by around marks others place top (clause occur tree cs) is end =
+      first_of around marks others place top occur tree cs is end
+
+  next_in : (around : List Tally) (marks : List (Mark KeyValue)) (place : ℕ) (top : Tally)
+      → Left (Ends fields verdict around) fields marks place top → Next around marks place top
+  next_in around marks place top f = next_by around marks f.others place top f.clauses f.are f.end
+
   -- ---- a leaf
 
   leaf_first : (around : List Tally) (occur o : Occur) (asks a : Asks KeyValue) (ms others : List (Mark KeyValue))
-      (place : ℕ) (top : Tally) (held : Bool) (cs : Clauses) → leaf_holds fields a ≡ held
+      (place : ℕ) (top : Tally) (cs : Clauses)
       → Leaf occur asks ∷ ms ≡ Leaf o a ∷ (group_marks cs ++ others)
       → Ends fields verdict around others (place + suc (length (group_marks cs)))
-      (counted_all (counted top o held) (verdicts cs fields))
+      (counted_all (counted top o (leaf_holds fields a)) (verdicts cs fields))
       → Left (Ends fields verdict around) fields ms (place + 1) (counted top occur (leaf_holds fields asks))
-  leaf_first around occur o asks a ms others place top held cs so is end =
+  leaf_first around occur o asks a ms others place top cs is end =
       let same : o ≡ occur = cc in
       let one : a ≡ asks = cc in
       record {
@@ -187,42 +260,27 @@ module _ (fields : Fields) (verdict : Bool) where
         others = others;
         are = cc;
         end = ends_moved around others (place + suc (length (group_marks cs))) (place + 1 + length (group_marks cs))
-            (counted_all (counted top o held) (verdicts cs fields))
+            (counted_all (counted top o (leaf_holds fields a)) (verdicts cs fields))
             (counted_all (counted top occur (leaf_holds fields asks)) (verdicts cs fields)) (omega arith)
-            (ap (λ b. counted_all (counted top o b) (verdicts cs fields)) (sym so)
-            ∙ ap (λ x. counted_all (counted top o (leaf_holds fields x)) (verdicts cs fields)) one
+            (ap (λ x. counted_all (counted top o (leaf_holds fields x)) (verdicts cs fields)) one
             ∙ ap (λ x. counted_all (counted top x (leaf_holds fields asks)) (verdicts cs fields)) same) end;
       }
 
-  leaf_by : (around : List Tally) (occur : Occur) (asks : Asks KeyValue) (ms others : List (Mark KeyValue))
-      (place : ℕ) (top : Tally) (clauses : Clauses) → Leaf occur asks ∷ ms ≡ group_marks clauses ++ others
-      → Ends fields verdict around others (place + length (group_marks clauses))
-      (counted_all top (verdicts clauses fields)) → Left (Ends fields verdict around) fields ms (place + 1)
-      (counted top occur (leaf_holds fields asks))
-  leaf_by around occur asks ms others place top none is end = absurd
-      (no_leaf around occur asks others ms (place + 0) top end is)
-  leaf_by around occur asks ms others place top (clause o (Tree.Term field word) cs) is end =
-      leaf_first around occur o asks (Has (Word field word)) ms others place top
-      (holds (Tree.Term field word) fields) cs (has_word_key fields field word) is end
-  leaf_by around occur asks ms others place top (clause o (Tree.Phrase field words) cs) is end =
-      leaf_first around occur o asks (Run (map (Word field) words)) ms others place top
-      (holds (Tree.Phrase field words) fields) cs (has_word_run fields field words) is end
-  leaf_by around occur asks ms others place top (clause o (Tree.Prefix field front) cs) is end =
-      leaf_first around occur o asks (Is (Tree.Prefix field front)) ms others place top
-      (holds (Tree.Prefix field front) fields) cs refl is end
-  leaf_by around occur asks ms others place top (clause o (Tree.Span field low high) cs) is end =
-      leaf_first around occur o asks (Is (Tree.Span field low high)) ms others place top
-      (holds (Tree.Span field low high) fields) cs refl is end
-  leaf_by around occur asks ms others place top (clause o Tree.All cs) is end =
-      leaf_first around occur o asks (Is Tree.All) ms others place top true cs refl is end
-  leaf_by around occur asks ms others place top (clause o (Tree.Group inner) cs) is end = absurd
+  leaf_at : (around : List Tally) (occur : Occur) (asks : Asks KeyValue) (ms : List (Mark KeyValue)) (place : ℕ)
+      (top : Tally) → Next around (Leaf occur asks ∷ ms) place top
+      → Left (Ends fields verdict around) fields ms (place + 1) (counted top occur (leaf_holds fields asks))
+  leaf_at around occur asks ms place top (AtEnd end) = absurd
+      (no_leaf around occur asks (Leaf occur asks ∷ ms) ms place top end refl)
+  leaf_at around occur asks ms place top (AtLeaf o a cs others is end) =
+      leaf_first around occur o asks a ms others place top cs is end
+  leaf_at around occur asks ms place top (AtGroup o inner cs others is end) = absurd
       (not_leaf o (length (group_marks inner)) _ occur asks ms (sym is))
 
   leaf_counted : (around : List Tally) (occur : Occur) (asks : Asks KeyValue) (ms : List (Mark KeyValue)) (place : ℕ)
       (top : Tally) → Left (Ends fields verdict around) fields (Leaf occur asks ∷ ms) place top
       → Left (Ends fields verdict around) fields ms (place + 1) (counted top occur (leaf_holds fields asks))
-  leaf_counted around occur asks ms place top f = leaf_by around occur asks ms f.others place top f.clauses f.are
-      f.end
+  leaf_counted around occur asks ms place top f = leaf_at around occur asks ms place top
+      (next_in around (Leaf occur asks ∷ ms) place top f)
 
   -- ---- a group
 
@@ -268,30 +326,20 @@ module _ (fields : Fields) (verdict : Bool) where
             end;
       }
 
-  group_by : (around : List Tally) (occur : Occur) (inside : ℕ) (ms others : List (Mark KeyValue)) (place : ℕ)
-      (top : Tally) (clauses : Clauses) → Open occur inside ∷ ms ≡ group_marks clauses ++ others
-      → Ends fields verdict around others (place + length (group_marks clauses))
-      (counted_all top (verdicts clauses fields)) → GroupFirst around occur inside ms place top
-  group_by around occur inside ms others place top none is end = absurd
-      (no_open around occur inside others ms (place + 0) top end is)
-  group_by around occur inside ms others place top (clause o (Tree.Group inner) cs) is end = group_first around occur
-      o inside ms others place top inner cs is end
-  group_by around occur inside ms others place top (clause o (Tree.Term field word) cs) is end = absurd
-      (not_leaf occur inside ms o _ _ is)
-  group_by around occur inside ms others place top (clause o (Tree.Phrase field words) cs) is end = absurd
-      (not_leaf occur inside ms o _ _ is)
-  group_by around occur inside ms others place top (clause o (Tree.Prefix field front) cs) is end = absurd
-      (not_leaf occur inside ms o _ _ is)
-  group_by around occur inside ms others place top (clause o (Tree.Span field low high) cs) is end = absurd
-      (not_leaf occur inside ms o _ _ is)
-  group_by around occur inside ms others place top (clause o Tree.All cs) is end = absurd
-      (not_leaf occur inside ms o _ _ is)
+  group_at : (around : List Tally) (occur : Occur) (inside : ℕ) (ms : List (Mark KeyValue)) (place : ℕ) (top : Tally)
+      → Next around (Open occur inside ∷ ms) place top → GroupFirst around occur inside ms place top
+  group_at around occur inside ms place top (AtEnd end) = absurd
+      (no_open around occur inside (Open occur inside ∷ ms) ms place top end refl)
+  group_at around occur inside ms place top (AtLeaf o a cs others is end) = absurd
+      (not_leaf occur inside ms o a _ is)
+  group_at around occur inside ms place top (AtGroup o inner cs others is end) =
+      group_first around occur o inside ms others place top inner cs is end
 
   group_of : (around : List Tally) (occur : Occur) (inside : ℕ) (ms : List (Mark KeyValue)) (place : ℕ) (top : Tally)
       → Left (Ends fields verdict around) fields (Open occur inside ∷ ms) place top
       → GroupFirst around occur inside ms place top
-  group_of around occur inside ms place top f = group_by around occur inside ms f.others place top f.clauses f.are
-      f.end
+  group_of around occur inside ms place top f = group_at around occur inside ms place top
+      (next_in around (Open occur inside ∷ ms) place top f)
 
   -- its clauses are next, and those of the group around it come behind its end
   group_entered : (around : List Tally) (occur : Occur) (inside : ℕ) (ms : List (Mark KeyValue)) (place : ℕ)
@@ -339,35 +387,29 @@ module _ (fields : Fields) (verdict : Bool) where
 
   -- ---- a group's end
 
-  close_by : (around : List Tally) (occur : Occur) (ms others : List (Mark KeyValue)) (place : ℕ) (top : Tally)
-      (clauses : Clauses) → Close occur ∷ ms ≡ group_marks clauses ++ others
-      → Ends fields verdict around others (place + length (group_marks clauses))
-      (counted_all top (verdicts clauses fields)) → Ends fields verdict around (Close occur ∷ ms) place top
-  close_by around occur ms others place top none is end = subst (λ l. Ends fields verdict around l place top)
-      (sym is) (ends_moved around others (place + 0) place top top (omega arith) refl end)
-  close_by around occur ms others place top (clause o (Tree.Group inner) cs) is end = absurd
+  close_at : (around : List Tally) (occur : Occur) (ms : List (Mark KeyValue)) (place : ℕ) (top : Tally)
+      → Next around (Close occur ∷ ms) place top → Ends fields verdict around (Close occur ∷ ms) place top
+  close_at around occur ms place top (AtEnd end) = end
+  close_at around occur ms place top (AtLeaf o a cs others is end) = absurd (close_no_leaf occur ms o a _ is)
+  close_at around occur ms place top (AtGroup o inner cs others is end) = absurd
       (close_no_open occur ms o _ _ is)
-  close_by around occur ms others place top (clause o (Tree.Term field word) cs) is end = absurd
-      (close_no_leaf occur ms o _ _ is)
-  close_by around occur ms others place top (clause o (Tree.Phrase field words) cs) is end = absurd
-      (close_no_leaf occur ms o _ _ is)
-  close_by around occur ms others place top (clause o (Tree.Prefix field front) cs) is end = absurd
-      (close_no_leaf occur ms o _ _ is)
-  close_by around occur ms others place top (clause o (Tree.Span field low high) cs) is end = absurd
-      (close_no_leaf occur ms o _ _ is)
-  close_by around occur ms others place top (clause o Tree.All cs) is end = absurd (close_no_leaf occur ms o _ _ is)
+
+  close_of : (around : List Tally) (occur : Occur) (ms : List (Mark KeyValue)) (place : ℕ) (top : Tally)
+      → Left (Ends fields verdict around) fields (Close occur ∷ ms) place top
+      → Ends fields verdict around (Close occur ∷ ms) place top
+  close_of around occur ms place top f = close_at around occur ms place top
+      (next_in around (Close occur ∷ ms) place top f)
 
   -- the outermost group has no end among the marks
   close_alone : (occur : Occur) (ms : List (Mark KeyValue)) (place : ℕ) (top : Tally)
       → Left (Ends fields verdict []) fields (Close occur ∷ ms) place top → ⊥
-  close_alone occur ms place top f = close_no_end occur ms
-      (close_by [] occur ms f.others place top f.clauses f.are f.end).0
+  close_alone occur ms place top f = close_no_end occur ms (close_of [] occur ms place top f).0
 
   close_counted : (next : Tally) (around : List Tally) (occur : Occur) (ms : List (Mark KeyValue)) (place : ℕ)
       (top : Tally) → Left (Ends fields verdict (next ∷ around)) fields (Close occur ∷ ms) place top
       → Left (Ends fields verdict around) fields ms (place + 1) (counted next occur (tally_holds top))
   close_counted next around occur ms place top f =
-      let at = close_by (next ∷ around) occur ms f.others place top f.clauses f.are f.end in
+      let at = close_of (next ∷ around) occur ms place top f in
       let same : at.0 ≡ occur = close_occur occur at.0 ms at.1 at.2 in
       let tail : at.1 ≡ ms = close_tail occur at.0 ms at.1 at.2 in
       subst (λ l. Left (Ends fields verdict around) fields l (place + 1) (counted next occur (tally_holds top))) tail
@@ -446,23 +488,11 @@ module _ (fields : Fields) (verdict : Bool) where
 
   -- ---- where all is judged
 
-  judged_by : (around : List Tally) (marks others : List (Mark KeyValue)) (place : ℕ) (top : Tally)
-      (clauses : Clauses) → marks ≡ [] → marks ≡ group_marks clauses ++ others
-      → Ends fields verdict around others (place + length (group_marks clauses))
-      (counted_all top (verdicts clauses fields)) → Ends fields verdict around [] (place + 0) top
-  judged_by around marks others place top none empty is end = subst
-      (λ l. Ends fields verdict around l (place + 0) top) (sym is ∙ empty) end
-  judged_by around marks others place top (clause o (Tree.Term field word) cs) empty is end = absurd
-      (no_marks _ _ (sym empty ∙ is))
-  judged_by around marks others place top (clause o (Tree.Phrase field words) cs) empty is end = absurd
-      (no_marks _ _ (sym empty ∙ is))
-  judged_by around marks others place top (clause o (Tree.Prefix field front) cs) empty is end = absurd
-      (no_marks _ _ (sym empty ∙ is))
-  judged_by around marks others place top (clause o (Tree.Span field low high) cs) empty is end = absurd
-      (no_marks _ _ (sym empty ∙ is))
-  judged_by around marks others place top (clause o Tree.All cs) empty is end = absurd (no_marks _ _ (sym empty ∙ is))
-  judged_by around marks others place top (clause o (Tree.Group inner) cs) empty is end = absurd
-      (no_marks _ _ (sym empty ∙ is))
+  none_at : (around : List Tally) (place : ℕ) (top : Tally) → Next around [] place top
+      → Ends fields verdict around [] place top
+  none_at around place top (AtEnd end) = end
+  none_at around place top (AtLeaf o a cs others is end) = absurd (no_marks _ _ is)
+  none_at around place top (AtGroup o inner cs others is end) = absurd (no_marks _ _ is)
 
   ended : (around : List Tally) (place : ℕ) (top : Tally) → Ends fields verdict around [] place top
       → tally_holds top ≡ verdict
@@ -472,8 +502,8 @@ module _ (fields : Fields) (verdict : Bool) where
   -- no mark is left
   pub judged : (around : List Tally) (marks : List (Mark KeyValue)) (place : ℕ) (top : Tally) → length marks ≤ place
       → LeadTo fields verdict marks place top around → tally_holds top ≡ verdict
-  judged around marks place top all f = ended around (place + 0) top
-      (judged_by around (drop place marks) f.others place top f.clauses (drop_all place marks all) f.are f.end)
+  judged around marks place top all f = ended around place top (none_at around place top (next_in around [] place top
+      (subst (λ l. Left (Ends fields verdict around) fields l place top) (drop_all place marks all) f)))
 
 before_none : (n : ℕ) → n ≡ 0 + n
 before_none n = omega arith
@@ -481,6 +511,12 @@ before_none n = omega arith
 -- the clauses of a plan are next
 pub begun : (fields : Fields) (tree : Tree) → LeadTo fields (holds tree fields) (plan_of tree) 0
     (no_clauses (length (plan_of tree))) []
+begun fields (Tree.Group (clause Must child none)) = subst
+    (λ held. LeadTo fields held (plan_of child) 0 (no_clauses (length (plan_of child))) [])
+    (sym (alone_must (holds child fields))) (begun fields child)
+begun fields (Tree.Group (clause Should child none)) = subst
+    (λ held. LeadTo fields held (plan_of child) 0 (no_clauses (length (plan_of child))) [])
+    (sym (alone_should (holds child fields))) (begun fields child)
 begun fields (Tree.Group clauses) =
     let fresh = no_clauses (length (group_marks clauses)) in
     record {

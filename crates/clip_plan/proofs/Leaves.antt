@@ -1,21 +1,23 @@
 -- The marks of queries that are no groups.
-use Rattle.std.proofs.Common.{◌≡◌, ℕ, ◌<◌, ◌≤◌, List, [], ◌∷◌, ◌++◌, map, length, slice_get, get_or, unwrap_or, Vec, Global, Result, OnOk, sym, ap, ◌∙◌, subst, arith}
+use Rattle.std.proofs.Common.{◌≡◌, ℕ, ◌<◌, ◌≤◌, List, [], ◌∷◌, ◌++◌, map, length, slice_get, get_or, unwrap_or, Vec, Global, Result, OnOk, refl, sym, ap, ◌∙◌, subst, arith}
 use Rattle.std.specs.Arc.{arc_str_bytes}
 use Rattle.std.specs.declared.sync.ArcStr.{ArcStr}
 use Rattle.std.proofs.lemmas.Result.{on_ok_weaker}
 use Rattle.clip_grammar.specs.Tree.{Tree, tree_of, tree_step, end_of}
 use Rattle.clip_grammar.specs.declared.query.Bound.{Bound}
 use Rattle.clip_grammar.specs.declared.query.Occur.{Occur}
+use Rattle.clip_grammar.specs.declared.query.Occur.TheVariants.{Must}
 use Rattle.clip_grammar.specs.declared.query.Query.{Query}
 use Rattle.clip_grammar.specs.declared.query.Query.TheOpen as layer
-use Rattle.clip_grammar.specs.declared.query.Query.TheVariants.{Term, Phrase, Prefix, Span, All, rolls-Term, rolls-Phrase, rolls-Prefix, rolls-Span, rolls-All}
+use Rattle.clip_grammar.specs.declared.query.Query.TheVariants.{Term, Phrase, Prefix, Span, All, rolls-Term, rolls-Phrase, rolls-Prefix, rolls-Span, rolls-All, rolls-Group}
 use Rattle.clip_grammar.specs.declared.query.Query.TheFolds.{fold-roll-Query}
+use Rattle.clip_grammar.specs.declared.query.Query.TheViews.{roll-Query, out-Query, roll-out-Query}
 use Rattle.clip_extract.specs.Keys.{KeyValue, Word}
 use Rattle.clip_terms.specs.Terms.{term_at}
-use Rattle.clip_plan.specs.Plan.{Leaf, Is, Run, clause_marks}
+use Rattle.clip_plan.specs.Plan.{Leaf, Is, Run, clause_marks, plan_of}
 use Rattle.clip_plan.specs.declared.step.Step.{Step}
 use Rattle.clip_plan.specs.declared.step.Step.TheVariants as step
-use Rattle.clip_plan.specs.Steps.Plans.{Grows, Adds}
+use Rattle.clip_plan.specs.Steps.Plans.{Grows, Adds, IsNoGroup}
 use Rattle.clip_plan.proofs.Words.{phrase_words}
 use Rattle.clip_plan.proofs.Standing.{adds_term, adds_step, adds_phrase}
 
@@ -35,6 +37,19 @@ tree_of_span field low high = ap tree_of (sym (rolls-Span field low high)) ∙ f
 
 pub tree_of_all : tree_of All ≡ Tree.All
 tree_of_all = ap tree_of (sym rolls-All) ∙ fold-roll-Query Tree tree_step layer.All
+
+-- ---- plans
+
+layer_plan : (l : layer.Query-F Query) → IsNoGroup (roll-Query l)
+    → clause_marks Must (tree_of (roll-Query l)) ≡ plan_of (tree_of (roll-Query l))
+layer_plan (layer.Group v) apart = absurd (apart v (rolls-Group v))
+layer_plan l apart = subst (λ t. clause_marks Must t ≡ plan_of t) (sym (fold-roll-Query Tree tree_step l)) refl
+
+-- a query that is no group is the only clause, which must hold
+pub leaf_plan : (query : Query) → IsNoGroup query → clause_marks Must (tree_of query) ≡ plan_of (tree_of query)
+leaf_plan query apart =
+    subst (λ q. clause_marks Must (tree_of q) ≡ plan_of (tree_of q)) (roll-out-Query query)
+    (layer_plan (out-Query query) (λ v is. apart v (sym (roll-out-Query query) ∙ is)))
 
 -- ---- what is added
 

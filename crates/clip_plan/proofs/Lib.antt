@@ -1,4 +1,5 @@
 pub mod AskedKeys
+pub mod Bare
 pub mod Clauses
 pub mod Copies
 pub mod Judging

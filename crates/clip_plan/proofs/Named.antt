@@ -8,7 +8,7 @@ use Rattle.std.proofs.lemmas.Slice.Eq.{bytes_eq-Decides}
 use Rattle.clip_grammar.proofs.Booleans.{same_answer}
 use Rattle.clip_grammar.specs.Tree.{Tree, Clauses, none, clause}
 use Rattle.clip_grammar.specs.declared.query.Occur.{Occur}
-use Rattle.clip_grammar.specs.declared.query.Occur.TheVariants.{Must}
+use Rattle.clip_grammar.specs.declared.query.Occur.TheVariants.{Must, Should}
 use Rattle.clip_meaning.specs.Hits.{asks, covers, hits_in, is_named, is_named_by, is_within}
 use Rattle.clip_meaning.specs.Index.{numbered}
 use Rattle.clip_extract.specs.Keys.{KeyValue, Word, is_same}
@@ -95,6 +95,8 @@ mutual
   clause_balanced occur (Tree.Prefix field front) e = refl
   clause_balanced occur (Tree.Span field low high) e = refl
   clause_balanced occur Tree.All e = refl
+  clause_balanced occur (Tree.Group (clause Must child none)) e = clause_balanced occur child e
+  clause_balanced occur (Tree.Group (clause Should child none)) e = clause_balanced occur child e
   clause_balanced occur (Tree.Group clauses) e =
       ap (λ n. n - 1) (excluded_append (group_marks clauses) (Close occur ∷ []) e ∙ group_balanced clauses (excluded_before {K = KeyValue} (Close occur) e)) ∙ opened (asks occur) e
 
@@ -125,6 +127,10 @@ module _ (field : FieldValue) (k : ℕ) where
   no_zero true = refl
   no_zero false = refl
 
+  -- what a group names whose only clause asks
+  named_alone : (child : Tree) → (is_named child field.0 field.1 word || false) ≡ is_named child field.0 field.1 word
+  named_alone child = or_false (is_named child field.0 field.1 word)
+
   mutual
     clause_named : (occur : Occur) (tree : Tree) (e : ℕ) → marks_name field k (clause_marks occur tree) e ≡ ((asks occur && e == 0) && is_named tree field.0 field.1 word)
     clause_named occur (Tree.Term f v) e = or_false _ ∙ ap (λ b. (asks occur && e == 0) && b) (at_word field.0 (get_or field.1 k []) f v)
@@ -132,6 +138,10 @@ module _ (field : FieldValue) (k : ℕ) where
     clause_named occur (Tree.Prefix f front) e = or_false _
     clause_named occur (Tree.Span f low high) e = or_false _
     clause_named occur Tree.All e = or_false _
+    clause_named occur (Tree.Group (clause Must child none)) e =
+        clause_named occur child e ∙ ap (λ b. (asks occur && e == 0) && b) (sym (named_alone child))
+    clause_named occur (Tree.Group (clause Should child none)) e =
+        clause_named occur child e ∙ ap (λ b. (asks occur && e == 0) && b) (sym (named_alone child))
     clause_named occur (Tree.Group clauses) e =
         name_append (group_marks clauses) (Close occur ∷ []) e
         ∙ or_false (marks_name field k (group_marks clauses) (excluded_before {K = KeyValue} (Close occur) e))
@@ -147,12 +157,10 @@ module _ (field : FieldValue) (k : ℕ) where
         ∙ one_more (e == 0) (asks occur) (is_named child field.0 field.1 word) (is_named_by others field.0 field.1 word)
 
   pub plan_named : (tree : Tree) → marks_name field k (plan_of tree) 0 ≡ is_named tree field.0 field.1 word
+  plan_named (Tree.Group (clause Must child none)) = plan_named child ∙ sym (named_alone child)
+  plan_named (Tree.Group (clause Should child none)) = plan_named child ∙ sym (named_alone child)
   plan_named (Tree.Group clauses) = group_named clauses 0
-  plan_named (Tree.Term f v) = clause_named Must (Tree.Term f v) 0
-  plan_named (Tree.Phrase f phrase) = clause_named Must (Tree.Phrase f phrase) 0
-  plan_named (Tree.Prefix f front) = clause_named Must (Tree.Prefix f front) 0
-  plan_named (Tree.Span f low high) = clause_named Must (Tree.Span f low high) 0
-  plan_named Tree.All = clause_named Must Tree.All 0
+  plan_named leaf = clause_named Must leaf 0
 
 -- ---- from the last step to the first
 

@@ -7,7 +7,7 @@ use Rattle.std.proofs.lemmas.List.Folds.{list_any-append}
 use Rattle.std.proofs.lemmas.Grind.{flat_map-append}
 use Rattle.clip_grammar.specs.Tree.{Tree, Clauses, none, clause}
 use Rattle.clip_grammar.specs.declared.query.Occur.{Occur}
-use Rattle.clip_grammar.specs.declared.query.Occur.TheVariants.{Must}
+use Rattle.clip_grammar.specs.declared.query.Occur.TheVariants.{Must, Should}
 use Rattle.clip_extract.specs.Keys.{KeyValue, Any, Word, is_same}
 use Rattle.clip_extract.proofs.Order.{same_itself}
 use Rattle.clip_terms.specs.Terms.{term_at, number_of}
@@ -77,6 +77,10 @@ mutual
   clause_names occur (Tree.Prefix field front) = refl
   clause_names occur (Tree.Span field low high) = refl
   clause_names occur Tree.All = refl
+  clause_names occur (Tree.Group (clause Must child none)) =
+      clause_names occur child ∙ sym (append-nil (word_keys child))
+  clause_names occur (Tree.Group (clause Should child none)) =
+      clause_names occur child ∙ sym (append-nil (word_keys child))
   clause_names occur (Tree.Group clauses) =
       flat_map-append mark_names (group_marks clauses) (Close occur ∷ []) ∙ append-nil (names (group_marks clauses)) ∙ group_names clauses
 
@@ -88,12 +92,10 @@ mutual
       ∙ ap (λ ks. word_keys child ++ ks) (group_names others)
 
 plan_names : (tree : Tree) → names (plan_of tree) ≡ word_keys tree
+plan_names (Tree.Group (clause Must child none)) = plan_names child ∙ sym (append-nil (word_keys child))
+plan_names (Tree.Group (clause Should child none)) = plan_names child ∙ sym (append-nil (word_keys child))
 plan_names (Tree.Group clauses) = group_names clauses
-plan_names (Tree.Term field word) = clause_names Must (Tree.Term field word)
-plan_names (Tree.Phrase field words) = clause_names Must (Tree.Phrase field words)
-plan_names (Tree.Prefix field front) = clause_names Must (Tree.Prefix field front)
-plan_names (Tree.Span field low high) = clause_names Must (Tree.Span field low high)
-plan_names Tree.All = clause_names Must Tree.All
+plan_names leaf = clause_names Must leaf
 
 -- the numbers of a query's plan are those of its words
 pub numbered_words : (terms : List KeyValue) (plan : List (Mark ℕ)) (tree : Tree) → decoded terms plan ≡ plan_of tree → map (term_at terms) (names plan) ≡ word_keys tree

@@ -3,7 +3,7 @@ use Rattle.std.specs.Prelude.{ℕ, Bool, List, [], ◌∷◌, ◌++◌, map, len
 use Rattle.std.specs.List.{list_all, list_any}
 use Rattle.clip_grammar.specs.Tree.{Tree, Clauses, none, clause}
 use Rattle.clip_grammar.specs.declared.query.Occur.{Occur}
-use Rattle.clip_grammar.specs.declared.query.Occur.TheVariants.{Must}
+use Rattle.clip_grammar.specs.declared.query.Occur.TheVariants.{Must, Should}
 use Rattle.clip_extract.specs.Keys.{KeyValue, Word, is_same}
 use Rattle.clip_terms.specs.Terms.{term_at}
 
@@ -65,13 +65,15 @@ renamed numbers marks = map (named (renumbered numbers)) marks
 -- ---- the plan of a query
 
 abbrev mutual
-  -- a query as a clause
+  -- a query as a clause; a group whose only clause must or may hold is that clause's child
   pub clause_marks : Occur → Tree → List (Mark KeyValue)
   clause_marks occur (Tree.Term field word) = Leaf occur (Has (Word field word)) ∷ []
   clause_marks occur (Tree.Phrase field words) = Leaf occur (Run (map (Word field) words)) ∷ []
   clause_marks occur (Tree.Prefix field front) = Leaf occur (Is (Tree.Prefix field front)) ∷ []
   clause_marks occur (Tree.Span field low high) = Leaf occur (Is (Tree.Span field low high)) ∷ []
   clause_marks occur Tree.All = Leaf occur (Is Tree.All) ∷ []
+  clause_marks occur (Tree.Group (clause Must child none)) = clause_marks occur child
+  clause_marks occur (Tree.Group (clause Should child none)) = clause_marks occur child
   clause_marks occur (Tree.Group clauses) =
       Open occur (length (group_marks clauses)) ∷ group_marks clauses ++ Close occur ∷ []
 
@@ -79,14 +81,13 @@ abbrev mutual
   group_marks none = []
   group_marks (clause occur child others) = clause_marks occur child ++ group_marks others
 
--- the clauses of a group; of another query, the query as the only clause, which must hold
+-- the clauses of a group; of another query, the query as the only clause, which must hold; a group whose only clause
+-- must or may hold has the plan of that clause's child
 abbrev pub plan_of : Tree → List (Mark KeyValue)
+plan_of (Tree.Group (clause Must child none)) = plan_of child
+plan_of (Tree.Group (clause Should child none)) = plan_of child
 plan_of (Tree.Group clauses) = group_marks clauses
-plan_of (Tree.Term field word) = clause_marks Must (Tree.Term field word)
-plan_of (Tree.Phrase field words) = clause_marks Must (Tree.Phrase field words)
-plan_of (Tree.Prefix field front) = clause_marks Must (Tree.Prefix field front)
-plan_of (Tree.Span field low high) = clause_marks Must (Tree.Span field low high)
-plan_of Tree.All = clause_marks Must Tree.All
+plan_of leaf = clause_marks Must leaf
 
 -- ---- the words that a plan asks for
 

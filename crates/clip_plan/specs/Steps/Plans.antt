@@ -3,7 +3,7 @@ use Rattle.std.specs.Prelude.{◌≡◌, ℕ, ◌<◌, List, [], ◌∷◌, ◌+
 use Rattle.std.specs.List.{All}
 use Rattle.std.specs.declared.vec.Vec.{Vec}
 use Rattle.std.specs.declared.alloc.Global.{Global}
-use Rattle.clip_grammar.specs.Tree.{Tree, tree_of}
+use Rattle.clip_grammar.specs.Tree.{Tree, none, clause, tree_of}
 use Rattle.clip_grammar.specs.declared.query.Occur.{Occur}
 use Rattle.clip_grammar.specs.declared.query.Occur.TheVariants.{Must, Should, MustNot}
 use Rattle.clip_grammar.specs.declared.query.Query.{Query}
@@ -93,6 +93,12 @@ pub record Adds (terms : List KeyValue) (runs : List (List ℕ)) (queries : List
     pub added : List Step
     pub behind : new_steps ≡ steps ++ added
     pub stand : StandFor terms new_runs new_queries added more
+
+-- a query without the groups around it whose only clause must or may hold
+abbrev pub bare : Tree → Tree
+bare (Tree.Group (clause Must child none)) = bare child
+bare (Tree.Group (clause Should child none)) = bare child
+bare tree = tree
 
 -- the query is no group
 abbrev pub IsNoGroup : Query → Type 0

@@ -1,9 +1,12 @@
-use Rattle.std.proofs.Common.{◌<◌, ◌++◌, List, [], ◌∷◌, sym, subst, arith}
+use Rattle.std.proofs.Common.{◌<◌, ◌++◌, List, [], ◌∷◌, OnOk, IsTrue, sym, ap, ◌∙◌, subst, arith}
 use Rattle.clip_grammar.specs.Tree.{tree_of, nodes}
+use Rattle.clip_extract.specs.Keys.{KeyValue}
+use Rattle.clip_plan.specs.Plan.{Mark, clause_marks, word_keys, are_terms}
 use Rattle.clip_plan.specs.Steps.Plans.{Adds}
 use Rattle.clip_plan.specs.declared.step.Step.{Step}
 use Rattle.clip_plan.specs.declared.step.Step.TheVariants as step
-use Rattle.clip_plan.proofs.Clauses.{child_words, child_nodes, clause_added, inside_count, group_closed}
+use Rattle.clip_plan.proofs.Bare.{bare_clause, bare_words}
+use Rattle.clip_plan.proofs.Clauses.{group_left, child_words, child_nodes, clause_added, inside_count, group_closed}
 use Rattle.clip_plan.proofs.Standing.{adds_nothing, grows_not, as_long, longer}
 use Rattle.clip_plan.proofs.plans.+add_clause.Goals as goal
 
@@ -27,16 +30,35 @@ end_group-requires t c = omega (
 
 pub add_clause-requires : goal.add_clause-requires
 add_clause-requires t c =
+    let tree = tree_of c.args.query.now in
     let cs = c.deref-occur-items.result.now in
     let i = c.loop-occur.occur-index in
     let child = c.loop-occur-item.result in
-    let fewer : nodes (tree_of child.1) < nodes (tree_of c.args.query.now) = child_nodes c.args.query.now
-    c.in-Group.clauses cs i child c.in-Group.is c.deref-occur-items.ensures.value c.loop-occur-test.true
+    let left = group_left c.args.query.now c.bare.result.now c.in-Group.clauses cs c.bare.ensures c.in-Group.is
+    c.deref-occur-items.ensures.value in
+    let fewer : nodes (tree_of child.1) < nodes tree = child_nodes tree cs i child left c.loop-occur-test.true
     c.loop-occur-item.is in (
       omega (arith, fewer, c.decreases),
-      child_words c.args.terms.now c.args.query.now c.in-Group.clauses cs i child
-          c.in-Group.is c.deref-occur-items.ensures.value c.requires c.loop-occur-test.true c.loop-occur-item.is,
+      child_words c.args.terms.now tree cs i child left c.requires c.loop-occur-test.true c.loop-occur-item.is,
     )
+
+pub add_leaf-requires : goal.add_leaf-requires
+add_leaf-requires t c = record {
+  leaf = c.in_default.not-Group;
+  words = subst (λ (keys : List KeyValue). IsTrue (are_terms c.args.terms.now keys))
+      (sym (ap word_keys c.bare.ensures ∙ bare_words (tree_of c.args.query.now))) c.requires;
+}
+
+pub returns-in_default : goal.returns-in_default
+returns-in_default t c = record {
+  runs = c.add_leaf.ensures.runs;
+  queries = c.add_leaf.ensures.queries;
+  added = subst (λ (ms : List (Mark KeyValue)). OnOk c.add_leaf.result (Adds c.args.terms.now c.args.runs.now
+      c.args.queries.now.items c.args.steps.now.items c.add_leaf.new.runs c.add_leaf.new.queries.items
+      c.add_leaf.new.steps.items ms))
+      (ap (clause_marks c.args.occur) c.bare.ensures ∙ bare_clause c.args.occur (tree_of c.args.query.now))
+      c.add_leaf.ensures.added;
+}
 
 pub loop-occur-preserved : goal.loop-occur-preserved
 loop-occur-preserved t c =
@@ -59,8 +81,11 @@ returns-after-loop-occur-clause-queries t c = longer c.loop-occur.invariant.quer
 
 pub returns-after-loop-occur-clause-added : goal.returns-after-loop-occur-clause-added
 returns-after-loop-occur-clause-added t c =
-    group_closed c.end_group.result c.args.steps.now.items c.loop-occur.steps.items c.args.query.now
-    c.in-Group.clauses c.deref-occur-items.result.now c.loop-occur.occur-index c.args.occur
-    (step.Open c.args.occur 0) c.len-opening.result c.end_group.new.steps.items
-    c.in-Group.is c.deref-occur-items.ensures.value c.loop-occur-test.false
-    (omega (arith, c.len-opening.ensures, c.args.steps.now.ok.0)) c.loop-occur.invariant c.end_group.ensures
+    let cs = c.deref-occur-items.result.now in
+    group_closed c.end_group.result c.args.steps.now.items c.loop-occur.steps.items (tree_of c.args.query.now) cs
+    c.loop-occur.occur-index c.args.occur (step.Open c.args.occur 0) c.len-opening.result
+    c.end_group.new.steps.items
+    (group_left c.args.query.now c.bare.result.now c.in-Group.clauses cs c.bare.ensures c.in-Group.is
+    c.deref-occur-items.ensures.value)
+    c.loop-occur-test.false (omega (arith, c.len-opening.ensures, c.args.steps.now.ok.0)) c.loop-occur.invariant
+    c.end_group.ensures

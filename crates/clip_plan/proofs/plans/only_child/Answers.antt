@@ -1,0 +1,17 @@
+use Rattle.std.proofs.Common.{arith}
+use Rattle.clip_plan.proofs.Clauses.{child_left, excluded_left, whole_left}
+use Rattle.clip_plan.proofs.plans.only_child.Goals as goal
+
+pub returns-then-len-ne1-clause-none : goal.returns-then-len-ne1-clause-none
+returns-then-len-ne1-clause-none c = λ none.
+    whole_left c.args.query.now c.in-Group.clauses c.in-Group.is (λ one. c.if-len-ne1.true (omega (arith, one)))
+
+pub returns-in-Must-clause-some : goal.returns-in-Must-clause-some
+returns-in-Must-clause-some c =
+    child_left c.args.query.now c.in-Group.clauses c.index.result.now c.in-Group.is (omega arith) c.index.ensures
+    c.in-Must.is
+
+pub returns-in-MustNot-clause-none : goal.returns-in-MustNot-clause-none
+returns-in-MustNot-clause-none c = λ none.
+    excluded_left c.args.query.now c.in-Group.clauses c.index.result.now c.in-Group.is (omega arith) c.index.ensures
+    c.in-MustNot.is
