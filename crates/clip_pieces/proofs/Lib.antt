@@ -4,3 +4,4 @@ pub mod Flags
 pub mod Words
 pub mod Held
 pub mod Both
+pub mod Lost

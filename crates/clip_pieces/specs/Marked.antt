@@ -1,5 +1,5 @@
 -- A set of numbers, as a flag for each of them.
-use Rattle.std.specs.Prelude.{ℕ, Bool, false, ◌&&◌, List, [], ◌∷◌, map, filter}
+use Rattle.std.specs.Prelude.{ℕ, Bool, false, ◌&&◌, not, List, [], ◌∷◌, map, filter, slice_index_or}
 use Rattle.std.specs.List.{enumerate_from}
 
 -- the numbers of the flags that are set, of which the first has the number `first`
@@ -15,3 +15,7 @@ abbrev pub both : List Bool → List Bool → List Bool
 both [] others = []
 both (flag ∷ flags) [] = false ∷ both flags []
 both (flag ∷ flags) (other ∷ others) = (flag && other) ∷ both flags others
+
+-- the flag of a place is set, and not in other flags, of which those past the end count as not set
+abbrev pub is_lost : List Bool → List Bool → ℕ → Bool
+is_lost flags others place = slice_index_or flags place false && not (slice_index_or others place false)

@@ -1,7 +1,8 @@
 //! `SharedFlags` and its methods.
-ghost use Rattle.std.specs.Prelude.{◌≡◌, ℕ, ◌<◌, ◌*◌, ◌/◌, false, [], ◌∷◌, ◌++◌, length, OnOk, OnErr, slice_get};
-ghost use Rattle.std.specs.Prelude.{slice_index_or, slice_set};
-ghost use Rattle.clip_pieces.specs.Steps.Bits.{bits_of, flags_of};
+ghost use Rattle.std.specs.Prelude.{◌≡◌, ℕ, ◌+◌, ◌<◌, ◌≤◌, ◌*◌, ◌/◌, ◌&&◌, not, false, true, [], ◌∷◌, ◌++◌, length};
+ghost use Rattle.std.specs.Prelude.{IfSome, OnOk, OnErr, slice_get, slice_index_or, slice_set};
+ghost use Rattle.clip_pieces.specs.Marked.{is_lost};
+ghost use Rattle.clip_pieces.specs.Steps.Bits.{bits_of, flags_of, is_set};
 
 use crate::list::SharedList;
 use crate::shared::Shared;
@@ -64,6 +65,16 @@ fn word_at(words: &SharedList<u64>, place: usize) -> u64
     words.get(place / 64).copied().unwrap_or(0)
 }
 
+/// The bits of a word, from one of them on as the lowest, that are set and not in another word.
+fn lost_bits(word: u64, other: u64, bit: usize) -> u64
+    requires { bit < 64 }
+    ensures within { (place : ℕ) → bit + place < 64
+        → is_set result place ≡ (is_set word (bit + place) && not (is_set other (bit + place))) }
+    ensures past { (place : ℕ) → 64 ≤ bit + place → is_set result place ≡ false }
+{
+    (word & !other) >> bit
+}
+
 /// Lets the piece of a word without a set bit lie where equal neighbours do. It changes no word.
 fn fold_clear(words: &mut SharedList<u64>, word: usize)
     ensures { words.new ≡ words.old }
@@ -112,6 +123,31 @@ impl SharedFlags {
             return None;
         }
         Some(word_at(&self.words, place) >> (place % 64) & 1 == 1)
+    }
+
+    /// The first place, from `from` on, whose flag is set here and not in other flags, of which those past the end count
+    /// as not set. `None` where there is no such place. Takes no memory. Cost: a step for each 64 flags that are passed.
+    pub fn next_lost(&self, others: &SharedFlags, from: usize) -> Option<usize>
+        ensures from { IfSome result (λ place. from ≤ place) }
+        ensures lost { IfSome result (λ place. is_lost self.now others.now place ≡ true) }
+        ensures first { (place : ℕ) → from ≤ place → IfSome result (λ found. place < found)
+            → is_lost self.now others.now place ≡ false }
+    {
+        if from >= self.len() {
+            return None;
+        }
+        for word in from / 64..self.words.len() {
+            let first = from.max(64 * word);
+            let lost = lost_bits(
+                word_at(&self.words, first),
+                word_at(&others.words, first),
+                first % 64,
+            );
+            if lost != 0 {
+                return Some(first + lost.trailing_zeros() as usize);
+            }
+        }
+        None
     }
 
     /// The words in which the bits lie.

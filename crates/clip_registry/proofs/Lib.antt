@@ -1,4 +1,5 @@
 pub mod Numbering
+pub mod Picked
 pub mod Rising
 pub mod Registering
 pub mod Whole
@@ -10,6 +11,7 @@ pub mod Keeping
 pub mod Kept
 pub mod LiveFlags
 pub mod Equal
+pub mod Lost
 pub mod Missing
 pub mod Naming
 pub mod Counted

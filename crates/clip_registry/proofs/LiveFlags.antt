@@ -1,7 +1,7 @@
 -- Live flags beside segments.
-use Rattle.std.proofs.Common.{◌≡◌, ℕ, zero, suc, ◌+◌, ◌<◌, ◌≤◌, Bool, true, false, cond, ◌==◌, List, [], ◌∷◌, ◌++◌, length, map, take, drop, get_or, set, Option, Some, None, slice_get, option_map, refl, sym, ap, ap₂, ◌∙◌, inl, inr, arith, subst}
-use Rattle.std.proofs.lemmas.Bool.{cases_lt, cases_order}
-use Rattle.std.proofs.lemmas.List.{ext_get_or, length-map, length-set, get_or-map, map-append, take-map, drop-map, get_or_default}
+use Rattle.std.proofs.Common.{◌≡◌, ℕ, zero, suc, ◌<◌, ◌≤◌, Bool, true, false, cond, ◌==◌, List, [], ◌∷◌, ◌++◌, length, map, get_or, set, Option, Some, None, slice_get, option_map, refl, sym, ap, ap₂, ◌∙◌, inl, inr, arith}
+use Rattle.std.proofs.lemmas.Bool.{cases_order}
+use Rattle.std.proofs.lemmas.List.{ext_get_or, length-map, get_or-map, get_or_default}
 use Rattle.std.proofs.lemmas.List.Elements.{All-head, All-tail, Contains-append_left, Contains-append_right}
 use Rattle.std.proofs.lemmas.Option.{slice_get_within, get_or_from_slice_get, none-some, same_Some}
 use Rattle.std.specs.Arc.{arc_value}
@@ -13,7 +13,7 @@ use Rattle.clip_segment.specs.Segment.{IsRising, all_entries, seqs_of}
 use Rattle.clip_model.specs.History.{Registered, Registry, is_live_in}
 use Rattle.clip_model.specs.Steps.Numbered.{IsNumbered}
 use Rattle.clip_model.proofs.Numbers.{numbers_same, number_less, number_more}
-use Rattle.clip_registry.specs.Steps.LiveFlags.{flags_of, flags_by, flags_in, without}
+use Rattle.clip_registry.specs.Steps.LiveFlags.{flags_of, flags_by, without}
 use Rattle.clip_registry.proofs.Kept.{all_of_some}
 use Rattle.clip_registry.proofs.Numbering.{has_seq, live_insert, live_remove}
 use Rattle.clip_registry.proofs.Rising.{rising_head, rising_tail}
@@ -87,6 +87,19 @@ flags_from is segments live long each =
 
 pub flags_at : (is : ℕ → Bool) (segments : List (List Registered)) (live : List (List Bool)) (k : ℕ) → live ≡ flags_by is segments → k < length segments → get_or live k [] ≡ flags_of is (get_or segments k [])
 flags_at is segments live k are inside = ap (λ ls. get_or ls k []) are ∙ get_or-map (flags_of is) segments k [] [] inside
+
+-- as many lists of flags as segments
+pub as_long : (is : ℕ → Bool) (segments : List (List Registered)) (live : List (List Bool)) → live ≡ flags_by is segments
+    → length live ≡ length segments
+as_long is segments live are = ap length are ∙ length-map segments (flags_of is)
+
+-- the flags that stand at a place are those of the segment there
+pub flags_here : (is : ℕ → Bool) (segments : List (List Registered)) (live : List (List Bool)) (k : ℕ) (flags : List Bool)
+    → live ≡ flags_by is segments → flags ≡ get_or live k flags → k < length live
+    → flags ≡ flags_of is (get_or segments k [])
+flags_here is segments live k flags are at low =
+    at ∙ get_or_default live k flags [] low
+    ∙ flags_at is segments live k are (omega (arith, low, as_long is segments live are))
 
 -- as many flags as entries
 pub shape_at : (live : List (List Bool)) (segments : List (List Registered)) (k : ℕ) → map length live ≡ map length segments → k < length live → k < length segments → length (get_or live k []) ≡ length (get_or segments k [])

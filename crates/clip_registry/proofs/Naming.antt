@@ -1,16 +1,13 @@
 -- Sets of live seqs.
-use Rattle.std.proofs.Common.{◌≡◌, ℕ, suc, ◌+◌, ◌<◌, ◌++◌, take, Bool, true, false, cond, ◌||◌, List, [], ◌∷◌, length, get_or, map, refl, sym, ap, ◌∙◌, inl, inr, arith, ◌==◌}
+use Rattle.std.proofs.Common.{◌≡◌, ℕ, suc, ◌<◌, Bool, true, false, cond, ◌||◌, List, [], ◌∷◌, length, get_or, map, refl, sym, ap, ◌∙◌, inl, inr, arith, ◌==◌}
 use Rattle.std.proofs.lemmas.Bool.{false≢true}
-use Rattle.std.proofs.lemmas.List.{length-map, get_or-map, map_more, map-append}
-use Rattle.std.proofs.lemmas.List.Elements.{filter-append}
+use Rattle.std.proofs.lemmas.List.{length-map, get_or-map}
 use Rattle.std.specs.List.{Contains, filter}
 use Rattle.clip_grammar.proofs.Booleans.{same_answer}
-use Rattle.clip_segment.specs.Segment.{IsRising, all_entries}
+use Rattle.clip_segment.specs.Segment.{IsRising}
 use Rattle.clip_merge.specs.Live.{AreRising, named, names}
-use Rattle.clip_model.specs.History.{Registered, Registry, is_live_in}
+use Rattle.clip_model.specs.History.{Registered}
 use Rattle.clip_model.proofs.Numbers.{same_numbers, numbers_same}
-use Rattle.clip_registry.specs.Steps.Roster.{live_in}
-use Rattle.clip_registry.proofs.Whole.{all_entries-push}
 use Rattle.clip_registry.proofs.Entered.{filter_fewer}
 use Rattle.clip_registry.proofs.Rising.{contains_head, contains_later, contains_cases, contains_filter}
 use Rattle.clip_registry.proofs.Kept.{contains_of_filter}
@@ -72,13 +69,3 @@ filter_all p (r ∷ rs) e =
       | true ↦ λ k. ap (λ x. r ∷ x) (filter_all p rs (omega arith))
       | false ↦ λ k. absurd (omega arith)
     ] e
-
--- the live seqs of one segment more
-pub seqs_more : {X : Type 0} (m : Registry) (f : X → List Registered) (xs : List X) (i : ℕ) (x : X) → i < length xs → x ≡ get_or xs i x
-    → map (λ r. r.seq) (live_in m (all_entries (map f (take i xs)))) ++ map (λ r. r.seq) (live_in m (f x)) ≡ map (λ r. r.seq) (live_in m (all_entries (map f (take (i + 1) xs))))
-seqs_more m f xs i x lt at =
-    let live = λ (r : Registered). is_live_in m r.seq in
-    let seq = λ (r : Registered). r.seq in
-    let before = all_entries (map f (take i xs)) in
-    sym (ap (λ ss. map seq (live_in m (all_entries ss))) (map_more f xs i x lt ∙ ap (λ z. map f (take i xs) ++ f z ∷ []) (sym at))
-    ∙ ap (λ es. map seq (live_in m es)) (all_entries-push (map f (take i xs)) (f x)) ∙ ap (map seq) (filter-append live before (f x)) ∙ map-append seq (filter live before) (filter live (f x)))

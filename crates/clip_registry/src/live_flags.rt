@@ -1,8 +1,10 @@
 //! The live flags of segments: for each segment a flag for each of its entries, by position.
-ghost use Rattle.std.specs.Prelude.{◌≡◌, ℕ, Bool, Some, map, length, IfOk, OnOk};
+ghost use Rattle.std.specs.Prelude.{◌≡◌, ℕ, Bool, List, Some, map, length, vec_items, IfOk, OnOk};
 ghost use Rattle.std.specs.Arc.{arc_value};
-ghost use Rattle.clip_model.specs.History.{is_live_in};
-ghost use Rattle.clip_registry.specs.Steps.LiveFlags.{flags_by, flags_in, flags_of, without};
+ghost use Rattle.std.specs.List.{list_all};
+ghost use Rattle.clip_model.specs.History.{Registered, is_live_in};
+ghost use Rattle.clip_segment.specs.Segment.{all_entries};
+ghost use Rattle.clip_registry.specs.Steps.LiveFlags.{flags_by, flags_in, flags_of, stays, without};
 
 use crate::roster::Roster;
 use clip_pieces::{Shared, SharedFlags};
@@ -86,4 +88,50 @@ pub fn clear_gone(
         Some(seq) => clear(live, segments, seq),
         None => Ok(()),
     }
+}
+
+/// The flags one by one. `NoMemory` where an allocation failed.
+fn listed(alloc: Global, flags: &SharedFlags) -> Result<Vec<bool>, NoMemory>
+    ensures { IfOk result (λ list. list.items ≡ flags.now) }
+{
+    let mut list = Vec::with_capacity(alloc, flags.len())?;
+    for place in 0..flags.len() {
+        list.push(flags.get(place).unwrap_or(false))?;
+    }
+    Ok(list)
+}
+
+/// The flags of segments one by one. `NoMemory` where an allocation failed. It costs a step for each flag.
+pub fn flags_listed(alloc: Global, live: &[Shared<SharedFlags>]) -> Result<Vec<Vec<bool>>, NoMemory>
+    ensures { IfOk result (λ lists. map vec_items lists.items ≡ live.now) }
+{
+    let mut lists = Vec::with_capacity(alloc, live.len())?;
+    for flags in live {
+        lists.push(listed(alloc, flags.value())?)?;
+    }
+    Ok(lists)
+}
+
+/// Whether each flag of a segment that is set now was set when a merge was begun.
+fn misses_none_of(now: &SharedFlags, begun: &SharedFlags) -> bool
+    ensures { (is was : ℕ → Bool) (entries : List Registered)
+        → now.now ≡ flags_of is entries → begun.now ≡ flags_of was entries
+        → result ≡ list_all (stays is was) entries }
+{
+    now.next_lost(begun, 0).is_none()
+}
+
+/// Whether each flag of the segments that is set now was set when a merge was begun. It costs a step for each 64 flags.
+pub fn misses_none(now: &[Shared<SharedFlags>], begun: &[Shared<SharedFlags>]) -> bool
+    requires { length now.now ≡ length begun.now }
+    ensures { (is was : ℕ → Bool) (segments : List (List Registered))
+        → now.now ≡ flags_by is segments → begun.now ≡ flags_by was segments
+        → result ≡ list_all (stays is was) (all_entries segments) }
+{
+    for (place, flags) in now.iter().enumerate() {
+        if !misses_none_of(flags.value(), begun[place].value()) {
+            return false;
+        }
+    }
+    true
 }

@@ -1,34 +1,26 @@
 //! Merging: a job is begun on a registrar, run by itself, and what it gives is installed.
 ghost use Rattle.std.specs.Prelude.{◌≡◌, ◌+◌, ◌<◌, ◌≤◌, None, map, length, IfOk, IfSome, OnSome};
 ghost use Rattle.std.specs.Arc.{arc_value};
-ghost use Rattle.std.specs.List.{list_all};
-ghost use Rattle.clip_segment.specs.Segment.{IsRising, all_entries};
 ghost use Rattle.clip_model.specs.History.{replay};
-ghost use Rattle.clip_model.specs.declared.limits.TheConstants.{MOST_LIVE};
 ghost use Rattle.clip_registry.specs.Merging.{IsOver, IsStale, LateMergesMissNothing, Misses, StandsAt, merge_of};
 ghost use Rattle.clip_registry.specs.Steps.LiveFlags.{flags_in};
-ghost use Rattle.clip_registry.specs.Steps.Merging.{AreKept, has_seq_if_live, job_over, replaced};
-ghost use Rattle.clip_registry.specs.Steps.Roster.{live_in};
+ghost use Rattle.clip_registry.specs.Steps.Merging.{AreKept, replaced};
 
-use crate::live_flags::flags_of;
-use crate::purging::add_live_seqs;
-use crate::roster::Roster;
+use crate::live_flags::{flags_listed, flags_of, misses_none};
 use crate::same::place_of;
 use crate::state::State;
-use clip_merge::{Live, merge};
 use clip_pieces::{Shared, SharedFlags};
 use clip_segment::Segment;
-use clip_standing::Entry;
 use clip_words::NoMemory;
 use std::alloc::Global;
 use std::marker::Model;
 use std::sync::Arc;
 
-/// Neighbouring segments that are to be one, and which of their entries were live when the job was begun.
+/// Neighbouring segments that are to be one, and beside each which of its entries were live when the job was begun.
 pub struct MergeJob {
     pub(crate) alloc: Global,
     pub(crate) sources: Vec<Arc<Segment>>,
-    pub(crate) live: Arc<Live>,
+    pub(crate) flags: Vec<Shared<SharedFlags>>,
 }
 
 impl Drop for MergeJob {
@@ -36,7 +28,7 @@ impl Drop for MergeJob {
         let MergeJob {
             alloc: _,
             sources: _,
-            live: _,
+            flags: _,
         } = self;
     }
 }
@@ -59,7 +51,7 @@ impl Model for MergeJob {
 #[derive(Drop)]
 pub struct Merged {
     pub(crate) sources: Vec<Arc<Segment>>,
-    pub(crate) live: Arc<Live>,
+    pub(crate) flags: Vec<Shared<SharedFlags>>,
     pub(crate) segment: Arc<Segment>,
 }
 
@@ -97,65 +89,9 @@ pub enum MergeTurn {
     Stale,
 }
 
-/// Whether the entry is not live, or named.
-fn is_named_if_live(entry: &Entry, roster: &Roster, live: &Live) -> bool
-    ensures { result ≡ has_seq_if_live roster.now.registry live.now entry.now }
-{
-    !roster.is_live(entry.seq()) || live.names(entry.seq())
-}
-
-/// Whether each live one of the entries is named.
-fn misses_none_of(entries: &[Arc<Entry>], roster: &Roster, live: &Live) -> bool
-    ensures { result ≡ list_all (has_seq_if_live roster.now.registry live.now) (map arc_value entries.now) }
-{
-    for entry in entries {
-        if !is_named_if_live(entry, roster, live) {
-            return false;
-        }
-    }
-    true
-}
-
-/// Whether each live entry of the segments is named.
-fn misses_none(segments: &[Arc<Segment>], roster: &Roster, live: &Live) -> bool
-    ensures { result ≡ list_all (has_seq_if_live roster.now.registry live.now)
-        (all_entries (map arc_value segments.now)) }
-{
-    for segment in segments {
-        if !misses_none_of(segment.entries(), roster, live) {
-            return false;
-        }
-    }
-    true
-}
-
 impl MergeJob {
-    /// A job over these segments, which it shares, with those of their entries that are live. `NoMemory` where an
-    /// allocation failed.
-    pub(crate) fn over(
-        alloc: Global,
-        sources: &[Arc<Segment>],
-        roster: &Roster,
-    ) -> Result<MergeJob, NoMemory>
-        requires some { 0 < length sources.now }
-        requires rising { IsRising (all_entries (map arc_value sources.now)) }
-        requires few { length (live_in roster.now.registry (all_entries (map arc_value sources.now))) ≤ MOST_LIVE }
-        ensures { IfOk result (λ job. job ≡ job_over roster.now.registry (map arc_value sources.now)) }
-    {
-        let mut seqs = Vec::new(alloc);
-        for source in sources {
-            add_live_seqs(roster, source.entries(), &mut seqs)?;
-        }
-        let live = Arc::new(alloc, Live::of(seqs))?;
-        Ok(MergeJob {
-            alloc,
-            sources: sources.to_vec(alloc)?,
-            live,
-        })
-    }
-
-    /// A job over the neighbours of a state from `first` on to before `past`. `NoMemory` where an allocation failed. It
-    /// costs a step for each of their entries.
+    /// A job over the neighbours of a state from `first` on to before `past`, which it shares, and their live flags with
+    /// them. `NoMemory` where an allocation failed. It costs a step for each of them.
     pub(crate) fn of(
         alloc: Global,
         state: &State,
@@ -166,21 +102,26 @@ impl MergeJob {
         requires there { past ≤ length state.now.segments }
         ensures { IfOk result (λ job. IsOver state.now job first past) }
     {
-        MergeJob::over(alloc, &state.segments[first..past], &state.roster)
+        Ok(MergeJob {
+            alloc,
+            sources: state.segments[first..past].to_vec(alloc)?,
+            flags: state.live[first..past].to_vec(alloc)?,
+        })
     }
 
     /// One segment of the entries of its sources that were live when it was begun. It shares them.
     ///
-    /// `NoMemory` where an allocation failed. Cost: that of `clip_merge::merge`, so a search by halves among the live
-    /// seqs for each entry of the sources, and a look-up for each key of each live one.
+    /// `NoMemory` where an allocation failed. Cost: that of `Segment::select`, so a step for each entry of the sources,
+    /// and for each live one a step for each word and each leaf of its query.
     pub fn run(&self) -> Result<Merged, NoMemory>
         ensures { IfOk result (λ merged. merged ≡ merge_of self.now) }
     {
-        let merged = merge(self.alloc, &self.sources, &self.live)?;
+        let kept = flags_listed(self.alloc, &self.flags)?;
+        let merged = Segment::select(self.alloc, &self.sources, &kept)?;
         let segment = Arc::new(self.alloc, merged)?;
         Ok(Merged {
             sources: self.sources.clone()?,
-            live: self.live.clone()?,
+            flags: self.flags.clone()?,
             segment,
         })
     }
@@ -197,7 +138,8 @@ impl Merged {
         ensures stale { result ≡ None → IsStale state.now self.now }
     {
         let first = place_of(&state.segments, &self.sources)?;
-        if misses_none(&self.sources, &state.roster, &self.live) {
+        let past = first + self.sources.len();
+        if misses_none(&state.live[first..past], &self.flags) {
             Some(first)
         } else {
             None

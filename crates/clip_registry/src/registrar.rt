@@ -134,8 +134,7 @@ impl Registrar {
     /// Begins a merge: a job over the oldest four neighbouring segments of one level, which it shares, and which of
     /// their entries are live; `None` where there are no such four. `NoMemory` where an allocation failed.
     ///
-    /// Cost: that of `clip_merge::plan`, so a step for each segment and each of its levels, and a step for each entry
-    /// of the four.
+    /// Cost: that of `clip_merge::plan`, so a step for each segment and each of its levels. No entry is looked at.
     pub fn begin(&self) -> Result<Option<MergeJob>, NoMemory>
         ensures begun { IfOk result (λ job. IfSome job (IsBegun self.now)) }
         ensures nothing { result ≡ Ok None → (first : ℕ) → IsRun self.now.segments first → ⊥ }
@@ -153,8 +152,7 @@ impl Registrar {
     /// oldest on behind which one has a higher level. `None` where there is none either; then segments are few: three
     /// at most for each level up to that of all their entries together. `NoMemory` where an allocation failed.
     ///
-    /// Cost: that of `clip_merge::plan_turn`, so a step for each segment and each of its levels, and a step for each
-    /// entry of those that are merged.
+    /// Cost: that of `clip_merge::plan_turn`, so a step for each segment and each of its levels. No entry is looked at.
     pub fn begin_turn(&self) -> Result<Option<MergeJob>, NoMemory>
         ensures begun { IfOk result (λ job. IfSome job (IsTurnBegun self.now)) }
         ensures nothing { result ≡ Ok None → (first : ℕ) → IsRun self.now.segments first → ⊥ }
@@ -178,8 +176,8 @@ impl Registrar {
     /// `NoMemory` where an allocation failed, with nothing changed and the merge dropped.
     ///
     /// Cost: a step for each segment, each of which is shared by a new list; for each entry of the sources a comparison
-    /// of its seq and texts, and where it is live a search by halves; and a copy like that of a command, of which
-    /// nothing else is changed. A stale merge copies nothing.
+    /// of its seq and texts; a step for each 64 entries of the sources, and for each entry of the merge; and a copy like
+    /// that of a command, of which nothing else is changed. A stale merge copies nothing.
     pub fn install(&mut self, merged: Merged) -> Result<Installed, NoMemory>
         ensures done { result ≡ Ok Installed.Done → IsInstalled self.old self.new merged }
         ensures stale { result ≡ Ok Installed.Stale → IsStale self.old merged }

@@ -1,5 +1,5 @@
 -- Live flags beside segments: for each segment a flag for each of its entries, by position.
-use Rattle.std.specs.Prelude.{ℕ, Bool, false, ◌==◌, cond, List, map, Option, None, Some}
+use Rattle.std.specs.Prelude.{ℕ, Bool, false, ◌==◌, ◌||◌, not, cond, List, map, Option, None, Some}
 use Rattle.clip_model.specs.History.{Registered, Registry, is_live_in}
 
 -- the flags of entries by a test of their seqs
@@ -17,3 +17,7 @@ flags_in registry segments = flags_by (is_live_in registry) segments
 abbrev pub without : Option ℕ → (ℕ → Bool) → ℕ → Bool
 without None is seq = is seq
 without (Some gone) is seq = cond (gone == seq) false (is seq)
+
+-- the entry fails the one test of its seq, or passes the other
+abbrev pub stays : (ℕ → Bool) → (ℕ → Bool) → Registered → Bool
+stays is was r = not (is r.seq) || was r.seq

@@ -1,48 +1,46 @@
 -- Jobs and merges as their fields hold them.
-use Rattle.std.specs.Prelude.{◌≡◌, ℕ, ◌+◌, ◌<◌, ◌≤◌, ◌||◌, Bool, not, List, ◌++◌, map, length, take, drop, Contains, IsTrue}
+use Rattle.std.specs.Prelude.{◌≡◌, ℕ, ◌+◌, ◌<◌, ◌≤◌, Bool, List, ◌++◌, map, filter, length, take, drop, Contains, IsTrue}
 use Rattle.std.specs.Arc.{arc_value}
 use Rattle.clip_segment.specs.Segment.{IsRising, all_entries}
 use Rattle.clip_segment.specs.declared.segment.TheConstants.{MOST_POSITIONS}
-use Rattle.clip_merge.specs.Live.{named, names}
-use Rattle.clip_model.specs.History.{Registered, Registry, is_live, is_live_in}
+use Rattle.clip_segment.specs.Selecting.{kept_of}
+use Rattle.clip_model.specs.History.{Registered, is_live}
 use Rattle.clip_registry.specs.Merging.{Job, Merge, shelf}
 use Rattle.clip_registry.specs.RegistryState.{RegistryState}
-use Rattle.clip_registry.specs.Steps.Roster.{live_in}
+use Rattle.clip_registry.specs.Steps.LiveFlags.{flags_by}
 use Rattle.clip_registry.specs.declared.merging.MergeJob.TheInside as job
 use Rattle.clip_registry.specs.declared.merging.Merged.TheInside as merged
 
 abbrev pub job_inside : job.Inside → Job
-job_inside j = record { sources = map arc_value j.sources.items; live = j.live.value }
+job_inside j = record {
+  sources = map arc_value j.sources.items;
+  live = map (λ r. r.seq) (kept_of (map arc_value j.sources.items) j.flags.items);
+}
 
--- There are sources, their seqs rise, and not too many of their entries are live.
-pub record IsJob (j : Job) : Type 0 where
-  pub some : 0 < length j.sources
-  pub rising : IsRising (all_entries j.sources)
-  pub short : length (named j.live (all_entries j.sources)) ≤ MOST_POSITIONS
+-- There are sources, their seqs rise, their entries are flagged by a test of their seqs, and not too many are.
+pub record IsJob (sources : List (List Registered)) (flags : List (List Bool)) : Type 0 where
+  pub some : 0 < length sources
+  pub rising : IsRising (all_entries sources)
+  pub is : ℕ → Bool
+  pub flagged : flags ≡ flags_by is sources
+  pub short : length (filter (λ r. is r.seq) (all_entries sources)) ≤ MOST_POSITIONS
 
 abbrev pub IsJobInside : job.Inside → Type 0
-IsJobInside j = IsJob (job_inside j)
-
--- the job over these sources, where this is registered
-abbrev pub job_over : Registry → List (List Registered) → Job
-job_over registry sources = record
-    { sources = sources; live = map (λ r. r.seq) (live_in registry (all_entries sources)) }
+IsJobInside j = IsJob (map arc_value j.sources.items) j.flags.items
 
 abbrev pub merged_inside : merged.Inside → Merge
 merged_inside m = record { sources = map arc_value m.sources.items; entries = m.segment.value }
 
--- There are sources, their seqs rise, and the entries are those with these seqs.
-pub record IsMerged (seqs : List ℕ) (m : Merge) : Type 0 where
+-- There are sources, their seqs rise, their entries are flagged by a test of their seqs, and those are in the merge.
+pub record IsMerged (flags : List (List Bool)) (m : Merge) : Type 0 where
   pub some : 0 < length m.sources
   pub rising : IsRising (all_entries m.sources)
-  pub named : m.entries ≡ named seqs (all_entries m.sources)
+  pub is : ℕ → Bool
+  pub flagged : flags ≡ flags_by is m.sources
+  pub picked : m.entries ≡ filter (λ r. is r.seq) (all_entries m.sources)
 
 abbrev pub IsMergedInside : merged.Inside → Type 0
-IsMergedInside m = IsMerged m.live.value (merged_inside m)
-
--- the entry is not live, or it has one of the seqs
-abbrev pub has_seq_if_live : Registry → List ℕ → Registered → Bool
-has_seq_if_live registry seqs r = not (is_live_in registry r.seq) || names seqs r.seq
+IsMergedInside m = IsMerged m.flags.items (merged_inside m)
 
 -- the segments, with these entries in the place of so many neighbours
 abbrev pub replaced : List (List Registered) → ℕ → ℕ → List Registered → List (List Registered)

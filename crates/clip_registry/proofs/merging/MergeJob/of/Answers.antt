@@ -1,61 +1,90 @@
-use Rattle.std.proofs.Common.{◌≡◌, ℕ, ◌-◌, ◌≤◌, List, [], append-nil, length, length-take, length-drop, map, take, drop, sym, ap, subst, ◌∙◌, arith}
+use Rattle.std.proofs.Common.{◌≡◌, ◌-◌, ◌≤◌, Bool, List, [], append-nil, length, length-take, length-drop, map, take, drop, sym, ap, subst, ◌∙◌, arith}
 use Rattle.std.proofs.lemmas.List.{take-map, drop-map}
-use Rattle.std.proofs.lemmas.Result.{IfOk-weaker}
+use Rattle.std.proofs.lemmas.List.Elements.{same_from_all_zip}
 use Rattle.std.specs.Arc.{arc_value}
 use Rattle.clip_merge.specs.Plan.{neighbours}
 use Rattle.clip_segment.specs.Segment.{IsRising, all_entries}
-use Rattle.clip_model.specs.declared.limits.TheConstants.{MOST_LIVE}
-use Rattle.clip_model.specs.History.{Registered, replay}
-use Rattle.clip_registry.specs.Merging.{IsOver, Job, live_of}
+use Rattle.clip_segment.specs.Selecting.{kept_of}
+use Rattle.clip_segment.specs.declared.segment.TheConstants.{MOST_POSITIONS}
+use Rattle.clip_model.specs.History.{Registered, is_live_in}
+use Rattle.clip_registry.specs.Merging.{live_of}
 use Rattle.clip_registry.specs.RegistryState.{RegistryState}
-use Rattle.clip_registry.specs.Steps.Merging.{job_over}
-use Rattle.clip_registry.specs.Steps.Roster.{live_in}
+use Rattle.clip_registry.specs.Steps.LiveFlags.{flags_by, flags_of}
 use Rattle.clip_registry.specs.Steps.State.{IsConsistent}
+use Rattle.clip_standing.proofs.Clones.{map_shared}
 use Rattle.clip_registry.proofs.Counted.{neighbours_rise, few_live}
+use Rattle.clip_registry.proofs.Picked.{kept_by, picked}
 use Rattle.clip_registry.proofs.merging.MergeJob.of.Goals as goal
-use Rattle.clip_registry.proofs.merging.MergeJob.of.Goals.{After-deref}
+use Rattle.clip_registry.proofs.merging.MergeJob.of.Goals.{In_ok-to_vec-2}
 
-state : (c : After-deref) → IsConsistent c.args.state.now c.state.inside.roster c.state.inside.counts.items
-state c = subst (λ (s : RegistryState). IsConsistent s c.state.inside.roster c.state.inside.counts.items) c.state.view_is c.state.invariant.0
+state : (c : In_ok-to_vec-2) → IsConsistent c.args.state.now c.state.inside.roster c.state.inside.counts.items
+state c =
+    subst (λ (s : RegistryState). IsConsistent s c.state.inside.roster c.state.inside.counts.items) c.state.view_is
+    c.state.invariant.0
 
 -- the neighbours, as the registry has them
-abbrev those : After-deref → List (List Registered)
+abbrev those : In_ok-to_vec-2 → List (List Registered)
 those c = neighbours c.args.state.now.segments c.args.first (c.args.past - c.args.first)
 
-sources : (c : After-deref) → map arc_value (take (c.args.past - c.args.first) (drop c.args.first c.deref.result.now)) ≡ those c
+segments : (c : In_ok-to_vec-2) → map arc_value c.state.inside.segments.items ≡ c.args.state.now.segments
+segments c = ap (λ (s : RegistryState). s.segments) c.state.view_is
+
+sources : (c : In_ok-to_vec-2) → map arc_value c.in_ok-to_vec.field-0.items ≡ those c
 sources c =
+    let first = c.args.first in
+    let count = c.args.past - first in
+    map_shared (take count (drop first c.deref.result.now)) c.in_ok-to_vec.field-0.items c.in_ok-to_vec.ensures.ok
+    ∙ sym (take-map arc_value count (drop first c.deref.result.now))
+    ∙ ap (take count) (sym (drop-map arc_value first c.deref.result.now))
+    ∙ ap (λ ss. neighbours ss first count) (ap (map arc_value) c.deref.ensures.value ∙ segments c)
+
+flags : (c : In_ok-to_vec-2)
+    → c.in_ok-to_vec-2.field-0.items ≡ flags_by (is_live_in c.state.inside.roster.registry) (those c)
+flags c =
+    let live = is_live_in c.state.inside.roster.registry in
+    let all = map arc_value c.state.inside.segments.items in
+    let first = c.args.first in
+    let count = c.args.past - first in
+    same_from_all_zip (λ (x y : List Bool). y ≡ x) _ _ c.in_ok-to_vec-2.ensures.ok (λ x y e. e)
+    ∙ ap (λ (fs : List (List Bool)). take count (drop first fs)) (c.deref-2.ensures.value ∙ c.state.invariant.1)
+    ∙ ap (take count) (drop-map (flags_of live) first all) ∙ take-map (flags_of live) count (drop first all)
+    ∙ ap (λ ss. flags_by live (neighbours ss first count)) (segments c)
+
+many : (c : In_ok-to_vec-2) → length (those c) ≡ c.args.past - c.args.first
+many c =
+    let all = c.args.state.now.segments in
+    omega (arith, c.requires.some, c.requires.there, length-take (c.args.past - c.args.first) (drop c.args.first all), length-drop c.args.first all)
+
+pub invariant_of-result : goal.invariant_of-result
+invariant_of-result c =
+    let live = is_live_in c.state.inside.roster.registry in
     let count = c.args.past - c.args.first in
-    let here : map arc_value c.deref.result.now ≡ c.args.state.now.segments = ap (map arc_value) c.deref.ensures.value ∙ ap (λ (s : RegistryState). s.segments) c.state.view_is in
-    sym (take-map arc_value count (drop c.args.first c.deref.result.now)) ∙ ap (take count) (sym (drop-map arc_value c.args.first c.deref.result.now)) ∙ ap (λ ss. neighbours ss c.args.first count) here
-
-pub over-requires-clause-rising : goal.over-requires-clause-rising
-over-requires-clause-rising c =
-    let here = (goal.at.over-requires-clause-rising c).After-deref in
-    subst (λ ss. IsRising (all_entries ss)) (sym (sources here)) (neighbours_rise c.args.state.now.segments c.args.first (c.args.past - c.args.first) (state here).whole.rising)
-
-pub over-requires-clause-few : goal.over-requires-clause-few
-over-requires-clause-few c =
-    let here = (goal.at.over-requires-clause-few c).After-deref in
-    let few = few_live c.args.state.now c.args.first (c.args.past - c.args.first) (state here).whole in
-    let small = (state here).legal.small c.args.state.now.history [] (sym (append-nil c.args.state.now.history)) in
-    let same : live_in c.state.inside.roster.registry (all_entries (map arc_value (take (c.args.past - c.args.first) (drop c.args.first c.deref.result.now)))) ≡ live_of c.args.state.now (all_entries (those here)) =
-    ap (λ ss. live_in c.state.inside.roster.registry (all_entries ss)) (sources here) ∙ ap (λ m. live_in m (all_entries (those here))) (state here).registry in
-    subst (λ (es : List Registered). length es ≤ MOST_LIVE) (sym same) (omega arith)
-
--- a job over the neighbours
-is_over : (s : RegistryState) (first past : ℕ) (job : Job) → first ≤ past → past ≤ length s.segments → job ≡ job_over (replay s.history) (neighbours s.segments first (past - first)) → IsOver s job first past
-is_over s first past job order there is =
-    let sources = ap (λ (j : Job). j.sources) is in
-    let count : length job.sources ≡ past - first = let e = ap length sources in omega (arith, length-take (past - first) (drop first s.segments), length-drop first s.segments) in
+    let whole = (state c).whole in
+    let few = few_live c.args.state.now c.args.first count whole in
+    let small = (state c).legal.small c.args.state.now.history [] (sym (append-nil c.args.state.now.history)) in
+    let same : picked live (all_entries (map arc_value c.in_ok-to_vec.field-0.items))
+    ≡ live_of c.args.state.now (all_entries (those c)) =
+    ap (λ ss. picked live (all_entries ss)) (sources c)
+    ∙ ap (λ m. picked (is_live_in m) (all_entries (those c))) (state c).registry in
     record {
-      stands = ap (neighbours s.segments first) count ∙ sym sources;
-      ends = omega arith;
-      live = ap (λ (j : Job). j.live) is ∙ ap (λ ss. map (λ (r : Registered). r.seq) (live_of s (all_entries ss))) (sym sources);
+      some = omega (arith, ap length (sources c), many c, c.requires.some);
+      rising = subst (λ ss. IsRising (all_entries ss)) (sym (sources c))
+          (neighbours_rise c.args.state.now.segments c.args.first count whole.rising);
+      is = live;
+      flagged = flags c ∙ ap (flags_by live) (sym (sources c));
+      short = subst (λ (es : List Registered). length es ≤ MOST_POSITIONS) (sym same) (omega arith);
     }
 
 pub returns : goal.returns
 returns c =
-    let here = (goal.at.returns c).After-deref in
-    let order = c.requires.some in
-    IfOk-weaker c.over.result _ (λ job. IsOver c.args.state.now job c.args.first c.args.past) (λ job is.
-    is_over c.args.state.now c.args.first c.args.past job (omega arith) c.requires.there (is ∙ (λ i. job_over ((state here).registry i) (sources here i)))) c.over.ensures
+    let first = c.args.first in
+    let count = length (map arc_value c.in_ok-to_vec.field-0.items) in
+    let as_many : count ≡ c.args.past - first = ap length (sources c) ∙ many c in
+    record {
+      stands = ap (neighbours c.args.state.now.segments first) as_many ∙ sym (sources c);
+      ends = omega (arith, as_many, c.requires.some);
+      live = ap (map (λ (r : Registered). r.seq))
+          ((λ i. kept_of (sources c i) (flags c i)) ∙ kept_by (is_live_in c.state.inside.roster.registry) (those c)
+          ∙ ap (λ m. picked (is_live_in m) (all_entries (those c))) (state c).registry
+          ∙ ap (λ ss. live_of c.args.state.now (all_entries ss)) (sym (sources c)));
+    }
