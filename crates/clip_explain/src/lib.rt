@@ -4,8 +4,10 @@
 ghost use Rattle.std.specs.Prelude.{◌≡◌};
 
 mod certain;
+mod explaining;
 mod field_name;
 mod laws;
 
 pub use certain::{is_always, is_never};
+pub use explaining::{Explained, Explanation, explain};
 pub use laws::{always_law, never_law};
