@@ -1,5 +1,6 @@
 pub mod Meanings
 pub mod ObjectMembers
 pub mod Printed
+pub mod Putting
 pub mod RequestLaw
 pub mod Sent

@@ -1,12 +1,12 @@
 -- The text of the reply to a match, piece by piece.
-use Rattle.std.proofs.Common.{◌≡◌, ℕ, ◌+◌, ◌<◌, ◌||◌, suc, List, [], ◌∷◌, ◌++◌, Bool, true, false, codes, decimal, map, drop, get_or, length, nat_lt, refl, sym, ap, ap₂, ◌∙◌, append_assoc, append-nil, add-one, arith, min, take}
-use Rattle.std.proofs.Math.Seq.{drop-cons}
-use Rattle.std.proofs.lemmas.List.{length-take, take_more, take-append-drop}
+use Rattle.std.proofs.Common.{◌≡◌, ℕ, ◌+◌, ◌<◌, suc, List, [], ◌∷◌, ◌++◌, Bool, true, false, codes, decimal, flat_map, map, drop, get_or, length, nat_lt, ◌-◌, ◌≤◌, refl, sym, ap, ap₂, ◌∙◌, append_assoc, append-nil, add-one, arith, take}
+use Rattle.std.proofs.Math.Seq.{drop-cons, take-add}
+use Rattle.std.proofs.lemmas.List.{append_cancel_right, drop-map, take-map, take_all, length-drop, length-take, take_more, take-append-drop}
 use Rattle.std.proofs.lemmas.Bool.{lt-ltb}
-use Rattle.json.specs.Token.{end_object, end_array, key, number}
+use Rattle.json.specs.Token.{Token, begin_array, end_object, end_array, key, number}
 use Rattle.json.specs.Print.{escape_byte, print, print_from, quoted}
 use Rattle.json.proofs.Printed.Tokens.{print_from-append}
-use Rattle.serde_json.specs.Data.{Data, string}
+use Rattle.serde_json.specs.Data.{Data, array, string}
 use Rattle.serde_json.specs.View.{items_of}
 use Rattle.serde_json.specs.Written.{comma_if, compact_text, items_text, members_text}
 use Rattle.serde_json.proofs.Texts.{print-outline}
@@ -18,7 +18,7 @@ use Rattle.clip_protocol.specs.Reply as reply
 use Rattle.clip_protocol.specs.Reply.{alerts_data, number_of, printed, reply_text, reply_value}
 use Rattle.clip_protocol.specs.Request.{array_of, members_from}
 use Rattle.clip_protocol.specs.Steps.Flowing.{closing, item_text, items_begun, opening, shown_data}
-use Rattle.clip_protocol.specs.Steps.Printing.{data_tokens}
+use Rattle.clip_protocol.specs.Steps.Printing.{data_tokens, last_tokens}
 use Rattle.clip_protocol.specs.Steps.Views.{alerts_by_id}
 
 -- ---- the articles
@@ -118,6 +118,61 @@ reply_articles form n found notes =
     print-whole form n found notes opening (opening ++ items_begun false (shown_data form found)) refl
     (append_assoc opening (items_begun false (shown_data form found)) (93 ∷ []) ∙ ap (λ t. opening ++ t) (items_closed false (shown_data form found)))
 
--- what is written of an item behind a comma
-pub item_printed : (later : Bool) (d : Data) (before text : List ℕ) → before ≡ comma_if later → text ≡ before ++ print (data_tokens d) → text ≡ item_text later d
-item_printed later d before text comma written = written ∙ ap₂ (λ b t. b ++ t) comma (print-outline d)
+-- ---- pieces of an array
+
+-- the tokens of an array's items, and the end of it
+pub each_closed : (ds : List Data) → flat_map data_tokens ds ++ end_array ∷ [] ≡ last_tokens ds
+each_closed [] = refl
+each_closed (d ∷ ds) = append_assoc (data_tokens d) (flat_map data_tokens ds) (end_array ∷ []) ∙ ap (λ ts. data_tokens d ++ ts) (each_closed ds)
+
+-- an array behind other tokens
+pub array_tokens : (before : List Token) (ds : List Data) → ((before ++ begin_array ∷ []) ++ flat_map data_tokens ds) ++ end_array ∷ [] ≡ before ++ data_tokens (array_of ds)
+array_tokens before ds =
+    append_assoc (before ++ begin_array ∷ []) (flat_map data_tokens ds) (end_array ∷ []) ∙ append_assoc before (begin_array ∷ []) (flat_map data_tokens ds ++ end_array ∷ [])
+    ∙ ap (λ ts. before ++ begin_array ∷ ts) (each_closed ds)
+
+print-end_array : (later : Bool) → print_from later (end_array ∷ []) ≡ 93 ∷ []
+unfolding print_from
+print-end_array true = refl
+print-end_array false = refl
+
+print-last_tokens : (ds : List Data) → print (last_tokens ds) ≡ items_text false (items_of ds)
+unfolding print_from
+print-last_tokens ds = ap (drop 1) (print-outline (array (items_of ds)))
+
+-- what is printed of an array's items, without its brackets
+pub print-each : (ds : List Data) → print (flat_map data_tokens ds) ≡ items_begun false ds
+print-each ds =
+    append_cancel_right (print (flat_map data_tokens ds)) (items_begun false ds) (93 ∷ [])
+    (ap (λ t. print (flat_map data_tokens ds) ++ t) (sym (print-end_array _)) ∙ sym (print_from-append false (flat_map data_tokens ds) (end_array ∷ []))
+    ∙ ap print (each_closed ds) ∙ print-last_tokens ds ∙ sym (items_closed false ds))
+
+-- items behind others
+items_behind : (later : Bool) (ds : List Data) → 0 < length ds → items_begun later ds ≡ comma_if later ++ items_begun false ds
+items_behind later [] some = absurd (omega arith)
+items_behind later (d ∷ ds) some = append_assoc (comma_if later) (compact_text d) (items_begun true ds)
+
+-- the items from one place on up to another are put behind those before them
+pub items_piece : (ds : List Data) (i j : ℕ) → i < j → j ≤ length ds → items_begun false (take i ds) ++ (comma_if (nat_lt 0 i) ++ items_begun false (take (j - i) (drop i ds))) ≡ items_begun false (take j ds)
+items_piece ds i j below within =
+    let first = take i ds in
+    let piece = take (j - i) (drop i ds) in
+    let before : length first ≡ i = length-take i ds ∙ omega arith in
+    let some : 0 < length piece = omega (arith, length-take (j - i) (drop i ds), length-drop i ds) in
+    let both : first ++ piece ≡ take j ds = sym (take-add i (j - i) ds) ∙ ap (λ n. take n ds) (omega arith) in
+    ap (λ t. items_begun false first ++ t) (sym (items_behind (nat_lt 0 i) piece some) ∙ ap (λ b. items_begun b piece) (ap (nat_lt 0) (sym before) ∙ sym (behind_some first)))
+    ∙ sym (items_append false first piece) ∙ ap (items_begun false) both
+
+-- the items up to a place are a front of the array
+pub array_front : (ds : List Data) (i : ℕ) → (rest : List ℕ) × (compact_text (array_of ds) ≡ (91 ∷ items_begun false (take i ds)) ++ rest)
+array_front ds i =
+    let front = items_front ds i in
+    (front.0 ++ 93 ∷ [], ap (λ t. 91 ∷ t) (sym (items_closed false ds) ∙ ap (λ t. t ++ 93 ∷ []) front.1 ∙ append_assoc (items_begun false (take i ds)) front.0 (93 ∷ [])))
+
+-- a piece of a list, as something else
+pub piece_mapped : {A B : Type 0} (f : A → B) (xs : List A) (n i : ℕ) → map f (take n (drop i xs)) ≡ take n (drop i (map f xs))
+piece_mapped f xs n i = sym (take-map f n (drop i xs)) ∙ ap (take n) (sym (drop-map f i xs))
+
+-- no item is left
+pub items_all : (ds : List Data) (i : ℕ) → length ds ≤ i → items_begun false (take i ds) ≡ items_begun false ds
+items_all ds i past = ap (items_begun false) (take_all i ds past)

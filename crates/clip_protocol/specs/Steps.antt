@@ -4,4 +4,5 @@ pub mod Flowing
 pub mod Listings
 pub mod Outline
 pub mod Printing
+pub mod Putting
 pub mod Views

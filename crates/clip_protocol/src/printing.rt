@@ -1,5 +1,5 @@
 //! The values in replies, written token by token.
-ghost use Rattle.std.specs.Prelude.{◌≡◌, ◌++◌, IfOk, map, option_map, string_bytes};
+ghost use Rattle.std.specs.Prelude.{◌≡◌, ◌++◌, IfOk, false, flat_map, map, option_map, string_bytes};
 ghost use Rattle.std.specs.Arc.{arc_str_bytes};
 ghost use Rattle.json.specs.Print.{print};
 ghost use Rattle.serde_json.specs.Data.{string};
@@ -7,6 +7,7 @@ ghost use Rattle.clip_meaning.specs.Hits.{hit_value};
 ghost use Rattle.clip_standing.specs.Alerts.{alert_value, alerts_value};
 ghost use Rattle.clip_protocol.specs.Reply.{alerts_data, hit_data, hits_data, number_of, queries_data, text_or_null};
 ghost use Rattle.clip_protocol.specs.Request.{array_of};
+ghost use Rattle.clip_protocol.specs.Steps.Flowing.{article_begun, items_begun};
 ghost use Rattle.clip_protocol.specs.Steps.Printing.{Appends, data_tokens, hits_tokens};
 ghost use Rattle.clip_protocol.specs.Steps.Views.{alerts_by_id};
 
@@ -58,15 +59,33 @@ fn write_hit(out: &mut Writer, hit: &Hit) -> Result<(), NoMemory>
     Ok(())
 }
 
+/// Writes hits, one after the other.
+fn write_each_hit(out: &mut Writer, hits: &[Hit]) -> Result<(), NoMemory>
+    ensures { Appends result out.old out.new (flat_map data_tokens (map hit_data (map hit_value hits.now))) }
+{
+    for hit in hits {
+        write_hit(out, hit)?;
+    }
+    Ok(())
+}
+
+/// The text, and after it hits, with commas between.
+pub fn hits_text(text: Vec<u8>, hits: &[Hit]) -> Result<Vec<u8>, NoMemory>
+    ensures { IfOk result (λ after. after.items
+        ≡ text.items ++ items_begun false (map hit_data (map hit_value hits.now))) }
+{
+    let mut out = Writer::new(text);
+    write_each_hit(&mut out, hits)?;
+    Ok(out.into_inner())
+}
+
 /// Writes where a query holds.
 fn write_hits(out: &mut Writer, hits: &[Hit]) -> Result<(), NoMemory>
     ensures { Appends result out.old out.new
         (data_tokens (array_of (map hit_data (map hit_value hits.now)))) }
 {
     out.begin_array()?;
-    for hit in hits {
-        write_hit(out, hit)?;
-    }
+    write_each_hit(out, hits)?;
     out.end_array()?;
     Ok(())
 }
@@ -94,14 +113,33 @@ fn write_hits_of_all(out: &mut Writer, alloc: Global, alerts: &[Alert]) -> Resul
     Ok(())
 }
 
+/// Writes the ids of the queries, one after the other.
+fn write_each_query(out: &mut Writer, alerts: &[Alert]) -> Result<(), NoMemory>
+    ensures { Appends result out.old out.new
+        (flat_map data_tokens (map string (map (λ a. a.query) (map alert_value alerts.now)))) }
+{
+    for alert in alerts {
+        out.string(alert.query().as_str())?;
+    }
+    Ok(())
+}
+
+/// The text, and after it the ids of the queries, with commas between.
+pub fn queries_text(text: Vec<u8>, alerts: &[Alert]) -> Result<Vec<u8>, NoMemory>
+    ensures { IfOk result (λ after. after.items
+        ≡ text.items ++ items_begun false (map string (map (λ a. a.query) (map alert_value alerts.now)))) }
+{
+    let mut out = Writer::new(text);
+    write_each_query(&mut out, alerts)?;
+    Ok(out.into_inner())
+}
+
 /// Writes the ids of the queries.
 fn write_queries(out: &mut Writer, alerts: &[Alert]) -> Result<(), NoMemory>
     ensures { Appends result out.old out.new (data_tokens (queries_data (map alert_value alerts.now))) }
 {
     out.begin_array()?;
-    for alert in alerts {
-        out.string(alert.query().as_str())?;
-    }
+    write_each_query(out, alerts)?;
     out.end_array()?;
     Ok(())
 }
@@ -137,6 +175,17 @@ fn write_alerts(out: &mut Writer, alloc: Global, form: Form, found: &Alerts) -> 
     write_queries(out, &found.alerts)?;
     out.end_object()?;
     Ok(())
+}
+
+/// The text, and after it the beginning of an article's alerts, up to its id.
+pub fn article_begun_text(text: Vec<u8>, article: &str) -> Result<Vec<u8>, NoMemory>
+    ensures { IfOk result (λ after. after.items ≡ text.items ++ article_begun article.now) }
+{
+    let mut out = Writer::new(text);
+    out.begin_object()?;
+    out.key("article")?;
+    out.string(article)?;
+    Ok(out.into_inner())
 }
 
 /// The text, and after it an article's alerts in a form.

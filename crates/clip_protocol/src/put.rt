@@ -1,19 +1,185 @@
-//! What is put into a flow of the reply to a match.
-ghost use Rattle.std.specs.Prelude.{◌≡◌, ◌≢◌, ◌++◌, true, Err, IfErr, OnErr, OnOk};
-ghost use Rattle.clip_standing.specs.Alerts.{alerts_value};
+//! What is put into a flow of the reply to a match, piece by piece.
+ghost use Rattle.std.specs.Prelude.{◌≡◌, ◌≢◌, [], ◌∷◌, ◌++◌, codes, false, map, true, Err, IfErr, OnErr, OnOk};
+ghost use Rattle.json.specs.Print.{quoted};
+ghost use Rattle.serde_json.specs.Data.{string};
+ghost use Rattle.serde_json.specs.Written.{compact_text};
+ghost use Rattle.clip_meaning.specs.Hits.{hit_value};
+ghost use Rattle.clip_standing.specs.Alerts.{alert_value, alerts_value};
 ghost use Rattle.clip_stream.specs.Device.{AppendsFront, HandsOver};
-ghost use Rattle.clip_protocol.specs.Reply.{alerts_data};
-ghost use Rattle.clip_protocol.specs.Steps.Flowing.{item_text};
+ghost use Rattle.clip_protocol.specs.Reply.{alerts_data, hit_data};
+ghost use Rattle.clip_protocol.specs.Request.{array_of};
+ghost use Rattle.clip_protocol.specs.Steps.Flowing.{hits_member, item_text, items_begun};
+ghost use Rattle.clip_protocol.specs.Steps.Putting.{PutsText, stand};
 ghost use Rattle.clip_protocol.specs.Steps.Views.{alerts_by_id};
 
 use crate::form::Form;
 use crate::found::separate;
-use crate::printing::alerts_text;
-use clip_standing::Alerts;
+use crate::printing::{article_begun_text, hits_text, queries_text};
+use clip_meaning::Hit;
+use clip_standing::{Alert, Alerts};
 use clip_stream::{Flow, RunFault, Sink};
 use std::alloc::Global;
 
-/// Puts what a reply of this form shows of an article, after a comma where it stands behind another.
+/// So many bytes of a text are a piece, which is put before more is written behind it.
+const PIECE_BYTES: usize = 1024;
+
+/// At most so many ids or hits are written before it is seen whether they are a piece.
+const PIECE_ITEMS: usize = 64;
+
+/// Puts the text where it is a piece, and gives back what is left to put, in the room that it has.
+fn put_piece<W: Sink>(flow: &mut Flow<'_, W>, mut text: Vec<u8>) -> Result<Vec<u8>, RunFault>
+    ensures same_reference { flow.new.writer.ghost_name ≡ flow.old.writer.ghost_name }
+    ensures puts { PutsText result
+        (stand W.taken W.has_failed flow.old.writer.now (flow.old.outbox.now ++ text.items))
+        (stand W.taken W.has_failed flow.new.writer.now flow.new.outbox.now) [] }
+{
+    if text.len() < PIECE_BYTES {
+        return Ok(text);
+    }
+    flow.put(&text)?;
+    text.clear();
+    Ok(text)
+}
+
+/// Puts an array of hits behind the text, and gives back what is left to put.
+fn put_hits<W: Sink>(
+    flow: &mut Flow<'_, W>,
+    mut text: Vec<u8>,
+    hits: &[Hit],
+) -> Result<Vec<u8>, RunFault>
+    ensures same_reference { flow.new.writer.ghost_name ≡ flow.old.writer.ghost_name }
+    ensures puts { PutsText result
+        (stand W.taken W.has_failed flow.old.writer.now (flow.old.outbox.now ++ text.items))
+        (stand W.taken W.has_failed flow.new.writer.now flow.new.outbox.now)
+        (compact_text (array_of (map hit_data (map hit_value hits.now)))) }
+{
+    text.push(b'[')?;
+    let mut at = 0;
+    while at < hits.len() {
+        let end = hits.len().min(at.saturating_add(PIECE_ITEMS));
+        separate(&mut text, at > 0)?;
+        text = hits_text(text, &hits[at..end])?;
+        text = put_piece(flow, text)?;
+        at = end;
+    }
+    text.push(b']')?;
+    Ok(text)
+}
+
+/// Puts the hits of an alert behind the text: those that it carries, or those that are found now.
+fn put_hits_of<W: Sink>(
+    flow: &mut Flow<'_, W>,
+    text: Vec<u8>,
+    alloc: Global,
+    alert: &Alert,
+) -> Result<Vec<u8>, RunFault>
+    ensures same_reference { flow.new.writer.ghost_name ≡ flow.old.writer.ghost_name }
+    ensures puts { PutsText result
+        (stand W.taken W.has_failed flow.old.writer.now (flow.old.outbox.now ++ text.items))
+        (stand W.taken W.has_failed flow.new.writer.now flow.new.outbox.now)
+        (compact_text (array_of (map hit_data (alert_value alert.now).hits))) }
+{
+    match alert.found_hits() {
+        Some(hits) => put_hits(flow, text, hits),
+        None => put_hits(flow, text, &alert.hits(alloc)?),
+    }
+}
+
+/// Puts the hits of each alert behind the text, with commas between.
+fn put_hits_of_all<W: Sink>(
+    flow: &mut Flow<'_, W>,
+    mut text: Vec<u8>,
+    alloc: Global,
+    alerts: &[Alert],
+) -> Result<Vec<u8>, RunFault>
+    ensures same_reference { flow.new.writer.ghost_name ≡ flow.old.writer.ghost_name }
+    ensures puts { PutsText result
+        (stand W.taken W.has_failed flow.old.writer.now (flow.old.outbox.now ++ text.items))
+        (stand W.taken W.has_failed flow.new.writer.now flow.new.outbox.now)
+        (items_begun false (map (λ a. array_of (map hit_data a.hits)) (map alert_value alerts.now))) }
+{
+    for (place, alert) in alerts.iter().enumerate() {
+        separate(&mut text, place > 0)?;
+        text = put_hits_of(flow, text, alloc, alert)?;
+        text = put_piece(flow, text)?;
+    }
+    Ok(text)
+}
+
+/// Puts the member that tells where the queries hold behind the text, if the form shows it.
+fn put_hits_member<W: Sink>(
+    flow: &mut Flow<'_, W>,
+    mut text: Vec<u8>,
+    alloc: Global,
+    form: Form,
+    alerts: &[Alert],
+) -> Result<Vec<u8>, RunFault>
+    ensures same_reference { flow.new.writer.ghost_name ≡ flow.old.writer.ghost_name }
+    ensures puts { PutsText result
+        (stand W.taken W.has_failed flow.old.writer.now (flow.old.outbox.now ++ text.items))
+        (stand W.taken W.has_failed flow.new.writer.now flow.new.outbox.now)
+        (hits_member form (map alert_value alerts.now)) }
+{
+    match form {
+        Form::Plain => Ok(text),
+        Form::WithHits => {
+            text.extend_from_slice(b",\"hits\":[")?;
+            text = put_hits_of_all(flow, text, alloc, alerts)?;
+            text.push(b']')?;
+            Ok(text)
+        }
+    }
+}
+
+/// Puts the ids of the queries behind the text, with commas between.
+fn put_queries<W: Sink>(
+    flow: &mut Flow<'_, W>,
+    mut text: Vec<u8>,
+    alerts: &[Alert],
+) -> Result<Vec<u8>, RunFault>
+    ensures same_reference { flow.new.writer.ghost_name ≡ flow.old.writer.ghost_name }
+    ensures puts { PutsText result
+        (stand W.taken W.has_failed flow.old.writer.now (flow.old.outbox.now ++ text.items))
+        (stand W.taken W.has_failed flow.new.writer.now flow.new.outbox.now)
+        (items_begun false (map string (map (λ a. a.query) (map alert_value alerts.now)))) }
+{
+    let mut at = 0;
+    while at < alerts.len() {
+        let end = alerts.len().min(at.saturating_add(PIECE_ITEMS));
+        separate(&mut text, at > 0)?;
+        text = queries_text(text, &alerts[at..end])?;
+        text = put_piece(flow, text)?;
+        at = end;
+    }
+    Ok(text)
+}
+
+/// Puts what a reply of this form shows of an article behind the text, after a comma where it stands behind another.
+fn put_article<W: Sink>(
+    flow: &mut Flow<'_, W>,
+    mut text: Vec<u8>,
+    alloc: Global,
+    form: Form,
+    later: bool,
+    found: &Alerts,
+) -> Result<Vec<u8>, RunFault>
+    ensures same_reference { flow.new.writer.ghost_name ≡ flow.old.writer.ghost_name }
+    ensures puts { PutsText result
+        (stand W.taken W.has_failed flow.old.writer.now (flow.old.outbox.now ++ text.items))
+        (stand W.taken W.has_failed flow.new.writer.now flow.new.outbox.now)
+        (item_text later (alerts_data form (alerts_by_id (alerts_value found.now)))) }
+{
+    separate(&mut text, later)?;
+    text = article_begun_text(text, found.article.as_str())?;
+    text = put_hits_member(flow, text, alloc, form, &found.alerts)?;
+    text.extend_from_slice(b",\"queries\":[")?;
+    text = put_queries(flow, text, &found.alerts)?;
+    text.extend_from_slice(b"]}")?;
+    Ok(text)
+}
+
+/// Puts what a reply of this form shows of an article, after a comma where it stands behind another. It goes by pieces,
+/// so the whole of it is never held.
 ///
 /// `NoMemory` where an allocation failed, `Write` where the writer fails; a front of it may be put then. Its cost is
 /// linear in the text; with hits that of `Alert::hits` comes to it for each alert that carries none.
@@ -34,8 +200,6 @@ pub fn put_alerts<W: Sink>(
     ensures front { OnErr result (AppendsFront (W.taken flow.old.writer.now) (W.taken flow.new.writer.now)
         (flow.old.outbox.now ++ item_text later (alerts_data form (alerts_by_id (alerts_value alerts.now))))) }
 {
-    let mut text = Vec::new(alloc);
-    separate(&mut text, later)?;
-    let text = alerts_text(text, alloc, form, alerts)?;
+    let text = put_article(flow, Vec::new(alloc), alloc, form, later, alerts)?;
     flow.put(&text)
 }
