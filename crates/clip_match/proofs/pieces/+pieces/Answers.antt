@@ -21,15 +21,14 @@ use Rattle.clip_registry.specs.contracts.view.View as view
 use Rattle.clip_registry.proofs.Sent.{view_is_sync}
 use Rattle.clip_meaning.specs.contracts.article.Article as article
 use Rattle.clip_meaning.proofs.article.Article.TheSendSync as article_sent
-use Rattle.clip_match.specs.contracts.held.HitsFound as hits_found
-use Rattle.clip_match.proofs.held.HitsFound.TheSendSync as hits_found_sent
 use Rattle.clip_standing.proofs.Sent.{alerts_send}
 use Rattle.clip_match.proofs.pieces.+pieces.Goals as goal
 
--- a closure of nine captures
-captures_send : (name : Sym) (A B C D E F G H I : RattleType) → IsSend A → IsSend B → IsSend C → IsSend D → IsSend E → IsSend F → IsSend G → IsSend H → IsSend I → IsSend (TupleAt name (A ∷ B ∷ C ∷ D ∷ E ∷ F ∷ G ∷ H ∷ I ∷ []))
-captures_send name A B C D E F G H I a b c d e f g h i =
-    declared_send (type_at name (A ∷ B ∷ C ∷ D ∷ E ∷ F ∷ G ∷ H ∷ I ∷ [])) (
+-- a closure of eight captures
+captures_send : (name : Sym) (A B C D E F G H : RattleType) → IsSend A → IsSend B → IsSend C → IsSend D → IsSend E
+    → IsSend F → IsSend G → IsSend H → IsSend (TupleAt name (A ∷ B ∷ C ∷ D ∷ E ∷ F ∷ G ∷ H ∷ []))
+captures_send name A B C D E F G H a b c d e f g h =
+    declared_send (type_at name (A ∷ B ∷ C ∷ D ∷ E ∷ F ∷ G ∷ H ∷ [])) (
       as_row_send (row_field A) a,
       (
         as_row_send (row_field B) b,
@@ -37,7 +36,10 @@ captures_send name A B C D E F G H I a b c d e f g h i =
           as_row_send (row_field C) c,
           (
             as_row_send (row_field D) d,
-            (as_row_send (row_field E) e, (as_row_send (row_field F) f, (as_row_send (row_field G) g, (as_row_send (row_field H) h, (as_row_send (row_field I) i, tt))))),
+            (
+              as_row_send (row_field E) e,
+              (as_row_send (row_field F) f, (as_row_send (row_field G) g, (as_row_send (row_field H) h, tt))),
+            ),
           ),
         ),
       ),
@@ -52,11 +54,11 @@ join-first-requires-send-F g t c κs within =
     let front = (shr_slice_field (record { mir = named 8; lft = κs.1.1.1.1.1.1.1.1.0 }) article.the_row tt).row in
     let gate = (shr_ref_field (record { mir = named 9; lft = κs.1.1.1.1.1.1.1.1.1.0 }) (param 1 g.row.G) tt).row in
     let number = u32-field.row in
-    let captured = rt ∷ global.the_row ∷ looked ∷ front ∷ hits_found.the_row ∷ u64-field.row ∷ number ∷ number ∷ gate ∷ [] in
+    let captured = rt ∷ global.the_row ∷ looked ∷ front ∷ u64-field.row ∷ number ∷ number ∷ gate ∷ [] in
     let name = codes "clip_match::pieces::fn::match_from::join+arg2+Self" in
     param_send 1 _ (arg_send _ no (TupleAt name captured)
-    (captures_send name rt global.the_row looked front hits_found.the_row u64-field.row number number gate
-    (shr_send _ _ _ (param_sync 0 _ r)) global_sent.the_send (shr_send _ _ _ view_is_sync) (shr_slice_send _ _ _ article_sent.the_sync) hits_found_sent.the_send
+    (captures_send name rt global.the_row looked front u64-field.row number number gate
+    (shr_send _ _ _ (param_sync 0 _ r)) global_sent.the_send (shr_send _ _ _ view_is_sync) (shr_slice_send _ _ _ article_sent.the_sync)
     (search sendable) (search sendable) (search sendable) (shr_send _ _ _ (param_sync 1 _ s))))
 
 pub join-first-requires-send-A : goal.join-first-requires-send-A
