@@ -15,10 +15,10 @@ use clip_registry::View;
 use clip_words::{NoMemory, WordPool};
 use std::alloc::Global;
 
-/// When hits are found: at once where replies show them, and else when they are asked for.
+/// When hits are found: at once, while they are few, where replies show them, and else when they are asked for.
 fn hits_found(form: Form) -> HitsFound {
     match form {
-        Form::WithHits => HitsFound::AtOnce,
+        Form::WithHits => HitsFound::WhileFew,
         Form::Plain => HitsFound::WhenAsked,
     }
 }

@@ -1,5 +1,5 @@
 //! Entries whose queries hold of an article, and when their hits are found.
-ghost use Rattle.std.specs.Prelude.{◌≡◌, map, IfOk};
+ghost use Rattle.std.specs.Prelude.{◌≡◌, map, true, IfOk};
 ghost use Rattle.clip_words.specs.Order.{bytes_cmp};
 
 use clip_meaning::{compare_by_leads, lead_of};
@@ -9,6 +9,9 @@ use std::alloc::Global;
 use std::cmp::Ordering;
 use std::marker::Model;
 
+/// So many hits of an article are many: where they are found while they are few, those of further queries are not.
+const MANY_HITS: usize = 262_144;
+
 /// When the hits of an alert are found.
 #[derive(Clone, Copy, Debug, PartialEq, Eq)]
 pub enum HitsFound {
@@ -16,6 +19,22 @@ pub enum HitsFound {
     WhenAsked,
     /// At once, while its query is judged; the alert carries them.
     AtOnce,
+    /// At once, until 262,144 hits of its article are found, and after that when they are asked for. So what an article
+    /// holds is bounded, however many hits it has: by that many, and those of one query more.
+    WhileFew,
+}
+
+impl HitsFound {
+    /// Whether the hits of one query more are found at once, where so many of others are.
+    pub(crate) fn finds_more(self, found: usize) -> bool
+        ensures { self ≡ HitsFound.AtOnce → result ≡ true }
+    {
+        match self {
+            HitsFound::WhenAsked => false,
+            HitsFound::AtOnce => true,
+            HitsFound::WhileFew => found < MANY_HITS,
+        }
+    }
 }
 
 /// The id of a query beside its lead, by which most ids are told apart without a look at their texts. Contracts see the

@@ -129,12 +129,13 @@ fn add_entries<'a>(
 /// Room for so many hits is made at once for each query that holds.
 const HITS_FOR_A_QUERY: usize = 2;
 
-/// Adds the entries of a segment at these positions, and their hits to those of others. `flags` is room for a flag for
-/// each word of a field.
+/// Adds the entries of a segment at these positions, and their hits to those of others, as long as more are found at
+/// once. `flags` is room for a flag for each word of a field.
 fn add_with_hits<'a>(
     reading: &SegmentReading<'a>,
     spots: &SegmentSpots<'_>,
     positions: &[u32],
+    hits: HitsFound,
     flags: &mut FieldFlags,
     all_hits: &mut Vec<Hit>,
     held: &mut Vec<Held<'a>>,
@@ -143,14 +144,18 @@ fn add_with_hits<'a>(
     ensures entries { OnOk result (map (λ h. h.registered.now) held.new.items
         ≡ map (λ h. h.registered.now) held.old.items ++ entries_at reading.now.entries positions.now) }
     ensures hits { OnOk result (
-        All (HasItsHits HitsFound.AtOnce reading.now.article (map hit_value all_hits.old.items)) held.old.items
-        → All (HasItsHits HitsFound.AtOnce reading.now.article (map hit_value all_hits.new.items)) held.new.items) }
+        All (HasItsHits hits reading.now.article (map hit_value all_hits.old.items)) held.old.items
+        → All (HasItsHits hits reading.now.article (map hit_value all_hits.new.items)) held.new.items) }
 {
     all_hits.reserve(positions.len().saturating_mul(HITS_FOR_A_QUERY))?;
     for position in positions {
         let Some(registered) = reading.entry(*position) else {
             continue;
         };
+        if !hits.finds_more(all_hits.len()) {
+            held.push(Held::of(registered, None))?;
+            continue;
+        }
         let start = all_hits.len();
         spots.add_hits(*position, flags, all_hits)?;
         let end = all_hits.len();
@@ -182,9 +187,9 @@ fn add_held<'a>(
     }
     match hits {
         HitsFound::WhenAsked => add_entries(reading, positions, held),
-        HitsFound::AtOnce => {
+        HitsFound::AtOnce | HitsFound::WhileFew => {
             let spots = reading.spots(alloc)?;
-            add_with_hits(reading, &spots, positions, flags, all_hits, held)
+            add_with_hits(reading, &spots, positions, hits, flags, all_hits, held)
         }
     }
 }

@@ -4,11 +4,11 @@ use clip_front::Settings;
 use clip_match::HitsFound;
 use clip_protocol::Form;
 
-/// At once where replies show hits or rows keep them, and else when a listener asks.
+/// At once, while they are few, where replies show hits or rows keep them, and else when a listener asks.
 pub fn hits_found(settings: Settings) -> HitsFound {
     match settings.form {
-        Form::WithHits => HitsFound::AtOnce,
-        Form::Plain if settings.keeps_rows => HitsFound::AtOnce,
+        Form::WithHits => HitsFound::WhileFew,
+        Form::Plain if settings.keeps_rows => HitsFound::WhileFew,
         Form::Plain => HitsFound::WhenAsked,
     }
 }

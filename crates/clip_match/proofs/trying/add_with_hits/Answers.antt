@@ -10,7 +10,6 @@ use Rattle.clip_model.specs.History.{Registered}
 use Rattle.clip_segment.specs.Segment.{AskedValue}
 use Rattle.clip_match.specs.declared.held.Held.{Held}
 use Rattle.clip_match.specs.declared.held.HitPlaces.{HitPlaces}
-use Rattle.clip_match.specs.declared.held.HitsFound.TheVariants.{AtOnce}
 use Rattle.clip_match.specs.Steps.Held.{HasItsHits, StandAt}
 use Rattle.clip_match.specs.Steps.Positions.{entries_at}
 use Rattle.clip_match.proofs.Places.{each_still, stand_last}
@@ -23,14 +22,14 @@ loop-position-preserved c =
     let ps = c.args.positions.now in
     let i = c.loop-position.position-index in
     let p = get_or ps i 0 in
-    let one : Held = c.of.result in
+    let one : Held = c.of-in-loop-position.result in
     let entry : List Held → List Registered = map (λ (h : Held). h.registered.now) in
     let old = c.args.held.now.items in
     let now = c.loop-position.held.items in
     let there : slice_get es p ≡ Some one.registered.now =
     sym c.entry.ensures
     ∙ ap (λ o. option_map arc_value (option_copied o)) c.in-Some.is
-    ∙ ap Some (sym c.deref.ensures ∙ sym c.of.ensures.registered) in
+    ∙ ap Some (sym c.deref-in-loop-position.ensures ∙ sym c.of-in-loop-position.ensures.registered) in
     let article = c.args.reading.now.article in
     let all = map hit_value c.loop-position.all_hits.items in
     let found = hits one.registered.now.standing.tree article.fields in
@@ -46,20 +45,20 @@ loop-position-preserved c =
     ∙ ap (entries_at es) (sym (take_more ps i 0 c.loop-position-test.true)) in
     record {
       entries =
-          ap entry c.in_ok-push.ensures.items
+          ap entry c.in_ok-push-2.ensures.items
           ∙ map-append (λ (h : Held). h.registered.now) now (one ∷ [])
           ∙ ap (λ xs. xs ++ one.registered.now ∷ []) c.loop-position.invariant.entries
           ∙ append_assoc (entry old) (entries_at es (take i ps)) (one.registered.now ∷ [])
           ∙ ap (λ xs. entry old ++ xs) more;
       hits =
           λ before.
-          subst (All (HasItsHits AtOnce article (map hit_value c.add_hits.new.found.items))) (sym c.in_ok-push.ensures.items)
-          (subst (λ list. All (HasItsHits AtOnce article list) (now ++ one ∷ [])) (sym made)
-          (All-append (HasItsHits AtOnce article (all ++ found)) now (one ∷ []) (each_still AtOnce article all found now (c.loop-position.invariant.hits before))
-          (All-cons (HasItsHits AtOnce article (all ++ found)) one []
+          subst (All (HasItsHits c.args.hits article (map hit_value c.add_hits.new.found.items))) (sym c.in_ok-push-2.ensures.items)
+          (subst (λ list. All (HasItsHits c.args.hits article list) (now ++ one ∷ [])) (sym made)
+          (All-append (HasItsHits c.args.hits article (all ++ found)) now (one ∷ []) (each_still c.args.hits article all found now (c.loop-position.invariant.hits before))
+          (All-cons (HasItsHits c.args.hits article (all ++ found)) one []
           (record {
-            right = subst (λ o. IfSome o (StandAt (all ++ found) found)) (sym c.of.ensures.hits) (stand_last all found places start end);
-            there = λ _. ap is_some c.of.ensures.hits;
+            right = subst (λ o. IfSome o (StandAt (all ++ found) found)) (sym c.of-in-loop-position.ensures.hits) (stand_last all found places start end);
+            there = λ _. ap is_some c.of-in-loop-position.ensures.hits;
           })
-          (All-nil (HasItsHits AtOnce article (all ++ found))))));
+          (All-nil (HasItsHits c.args.hits article (all ++ found))))));
     }

@@ -1,6 +1,5 @@
 use Rattle.std.proofs.Common.{◌≡◌, ◌++◌, All, map, take}
 use Rattle.clip_meaning.specs.Hits.{hit_value}
-use Rattle.clip_match.specs.declared.held.HitsFound.TheVariants.{AtOnce}
 use Rattle.clip_match.specs.Steps.Held.{HasItsHits}
 use Rattle.clip_match.specs.Steps.Positions.{entries_at}
 use Rattle.clip_match.proofs.trying.add_with_hits.Given as goal
@@ -8,5 +7,5 @@ use Rattle.clip_match.proofs.trying.add_with_hits.Given as goal
 abbrev pub invariant-loop-position : goal.invariant-loop-position
 invariant-loop-position l = record {
   entries : map (λ h. h.registered.now) l.held.items ≡ map (λ h. h.registered.now) l.fn.held.items ++ entries_at l.reading.entries (take l.position-index l.positions);
-  hits : All (HasItsHits AtOnce l.reading.article (map hit_value l.fn.all_hits.items)) l.fn.held.items → All (HasItsHits AtOnce l.reading.article (map hit_value l.all_hits.items)) l.held.items;
+  hits : All (HasItsHits l.hits l.reading.article (map hit_value l.fn.all_hits.items)) l.fn.held.items → All (HasItsHits l.hits l.reading.article (map hit_value l.all_hits.items)) l.held.items;
 }
