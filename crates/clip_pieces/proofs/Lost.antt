@@ -58,7 +58,8 @@ pub lost_within : (flags more : List Bool) (place : ℕ) → is_lost flags more 
 lost_within flags more place lost = elim (cases_lt place (length flags)) [
   | inl low ↦ low
   | inr past ↦
-      absurd (false≢true (sym (ap (λ b. b && not (get_or more place false)) (get_or_past flags place false past)) ∙ lost))
+      absurd (false≢true
+      (sym (ap (λ b. b && not (get_or more place false)) (get_or_past flags place false past)) ∙ lost))
 ]
 
 -- Two lists of words have the bits of two lists of flags. From a place on to before a word none is lost, and bits tell

@@ -125,8 +125,9 @@ impl SharedFlags {
         Some(word_at(&self.words, place) >> (place % 64) & 1 == 1)
     }
 
-    /// The first place, from `from` on, whose flag is set here and not in other flags, of which those past the end count
-    /// as not set. `None` where there is no such place. Takes no memory. Cost: a step for each 64 flags that are passed.
+    /// The first place, from `from` on, whose flag is set here and not in other flags, of which those past the end
+    /// count as not set. `None` where there is no such place. Takes no memory. Cost: a step for each 64 flags that are
+    /// passed.
     pub fn next_lost(&self, others: &SharedFlags, from: usize) -> Option<usize>
         ensures from { IfSome result (λ place. from ≤ place) }
         ensures lost { IfSome result (λ place. is_lost self.now others.now place ≡ true) }

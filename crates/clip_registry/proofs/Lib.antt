@@ -13,6 +13,7 @@ pub mod LiveFlags
 pub mod Equal
 pub mod Lost
 pub mod Missing
+pub mod Clearing
 pub mod Naming
 pub mod Counted
 pub mod Late

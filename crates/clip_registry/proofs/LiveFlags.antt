@@ -89,12 +89,13 @@ pub flags_at : (is : ℕ → Bool) (segments : List (List Registered)) (live : L
 flags_at is segments live k are inside = ap (λ ls. get_or ls k []) are ∙ get_or-map (flags_of is) segments k [] [] inside
 
 -- as many lists of flags as segments
-pub as_long : (is : ℕ → Bool) (segments : List (List Registered)) (live : List (List Bool)) → live ≡ flags_by is segments
-    → length live ≡ length segments
+pub as_long : (is : ℕ → Bool) (segments : List (List Registered)) (live : List (List Bool))
+    → live ≡ flags_by is segments → length live ≡ length segments
 as_long is segments live are = ap length are ∙ length-map segments (flags_of is)
 
 -- the flags that stand at a place are those of the segment there
-pub flags_here : (is : ℕ → Bool) (segments : List (List Registered)) (live : List (List Bool)) (k : ℕ) (flags : List Bool)
+pub flags_here : (is : ℕ → Bool) (segments : List (List Registered)) (live : List (List Bool)) (k : ℕ)
+    (flags : List Bool)
     → live ≡ flags_by is segments → flags ≡ get_or live k flags → k < length live
     → flags ≡ flags_of is (get_or segments k [])
 flags_here is segments live k flags are at low =

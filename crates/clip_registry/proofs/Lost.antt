@@ -30,7 +30,8 @@ passes_not : (b : Bool) → not b ≡ false → b ≡ true
 passes_not true h = refl
 passes_not false h = absurd (false≢true (sym h))
 
-all_pass : (p : Registered → Bool) (es : List Registered) → ((k : ℕ) (r : Registered) → k < length es → p (get_or es k r) ≡ true)
+all_pass : (p : Registered → Bool) (es : List Registered)
+    → ((k : ℕ) (r : Registered) → k < length es → p (get_or es k r) ≡ true)
     → list_all p es ≡ true
 all_pass p [] each = refl
 all_pass p (e ∷ es) each =

@@ -44,7 +44,8 @@ live_unnamed : (l n : Bool) → (not l || n) ≡ false → (l ≡ true) × (n �
 live_unnamed true n h = (refl, h)
 live_unnamed false n h = absurd (false≢true (sym h))
 
-module _ (state : RegistryState) (merge : Merge) (m : Registry) (flags : List (List Bool)) (is : IsMerged flags merge)
+module _ (state : RegistryState) (merge : Merge) (m : Registry) (flags : List (List Bool)) (live : List Bool)
+    (is : IsMerged flags live merge)
     (registry : m ≡ replay state.history) where
   -- a merge that passes the test misses none
   pub misses_none : list_all (stays (is_live_in m) is.is) (all_entries merge.sources) ≡ true → Misses state merge → ⊥

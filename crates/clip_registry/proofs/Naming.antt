@@ -52,13 +52,21 @@ filter_same p q [] same = refl
 filter_same p q (r ∷ rs) same =
     ap (λ b. cond b (r ∷ filter p rs) (filter p rs)) (same r (contains_head r rs)) ∙ ap (λ x. cond (q r) (r ∷ x) x) (filter_same p q rs (λ s h. same s (contains_later r s rs h)))
 
--- of entries that a test of seqs picks, the seqs name just these
+-- of entries that a test of seqs picks, the seqs name an entry where it passes
+pub name_picked : (p : ℕ → Bool) (rs : List Registered) (r : Registered) → Contains rs r
+    → names (map (λ r. r.seq) (filter (λ r. p r.seq) rs)) r.seq ≡ p r.seq
+name_picked p rs r h =
+    let test = λ (q : Registered). p q.seq in
+    same_answer _ _
+    (λ is. let at = named_member (filter test rs) r.seq is in
+    ap p (sym at.is) ∙ (contains_of_filter test at.entry rs at.among).1)
+    (λ is. names_member (filter test rs) r (contains_filter test r rs is h))
+
+-- and they name just these
 pub named_picked : (p : ℕ → Bool) (rs : List Registered) → named (map (λ r. r.seq) (filter (λ r. p r.seq) rs)) rs ≡ filter (λ r. p r.seq) rs
 named_picked p rs =
     let test = λ (r : Registered). p r.seq in
-    filter_same (λ r. names (map (λ r. r.seq) (filter test rs)) r.seq) test rs (λ r h. same_answer _ _
-    (λ is. let at = named_member (filter test rs) r.seq is in ap p (sym at.is) ∙ (contains_of_filter test at.entry rs at.among).1)
-    (λ is. names_member (filter test rs) r (contains_filter test r rs is h)))
+    filter_same (λ r. names (map (λ r. r.seq) (filter test rs)) r.seq) test rs (name_picked p rs)
 
 -- a filter that drops none keeps all
 pub filter_all : (p : Registered → Bool) (rs : List Registered) → length (filter p rs) ≡ length rs → filter p rs ≡ rs

@@ -1,10 +1,10 @@
 //! The live flags of segments: for each segment a flag for each of its entries, by position.
-ghost use Rattle.std.specs.Prelude.{◌≡◌, ℕ, Bool, List, Some, map, length, vec_items, IfOk, OnOk};
+ghost use Rattle.std.specs.Prelude.{◌≡◌, ℕ, Bool, true, List, Some, map, length, replicate, vec_items, IfOk, OnOk};
 ghost use Rattle.std.specs.Arc.{arc_value};
 ghost use Rattle.std.specs.List.{list_all};
 ghost use Rattle.clip_model.specs.History.{Registered, is_live_in};
 ghost use Rattle.clip_segment.specs.Segment.{all_entries};
-ghost use Rattle.clip_registry.specs.Steps.LiveFlags.{flags_by, flags_in, flags_of, stays, without};
+ghost use Rattle.clip_registry.specs.Steps.LiveFlags.{died, flags_by, flags_in, flags_of, stays, without, without_all};
 
 use crate::roster::Roster;
 use clip_pieces::{Shared, SharedFlags};
@@ -48,8 +48,9 @@ pub fn all_flags(
 /// failed.
 fn clear_in(flags: &mut Shared<SharedFlags>, segment: &Segment, seq: u64) -> Result<(), NoMemory>
     requires { length flags.old ≡ length segment.now }
-    ensures { (is : ℕ → Bool) → flags.old ≡ flags_of is segment.now
+    ensures cleared { (is : ℕ → Bool) → flags.old ≡ flags_of is segment.now
         → OnOk result (flags.new ≡ flags_of (without (Some seq) is) segment.now) }
+    ensures long { OnOk result (length flags.new ≡ length flags.old) }
 {
     match segment.position_of(seq) {
         Some(position) => flags.set(position as usize, false),
@@ -134,4 +135,70 @@ pub fn misses_none(now: &[Shared<SharedFlags>], begun: &[Shared<SharedFlags>]) -
         }
     }
     true
+}
+
+/// So many flags, each of them set. `NoMemory` where an allocation failed. It costs a step for each.
+pub fn all_set(alloc: Global, count: usize) -> Result<Shared<SharedFlags>, NoMemory>
+    ensures { IfOk result (λ flags. flags ≡ replicate count true) }
+{
+    let mut flags = SharedFlags::new(alloc);
+    for _ in 0..count {
+        flags.push(true)?;
+    }
+    Shared::new(alloc, flags)
+}
+
+/// Clears the flags of those entries of a source that were live when a merge was begun and died since. `NoMemory` where
+/// an allocation failed.
+fn clear_dead_of(
+    live: &mut Shared<SharedFlags>,
+    segment: &Segment,
+    source: &Segment,
+    now: &SharedFlags,
+    begun: &SharedFlags,
+) -> Result<(), NoMemory>
+    requires live { length live.old ≡ length segment.now }
+    requires begun { length begun.now ≡ length source.now }
+    ensures cleared { (is was so : ℕ → Bool) → now.now ≡ flags_of is source.now → begun.now ≡ flags_of was source.now
+        → live.old ≡ flags_of so segment.now
+        → OnOk result (live.new ≡ flags_of (without_all (died is was source.now) so) segment.now) }
+    ensures long { OnOk result (length live.new ≡ length live.old) }
+{
+    let seqs = source.seqs();
+    let mut from = 0;
+    while let Some(place) = begun.next_lost(now, from) {
+        clear_in(live, segment, seqs[place])?;
+        from = place + 1;
+    }
+    Ok(())
+}
+
+/// Clears the flags of those entries of the sources that were live when a merge was begun and died since. `NoMemory`
+/// where an allocation failed. It costs a step for each 64 entries of the sources, and a search by halves among those
+/// of the merge for each that died.
+pub fn clear_dead(
+    live: &mut Shared<SharedFlags>,
+    segment: &Segment,
+    sources: &[Arc<Segment>],
+    now: &[Shared<SharedFlags>],
+    begun: &[Shared<SharedFlags>],
+) -> Result<(), NoMemory>
+    requires live { length live.old ≡ length segment.now }
+    requires now { length now.now ≡ length sources.now }
+    requires begun { map length begun.now ≡ map length (map arc_value sources.now) }
+    ensures { (is was so : ℕ → Bool) → now.now ≡ flags_by is (map arc_value sources.now)
+        → begun.now ≡ flags_by was (map arc_value sources.now) → live.old ≡ flags_of so segment.now
+        → OnOk result (live.new
+        ≡ flags_of (without_all (died is was (all_entries (map arc_value sources.now))) so) segment.now) }
+{
+    for (place, source) in sources.iter().enumerate() {
+        clear_dead_of(
+            live,
+            segment,
+            source,
+            now[place].value(),
+            begun[place].value(),
+        )?;
+    }
+    Ok(())
 }

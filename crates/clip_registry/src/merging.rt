@@ -6,7 +6,7 @@ ghost use Rattle.clip_registry.specs.Merging.{IsOver, IsStale, LateMergesMissNot
 ghost use Rattle.clip_registry.specs.Steps.LiveFlags.{flags_in};
 ghost use Rattle.clip_registry.specs.Steps.Merging.{AreKept, replaced};
 
-use crate::live_flags::{flags_listed, flags_of, misses_none};
+use crate::live_flags::{all_set, clear_dead, flags_listed, misses_none};
 use crate::same::place_of;
 use crate::state::State;
 use clip_pieces::{Shared, SharedFlags};
@@ -47,12 +47,14 @@ impl Model for MergeJob {
     ghost invariant = { IsJobInside };
 }
 
-/// What a job gives: its sources, which of their entries were live, and one segment of just these.
+/// What a job gives: its sources, which of their entries were live, and one segment of just these, with a flag for each
+/// of them, all set.
 #[derive(Drop)]
 pub struct Merged {
     pub(crate) sources: Vec<Arc<Segment>>,
     pub(crate) flags: Vec<Shared<SharedFlags>>,
     pub(crate) segment: Arc<Segment>,
+    pub(crate) live: Shared<SharedFlags>,
 }
 
 impl Model for Merged {
@@ -90,8 +92,8 @@ pub enum MergeTurn {
 }
 
 impl MergeJob {
-    /// A job over the neighbours of a state from `first` on to before `past`, which it shares, and their live flags with
-    /// them. `NoMemory` where an allocation failed. It costs a step for each of them.
+    /// A job over the neighbours of a state from `first` on to before `past`, which it shares, and their live flags
+    /// with them. `NoMemory` where an allocation failed. It costs a step for each of them.
     pub(crate) fn of(
         alloc: Global,
         state: &State,
@@ -118,11 +120,13 @@ impl MergeJob {
     {
         let kept = flags_listed(self.alloc, &self.flags)?;
         let merged = Segment::select(self.alloc, &self.sources, &kept)?;
+        let live = all_set(self.alloc, merged.len())?;
         let segment = Arc::new(self.alloc, merged)?;
         Ok(Merged {
             sources: self.sources.clone()?,
             flags: self.flags.clone()?,
             segment,
+            live,
         })
     }
 }
@@ -148,23 +152,26 @@ impl Merged {
 
     /// The live flags of the segments of a state, with those of the merge in the place of those of its sources from
     /// `first` on, or with none there where it has no entries. `NoMemory` where an allocation failed. It costs a step
-    /// for each segment, whose flags it shares, and for each entry of the merge.
+    /// for each segment, whose flags it shares, and what `clear_dead` does.
     pub(crate) fn put_flags(
         &self,
         alloc: Global,
         state: &State,
         first: usize,
     ) -> Result<Vec<Shared<SharedFlags>>, NoMemory>
-        requires { first + length self.now.sources ≤ length state.now.segments }
+        requires there { first + length self.now.sources ≤ length state.now.segments }
+        requires stands { StandsAt state.now.segments self.now.sources first }
         ensures { IfOk result (λ live. live.items ≡ flags_in (replay state.now.history)
             (replaced state.now.segments first (length self.now.sources) self.now.entries)) }
     {
         let (before, rest) = state.live.split_at(first);
-        let (_, after) = rest.split_at(self.sources.len());
+        let (now, after) = rest.split_at(self.sources.len());
         let mut live = Vec::with_capacity(alloc, state.live.len())?;
         live.extend_with_clones(before)?;
         if !self.segment.is_empty() {
-            live.push(flags_of(alloc, &state.roster, &self.segment)?)?;
+            let mut merged = self.live.clone()?;
+            clear_dead(&mut merged, &self.segment, &self.sources, now, &self.flags)?;
+            live.push(merged)?;
         }
         live.extend_with_clones(after)?;
         Ok(live)

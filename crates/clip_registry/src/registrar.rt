@@ -176,8 +176,8 @@ impl Registrar {
     /// `NoMemory` where an allocation failed, with nothing changed and the merge dropped.
     ///
     /// Cost: a step for each segment, each of which is shared by a new list; for each entry of the sources a comparison
-    /// of its seq and texts; a step for each 64 entries of the sources, and for each entry of the merge; and a copy like
-    /// that of a command, of which nothing else is changed. A stale merge copies nothing.
+    /// of its seq and texts; a step for each 64 of them; for each that died since the merge was begun a search by
+    /// halves; and a copy like that of a command, of which nothing else is changed. A stale merge copies nothing.
     pub fn install(&mut self, merged: Merged) -> Result<Installed, NoMemory>
         ensures done { result ≡ Ok Installed.Done → IsInstalled self.old self.new merged }
         ensures stale { result ≡ Ok Installed.Stale → IsStale self.old merged }

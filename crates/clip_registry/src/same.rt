@@ -1,5 +1,5 @@
 //! Whether segments have the same lists of entries, and where they stand.
-ghost use Rattle.std.specs.Prelude.{◌≡◌, ◌↔◌, ℕ, ◌<◌, ◌≤◌, None, map, length, IfSome, IsTrue};
+ghost use Rattle.std.specs.Prelude.{◌≡◌, ◌↔◌, ℕ, ◌<◌, ◌≤◌, true, None, map, length, IfSome, IsTrue};
 ghost use Rattle.std.specs.Arc.{arc_value};
 ghost use Rattle.clip_registry.specs.Merging.{StandsAt};
 
@@ -38,11 +38,35 @@ fn are_same_entries(a: &[Arc<Entry>], b: &[Arc<Entry>]) -> bool
     true
 }
 
-/// Whether the segments have the same lists of entries, one by one.
+/// Whether the segments are as long as each other, and have the same first and last seqs, as those with one list of
+/// entries do. Constant time.
+fn is_alike(a: &Segment, b: &Segment) -> bool
+    ensures { a.now ≡ b.now → result ≡ true }
+{
+    a.len() == b.len() && a.seqs().first() == b.seqs().first() && a.seqs().last() == b.seqs().last()
+}
+
+/// Whether the segments are alike, one by one, as those with the same lists of entries are. It costs a step for each.
+fn are_alike(a: &[Arc<Segment>], b: &[Arc<Segment>]) -> bool
+    ensures result { map arc_value a.now ≡ map arc_value b.now → result ≡ true }
+    ensures as_many { result ≡ true → length a.now ≡ length b.now }
+{
+    if a.len() != b.len() {
+        return false;
+    }
+    for (place, segment) in a.iter().enumerate() {
+        if !is_alike(segment, &b[place]) {
+            return false;
+        }
+    }
+    true
+}
+
+/// Whether the segments have the same lists of entries, one by one. Entries are compared where all segments are alike.
 fn are_same_segments(a: &[Arc<Segment>], b: &[Arc<Segment>]) -> bool
     ensures { IsTrue result ↔ (map arc_value a.now ≡ map arc_value b.now) }
 {
-    if a.len() != b.len() {
+    if !are_alike(a, b) {
         return false;
     }
     for (place, segment) in a.iter().enumerate() {
@@ -55,8 +79,8 @@ fn are_same_segments(a: &[Arc<Segment>], b: &[Arc<Segment>]) -> bool
 
 /// The first place at which segments stand as the sources.
 ///
-/// Cost: a step for each segment, and for each entry of the sources a comparison of its seq and texts. At other places
-/// the segments mostly differ in their lengths or their first seqs, and no text is read.
+/// Cost: at each place a step for each source, and where lengths and first and last seqs of all of them are the same,
+/// for each entry a comparison of its seq and texts.
 pub fn place_of(segments: &[Arc<Segment>], sources: &[Arc<Segment>]) -> Option<usize>
     requires { 0 < length sources.now }
     ensures stands { IfSome result (λ first. StandsAt (map arc_value segments.now) (map arc_value sources.now) first) }

@@ -13,7 +13,7 @@ pub enum Event {
     Accept(u32, Command),
     /// A merge is begun under this number: `Begun`, or `Used` for a number of an open merge, `TooMany` where
     /// `MOST_MERGES` are open, and `Nothing` where there is nothing to merge. Cost: that of `Registrar::begin`, so a
-    /// step for each segment and each entry of four.
+    /// step for each segment and each of its levels.
     Begin(u64),
     /// The merge of this number is run and installed: `Installed` or `Stale`, or `Unknown` where none is open under the
     /// number. Cost: that of `MergeJob::run` and `Registrar::install`, so a comparison for each term of four segments,

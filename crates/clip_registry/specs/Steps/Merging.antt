@@ -7,7 +7,7 @@ use Rattle.clip_segment.specs.Selecting.{kept_of}
 use Rattle.clip_model.specs.History.{Registered, is_live}
 use Rattle.clip_registry.specs.Merging.{Job, Merge, shelf}
 use Rattle.clip_registry.specs.RegistryState.{RegistryState}
-use Rattle.clip_registry.specs.Steps.LiveFlags.{flags_by}
+use Rattle.clip_registry.specs.Steps.LiveFlags.{flags_by, flags_of}
 use Rattle.clip_registry.specs.declared.merging.MergeJob.TheInside as job
 use Rattle.clip_registry.specs.declared.merging.Merged.TheInside as merged
 
@@ -31,16 +31,18 @@ IsJobInside j = IsJob (map arc_value j.sources.items) j.flags.items
 abbrev pub merged_inside : merged.Inside → Merge
 merged_inside m = record { sources = map arc_value m.sources.items; entries = m.segment.value }
 
--- There are sources, their seqs rise, their entries are flagged by a test of their seqs, and those are in the merge.
-pub record IsMerged (flags : List (List Bool)) (m : Merge) : Type 0 where
+-- There are sources, their seqs rise, their entries are flagged by a test of their seqs, and those are in the merge,
+-- where all are flagged.
+pub record IsMerged (flags : List (List Bool)) (live : List Bool) (m : Merge) : Type 0 where
   pub some : 0 < length m.sources
   pub rising : IsRising (all_entries m.sources)
   pub is : ℕ → Bool
   pub flagged : flags ≡ flags_by is m.sources
   pub picked : m.entries ≡ filter (λ r. is r.seq) (all_entries m.sources)
+  pub all : live ≡ flags_of is m.entries
 
 abbrev pub IsMergedInside : merged.Inside → Type 0
-IsMergedInside m = IsMerged m.flags.items (merged_inside m)
+IsMergedInside m = IsMerged m.flags.items m.live (merged_inside m)
 
 -- the segments, with these entries in the place of so many neighbours
 abbrev pub replaced : List (List Registered) → ℕ → ℕ → List Registered → List (List Registered)

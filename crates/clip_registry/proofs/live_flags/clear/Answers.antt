@@ -41,7 +41,8 @@ loop-place-preserved c =
           here ∙ c.loop-place.invariant.rest place (omega arith) ∙ flags_at is (map arc_value segments) c.args.live.now.items place are (omega (arith, within, length-map segments arc_value)) ∙ ap (flags_of is) segment in
           elim (cases_order k place) [
             | inl same ↦
-                ap (λ j. get_or (set flags place new) j []) same ∙ get_or-set_same flags place new [] low ∙ c.in_ok-clear_in.ensures is old
+                ap (λ j. get_or (set flags place new) j []) same ∙ get_or-set_same flags place new [] low
+                ∙ c.in_ok-clear_in.ensures.cleared is old
                 ∙ ap (flags_of (without (Some c.args.seq) is)) (sym segment ∙ ap (λ j. get_or (map arc_value segments) j []) (sym same))
             | inr (inl less) ↦ get_or-set_other flags place k new [] (λ e. omega arith) ∙ c.loop-place.invariant.done is are k less
             | inr (inr more) ↦ absurd (omega arith)

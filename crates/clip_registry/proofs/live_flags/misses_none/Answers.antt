@@ -17,9 +17,11 @@ returns-then-not-misses_none_of c = λ is was segments now begun.
     sym (list_all-all_entries (stays is was) segments
     ∙ list_all_at (list_all (stays is was)) segments place [] inside
     (sym (c.if-not-misses_none_of.ensures is was (get_or segments place [])
-    (c.value.ensures ∙ flags_here is segments c.args.now.now place c.index-now-place.result now c.index-now-place.is low)
+    (c.value.ensures
+    ∙ flags_here is segments c.args.now.now place c.index-now-place.result now c.index-now-place.is low)
     (c.value-in-loop-place.ensures
-    ∙ flags_here was segments c.args.begun.now place c.index-begun-place.result begun c.index-begun-place.is low_begun))))
+    ∙ flags_here was segments c.args.begun.now place c.index-begun-place.result begun c.index-begun-place.is
+    low_begun))))
 
 pub loop-place-preserved : goal.loop-place-preserved
 loop-place-preserved c = λ is was segments now begun.
@@ -31,9 +33,11 @@ loop-place-preserved c = λ is was segments now begun.
     list_all_more (list_all (stays is was)) segments place [] inside
     ∙ ap₂ (λ a b. a && b) (c.loop-place.invariant is was segments now begun)
     (sym (c.if-not-misses_none_of.ensures is was (get_or segments place [])
-    (c.value.ensures ∙ flags_here is segments c.args.now.now place c.index-now-place.result now c.index-now-place.is low)
+    (c.value.ensures
+    ∙ flags_here is segments c.args.now.now place c.index-now-place.result now c.index-now-place.is low)
     (c.value-in-loop-place.ensures
-    ∙ flags_here was segments c.args.begun.now place c.index-begun-place.result begun c.index-begun-place.is low_begun)))
+    ∙ flags_here was segments c.args.begun.now place c.index-begun-place.result begun c.index-begun-place.is
+    low_begun)))
 
 pub returns : goal.returns
 returns c = λ is was segments now begun.

@@ -12,7 +12,8 @@ at c =
     let first = c.max-first.ensures in
     record {
       mine = read_held c.self.inside.len c.self.inside.words c.args.self.now c.self.invariant c.self.view_is;
-      theirs = read_held c.others.inside.len c.others.inside.words c.args.others.now c.others.invariant c.others.view_is;
+      theirs = read_held c.others.inside.len c.others.inside.words c.args.others.now c.others.invariant
+          c.others.view_is;
       before = c.loop-word.invariant;
       here = omega arith;
       least = λ place after later. omega arith;

@@ -53,7 +53,8 @@ flags c =
 many : (c : In_ok-to_vec-2) → length (those c) ≡ c.args.past - c.args.first
 many c =
     let all = c.args.state.now.segments in
-    omega (arith, c.requires.some, c.requires.there, length-take (c.args.past - c.args.first) (drop c.args.first all), length-drop c.args.first all)
+    let taken = length-take (c.args.past - c.args.first) (drop c.args.first all) in
+    omega (arith, c.requires.some, c.requires.there, taken, length-drop c.args.first all)
 
 pub invariant_of-result : goal.invariant_of-result
 invariant_of-result c =

@@ -1,4 +1,4 @@
-use Rattle.std.proofs.Common.{◌≡◌, ◌≤◌, Bool, List, length, map, vec_items, sym, ap, subst, ◌∙◌, arith}
+use Rattle.std.proofs.Common.{◌≡◌, ◌≤◌, Bool, List, length, map, replicate, true, vec_items, sym, ap, subst, ◌∙◌, arith}
 use Rattle.std.proofs.lemmas.List.Elements.{same_from_all_zip}
 use Rattle.std.specs.Arc.{arc_value}
 use Rattle.clip_merge.specs.Live.{named}
@@ -7,8 +7,9 @@ use Rattle.clip_segment.specs.Selecting.{count_set, kept_of}
 use Rattle.clip_segment.specs.declared.segment.TheConstants.{MOST_POSITIONS}
 use Rattle.clip_model.specs.History.{Registered}
 use Rattle.clip_registry.specs.Merging.{merge_of}
-use Rattle.clip_registry.specs.Steps.LiveFlags.{flags_by}
+use Rattle.clip_registry.specs.Steps.LiveFlags.{flags_by, flags_of}
 use Rattle.clip_standing.proofs.Clones.{map_shared}
+use Rattle.clip_registry.proofs.Clearing.{all_picked}
 use Rattle.clip_registry.proofs.LiveFlags.{shape_of}
 use Rattle.clip_registry.proofs.Naming.{named_picked}
 use Rattle.clip_registry.proofs.Picked.{count_picked, kept_by, picked}
@@ -23,7 +24,8 @@ shared : (c : After-deref-3) → map arc_value c.deref-2.result.now ≡ of_job c
 shared c = ap (map arc_value) c.deref-2.ensures.value
 
 flagged : (c : After-deref-3) → map vec_items c.deref-3.result.now ≡ flags_by c.self.invariant.is (of_job c)
-flagged c = ap (map vec_items) c.deref-3.ensures.value ∙ c.in_ok-kept.ensures ∙ c.deref.ensures.value ∙ c.self.invariant.flagged
+flagged c =
+    ap (map vec_items) c.deref-3.ensures.value ∙ c.in_ok-kept.ensures ∙ c.deref.ensures.value ∙ c.self.invariant.flagged
 
 -- the entries that are kept
 kept : (c : After-deref-3) → kept_of (map arc_value c.deref-2.result.now) (map vec_items c.deref-3.result.now)
@@ -61,6 +63,9 @@ invariant_of-result c =
       is = is;
       flagged = flags ∙ c.self.invariant.flagged ∙ ap (flags_by is) (sym sources);
       picked = entries ∙ ap (λ ss. picked is (all_entries ss)) (sym sources);
+      all = c.in_ok-live.ensures
+          ∙ ap (λ n. replicate n true) (c.len.ensures ∙ ap length (sym c.in_ok-segment.ensures.ok ∙ entries))
+          ∙ all_picked is (all_entries (map arc_value c.self.inside.sources.items)) ∙ ap (flags_of is) (sym entries);
     }
 
 pub returns : goal.returns
@@ -70,7 +75,8 @@ returns c =
     let sources = map_shared c.self.inside.sources.items c.in_ok-clone.field-0.items c.in_ok-clone.ensures.cases.0 in
     let entries = c.in_ok-segment.ensures.ok ∙ c.in_ok-merged.ensures ∙ kept (goal.at.returns c).After-deref-3 in
     let seqs = λ (rs : List Registered). map (λ (r : Registered). r.seq) rs in
-    let named_here : named (seqs (kept_of all c.self.inside.flags.items)) (all_entries all) ≡ picked is (all_entries all) =
+    let named_here : named (seqs (kept_of all c.self.inside.flags.items)) (all_entries all)
+    ≡ picked is (all_entries all) =
     ap (λ rs. named (seqs rs) (all_entries all)) (ap (kept_of all) c.self.invariant.flagged ∙ kept_by is all)
     ∙ named_picked is (all_entries all) in
     (λ i. record { sources = sources i; entries = (entries ∙ sym named_here) i }) ∙ ap merge_of c.self.view_is

@@ -15,8 +15,8 @@ use Rattle.clip_registry.proofs.Missing.{misses_none, kept_merge, misses_one}
 use Rattle.clip_registry.proofs.merging.Merged.place_in.Goals as goal
 use Rattle.clip_registry.proofs.merging.Merged.place_in.Goals.{After-misses_none}
 
-merged : (c : After-misses_none) → IsMerged c.self.inside.flags.items c.args.self.now
-merged c = subst (IsMerged c.self.inside.flags.items) c.self.view_is c.self.invariant
+merged : (c : After-misses_none) → IsMerged c.self.inside.flags.items c.self.inside.live c.args.self.now
+merged c = subst (IsMerged c.self.inside.flags.items c.self.inside.live) c.self.view_is c.self.invariant
 
 state : (c : After-misses_none) → IsConsistent c.args.state.now c.state.inside.roster c.state.inside.counts.items
 state c =
@@ -34,7 +34,8 @@ stands c =
     (ap (map arc_value) c.deref.ensures.value ∙ segments c) c.in_ok-first.ensures.stands)
 
 -- the flags that are compared are those of the sources, as they are now
-now : (c : After-misses_none) → take (c.in_ok-first.first + c.len.result - c.in_ok-first.first) (drop c.in_ok-first.first c.deref-3.result.now)
+now : (c : After-misses_none)
+    → take (c.in_ok-first.first + c.len.result - c.in_ok-first.first) (drop c.in_ok-first.first c.deref-3.result.now)
     ≡ flags_by (is_live_in c.state.inside.roster.registry) c.args.self.now.sources
 now c =
     let live = is_live_in c.state.inside.roster.registry in
@@ -60,17 +61,20 @@ tested c =
 pub returns-then-misses_none-clause-complete : goal.returns-then-misses_none-clause-complete
 returns-then-misses_none-clause-complete c =
     let here = (goal.at.returns-then-misses_none-clause-complete c).After-misses_none in
-    misses_none c.args.state.now c.args.self.now c.state.inside.roster.registry c.self.inside.flags.items (merged here)
+    misses_none c.args.state.now c.args.self.now c.state.inside.roster.registry
+    c.self.inside.flags.items c.self.inside.live (merged here)
     (state here).registry (tested here ∙ c.if-misses_none.true)
 
 pub returns-then-misses_none-clause-kept : goal.returns-then-misses_none-clause-kept
 returns-then-misses_none-clause-kept c =
     let here = (goal.at.returns-then-misses_none-clause-kept c).After-misses_none in
-    kept_merge c.args.state.now c.args.self.now c.state.inside.roster.registry c.self.inside.flags.items (merged here)
+    kept_merge c.args.state.now c.args.self.now c.state.inside.roster.registry
+    c.self.inside.flags.items c.self.inside.live (merged here)
     (state here).registry c.in_ok-first.first (tested here ∙ c.if-misses_none.true) (state here).whole (stands here)
 
 pub returns-else-misses_none-clause-stale : goal.returns-else-misses_none-clause-stale
 returns-else-misses_none-clause-stale c _ =
     let here = (goal.at.returns-else-misses_none-clause-stale c).After-misses_none in
-    misses (misses_one c.args.state.now c.args.self.now c.state.inside.roster.registry c.self.inside.flags.items (merged here)
+    misses (misses_one c.args.state.now c.args.self.now c.state.inside.roster.registry
+    c.self.inside.flags.items c.self.inside.live (merged here)
     (state here).registry (tested here ∙ c.if-misses_none.false))

@@ -26,9 +26,15 @@ put_in-requires c =
     let counted = length-map c.deref-4.result.now arc_value in
     omega arith
 
-pub put_flags-requires : goal.put_flags-requires
-put_flags-requires c =
-    subst (λ (s : RegistryState). c.in-Some-place_in.first + length c.args.merged.sources ≤ length s.segments) (c.deref.ensures ∙ sym c.deref-2.ensures) c.in-Some-place_in.ensures.there
+pub put_flags-requires-clause-there : goal.put_flags-requires-clause-there
+put_flags-requires-clause-there c =
+    subst (λ (s : RegistryState). c.in-Some-place_in.first + length c.args.merged.sources ≤ length s.segments)
+    (c.deref.ensures ∙ sym c.deref-2.ensures) c.in-Some-place_in.ensures.there
+
+pub put_flags-requires-clause-stands : goal.put_flags-requires-clause-stands
+put_flags-requires-clause-stands c =
+    subst (λ (s : RegistryState). StandsAt s.segments c.args.merged.sources c.in-Some-place_in.first)
+    (c.deref.ensures ∙ sym c.deref-2.ensures) c.in-Some-place_in.ensures.stands
 
 pub with_segments-requires-clause-flags : goal.with_segments-requires-clause-flags
 with_segments-requires-clause-flags c =

@@ -1,6 +1,4 @@
-use Rattle.std.proofs.Common.{◌≡◌, ◌+◌, ◌++◌, ◌∷◌, [], ℕ, suc, sym, ap, subst, ◌∙◌, List, Bool, true, false, None, Some, length, arith}
-use Rattle.std.specs.Option.{option_map}
-use Rattle.std.specs.Arc.{arc_value}
+use Rattle.std.proofs.Common.{◌≡◌, ◌+◌, ◌++◌, ◌∷◌, [], ℕ, suc, sym, ap, subst, ◌∙◌, List, Bool, true, false, length, arith}
 use Rattle.std.specs.FinMap as finite
 use Rattle.clip_model.specs.History.{Registered, is_live_in}
 use Rattle.clip_registry.specs.Steps.Roster.{Roster, insert_one}

@@ -1,6 +1,4 @@
-use Rattle.std.proofs.Common.{◌≡◌, ℕ, ◌+◌, length, sym, ap, subst, ◌∙◌, List, Bool, false, None, Some}
-use Rattle.std.specs.Option.{option_map}
-use Rattle.std.specs.Arc.{arc_value}
+use Rattle.std.proofs.Common.{◌≡◌, ℕ, ◌+◌, length, sym, ap, subst, ◌∙◌, List, Bool, false}
 use Rattle.std.specs.FinMap as finite
 use Rattle.clip_model.specs.History.{is_live_in}
 use Rattle.clip_registry.specs.Steps.Flags.{AreLiveFlags, flags_with}
