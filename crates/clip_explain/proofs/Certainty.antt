@@ -3,9 +3,17 @@ use Rattle.std.proofs.Common.{◌≡◌, ℕ, Bool, true, false, not, cond, ◌&
 use Rattle.std.proofs.Common.{Option, Some, None, unwrap_or, is_lt, is_gt, Ordering, Less, Equal, Greater}
 use Rattle.std.proofs.Common.{refl, sym, ap, subst, ◌∙◌, ◌⊎◌, inl, inr}
 use Rattle.std.specs.Option.{is_none}
+use Rattle.std.specs.Prelude.{String, string_bytes}
+use Rattle.std.specs.Global.{Global}
+use Rattle.std.specs.Str.{IsUtf8}
+use Rattle.std.proofs.lemmas.Str.{IsUtf8-string_bytes}
+use Rattle.clip_meaning.specs.Article.{pairs_of}
+use Rattle.clip_explain.specs.Certain.{is_parted}
+use Rattle.clip_explain.proofs.Parting.{front_whole}
 use Rattle.std.specs.Ordering.{eq_by_cmp}
 use Rattle.std.specs.List.{list_any, list_all}
 use Rattle.std.specs.Str.{bytes_eq}
+use Rattle.std.specs.FinMap as finite
 use Rattle.std.specs.FinMap.{find, get-from_entries}
 use Rattle.std.specs.Cmp.Lexicographic.{nat_list_cmp_total}
 use Rattle.std.specs.Cmp.{Equal-is}
@@ -51,35 +59,46 @@ named id pairs may = at (is_id id) (nat_lt MOST_FIELDS (length pairs)) (list_all
 abbrev entries_of : List (List ℕ × List ℕ) → List (List ℕ × List (List ℕ))
 entries_of pairs = map (λ p. (p.0, words_of p.1)) pairs
 
--- what is found under a name stands under a name that may be one
-found_named : (pairs : List (List ℕ × List ℕ)) (field : List ℕ) → list_all is_field_name (names pairs) ≡ true
-    → (find bytes_cmp field (entries_of pairs) ≡ None) ⊎ (is_field_name field ≡ true)
-found_named [] field all = inl refl
-found_named (p ∷ pairs) field all =
-    let parts = and_parts (is_field_name p.0) (list_all is_field_name (names pairs)) all in
-    at (eq_by_cmp bytes_cmp field p.0) refl parts.0 (found_named pairs field parts.1)
+-- what is found under a name is the words of a text, and the name may be one
+record IsTextOf (field : List ℕ) (found : Option (List (List ℕ))) : Type 0 where
+  named : is_field_name field ≡ true
+  text : List ℕ
+  utf8 : IsUtf8 text
+  is : found ≡ Some (words_of text)
+
+abbrev MayBeFound : List ℕ → Option (List (List ℕ)) → Type 0
+MayBeFound field found = (found ≡ None) ⊎ IsTextOf field found
+
+found_text : (pairs : List (String Global × String Global)) (field : List ℕ)
+    → list_all is_field_name (names (pairs_of pairs)) ≡ true
+    → MayBeFound field (find bytes_cmp field (entries_of (pairs_of pairs)))
+found_text [] field all = inl refl
+found_text (p ∷ pairs) field all =
+    let name = string_bytes p.0 in
+    let parts = and_parts (is_field_name name) (list_all is_field_name (names (pairs_of pairs))) all in
+    at (eq_by_cmp bytes_cmp field name) refl parts.0 (found_text pairs field parts.1)
   where
-    at : (b : Bool) → eq_by_cmp bytes_cmp field p.0 ≡ b → is_field_name p.0 ≡ true
-        → (find bytes_cmp field (entries_of pairs) ≡ None) ⊎ (is_field_name field ≡ true)
-        → (cond b (Some (words_of p.1)) (find bytes_cmp field (entries_of pairs)) ≡ None)
-        ⊎ (is_field_name field ≡ true)
-    at true e ok rest = inr (ap is_field_name (bytes_exact field p.0 ((Equal-is (bytes_cmp field p.0)).0 e)) ∙ ok)
+    at : (b : Bool) → eq_by_cmp bytes_cmp field (string_bytes p.0) ≡ b → is_field_name (string_bytes p.0) ≡ true
+        → MayBeFound field (find bytes_cmp field (entries_of (pairs_of pairs)))
+        → MayBeFound field
+        (cond b (Some (words_of (string_bytes p.1))) (find bytes_cmp field (entries_of (pairs_of pairs))))
+    at true e ok rest = inr (record {
+      named = ap is_field_name (bytes_exact field (string_bytes p.0) ((Equal-is _).0 e)) ∙ ok;
+      text = string_bytes p.1;
+      utf8 = IsUtf8-string_bytes p.1;
+      is = refl;
+    })
     at false e ok rest = rest
 
--- a field that has no words, or whose name may be one
+-- a field that has no words, or has those of a text and may have its name
 abbrev IsPresent : Fields → List ℕ → Type 0
-IsPresent fields field = (words_in fields field ≡ []) ⊎ (is_field_name field ≡ true)
+IsPresent fields field = MayBeFound field (finite.get fields field)
 
-present : (id : List ℕ) (pairs : List (List ℕ × List ℕ)) (field : List ℕ) → may_be id pairs ≡ true
-    → (words_in (read_fields pairs) field ≡ []) ⊎ (is_field_name field ≡ true)
-present id pairs field may = at (found_named pairs field (named id pairs may))
-  where
-    at : (find bytes_cmp field (entries_of pairs) ≡ None) ⊎ (is_field_name field ≡ true)
-        → (words_in (read_fields pairs) field ≡ []) ⊎ (is_field_name field ≡ true)
-    at (inl e) =
-        inl (ap (λ (o : Option (List (List ℕ))). unwrap_or o [])
-        (get-from_entries nat_list_cmp_total (entries_of pairs) field ∙ e))
-    at (inr e) = inr e
+present : (id : List ℕ) (pairs : List (String Global × String Global)) (field : List ℕ)
+    → may_be id (pairs_of pairs) ≡ true → IsPresent (read_fields (pairs_of pairs)) field
+present id pairs field may =
+    subst (MayBeFound field) (sym (get-from_entries nat_list_cmp_total (entries_of (pairs_of pairs)) field))
+    (found_text pairs field (named id (pairs_of pairs) may))
 
 -- ---- ranges
 
@@ -226,14 +245,26 @@ group_kept vs ws b h =
 -- ---- queries
 
 module _ (fields : Fields) (known : (field : List ℕ) → IsPresent fields field) where
-  -- a field of which something holds that holds of no field without words may be one
+  -- a field of which something holds that holds of no field without words has a text
+  held_text : (field : List ℕ) (p : List (List ℕ) → Bool) → p [] ≡ false → p (words_in fields field) ≡ true
+      → IsTextOf field (finite.get fields field)
+  held_text field p nothing h = at (known field)
+    where
+      at : IsPresent fields field → IsTextOf field (finite.get fields field)
+      at (inl e) = absurd (false≢true (sym nothing ∙ ap (λ o. p (unwrap_or o [])) (sym e) ∙ h))
+      at (inr e) = e
+
   held_named : (field : List ℕ) (p : List (List ℕ) → Bool) → p [] ≡ false → p (words_in fields field) ≡ true
       → is_field_name field ≡ true
-  held_named field p nothing h = at (known field)
-    where
-      at : IsPresent fields field → is_field_name field ≡ true
-      at (inl e) = absurd (false≢true (sym nothing ∙ ap p (sym e) ∙ h))
-      at (inr e) = e
+  held_named field p nothing h = (held_text field p nothing h).named
+
+  -- a front that a word of a field begins with has no sign behind its first byte
+  held_front : (field front : List ℕ) → list_any (begins_with front) (words_in fields field) ≡ true
+      → not (is_parted front) ≡ true
+  held_front field front h =
+      let has = held_text field (list_any (begins_with front)) refl h in
+      let is : words_in fields field ≡ words_of has.text = ap (λ o. unwrap_or o []) has.is in
+      ap not (front_whole has.text front has.utf8 (ap (list_any (begins_with front)) (sym is) ∙ h))
 
   mutual
     at_best : (tree : Tree) → holds tree fields ≡ true → holds_in tree true ≡ true
@@ -241,7 +272,9 @@ module _ (fields : Fields) (known : (field : List ℕ) → IsPresent fields fiel
     at_best (Tree.Phrase field words) h =
         let parts = and_parts (is_nonempty words) (has_run (words_in fields field) words) h in
         and_from (is_field_name field) _ (held_named field (λ ws. has_run ws words) refl parts.1) parts.0
-    at_best (Tree.Prefix field front) h = held_named field (list_any (begins_with front)) refl h
+    at_best (Tree.Prefix field front) h =
+        and_from (is_field_name field) _ (held_named field (list_any (begins_with front)) refl h)
+        (held_front field front h)
     at_best (Tree.Span field low high) h =
         and_from (is_field_name field) _ (held_named field (list_any (is_between low high)) refl h)
         (some_between low high (words_in fields field) h)
@@ -273,13 +306,14 @@ module _ (fields : Fields) (known : (field : List ℕ) → IsPresent fields fiel
 -- ---- the laws
 
 pub never_holds : NeverHolds
-never_holds tree id pairs may never = at (holds tree (read_fields pairs)) refl
+never_holds tree id pairs may never = at (holds tree (read_fields (pairs_of pairs))) refl
   where
-    at : (b : Bool) → holds tree (read_fields pairs) ≡ b → b ≡ false
+    at : (b : Bool) → holds tree (read_fields (pairs_of pairs)) ≡ b → b ≡ false
     at false h = refl
     at true h =
-        absurd (false≢true (sym (ap not (at_best (read_fields pairs) (λ field. present id pairs field may) tree h))
-        ∙ never))
+        let best = at_best (read_fields (pairs_of pairs)) (λ field. present id pairs field may) tree h in
+        absurd (false≢true (sym (ap not best) ∙ never))
 
 pub always_holds : AlwaysHolds
-always_holds tree id pairs may always = at_worst (read_fields pairs) (λ field. present id pairs field may) tree always
+always_holds tree id pairs may always =
+    at_worst (read_fields (pairs_of pairs)) (λ field. present id pairs field may) tree always

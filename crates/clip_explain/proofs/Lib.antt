@@ -1,3 +1,6 @@
 pub mod Groups
-pub mod Certainty
 pub mod Sizes
+pub mod Escaping
+pub mod ClausesSpelled
+pub mod Parting
+pub mod Certainty

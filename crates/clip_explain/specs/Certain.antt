@@ -1,12 +1,15 @@
 -- Queries that hold of no article, and queries that hold of every one, as far as their trees tell.
-use Rattle.std.specs.Prelude.{◌≡◌, ℕ, Bool, true, false, not, ◌&&◌, List, [], ◌∷◌}
+use Rattle.std.specs.Prelude.{◌≡◌, ℕ, Bool, true, false, not, ◌&&◌, List, [], ◌∷◌, String}
+use Rattle.std.specs.Global.{Global}
+use Rattle.std.specs.List.{list_any}
 use Rattle.std.specs.Ordering.{is_lt, is_gt}
 use Rattle.clip_words.specs.Order.{bytes_cmp}
+use Rattle.clip_grammar.specs.Characters.{is_one_of}
 use Rattle.clip_grammar.specs.Tokens.{End}
 use Rattle.clip_grammar.specs.Tree.{Tree, Clauses, none, clause}
 use Rattle.clip_grammar.specs.declared.query.Occur.{Occur}
 use Rattle.clip_grammar.specs.declared.query.Occur.TheVariants.{Must, Should, MustNot}
-use Rattle.clip_meaning.specs.Article.{is_field_name, may_be, read_fields}
+use Rattle.clip_meaning.specs.Article.{is_field_name, may_be, pairs_of, read_fields}
 use Rattle.clip_meaning.specs.Meaning.{holds, group_holds, is_nonempty}
 
 -- The low end is past the high one, so that no word lies between them.
@@ -16,6 +19,15 @@ is_void (End.With low) (End.Without high) = not (is_lt (bytes_cmp low high))
 is_void (End.Without low) (End.With high) = not (is_lt (bytes_cmp low high))
 is_void (End.Without low) (End.Without high) = not (is_lt (bytes_cmp low high))
 is_void _ _ = false
+
+-- an ASCII sign that ends a word: none stands behind the first byte of one
+unfoldable pub is_parting : ℕ → Bool
+is_parting = is_one_of "!#$%&()*+-/<=>?@[\\]^`{|}~"
+
+-- such a sign stands behind the first byte, as in `e-mobil`
+abbrev pub is_parted : List ℕ → Bool
+is_parted [] = false
+is_parted (first ∷ others) = list_any is_parting others
 
 -- what is best for a group is worst for its MustNot clauses
 abbrev pub for_child : Occur → (best : Bool) → Bool
@@ -29,7 +41,7 @@ abbrev mutual
   pub holds_in : Tree → (best : Bool) → Bool
   holds_in (Tree.Term field word) best = best && is_field_name field
   holds_in (Tree.Phrase field words) best = best && is_field_name field && is_nonempty words
-  holds_in (Tree.Prefix field front) best = best && is_field_name field
+  holds_in (Tree.Prefix field front) best = best && is_field_name field && not (is_parted front)
   holds_in (Tree.Span field low high) best = best && is_field_name field && not (is_void low high)
   holds_in Tree.All best = true
   holds_in (Tree.Group clauses) best = group_holds (verdicts_in clauses best)
@@ -50,10 +62,10 @@ is_always tree = holds_in tree false
 
 -- a query that is never holds of no article
 abbrev pub NeverHolds : Type 0
-NeverHolds = (tree : Tree) (id : List ℕ) (fields : List (List ℕ × List ℕ)) → may_be id fields ≡ true
-    → is_never tree ≡ true → holds tree (read_fields fields) ≡ false
+NeverHolds = (tree : Tree) (id : List ℕ) (fields : List (String Global × String Global))
+    → may_be id (pairs_of fields) ≡ true → is_never tree ≡ true → holds tree (read_fields (pairs_of fields)) ≡ false
 
 -- a query that is always holds of every article
 abbrev pub AlwaysHolds : Type 0
-AlwaysHolds = (tree : Tree) (id : List ℕ) (fields : List (List ℕ × List ℕ)) → may_be id fields ≡ true
-    → is_always tree ≡ true → holds tree (read_fields fields) ≡ true
+AlwaysHolds = (tree : Tree) (id : List ℕ) (fields : List (String Global × String Global))
+    → may_be id (pairs_of fields) ≡ true → is_always tree ≡ true → holds tree (read_fields (pairs_of fields)) ≡ true

@@ -1,2 +1,3 @@
 pub mod Certain
 pub mod Explaining
+pub mod Spelling

@@ -1,9 +1,10 @@
 //! Queries that hold of no article, and queries that hold of every one.
 ghost use Rattle.std.specs.Prelude.{◌≡◌, map};
 ghost use Rattle.std.specs.Arc.{arc_str_bytes};
+ghost use Rattle.std.specs.List.{list_any};
 ghost use Rattle.clip_grammar.specs.Tree.{tree_of, end_of};
 ghost use Rattle.clip_meaning.specs.Meaning.{is_nonempty};
-ghost use Rattle.clip_explain.specs.Certain.{is_void, for_child, holds_in, is_never, is_always};
+ghost use Rattle.clip_explain.specs.Certain.{is_void, is_parting, is_parted, for_child, holds_in, is_never, is_always};
 
 use crate::field_name::is_field_name;
 use clip_grammar::query::{Bound, Occur, Query};
@@ -18,6 +19,39 @@ fn is_void(low: &Bound, high: &Bound) -> bool
         (Bound::With(low) | Bound::Without(low), Bound::With(high) | Bound::Without(high)) => low
             >= high,
         _ => false,
+    }
+}
+
+/// Whether a byte is an ASCII sign that ends a word: none stands behind the first byte of one.
+#[tactic(auto, unfolding(crate::specs::Certain::is_parting))]
+fn is_parting(byte: u8) -> bool
+    ensures { result ≡ is_parting byte }
+{
+    matches!(
+        byte,
+        b'!' | b'#'..=b'&' | b'('..=b'+' | b'-' | b'/' | b'<'..=b'@' | b'['..=b'^' | b'`' | b'{'..=b'~'
+    )
+}
+
+/// Whether one of the bytes is a parting sign.
+fn has_parting(bytes: &[u8]) -> bool
+    ensures { result ≡ list_any is_parting bytes.now }
+{
+    for byte in bytes {
+        if is_parting(*byte) {
+            return true;
+        }
+    }
+    false
+}
+
+/// Whether a parting sign stands behind the first byte.
+fn is_parted(text: &str) -> bool
+    ensures { result ≡ is_parted text.now }
+{
+    match text.as_bytes() {
+        [] => false,
+        [_, others @ ..] => has_parting(others),
     }
 }
 
@@ -49,7 +83,7 @@ fn holds_in(query: &Query, best: bool) -> bool
     match query {
         Query::Term { field, word: _ } => best && is_field_name(field),
         Query::Phrase { field, words } => best && is_field_name(field) && has_words(words),
-        Query::Prefix { field, front: _ } => best && is_field_name(field),
+        Query::Prefix { field, front } => best && is_field_name(field) && !is_parted(front),
         Query::Span { field, low, high } => best && is_field_name(field) && !is_void(low, high),
         Query::All => true,
         Query::Group(clauses) => {
@@ -70,8 +104,9 @@ fn holds_in(query: &Query, best: bool) -> bool
 }
 
 /// Whether the query's tree alone tells that no article holds it, as `never_law` says: a field that no article can
-/// have, a range whose ends are past each other, a group that must have such a child, one that must not have a child
-/// which always holds, one whose clauses are all MustNot.
+/// have, a prefix with an ASCII sign in it at which words end, as `e-mobil*`, a range whose ends are past each other, a
+/// group that must have such a child, one that must not have a child which always holds, one whose clauses are all
+/// MustNot.
 ///
 /// Not all such queries are found: words are not compared, so `+tea -tea` is not. Takes no memory. Cost: one walk over
 /// the query, which recurses as deep as its groups nest.

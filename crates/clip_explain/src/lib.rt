@@ -7,7 +7,9 @@ mod certain;
 mod explaining;
 mod field_name;
 mod laws;
+mod spelling;
 
 pub use certain::{is_always, is_never};
 pub use explaining::{Explained, Explanation, explain};
 pub use laws::{always_law, never_law};
+pub use spelling::spelled;

@@ -8,6 +8,8 @@ mod command_line;
 #[cfg(test)]
 mod desk;
 #[cfg(test)]
+mod explain;
+#[cfg(test)]
 mod extract;
 #[cfg(test)]
 mod hits;
