@@ -4,3 +4,4 @@ pub mod Escaping
 pub mod ClausesSpelled
 pub mod Parting
 pub mod Certainty
+pub mod Tried

@@ -4,7 +4,9 @@ use Rattle.std.specs.List.{list_any}
 use Rattle.clip_grammar.specs.Tree.{Tree, tree_of, nodes}
 use Rattle.clip_grammar.specs.Reading.{Reads, HasNoFault, IsFault}
 use Rattle.clip_grammar.specs.declared.fault.QueryFault.TheVariants as fault
-use Rattle.clip_extract.specs.Keys.{KeyValue, Any, Word, Front, key_of}
+use Rattle.clip_meaning.specs.Article.{Fields}
+use Rattle.clip_extract.specs.Keys.{KeyValue, Any, Word, Front, key_of, share}
+use Rattle.clip_extract.specs.Covering.{article_keys}
 use Rattle.clip_extract.specs.Extraction.{query_keys, query_weight}
 use Rattle.clip_explain.specs.Certain.{is_never, is_always}
 use Rattle.clip_explain.specs.declared.explaining.Explanation.{Explanation}
@@ -19,6 +21,11 @@ is_any (Front field front) = false
 -- among the query's keys is the one that every article has
 abbrev pub is_tried_on_all : Tree → Bool
 is_tried_on_all tree = list_any is_any (query_keys tree)
+
+-- the keys of such a query and of any article have one in common
+abbrev pub TriedOnAll : Type 0
+TriedOnAll = (tree : Tree) (fields : Fields) → is_tried_on_all tree ≡ true
+    → share (query_keys tree) (article_keys fields) ≡ true
 
 -- The text is read as this query, of which the rest is told.
 pub record IsReadAs (text : List ℕ) (told : Explanation) : Type 0 where

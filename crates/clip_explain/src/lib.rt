@@ -11,5 +11,5 @@ mod spelling;
 
 pub use certain::{is_always, is_never};
 pub use explaining::{Explained, Explanation, explain};
-pub use laws::{always_law, never_law};
+pub use laws::{always_law, never_law, tried_on_all_law};
 pub use spelling::spelled;
