@@ -1,5 +1,5 @@
 -- What a run gives that may owe answers meanwhile: just what its lines give.
-use Rattle.std.proofs.Common.{◌≡◌, ℕ, suc, List, [], ◌∷◌, ◌++◌, length, Bool, Option, refl, sym, ap, ap₂, ◌∙◌, subst, append_assoc, append-nil, inl, inr, if◌then◌else◌}
+use Rattle.std.proofs.Common.{◌≡◌, ℕ, suc, ◌+◌, arith, List, [], ◌∷◌, ◌++◌, length, Bool, Option, refl, sym, ap, ap₂, ◌∙◌, subst, append_assoc, append-nil, inl, inr, if◌then◌else◌}
 use Rattle.std.specs.Io.KnownBytes.{Appends}
 use Rattle.clip_stream.specs.Device.{AppendsFront}
 use Rattle.clip_stream.specs.Lines.{lines_of, OfInput, OfLinesRead}
@@ -133,14 +133,14 @@ begun_none s n = record {
   heard = no_front (followed_by (owes s.hearers s.owed) nothing_given).alerts s.hearers;
 }
 
-begun_here : (s t : Course) (n : ℕ) (line : List ℕ) → BreaksOff s t n (cut line) → BegunBy s t n (line ∷ []) []
-begun_here s t n line b =
+begun_here : (s t : Course) (n : ℕ) (line text : List ℕ) → BreaksOff s t n (cut line) text → BegunBy s t n (line ∷ []) text
+begun_here s t n line text b =
     let now = given s.hearers n s.history b.meaning in
     record {
       outcome = now;
       gives = (b.meaning, nothing_given, means_whole (names_in s.hearers) s.history line b.meaning b.means, sym (followed_nothing now), refl);
-      more = (followed_by (owes s.hearers s.owed) now).text s.settings.form;
-      printed = refl;
+      more = b.more;
+      printed = b.printed;
       heard = b.heard;
     }
 
@@ -157,14 +157,17 @@ begun_first s t u n line first rest text lines a e later =
           (front_after a.out.alerts (followed_by (owes t.hearers t.owed) later.outcome).alerts s.hearers t.hearers u.hearers a.gave.heard later.heard);
     }
 
-begun_by : {S : Type 0} (view : S → Course) (s t u : S) (n : ℕ) (lines last : List (List ℕ)) (text : List ℕ) → Serves (TurnsIn view) s t n lines text → ((k : ℕ) → BegunBy (view t) (view u) k last []) → BegunBy (view s) (view u) n (lines ++ last) text
-begun_by view s t u n [] last text p here =
-    subst (BegunBy (view s) (view u) n last) (sym p.1) (subst (λ x. BegunBy (view x) (view u) n last []) p.0 (here n))
-begun_by view s t u n (line ∷ lines) last text p here = begun_first (view s) (view p.0) (view u) n line p.1 p.2 text (lines ++ last) p.3 p.4 (begun_by view p.0 t u (suc n) lines last p.2 p.5 here)
+begun_by : {S : Type 0} (view : S → Course) (s t u : S) (n k : ℕ) (lines : List (List ℕ)) (line text begun : List ℕ) → Serves (TurnsIn view) s t n lines text → k ≡ n + length lines → BreaksIn view t u k (cut line) begun → BegunBy (view s) (view u) n (lines ++ line ∷ []) (text ++ begun)
+begun_by view s t u n k [] line text begun p e broken =
+    let here : k ≡ n = omega (arith, e) in
+    let whole : text ++ begun ≡ begun = ap (λ x. x ++ begun) p.1 in
+    subst (BegunBy (view s) (view u) n (line ∷ [])) (sym whole) (begun_here (view s) (view u) n line begun (subst (λ x. BreaksIn view x u n (cut line) begun) p.0 (subst (λ j. BreaksIn view t u j (cut line) begun) here broken)))
+begun_by view s t u n k (l ∷ lines) line text begun p e broken =
+    begun_first (view s) (view p.0) (view u) n l p.1 (p.2 ++ begun) (text ++ begun) (lines ++ line ∷ []) p.3 (ap (λ x. x ++ begun) p.4 ∙ append_assoc p.1 p.2 begun) (begun_by view p.0 t u (suc n) k lines line p.2 begun p.5 (omega (arith, e)) broken)
 
--- the number of the line changes no alert
-renumbered : (s t : Course) (n k : ℕ) (line : List ℕ) → BreaksOff s t n line → BreaksOff s t k line
-renumbered s t n k line b = record { meaning = b.meaning; means = b.means; heard = b.heard }
+ended_by : {S : Type 0} (view : S → Course) (s t : S) (n : ℕ) (lines : List (List ℕ)) (text : List ℕ) → Serves (TurnsIn view) s t n lines text → BegunBy (view s) (view t) n lines text
+ended_by view s t n [] text p = subst (BegunBy (view s) (view t) n []) (sym p.1) (subst (λ x. BegunBy (view s) (view x) n [] []) (sym p.0) (begun_none (view s) n))
+ended_by view s t n (line ∷ lines) text p = begun_first (view s) (view p.0) (view t) n line p.1 p.2 text lines p.3 p.4 (ended_by view p.0 t (suc n) lines p.2 p.5)
 
 -- lines that were not begun
 begun_more : (s t : Course) (n : ℕ) (lines later : List (List ℕ)) (text : List ℕ) → BegunBy s t n lines text → BegunBy s t n (lines ++ later) text
@@ -191,29 +194,23 @@ front_given s t taken_old taken text lines start none b written =
     }
 
 -- nothing more was begun
-stopped : {S : Type 0} (view : S → Course) (s t u : S) (lines : List (List ℕ)) (text : List ℕ) → Serves (TurnsIn view) s t 1 lines text → u ≡ t → BegunBy (view s) (view u) 1 lines text
-stopped view s t u lines text p same =
-    subst (λ ls. BegunBy (view s) (view u) 1 ls text) (append-nil lines) (begun_by view s t u 1 lines [] text p (λ k. subst (λ x. BegunBy (view t) (view x) k [] []) (sym same) (begun_none (view t) k)))
+stopped : {S : Type 0} (view : S → Course) (s t u : S) (text begun : List ℕ) (lines later : List (List ℕ)) → Serves (TurnsIn view) s t 1 lines text → u ≡ t → begun ≡ [] → BegunBy (view s) (view u) 1 (lines ++ later) (text ++ begun)
+stopped view s t u text begun lines later p same none =
+    subst (BegunBy (view s) (view u) 1 (lines ++ later)) (sym (ap (λ x. text ++ x) none ∙ append-nil text))
+    (begun_more (view s) (view u) 1 lines later text (ended_by view s u 1 lines text (subst (λ x. Serves (TurnsIn view) s x 1 lines text) (sym same) p)))
 
-begun_at : {S : Type 0} (view : S → Course) (s t u : S) (text begun : List ℕ) (lines later : List (List ℕ)) → Serves (TurnsIn view) s t 1 lines text → StopsAt (BreaksIn view) t u (suc (length lines)) later begun → BegunBy (view s) (view u) 1 (lines ++ later) text
-begun_at view s t u text begun lines [] p same = begun_more (view s) (view u) 1 lines [] text (stopped view s t u lines text p same.0)
-begun_at view s t u text begun lines (line ∷ later) p (inl same) = begun_more (view s) (view u) 1 lines (line ∷ later) text (stopped view s t u lines text p same.0)
+begun_at : {S : Type 0} (view : S → Course) (s t u : S) (text begun : List ℕ) (lines later : List (List ℕ)) → Serves (TurnsIn view) s t 1 lines text → StopsAt (BreaksIn view) t u (suc (length lines)) later begun → BegunBy (view s) (view u) 1 (lines ++ later) (text ++ begun)
+begun_at view s t u text begun lines [] p same = stopped view s t u text begun lines [] p same.0 same.1
+begun_at view s t u text begun lines (line ∷ later) p (inl same) = stopped view s t u text begun lines (line ∷ later) p same.0 same.1
 begun_at view s t u text begun lines (line ∷ later) p (inr broken) =
-    subst (λ ls. BegunBy (view s) (view u) 1 ls text) (append_assoc lines (line ∷ []) later)
-    (begun_more (view s) (view u) 1 (lines ++ line ∷ []) later text (begun_by view s t u 1 lines (line ∷ []) text p (λ k. begun_here (view t) (view u) k line (renumbered (view t) (view u) (suc (length lines)) k (cut line) broken.0))))
-
--- nothing of the line that was begun was on its way
-nothing_begun : {S : Type 0} (view : S → Course) (s t : S) (n : ℕ) (later : List (List ℕ)) (begun : List ℕ) → StopsAt (BreaksIn view) s t n later begun → begun ≡ []
-nothing_begun view s t n [] begun same = same.1
-nothing_begun view s t n (line ∷ later) begun (inl same) = same.1
-nothing_begun view s t n (line ∷ later) begun (inr broken) = broken.1
+    subst (λ ls. BegunBy (view s) (view u) 1 ls (text ++ begun)) (append_assoc lines (line ∷ []) later)
+    (begun_more (view s) (view u) 1 (lines ++ line ∷ []) later (text ++ begun) (begun_by view s t u 1 (suc (length lines)) lines line text begun p (omega arith) broken))
 
 gives_front : {S : Type 0} (view : S → Course) (s t : S) (settings : Settings) (taken_old taken : Option (List ℕ)) (lines : List (List ℕ)) → (view s).history ≡ [] → (view s).settings ≡ settings → (view s).owed ≡ [] → ServesFront (TurnsIn view) (BreaksIn view) s t taken_old taken lines
     → GivesFront (view s).hearers (view t).hearers settings.form taken_old taken lines
 gives_front view s t settings taken_old taken lines start same none p =
-    let begun = subst (λ ls. BegunBy (view s) (view t) 1 ls p.text) (sym p.parts) (begun_at view s p.between t p.text p.begun p.front p.later p.served p.stops) in
-    let whole = ap (λ x. p.text ++ x) (nothing_begun view p.between t (suc (length p.front)) p.later p.begun p.stops) ∙ append-nil p.text in
-    subst (λ k. GivesFront (view s).hearers (view t).hearers k.form taken_old taken lines) same (front_given (view s) (view t) taken_old taken p.text lines start none begun (subst (AppendsFront taken_old taken) whole p.written))
+    let begun = subst (λ ls. BegunBy (view s) (view t) 1 ls (p.text ++ p.begun)) (sym p.parts) (begun_at view s p.between t p.text p.begun p.front p.later p.served p.stops) in
+    subst (λ k. GivesFront (view s).hearers (view t).hearers k.form taken_old taken lines) same (front_given (view s) (view t) taken_old taken (p.text ++ p.begun) lines start none begun p.written)
 
 pub run_gives_front : {S : Type 0} (view : S → Course) (s t : S) (settings : Settings) (left left_new : Option (List ℕ)) (met_end : Bool) (taken_old taken : Option (List ℕ)) → (view s).history ≡ [] → (view s).settings ≡ settings → (view s).owed ≡ []
     → OfLinesRead left left_new met_end (ServesFront (TurnsIn view) (BreaksIn view) s t taken_old taken) → OfLinesRead left left_new met_end (GivesFront (view s).hearers (view t).hearers settings.form taken_old taken)

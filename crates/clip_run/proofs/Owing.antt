@@ -1,6 +1,8 @@
 -- What is owed, and what was given.
 use Rattle.std.proofs.Common.{◌≡◌, ℕ, zero, suc, ◌+◌, ◌<◌, ◌≤◌, List, [], ◌∷◌, ◌++◌, length, drop, map, refl, sym, ap, ap₂, ◌∙◌, subst, arith, add-one, append_assoc, append-nil}
-use Rattle.std.specs.Prelude.{Result, Ok, Err, OnOk, OnErr, Some}
+use Rattle.std.specs.Prelude.{Option, Result, Ok, Err, OnOk, OnErr, Some}
+use Rattle.clip_stream.specs.Device.{AppendsFront, HandsOver}
+use Rattle.clip_stream.proofs.Flows.{front_behind, handed_more, handed_none, none_taken}
 use Rattle.std.specs.List.{slice_get}
 use Rattle.std.proofs.lemmas.List.{map-append}
 use Rattle.clip_model.specs.Alerts.{Alert}
@@ -31,7 +33,7 @@ use Rattle.clip_run.specs.Pending.{owed_by, owed_at, owed_from}
 use Rattle.clip_run.specs.declared.batch.Batch.{Batch}
 use Rattle.clip_run.specs.declared.batch.Pending.TheVariants as pending
 use Rattle.clip_run.specs.declared.batch.Pending.{Pending}
-use Rattle.clip_run.specs.Owed.{Owed, ready, matched, owed_of, owes, Course, Gave, Pays, Turns, BreaksOff, HearsOwed, PaysInto, with_owed}
+use Rattle.clip_run.specs.Owed.{Owed, ready, matched, owed_of, owes, Course, Gave, Pays, Turns, BreaksOff, HearsOwed, PaysInto, StopsPaying, with_owed}
 
 -- ---- what was heard changes nothing that is owed
 
@@ -152,58 +154,80 @@ turns_after s t u n line a b p q =
 
 -- ---- where a run is broken off
 
-pub hears_none : (s t : Course) → t.hearers ≡ s.hearers → HearsOwed s t
-hears_none s t e = subst (λ hs. HearsFront (owes s.hearers s.owed).alerts s.hearers hs) (sym e) (no_front (owes s.hearers s.owed).alerts s.hearers)
+-- nothing was given
+pub hears_none : (s t : Course) → t.hearers ≡ s.hearers → HearsOwed s t []
+hears_none s t e = record {
+  heard = subst (λ hs. HearsFront (owes s.hearers s.owed).alerts s.hearers hs) (sym e) (no_front (owes s.hearers s.owed).alerts s.hearers);
+  more = (owes s.hearers s.owed).text s.settings.form;
+  printed = refl;
+}
 
--- whatever is owed now, of what was owed a front was heard
-pub hears_after : (s t u : Course) (a : List ℕ) → Pays s t a → HearsOwed t u → HearsOwed s u
-hears_after s t u a p front =
+-- whatever is owed now, of what was owed a front was given
+pub hears_after : (s t u : Course) (a b : List ℕ) → Pays s t a → HearsOwed t u b → HearsOwed s u (a ++ b)
+hears_after s t u a b p front =
     let same : owes t.hearers t.owed ≡ owes s.hearers t.owed = owes_told p.out.alerts s.hearers t.hearers t.owed p.gave.heard in
-    subst (λ o. HearsFront o.alerts s.hearers u.hearers) (sym p.rest)
-    (front_after p.out.alerts (owes s.hearers t.owed).alerts s.hearers t.hearers u.hearers p.gave.heard (subst (λ o. HearsFront o.alerts t.hearers u.hearers) same front))
+    let later = ap (λ o. o.text s.settings.form) (sym same) ∙ ap (λ k. (owes t.hearers t.owed).text k.form) (sym p.gave.settings) ∙ front.printed in
+    record {
+      heard = subst (λ o. HearsFront o.alerts s.hearers u.hearers) (sym p.rest)
+          (front_after p.out.alerts (owes s.hearers t.owed).alerts s.hearers t.hearers u.hearers p.gave.heard (subst (λ o. HearsFront o.alerts t.hearers u.hearers) same front.heard));
+      more = front.more;
+      printed = ap (λ o. o.text s.settings.form) p.rest ∙ ap₂ (λ x y. x ++ y) p.printed later ∙ sym (append_assoc a b front.more);
+    }
 
-pub hears_paid : (s t : Course) (a : List ℕ) → Pays s t a → HearsOwed s t
-hears_paid s t a p = hears_after s t t a p (hears_none t t refl)
-
--- of the oldest a front was heard
-pub hears_first : (s t : Course) (o : Owed) (more : List Owed) → s.owed ≡ o ∷ more → HearsFront (owed_of s.hearers o).alerts s.hearers t.hearers → HearsOwed s t
-hears_first s t o more first front =
-    subst (λ os. HearsFront (owes s.hearers os).alerts s.hearers t.hearers) (sym first) (front_of_more (owed_of s.hearers o).alerts (owes s.hearers more).alerts s.hearers t.hearers front)
+-- of the oldest a front was heard, and its text was on its way, or none of it
+pub hears_first : (s t : Course) (o : Owed) (more : List Owed) → s.owed ≡ o ∷ more → HearsFront (owed_of s.hearers o).alerts s.hearers t.hearers → HearsOwed s t []
+hears_first s t o more first front = record {
+  heard = subst (λ os. HearsFront (owes s.hearers os).alerts s.hearers t.hearers) (sym first) (front_of_more (owed_of s.hearers o).alerts (owes s.hearers more).alerts s.hearers t.hearers front);
+  more = (owes s.hearers s.owed).text s.settings.form;
+  printed = refl;
+}
 
 -- the line means something, whatever it is
-pub breaks_owed : (s t : Course) (n : ℕ) (line : List ℕ) → HearsOwed s t → BreaksOff s t n line
-breaks_owed s t n line front =
+pub breaks_owed : (s t : Course) (n : ℕ) (line text : List ℕ) → HearsOwed s t text → BreaksOff s t n line text
+breaks_owed s t n line text front =
     let m = outline_some (names_in s.hearers) s.history (outline line) in
+    let now = given s.hearers n s.history m.0 in
     record {
       meaning = m.0;
       means = means_from (names_in s.hearers) s.history line m.0 m.1;
-      heard = front_of_more (owes s.hearers s.owed).alerts (given s.hearers n s.history m.0).alerts s.hearers t.hearers front;
+      heard = front_of_more (owes s.hearers s.owed).alerts now.alerts s.hearers t.hearers front.heard;
+      more = front.more ++ now.text s.settings.form;
+      printed = ap (λ x. x ++ now.text s.settings.form) front.printed ∙ append_assoc text front.more (now.text s.settings.form);
     }
 
 -- the line was taken before
-pub breaks_turned : (s t u : Course) (n : ℕ) (line text : List ℕ) → Turns s t n line text → HearsOwed t u → BreaksOff s u n line
-breaks_turned s t u n line text p front =
+pub breaks_turned : (s t u : Course) (n : ℕ) (line a b : List ℕ) → Turns s t n line a → HearsOwed t u b → BreaksOff s u n line (a ++ b)
+breaks_turned s t u n line a b p front =
     let same : owes t.hearers t.owed ≡ owes s.hearers t.owed = owes_told p.out.alerts s.hearers t.hearers t.owed p.gave.heard in
+    let later = ap (λ o. o.text s.settings.form) (sym same) ∙ ap (λ k. (owes t.hearers t.owed).text k.form) (sym p.gave.settings) ∙ front.printed in
     record {
       meaning = p.meaning;
       means = p.means;
       heard = subst (λ o. HearsFront o.alerts s.hearers u.hearers) (sym p.rest)
-          (front_after p.out.alerts (owes s.hearers t.owed).alerts s.hearers t.hearers u.hearers p.gave.heard (subst (λ o. HearsFront o.alerts t.hearers u.hearers) same front));
+          (front_after p.out.alerts (owes s.hearers t.owed).alerts s.hearers t.hearers u.hearers p.gave.heard (subst (λ o. HearsFront o.alerts t.hearers u.hearers) same front.heard));
+      more = front.more;
+      printed = ap (λ o. o.text s.settings.form) p.rest ∙ ap₂ (λ x y. x ++ y) p.printed later ∙ sym (append_assoc a b front.more);
     }
 
--- ---- texts that grow
+-- ---- texts that are put into a flow
 
-pub pays_into_none : (s : Course) (a : List ℕ) → PaysInto s s a a
-pays_into_none s a = ([], pays_nothing s, sym (append-nil a))
+pub pays_into_none : (s : Course) (taken : Option (List ℕ)) (gathered : List ℕ) → PaysInto s s taken gathered taken gathered
+pays_into_none s taken gathered = record { text = []; pays = pays_nothing s; handed = handed_none taken gathered }
 
-pub pays_into_more : (s t u : Course) (a b c : List ℕ) → PaysInto s t a b → PaysInto t u b c → PaysInto s u a c
-pays_into_more s t u a b c p q = (p.0 ++ q.0, pays_more s t u p.0 q.0 p.1 q.1, q.2 ∙ ap (λ x. x ++ q.0) p.2 ∙ append_assoc a p.0 q.0)
+pub pays_into_more : (s t u : Course) (a b c : Option (List ℕ)) (x y z : List ℕ) → PaysInto s t a x b y → PaysInto t u b y c z → PaysInto s u a x c z
+pays_into_more s t u a b c x y z p q = record { text = p.text ++ q.text; pays = pays_more s t u p.text q.text p.pays q.pays; handed = handed_more a b c x y z p.text q.text p.handed q.handed }
 
-pub pays_into_first : (s t : Course) (o : Owed) (a b text : List ℕ) → s.owed ≡ o ∷ t.owed → Gave s t (owed_of s.hearers o) → t.history ≡ s.history → text ≡ (owed_of s.hearers o).text s.settings.form → b ≡ a ++ text → PaysInto s t a b
-pays_into_first s t o a b text first gave same is grown = ((owed_of s.hearers o).text s.settings.form, pays_first s t o first gave same, grown ∙ ap (λ x. a ++ x) is)
+-- nothing of what is owed was given
+pub stops_none : (s t : Course) (taken : Option (List ℕ)) (gathered : List ℕ) → HearsOwed s t [] → StopsPaying s t taken gathered taken
+stops_none s t taken gathered front = record { text = []; broken = front; written = none_taken taken (gathered ++ []) }
 
-pub hears_into : (s t u : Course) (a b : List ℕ) → PaysInto s t a b → HearsOwed t u → HearsOwed s u
-hears_into s t u a b p front = hears_after s t u p.0 p.1 front
+-- it was broken off behind what was given
+pub stops_more : (s t u : Course) (a b c : Option (List ℕ)) (x y : List ℕ) → PaysInto s t a x b y → StopsPaying t u b y c → StopsPaying s u a x c
+stops_more s t u a b c x y p q = record {
+  text = p.text ++ q.text;
+  broken = hears_after s t u p.text q.text p.pays q.broken;
+  written = front_behind a b c x y p.text q.text p.handed q.written;
+}
 
 -- ---- a line
 
@@ -228,8 +252,8 @@ pub turns_waiting : (s t : Course) (n : ℕ) (line : List ℕ) (articles : List 
 turns_waiting s t n line articles means is = turns_taken s t n line (matching articles) (matched n s.history articles) means refl is
 
 -- the line was taken, and more was paid
-pub turns_paid : (s t u : Course) (n : ℕ) (line a b : List ℕ) → a ≡ [] → Turns s t n line [] → PaysInto t u a b → Turns s u n line b
-turns_paid s t u n line a b none p q = subst (Turns s u n line) (sym (q.2 ∙ ap (λ x. x ++ q.0) none)) (turns_then s t u n line [] q.0 p q.1)
+pub turns_paid : (s t u : Course) (n : ℕ) (line b : List ℕ) → Turns s t n line [] → Pays t u b → Turns s u n line b
+turns_paid s t u n line b p q = turns_then s t u n line [] b p q
 
 -- ---- what is pending
 
@@ -265,26 +289,41 @@ owed_more (x ∷ xs) (suc line) l = owed_more xs line (omega (arith, l))
 pub owed_next : (items : List Pending) (line : ℕ) → line < length items → map owed_by (drop line items) ≡ owed_at items line ∷ map owed_by (drop (line + 1) items)
 owed_next items line l = owed_more items line l ∙ ap (λ n. owed_at items line ∷ map owed_by (drop n items)) (sym (add-one line))
 
--- the settled line's text stands at the end
-pub pays_line : (s t : CrewIs) (hearers now : List Hearer) (items : List Pending) (line : ℕ) (a b text : List ℕ) → line < length items
+-- the line was settled
+pub pays_line : (s t : CrewIs) (hearers now : List Hearer) (items : List Pending) (line : ℕ) → line < length items
     → now ≡ told_all (owed_of hearers (owed_at items line)).alerts hearers → t ≡ record s { rows = s.rows ++ kept_rows s.settings.keeps_rows (owed_of hearers (owed_at items line)).rows }
-    → text ≡ (owed_of hearers (owed_at items line)).text s.settings.form → b ≡ a ++ text → PaysInto (with_owed (course s hearers) (map owed_by (drop line items))) (with_owed (course t now) (map owed_by (drop (line + 1) items))) a b
-pays_line s t hearers now items line a b text within heard same is grown =
-    pays_into_first (with_owed (course s hearers) (map owed_by (drop line items))) (with_owed (course t now) (map owed_by (drop (line + 1) items))) (owed_at items line) a b text
-    (owed_next items line within) (record { heard = heard; rows = ap (λ crew. crew.rows) same; settings = ap (λ crew. crew.settings) same }) (ap (λ crew. crew.history) same) is grown
+    → Pays (with_owed (course s hearers) (map owed_by (drop line items))) (with_owed (course t now) (map owed_by (drop (line + 1) items))) ((owed_of hearers (owed_at items line)).text s.settings.form)
+pays_line s t hearers now items line within heard same =
+    pays_first (with_owed (course s hearers) (map owed_by (drop line items))) (with_owed (course t now) (map owed_by (drop (line + 1) items))) (owed_at items line)
+    (owed_next items line within) (record { heard = heard; rows = ap (λ crew. crew.rows) same; settings = ap (λ crew. crew.settings) same }) (ap (λ crew. crew.history) same)
+
+-- and its text put
+pub pays_into_line : (s t : CrewIs) (hearers now : List Hearer) (items : List Pending) (line : ℕ) (text : List ℕ) (taken taken_new : Option (List ℕ)) (gathered gathered_new : List ℕ) → line < length items
+    → now ≡ told_all (owed_of hearers (owed_at items line)).alerts hearers → t ≡ record s { rows = s.rows ++ kept_rows s.settings.keeps_rows (owed_of hearers (owed_at items line)).rows }
+    → text ≡ (owed_of hearers (owed_at items line)).text s.settings.form → HandsOver taken (gathered ++ text) taken_new gathered_new
+    → PaysInto (with_owed (course s hearers) (map owed_by (drop line items))) (with_owed (course t now) (map owed_by (drop (line + 1) items))) taken gathered taken_new gathered_new
+pays_into_line s t hearers now items line text taken taken_new gathered gathered_new within heard same is handed = record {
+  text = (owed_of hearers (owed_at items line)).text s.settings.form;
+  pays = pays_line s t hearers now items line within heard same;
+  handed = subst (λ x. HandsOver taken (gathered ++ x) taken_new gathered_new) is handed;
+}
 
 -- of the line that is settled a front was heard
-pub hears_line : (s t : Course) (items : List Pending) (line : ℕ) → line < length items → HearsFront (owed_of s.hearers (owed_at items line)).alerts s.hearers t.hearers → HearsOwed (with_owed s (map owed_by (drop line items))) t
+pub hears_line : (s t : Course) (items : List Pending) (line : ℕ) → line < length items → HearsFront (owed_of s.hearers (owed_at items line)).alerts s.hearers t.hearers → HearsOwed (with_owed s (map owed_by (drop line items))) t []
 hears_line s t items line within front = hears_first (with_owed s (map owed_by (drop line items))) t (owed_at items line) (map owed_by (drop (line + 1) items)) (owed_next items line within) front
 
--- what the line that was settled paid was heard
-pub hears_settled : (s t : CrewIs) (hearers now : List Hearer) (items : List Pending) (line : ℕ) → line < length items → now ≡ told_all (owed_of hearers (owed_at items line)).alerts hearers
-    → t ≡ record s { rows = s.rows ++ kept_rows s.settings.keeps_rows (owed_of hearers (owed_at items line)).rows } → HearsOwed (with_owed (course s hearers) (map owed_by (drop line items))) (course t now)
-hears_settled s t hearers now items line within heard same =
-    let text = (owed_of hearers (owed_at items line)).text s.settings.form in
-    let p = pays_line s t hearers now items line [] text text within heard same refl refl in
-    let u = with_owed (course t now) (map owed_by (drop (line + 1) items)) in
-    hears_after (with_owed (course s hearers) (map owed_by (drop line items))) u (course t now) p.0 p.1 (hears_none u (course t now) refl)
+-- the line was settled, and of its text a front was written
+pub stops_line : (s t : CrewIs) (hearers now : List Hearer) (items : List Pending) (line : ℕ) (text : List ℕ) (taken taken_new : Option (List ℕ)) (gathered : List ℕ) → line < length items
+    → now ≡ told_all (owed_of hearers (owed_at items line)).alerts hearers → t ≡ record s { rows = s.rows ++ kept_rows s.settings.keeps_rows (owed_of hearers (owed_at items line)).rows }
+    → text ≡ (owed_of hearers (owed_at items line)).text s.settings.form → AppendsFront taken taken_new (gathered ++ text) → StopsPaying (with_owed (course s hearers) (map owed_by (drop line items))) (course t now) taken gathered taken_new
+stops_line s t hearers now items line text taken taken_new gathered within heard same is front =
+    let left = with_owed (course t now) (map owed_by (drop (line + 1) items)) in
+    let paid = (owed_of hearers (owed_at items line)).text s.settings.form in
+    record {
+      text = paid ++ [];
+      broken = hears_after (with_owed (course s hearers) (map owed_by (drop line items))) left (course t now) paid [] (pays_line s t hearers now items line within heard same) (hears_none left (course t now) refl);
+      written = subst (λ x. AppendsFront taken taken_new (gathered ++ x)) (is ∙ sym (append-nil paid)) front;
+    }
 
 -- ---- a line that is settled
 

@@ -41,10 +41,10 @@ pending_sync = variants_sync pending.enum ((search parts, tt), ((batch_sync, tt)
 
 module _ (G : RattleType) (sent : IsSend G) (shared : IsSync G) where
   pub group_send : IsSend (group.the_row G)
-  group_send = declared_send (group.the_type G) (search (parts, pending_send, pending_sync), (settings_sent.the_send, (as_row_send (row_field G) sent, (search parts, (search (sendable, counter_sent.the_send), tt)))))
+  group_send = declared_send (group.the_type G) (search (parts, pending_send, pending_sync), (settings_sent.the_send, (as_row_send (row_field G) sent, (search parts, (search (sendable, counter_sent.the_send), (search (sendable, counter_sent.the_send), tt))))))
 
   pub group_sync : IsSync (group.the_row G)
-  group_sync = declared_sync (group.the_type G) (search (parts, pending_send, pending_sync), (settings_sent.the_sync, (as_row_sync (row_field G) shared, (search parts, (search (sendable, counter_sent.the_sync), tt)))))
+  group_sync = declared_sync (group.the_type G) (search (parts, pending_send, pending_sync), (settings_sent.the_sync, (as_row_sync (row_field G) shared, (search parts, (search (sendable, counter_sent.the_sync), (search (sendable, counter_sent.the_sync), tt))))))
 
   -- lines that threads share
   pub lines_send : IsSend (arc.the_row (group.the_row G) global_type.the_row global_allocator.ghosts)

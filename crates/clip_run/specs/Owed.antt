@@ -1,5 +1,6 @@
 -- What a run owes to lines that it has taken, and what it gives meanwhile.
-use Rattle.std.specs.Prelude.{◌≡◌, ℕ, List, [], ◌∷◌, ◌++◌}
+use Rattle.std.specs.Prelude.{◌≡◌, ℕ, List, [], ◌∷◌, ◌++◌, Option}
+use Rattle.clip_stream.specs.Device.{AppendsFront, HandsOver}
 use Rattle.clip_meaning.specs.Article.{ArticleValue}
 use Rattle.clip_model.specs.History.{History}
 use Rattle.clip_listen.specs.Heard.{Hearer, told_all, HearsFront}
@@ -58,29 +59,44 @@ pub record Turns (old new : Course) (n : ℕ) (line text : List ℕ) : Type 0 wh
   pub rest : followed_by (owes old.hearers old.owed) (given old.hearers n old.history meaning)
       ≡ followed_by out (owes old.hearers new.owed)
 
--- The run was broken off at line n: the listeners have heard a front of the alerts of what was owed and of what the
--- line gives.
-pub record BreaksOff (old new : Course) (n : ℕ) (line : List ℕ) : Type 0 where
+-- The run was broken off at line n: the listeners have heard a prefix of the alerts of what was owed and of what
+-- the line gives, and this text, which was on its way, is a prefix of theirs.
+pub record BreaksOff (old new : Course) (n : ℕ) (line text : List ℕ) : Type 0 where
   pub meaning : Meaning
   pub means : Means (names_in old.hearers) old.history line meaning
   pub heard : HearsFront (followed_by (owes old.hearers old.owed) (given old.hearers n old.history meaning)).alerts
       old.hearers new.hearers
+  pub more : List ℕ
+  pub printed : (followed_by (owes old.hearers old.owed) (given old.hearers n old.history meaning)).text
+      old.settings.form ≡ text ++ more
 
 -- how a server answers that holds this
 abbrev pub TurnsIn : {S : Type 0} → (S → Course) → Answering S
 TurnsIn view s t n line text = Turns (view s) (view t) n line text
 
--- nothing of its text was on its way
+-- and how it is broken off
 abbrev pub BreaksIn : {S : Type 0} → (S → Course) → Breaking S
-BreaksIn view s t n line text = BreaksOff (view s) (view t) n line × (text ≡ [])
+BreaksIn view s t n line text = BreaksOff (view s) (view t) n line text
 
--- of what is owed, a front of the alerts was heard
-abbrev pub HearsOwed : Course → Course → Type 0
-HearsOwed old new = HearsFront (owes old.hearers old.owed).alerts old.hearers new.hearers
+-- Of what is owed, a prefix of the alerts was heard, and this text is a prefix of its text.
+pub record HearsOwed (old new : Course) (text : List ℕ) : Type 0 where
+  pub heard : HearsFront (owes old.hearers old.owed).alerts old.hearers new.hearers
+  pub more : List ℕ
+  pub printed : (owes old.hearers old.owed).text old.settings.form ≡ text ++ more
 
--- a front of what was owed was given, and its text stands at the end
-abbrev pub PaysInto : Course → Course → List ℕ → List ℕ → Type 0
-PaysInto old new before now = (text : List ℕ) × Pays old new text × (now ≡ before ++ text)
+-- A prefix of what was owed was given, and its text is written or gathered behind what was gathered.
+pub record PaysInto (old new : Course) (taken_old : Option (List ℕ)) (gathered_old : List ℕ)
+    (taken_new : Option (List ℕ)) (gathered_new : List ℕ) : Type 0 where
+  pub text : List ℕ
+  pub pays : Pays old new text
+  pub handed : HandsOver taken_old (gathered_old ++ text) taken_new gathered_new
+
+-- The giving of what was owed was broken off, and of what was gathered and the text a prefix was written.
+pub record StopsPaying (old new : Course) (taken_old : Option (List ℕ)) (gathered : List ℕ)
+    (taken_new : Option (List ℕ)) : Type 0 where
+  pub text : List ℕ
+  pub broken : HearsOwed old new text
+  pub written : AppendsFront taken_old taken_new (gathered ++ text)
 
 -- the course that owes these
 abbrev pub with_owed : Course → List Owed → Course

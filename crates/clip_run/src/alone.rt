@@ -187,7 +187,7 @@ impl<A: Audience, W: Sink> Server<A, W> for RunServer {
 /// step for each entry, and rewrites the segments that have a dead one. A match costs for each article its words, a
 /// look-up of its keys in each segment, and its candidates, and not the registry, and for each alert with a listener a
 /// look-up of the name and what that listener takes. Memory: one line and what it asks for, up to 64 KiB of gathered
-/// replies and what is shown of one article more, the alerts of one article and the notes of one line, at most 4,096
+/// replies and a piece of 64 ids or hits more, the alerts of one article and the notes of one line, at most 4,096
 /// words of the last articles, the registered queries, and those that no merge or purge has left out yet, with their
 /// index, and a row for each alert where rows are kept.
 pub fn run_alone<R: Source, W: Sink, A: Audience>(

@@ -1,13 +1,16 @@
 //! The server of a run with workers.
-ghost use Rattle.std.specs.Prelude.{◌≡◌, ◌<◌, [], ◌∷◌, ◌++◌, map, vec_len, false, Some, IfOk, OnOk, OnErr};
+ghost use Rattle.std.specs.Prelude.{◌≡◌, ◌≢◌, ◌<◌, [], ◌∷◌, ◌++◌, map, vec_len, false, true, Some, Err, IfErr, IfOk};
+ghost use Rattle.std.specs.Prelude.{OnErr, OnOk};
 ghost use Rattle.std.specs.List.{All, slice_get};
 ghost use Rattle.clip_front.specs.Outcome.{kept_rows};
 ghost use Rattle.clip_front.specs.Steps.Found.{IsFor, told_in, rows_in, found_text};
+ghost use Rattle.clip_front.specs.Steps.Serving.{AnswersInto, BreaksInto};
 ghost use Rattle.clip_listen.specs.Heard.{told_all, HearsFront};
 ghost use Rattle.clip_protocol.specs.Found.{found_value};
-ghost use Rattle.clip_run.specs.Crews.{CrewIs, course};
+ghost use Rattle.clip_run.specs.Crews.{CrewIs, course, course_at};
 ghost use Rattle.clip_run.specs.Due.{AreDue, FindsOne, due_to};
-ghost use Rattle.clip_run.specs.Owed.{owed_of, matched, with_owed, Turns, BreaksOff, HearsOwed, PaysInto};
+ghost use Rattle.clip_run.specs.Owed.{owed_of, matched, with_owed, BreaksIn, BreaksOff, PaysInto, StopsPaying, Turns};
+ghost use Rattle.clip_run.specs.Owed.{TurnsIn};
 ghost use Rattle.clip_run.specs.Pending.{owed_at, owed_by};
 ghost use Rattle.clip_run.specs.declared.batch.Pending.TheVariants as pending;
 
@@ -21,6 +24,7 @@ use clip_ledger::Ledger;
 use clip_listen::Audience;
 use clip_match::Gate;
 use clip_protocol::{Found, JudgedDraft};
+use clip_stream::{Flow, RunFault, Sink};
 use clip_words::{NoMemory, WordPool};
 use std::alloc::Global;
 use std::marker::Model;
@@ -62,19 +66,6 @@ impl<'r, 'd, 'g, R, N: DeskName, G> Model for Crew<'r, 'd, 'g, R, N, G> {
       settings = c.books.settings;
       owed = map owed_by c.pending.items;
     } };
-}
-
-/// Adds a text at the end.
-fn add_text(out: &mut Vec<u8>, text: Vec<u8>) -> Result<(), NoMemory>
-    ensures { OnOk result (out.new.items ≡ out.old.items ++ text.items) }
-{
-    if out.is_empty() {
-        *out = text;
-        return Ok(());
-    }
-    let mut text = text;
-    out.append(&mut text)?;
-    Ok(())
 }
 
 impl<'r, 'd, 'g, R: Threads + Wait + Sync, N: DeskName, G: Gate + Clone + Send + 'static> Crew<
@@ -215,45 +206,57 @@ impl<'r, 'd, 'g, R: Threads + Wait + Sync, N: DeskName, G: Gate + Clone + Send +
         }
     }
 
-    /// Gives what is owed to each of these lines, in order, where nothing else is owed.
-    fn settle_all<A: Audience>(
+    /// Puts what is owed to each of these lines into the flow, in order, where nothing else is owed.
+    fn settle_all<A: Audience, W: Sink>(
         &mut self,
         alloc: Global,
         audience: &mut A,
         items: &[Pending],
         mut answers: Vec<Answer>,
-        out: &mut Vec<u8>,
-    ) -> Result<(), NoMemory>
+        flow: &mut Flow<'_, W>,
+    ) -> Result<(), RunFault>
         requires settled { self.old.owed ≡ [] }
         requires due { AreDue self.old.settings items.now answers.items }
+        ensures same_reference { flow.new.writer.ghost_name ≡ flow.old.writer.ghost_name }
         ensures ok { OnOk result (PaysInto
             (with_owed (course self.old (A.hearers audience.old)) (map owed_by items.now))
-            (course self.new (A.hearers audience.new)) out.old.items out.new.items) }
+            (course self.new (A.hearers audience.new)) (W.taken flow.old.writer.now) flow.old.outbox.now
+            (W.taken flow.new.writer.now) flow.new.outbox.now) }
         ensures settled { OnOk result (self.new.owed ≡ []) }
-        ensures err { OnErr result (HearsOwed
+        ensures well { OnOk result (W.has_failed flow.new.writer.now ≡ W.has_failed flow.old.writer.now) }
+        ensures fault { IfErr result (λ e. e ≢ RunFault.Read) }
+        ensures write { result ≡ Err RunFault.Write → W.has_failed flow.new.writer.now ≡ true }
+        ensures err { OnErr result (StopsPaying
             (with_owed (course self.old (A.hearers audience.old)) (map owed_by items.now))
-            (course self.new (A.hearers audience.new))) }
+            (course self.new (A.hearers audience.new)) (W.taken flow.old.writer.now) flow.old.outbox.now
+            (W.taken flow.new.writer.now)) }
     {
         for line in 0..items.len() {
             let text = self.settle(alloc, audience, items, line, &mut answers)?;
-            add_text(out, text)?;
+            flow.put(&text)?;
         }
         Ok(())
     }
 
-    /// Gives all that is owed. The articles that wait are shared out among this thread and helpers first, where there
-    /// are enough of them.
-    fn pay<A: Audience>(
+    /// Puts all that is owed into the flow. The articles that wait are shared out among this thread and helpers first,
+    /// where there are enough of them.
+    fn pay<A: Audience, W: Sink>(
         &mut self,
         alloc: Global,
         audience: &mut A,
-        out: &mut Vec<u8>,
-    ) -> Result<(), NoMemory>
+        flow: &mut Flow<'_, W>,
+    ) -> Result<(), RunFault>
+        ensures same_reference { flow.new.writer.ghost_name ≡ flow.old.writer.ghost_name }
         ensures ok { OnOk result (PaysInto (course self.old (A.hearers audience.old))
-            (course self.new (A.hearers audience.new)) out.old.items out.new.items) }
+            (course self.new (A.hearers audience.new)) (W.taken flow.old.writer.now) flow.old.outbox.now
+            (W.taken flow.new.writer.now) flow.new.outbox.now) }
         ensures all { OnOk result (self.new.owed ≡ []) }
-        ensures err { OnErr result (HearsOwed (course self.old (A.hearers audience.old))
-            (course self.new (A.hearers audience.new))) }
+        ensures well { OnOk result (W.has_failed flow.new.writer.now ≡ W.has_failed flow.old.writer.now) }
+        ensures fault { IfErr result (λ e. e ≢ RunFault.Read) }
+        ensures write { result ≡ Err RunFault.Write → W.has_failed flow.new.writer.now ≡ true }
+        ensures err { OnErr result (StopsPaying (course self.old (A.hearers audience.old))
+            (course self.new (A.hearers audience.new)) (W.taken flow.old.writer.now) flow.old.outbox.now
+            (W.taken flow.new.writer.now)) }
     {
         let items = mem::replace(&mut self.pending, Vec::new(alloc));
         let load = mem::replace(&mut self.load, Load::none());
@@ -261,14 +264,14 @@ impl<'r, 'd, 'g, R: Threads + Wait + Sync, N: DeskName, G: Gate + Clone + Send +
         self.helpers.greet(self.rt);
         let count = self.helpers.wanted(load, self.gate.may_hold());
         if count == 0 {
-            return self.settle_all(alloc, audience, &items, Vec::new(alloc), out);
+            return self.settle_all(alloc, audience, &items, Vec::new(alloc), flow);
         }
         let gate = self.gate.clone()?;
         let group = Arc::new(alloc, Group::of(alloc, items, self.books.settings, gate)?)?;
         let answers = self
             .helpers
             .answers(self.rt, alloc, &mut self.pool, &group, load, count);
-        self.settle_all(alloc, audience, &group.items, answers, out)
+        self.settle_all(alloc, audience, &group.items, answers, flow)
     }
 
     /// Lets a batch wait, to be matched at the registry as it stands.
@@ -306,7 +309,7 @@ impl<'r, 'd, 'g, R: Threads + Wait + Sync, N: DeskName, G: Gate + Clone + Send +
         ensures ok { OnOk result (Turns (course self.old (A.hearers audience.now))
             (course self.new (A.hearers audience.now)) number bytes.now []) }
         ensures err { OnErr result (BreaksOff (course self.old (A.hearers audience.now))
-            (course self.new (A.hearers audience.now)) number bytes.now) }
+            (course self.new (A.hearers audience.now)) number bytes.now []) }
     {
         match take_line_unread(alloc, &mut self.caller, audience, number, bytes)? {
             TakenUnread::Text(text) => {
@@ -317,34 +320,39 @@ impl<'r, 'd, 'g, R: Threads + Wait + Sync, N: DeskName, G: Gate + Clone + Send +
         }
     }
 
-    /// The text of what is given now that the line of this number is taken: all that is owed, or nothing yet, where
+    /// Takes the line of this number, and puts what is given now into the flow: all that is owed, or nothing yet, where
     /// another line stands read already. Where none does, nothing is owed after it.
     ///
-    /// `NoMemory` where an allocation failed or a listener answers it; the listeners have heard a front of the alerts
-    /// of what was owed and of the line then. Cost: that of `take_line_unread`; and of what is given that of
-    /// `Batch::find` for each article, shared among the helpers and this thread, and that of `deliver_shown`. It waits
-    /// for helpers that have taken an article.
-    pub fn answer<A: Audience>(
+    /// `NoMemory` where an allocation failed or a listener answers it, `Write` where the writer fails; the listeners
+    /// have heard a prefix of the alerts of what was owed and of the line then, and a prefix of their text is put.
+    /// Cost: that of `take_line_unread`; and of what is given that of `Batch::find` for each article, shared among the
+    /// helpers and this thread, and that of `deliver_shown`. It waits for helpers that have taken an article.
+    pub fn answer<A: Audience, W: Sink>(
         &mut self,
         alloc: Global,
         audience: &mut A,
+        flow: &mut Flow<'_, W>,
         number: u64,
         bytes: &[u8],
         has_more: bool,
-    ) -> Result<Vec<u8>, NoMemory>
-        ensures ok { IfOk result (λ text. Turns (course self.old (A.hearers audience.old))
-            (course self.new (A.hearers audience.new)) number bytes.now text.items) }
+    ) -> Result<(), RunFault>
+        ensures same_reference { flow.new.writer.ghost_name ≡ flow.old.writer.ghost_name }
+        ensures ok { OnOk result (AnswersInto (TurnsIn (course_at A.hearers)) (self.old, audience.old)
+            (self.new, audience.new) number bytes.now
+            (W.taken flow.old.writer.now) flow.old.outbox.now (W.taken flow.new.writer.now) flow.new.outbox.now) }
         ensures settled { OnOk result (has_more ≡ false → self.new.owed ≡ []) }
-        ensures err { OnErr result (BreaksOff (course self.old (A.hearers audience.old))
-            (course self.new (A.hearers audience.new)) number bytes.now) }
+        ensures well { OnOk result (W.has_failed flow.new.writer.now ≡ W.has_failed flow.old.writer.now) }
+        ensures fault { IfErr result (λ e. e ≢ RunFault.Read) }
+        ensures write { result ≡ Err RunFault.Write → W.has_failed flow.new.writer.now ≡ true }
+        ensures err { OnErr result (BreaksInto (TurnsIn (course_at A.hearers)) (BreaksIn (course_at A.hearers))
+            (self.old, audience.old) (self.new, audience.new) number bytes.now
+            (W.taken flow.old.writer.now) flow.old.outbox.now (W.taken flow.new.writer.now)) }
     {
         self.take(alloc, audience, number, bytes)?;
-        let mut out = Vec::new(alloc);
         if has_more && 0 < self.waiting && self.waiting < MOST_WAITING {
-            return Ok(out);
+            return Ok(());
         }
-        self.pay(alloc, audience, &mut out)?;
-        Ok(out)
+        self.pay(alloc, audience, flow)
     }
 
     /// Joins each helper that is late, lets go what is owed, and tells the merging thread to stop. It waits for the

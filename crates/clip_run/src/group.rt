@@ -6,6 +6,7 @@ use crate::batch::{Batch, Pending};
 use clip_front::Settings;
 use clip_match::Gate;
 use clip_protocol::Found;
+use clip_standing::Alert;
 use clip_words::{NoMemory, WordPool};
 use std::alloc::Global;
 use std::sync::atomic::AtomicUsize;
@@ -31,6 +32,41 @@ pub struct Answer {
     pub found: Found,
 }
 
+/// Once what was found of a group's articles takes this many bytes, no more of them are taken: each that is left is
+/// matched when its turn comes.
+const MOST_HELD_BYTES: usize = 16_777_216;
+
+/// About how many bytes an alert takes.
+const ALERT_BYTES: usize = 64;
+
+/// About how many bytes a hit takes.
+const HIT_BYTES: usize = 32;
+
+/// About how many bytes an alert takes with its hits.
+fn bytes_of_alert(alert: &Alert) -> usize {
+    match alert.found_hits() {
+        Some(hits) => ALERT_BYTES.saturating_add(hits.len().saturating_mul(HIT_BYTES)),
+        None => ALERT_BYTES,
+    }
+}
+
+/// About how many bytes alerts take.
+fn bytes_of_alerts(alerts: &[Alert]) -> usize {
+    let mut bytes = 0usize;
+    for alert in alerts {
+        bytes = bytes.saturating_add(bytes_of_alert(alert));
+    }
+    bytes
+}
+
+/// About how many bytes what was found of an article takes.
+fn bytes_of(found: &Found) -> usize {
+    match found {
+        Found::Shown(shown) => shown.as_slice().len(),
+        Found::Alerts(alerts) => bytes_of_alerts(&alerts.alerts),
+    }
+}
+
 /// Lines whose articles are shared out among threads: who is free takes the next one.
 #[derive(Drop)]
 pub struct Group<G> {
@@ -41,6 +77,8 @@ pub struct Group<G> {
     gate: G,
     places: Vec<Place>,
     next: AtomicUsize,
+    /// About how many bytes what was found of its articles takes.
+    held: AtomicUsize,
 }
 
 /// Adds the places of the articles of a line.
@@ -81,6 +119,7 @@ impl<G: Gate + Drop> Group<G> {
             gate,
             places,
             next: AtomicUsize::new(0),
+            held: AtomicUsize::new(0),
         })
     }
 
@@ -116,12 +155,16 @@ impl<G: Gate + Drop> Group<G> {
     }
 
     /// Takes articles until all are taken, and gives what is found of them, whose words are shared with those of the
-    /// pool. Where memory is refused, it takes no more. Cost: that of `Batch::find` for each article that it takes.
+    /// pool. Where memory is refused, or what all threads have found takes 16 MiB, it takes no more. Cost: that of
+    /// `Batch::find` for each article that it takes.
     pub fn take_articles(&self, alloc: Global, pool: &mut WordPool) -> Vec<Answer>
         ensures { AreDue self.now.settings self.now.items.items result.items }
     {
         let mut answers = Vec::new(alloc);
         for _ in 0..self.places.len() {
+            if self.held.load(SeqCst) >= MOST_HELD_BYTES {
+                break;
+            }
             let number = self.next.fetch_add(1, SeqCst);
             let Some(place) = self.places.get(number) else {
                 break;
@@ -129,6 +172,7 @@ impl<G: Gate + Drop> Group<G> {
             let Some(answer) = self.answer(alloc, pool, number, *place) else {
                 break;
             };
+            self.held.fetch_add(bytes_of(&answer.found), SeqCst);
             if answers.push(answer).is_err() {
                 break;
             }

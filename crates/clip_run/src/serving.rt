@@ -10,7 +10,7 @@ use crate::crew::Crew;
 use clip_desk::DeskName;
 use clip_listen::Audience;
 use clip_match::Gate;
-use clip_stream::{LineReader, Outbox, RunFault, Sink, Source};
+use clip_stream::{Flow, LineReader, Outbox, RunFault, Sink, Source};
 use std::alloc::Global;
 use std::sync::Wait;
 use std::thread::Threads;
@@ -24,7 +24,7 @@ use std::thread::Threads;
 /// What it asks of its devices and says of them is that of `serve`; `NoMemory` where an allocation failed or the crew
 /// answers it.
 ///
-/// Cost: that of the answers. Memory: one line, up to 64 KiB of gathered texts and one text more.
+/// Cost: that of the answers. Memory: one line, up to 64 KiB of gathered texts and the text of one line more.
 pub fn serve_crew<
     R: Threads + Wait + Sync,
     N: DeskName,
@@ -52,24 +52,24 @@ pub fn serve_crew<
     ensures honest { IsHonest result (devices_at S.Source W.Sink reader.new writer.new) }
 
     // After a fault, the crew has answered some first ones of the lines that were read and begun one more of them at
-    // most, and the writer has taken a front of the answers.
+    // most, and the writer has taken a prefix of the answers and of what was on its way of that one.
     ensures front { OnErr result (OfLinesRead (S.left reader.old) (S.left reader.new) (S.met_end reader.new)
         (ServesFront (TurnsIn (course_at A.hearers)) (BreaksIn (course_at A.hearers))
         (crew.old, audience.old) (crew.new, audience.new) (W.taken writer.old) (W.taken writer.new))) }
 {
     let mut lines = LineReader::new(alloc)?;
     let mut outbox = Outbox::new(alloc);
+    let mut flow = Flow::new(writer, &mut outbox);
     let mut line = Vec::new(alloc);
     let mut count = 0u64;
     let mut has_more = false;
     'lines: loop {
-        outbox.hand_over(writer, has_more)?;
+        flow.hand_over(has_more)?;
         if !lines.next_line(reader, &mut line)? {
             return Ok(count);
         }
         count += 1;
         has_more = lines.has_line();
-        let text = crew.answer(alloc, audience, count, &line, has_more)?;
-        outbox.gather(&text)?;
+        crew.answer(alloc, audience, &mut flow, count, &line, has_more)?;
     }
 }

@@ -1,4 +1,4 @@
-use Rattle.std.proofs.Common.{refl, ap, subst}
+use Rattle.std.proofs.Common.{[], refl, ap, subst}
 use Rattle.clip_stream.proofs.Faults.{on_err}
 use Rattle.clip_front.specs.Outcome.{names_in}
 use Rattle.clip_front.specs.Steps.Taking.{TakesUnread}
@@ -8,10 +8,10 @@ use Rattle.clip_run.proofs.Owing.{breaks_owed, hears_none, turns_ready, turns_be
 use Rattle.clip_run.proofs.crew.Crew.take.Goals as goal
 
 pub returns-in_err-text-clause-err : goal.returns-in_err-text-clause-err
-returns-in_err-text-clause-err g c = on_err c.from_residual.result (breaks_owed _ _ c.args.number c.args.bytes.now (hears_none (course c.args.self.now (g.A.Audience.hearers c.args.audience.now)) (course c.args.self.now (g.A.Audience.hearers c.args.audience.now)) refl))
+returns-in_err-text-clause-err g c = on_err c.from_residual.result (breaks_owed _ _ c.args.number c.args.bytes.now [] (hears_none (course c.args.self.now (g.A.Audience.hearers c.args.audience.now)) _ refl))
 
 pub returns-in_err-push-in-Text-clause-err : goal.returns-in_err-push-in-Text-clause-err
-returns-in_err-push-in-Text-clause-err g c = on_err c.from_residual-in_err-push-in-Text.result (breaks_owed _ _ c.args.number c.args.bytes.now (hears_none (course c.args.self.now (g.A.Audience.hearers c.args.audience.now)) (course c.args.self.now (g.A.Audience.hearers c.args.audience.now)) refl))
+returns-in_err-push-in-Text-clause-err g c = on_err c.from_residual-in_err-push-in-Text.result (breaks_owed _ _ c.args.number c.args.bytes.now [] (hears_none (course c.args.self.now (g.A.Audience.hearers c.args.audience.now)) _ refl))
 
 pub returns-in_ok-push-in-Text-clause-ok : goal.returns-in_ok-push-in-Text-clause-ok
 returns-in_ok-push-in-Text-clause-ok g c =
@@ -31,4 +31,4 @@ returns-in-Drafts-clause-ok g c =
     (λ is. turns_begun i.caller c.take_line_unread.new.registry hearers i.books.ledger i.books.settings _ (course c.let_wait.new.self hearers) c.args.number c.args.bytes.now c.in-Drafts.drafts.items takes.0 takes.1 (ap (λ crew. course crew hearers) is)))
 
 pub returns-in-Drafts-clause-err : goal.returns-in-Drafts-clause-err
-returns-in-Drafts-clause-err g c = on_err_any c.let_wait.result (breaks_owed _ _ c.args.number c.args.bytes.now (hears_none (course c.args.self.now (g.A.Audience.hearers c.args.audience.now)) (course c.args.self.now (g.A.Audience.hearers c.args.audience.now)) refl))
+returns-in-Drafts-clause-err g c = on_err_any c.let_wait.result (breaks_owed _ _ c.args.number c.args.bytes.now [] (hears_none (course c.args.self.now (g.A.Audience.hearers c.args.audience.now)) _ refl))
