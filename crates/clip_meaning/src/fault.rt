@@ -95,9 +95,9 @@ fn begins_with_digit(bytes: &[u8]) -> bool
     }
 }
 
-/// Whether a text may be the name of a field.
+/// Whether a text may be the name of a field. Takes no memory. Cost: a look at each byte of it.
 #[tactic(auto, unfolding(crate::specs::Article::is_field_name))]
-fn is_field_name(name: &str) -> bool
+pub fn is_field_name(name: &str) -> bool
     ensures { result ≡ is_field_name name.now }
 {
     let bytes = name.as_bytes();

@@ -17,7 +17,7 @@ mod marking;
 mod meaning;
 
 pub use article::Article;
-pub use fault::{ArticleFault, MOST_FIELDS, MOST_NAME_BYTES, fault_of};
+pub use fault::{ArticleFault, MOST_FIELDS, MOST_NAME_BYTES, fault_of, is_field_name};
 pub use field::Field;
 pub use hit::{Hit, add_raised, hits, mark};
 pub use index::Posting;

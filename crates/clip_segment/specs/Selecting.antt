@@ -10,7 +10,7 @@ flagged [] items = []
 flagged (flag ∷ flags) [] = []
 flagged (flag ∷ flags) (item ∷ items) = if flag then item ∷ flagged flags items else flagged flags items
 
--- the same of several lists, one after another
+-- the items of several lists whose flags are set, one list after another
 abbrev pub kept_of : {A : Type 0} → List (List A) → List (List Bool) → List A
 kept_of [] flags = []
 kept_of (items ∷ others) [] = []

@@ -41,15 +41,15 @@ pub enum Place {
     End,
 }
 
-/// Whether the character separates lexemes. A no-break space does not: it is a character of words.
-fn is_white(c: char) -> bool
+/// Whether the character separates lexemes. A no-break space does not: it is a character of words. Constant time.
+pub fn is_white(c: char) -> bool
     ensures { result ≡ is_white c }
 {
     matches!(c, ' ' | '\t' | '\n' | '\r' | '\u{3000}')
 }
 
-/// Whether a word may begin with the character and no backslash.
-fn is_start(c: char) -> bool
+/// Whether a word may begin with the character and no backslash. Constant time.
+pub fn is_start(c: char) -> bool
     ensures { result ≡ is_start c }
 {
     !is_white(c)
@@ -486,9 +486,13 @@ fn range(alloc: Global, left: char, text: &[char]) -> Result<Option<(Token, &[ch
     Ok(Some((Token::Range(low, high), rest)))
 }
 
-/// What the first lexeme says, and what is left.
+/// What the first lexeme says, and what is left: no token where it is white space. `None` where no lexeme comes first,
+/// as in an empty text.
+///
+/// `NoMemory` where an allocation failed. The cost is linear in the characters of the lexeme, and of what comes after
+/// it where a quote or a range does not end.
 #[tactic(auto, unfolding(clip_grammar::specs::Steps::Lexer::lexeme_at))]
-fn lexeme(alloc: Global, text: &[char]) -> Result<Option<(Option<Token>, &[char])>, NoMemory>
+pub fn lexeme(alloc: Global, text: &[char]) -> Result<Option<(Option<Token>, &[char])>, NoMemory>
     ensures { IfOk result (λ found. option_map tokens_and_rest found ≡ option_map with_tokens (lexeme_at text.now)) }
 {
     let Some((first, rest)) = text.split_first() else {

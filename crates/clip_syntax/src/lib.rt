@@ -19,4 +19,8 @@ mod token;
 mod words;
 
 pub use clip_grammar::fault::QueryFault;
+pub use lexer::{is_start, is_white, lexeme};
+pub use parser::{Progress, begins_left_out};
 pub use reader::read_query;
+pub use token::Token;
+pub use words::item_text;

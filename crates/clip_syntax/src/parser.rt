@@ -10,8 +10,9 @@ ghost use Rattle.clip_syntax.specs.Steps.Progress.{accepts_after, next_accepts};
 use crate::token::{Token, after_colon, after_colon_star};
 use clip_grammar::stage::Stage;
 
-/// Whether the first token is left out. `after_star_colon` says whether a star and a colon stand before it.
-fn begins_left_out(token: &Token, after: &[Token], after_star_colon: bool) -> bool
+/// Whether the first token is left out. `after_star_colon` says whether a star and a colon stand before it. Constant
+/// time.
+pub fn begins_left_out(token: &Token, after: &[Token], after_star_colon: bool) -> bool
     ensures { result ≡ begins_left_out after_star_colon (token_of token.now) (map token_of after.now) }
 {
     match token {
@@ -46,14 +47,25 @@ pub fn has_left_out(tokens: &[Token]) -> bool
 #[derive(Clone, Copy)]
 pub struct Progress {
     /// How many parentheses are open.
-    depth: usize,
+    pub depth: usize,
     /// Whether the group that is read may end here: a clause stands last.
-    may_end: bool,
+    pub may_end: bool,
     /// What of the next clause has been read.
-    stage: Stage,
+    pub stage: Stage,
 }
 
 impl Progress {
+    /// Before the first token. Constant time.
+    pub fn start() -> Progress
+        ensures { result ≡ record { depth = 0; may_end = false; stage = Stage.Fresh } }
+    {
+        Progress {
+            depth: 0,
+            may_end: false,
+            stage: Stage::Fresh,
+        }
+    }
+
     /// Before the next clause. `may_end` says whether the group may end here.
     fn before_clause(self, may_end: bool) -> Progress
         ensures { result ≡ record self { may_end = may_end; stage = Stage.Fresh } }
@@ -109,9 +121,10 @@ impl Progress {
         Progress { stage, ..self }
     }
 
-    /// After the first token, and what is left then. `None` where no clauses go on so.
+    /// After the first token, and what is left then, which is without the colon and the star that come with it. `None`
+    /// where no clauses go on so. Constant time.
     #[tactic(auto, unfolding(clip_grammar::specs::Steps::Parser::accepts), using(clip_grammar::proofs::Accepting::accepts_plain, clip_grammar::proofs::Accepting::accepts_field, clip_grammar::proofs::Accepting::accepts_all, clip_grammar::proofs::Accepting::lone_star))]
-    fn read<'a>(self, token: &Token, rest: &'a [Token]) -> Option<(Progress, &'a [Token])>
+    pub fn read<'a>(self, token: &Token, rest: &'a [Token]) -> Option<(Progress, &'a [Token])>
         requires { self.depth < usize.MAX }
         ensures accepts { accepts_after self (token_of token.now ∷ map token_of rest.now) ≡ next_accepts result }
         ensures within { IfSome result (λ next. next.0.depth + length next.1.now ≤ self.depth + 1 + length rest.now) }
@@ -167,11 +180,7 @@ pub fn are_clauses(tokens: &[Token]) -> bool
     ensures { result ≡ accepts (map token_of tokens.now) zero false Stage.Fresh }
 {
     let mut rest = tokens;
-    let mut progress = Progress {
-        depth: 0,
-        may_end: false,
-        stage: Stage::Fresh,
-    };
+    let mut progress = Progress::start();
     while let Some((token, after)) = rest.split_first() {
         let Some((next, after)) = progress.read(token, after) else {
             return false;

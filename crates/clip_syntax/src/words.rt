@@ -14,8 +14,8 @@ use clip_words::{NoMemory, WordPool, shared_words};
 use std::alloc::Global;
 use std::sync::ArcStr;
 
-/// The text of a plain or quoted item. A word before a colon is a field.
-fn item_text(token: &Token, before_colon: bool) -> Option<&str>
+/// The text of a plain or quoted item; of another token none. A word before a colon is a field. Constant time.
+pub fn item_text(token: &Token, before_colon: bool) -> Option<&str>
     ensures { option_map (λ text. text.now) result ≡ item_text (token_of token.now) before_colon }
 {
     match token {

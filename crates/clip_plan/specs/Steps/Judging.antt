@@ -48,7 +48,7 @@ leaf_holds fields (Has key) = has_key fields key
 leaf_holds fields (Run keys) = has_run fields keys
 leaf_holds fields (Is tree) = holds tree fields
 
--- the same of a mark; of one that is no leaf it is
+-- what a mark asks is so; of one that is no leaf it always is
 abbrev pub mark_holds : Fields → Mark KeyValue → Bool
 mark_holds fields (Leaf occur asks) = leaf_holds fields asks
 mark_holds fields (Open occur inside) = true

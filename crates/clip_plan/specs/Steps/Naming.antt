@@ -14,7 +14,7 @@ excluded_before (Leaf occur leaf) excluded = excluded
 excluded_before (Open occur inside) excluded = excluded - 1
 excluded_before (Close occur) excluded = cond (asks occur && excluded == 0) 0 (excluded + 1)
 
--- the same before all marks, of the count behind them
+-- How many are excluded before all of the marks, of the count behind them.
 abbrev pub excluded_at : {K : Type 0} → List (Mark K) → ℕ → ℕ
 excluded_at [] excluded = excluded
 excluded_at (mark ∷ marks) excluded = excluded_before mark (excluded_at marks excluded)
@@ -33,7 +33,7 @@ leaf_names field position (Has key) = is_at field position key
 leaf_names field position (Run keys) = is_covered field keys position
 leaf_names field position (Is tree) = is_named tree field.0 field.1 (get_or field.1 position [], position)
 
--- the same of a mark that is a leaf
+-- the mark is a leaf that names the word at a position of the field
 abbrev pub mark_names : FieldValue → (position : ℕ) → Mark KeyValue → Bool
 mark_names field position (Leaf occur leaf) = leaf_names field position leaf
 mark_names field position (Open occur inside) = false
