@@ -8,8 +8,9 @@ use Rattle.std.specs.Global.{Global}
 use Rattle.std.specs.Str.{IsUtf8}
 use Rattle.std.proofs.lemmas.Str.{IsUtf8-string_bytes}
 use Rattle.clip_meaning.specs.Article.{pairs_of}
-use Rattle.clip_explain.specs.Certain.{is_parted}
+use Rattle.clip_explain.specs.Certain.{is_led, begins_no_word}
 use Rattle.clip_explain.proofs.Parting.{front_whole}
+use Rattle.clip_explain.proofs.Leading.{front_unled}
 use Rattle.std.specs.Ordering.{eq_by_cmp}
 use Rattle.std.specs.List.{list_any, list_all}
 use Rattle.std.specs.Str.{bytes_eq}
@@ -258,13 +259,15 @@ module _ (fields : Fields) (known : (field : List ℕ) → IsPresent fields fiel
       → is_field_name field ≡ true
   held_named field p nothing h = (held_text field p nothing h).named
 
-  -- a front that a word of a field begins with has no sign behind its first byte
+  -- a front that a word of a field begins with is none with which no word does
   held_front : (field front : List ℕ) → list_any (begins_with front) (words_in fields field) ≡ true
-      → not (is_parted front) ≡ true
+      → not (begins_no_word front) ≡ true
   held_front field front h =
       let has = held_text field (list_any (begins_with front)) refl h in
       let is : words_in fields field ≡ words_of has.text = ap (λ o. unwrap_or o []) has.is in
-      ap not (front_whole has.text front has.utf8 (ap (list_any (begins_with front)) (sym is) ∙ h))
+      let any = ap (list_any (begins_with front)) (sym is) ∙ h in
+      ap (λ b. not (b || is_led front)) (front_whole has.text front has.utf8 any)
+      ∙ ap not (front_unled has.text front has.utf8 any)
 
   mutual
     at_best : (tree : Tree) → holds tree fields ≡ true → holds_in tree true ≡ true

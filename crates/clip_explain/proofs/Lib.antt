@@ -3,5 +3,10 @@ pub mod Sizes
 pub mod Escaping
 pub mod ClausesSpelled
 pub mod Parting
+pub mod Leading
 pub mod Certainty
 pub mod Tried
+pub mod Lexing
+pub mod Standing
+pub mod Beginnings
+pub mod Placing

@@ -35,14 +35,14 @@ use Rattle.clip_explain.specs.Certain.{is_parting, is_parted}
 -- ---- signs
 
 -- a parting sign has no part in a rule on words, and is in ASCII
-other_sign : (c : ℕ) → is_parting c ≡ true
+pub other_sign : (c : ℕ) → is_parting c ≡ true
     → (word_break_eq (word_break c) Other && not (is_extended_pictographic c) && nat_lt c 128) ≡ true
 unfolding is_parting ucd_breaks ucd_emoji
 other_sign c parting =
     among_all (λ d. word_break_eq (word_break d) Other && not (is_extended_pictographic d) && nat_lt d 128)
     (codes "!#$%&()*+-/<=>?@[\\]^`{|}~") c refl parting
 
-is_other : (b : WordBreak) → word_break_eq b Other ≡ true → b ≡ Other
+pub is_other : (b : WordBreak) → word_break_eq b Other ≡ true → b ≡ Other
 is_other Other e = refl
 is_other _ e = absurd (false≢true e)
 
@@ -89,7 +89,7 @@ breaks_before last before c after parting =
 
 -- ---- pieces
 
-abbrev has_sign : List ℕ → Bool
+abbrev pub has_sign : List ℕ → Bool
 has_sign = list_any is_parting
 
 -- the characters may be a text, and none behind the first is a parting sign
@@ -98,12 +98,12 @@ record IsWhole (cs : List ℕ) : Type 0 where
   whole : is_parted cs ≡ false
 
 -- the first piece begins with a character
-record Begins (c : ℕ) (pieces : List (List ℕ)) : Type 0 where
-  others : List ℕ
-  later : List (List ℕ)
-  is : pieces ≡ (c ∷ others) ∷ later
+pub record Begins (c : ℕ) (pieces : List (List ℕ)) : Type 0 where
+  pub others : List ℕ
+  pub later : List (List ℕ)
+  pub is : pieces ≡ (c ∷ others) ∷ later
 
-begins : (before : List ℕ) (c : ℕ) (cs after : List ℕ) → Begins c (cut is_word_break before (c ∷ cs) after)
+pub begins : (before : List ℕ) (c : ℕ) (cs after : List ℕ) → Begins c (cut is_word_break before (c ∷ cs) after)
 unfolding cut
 begins before c cs after = at (is_word_break (c ∷ before) (cs ++ after)) (cut is_word_break (c ∷ before) cs after)
   where
@@ -159,7 +159,7 @@ none_from_all (c ∷ cs) all =
     ap (λ b. b || has_sign cs) (not-true _ parts.0) ∙ none_from_all cs parts.1
 
 -- what a character that is no sign folds to has none
-fold_signs : (c : ℕ) → is_parting c ≡ false → has_sign (full_fold c) ≡ false
+pub fold_signs : (c : ℕ) → is_parting c ≡ false → has_sign (full_fold c) ≡ false
 fold_signs c plain = at (full_folding c) (none_from_all (full_folding c) (unfolded c))
   where
     at : (cs : List ℕ) → has_sign cs ≡ false → has_sign (or_itself c cs) ≡ false
@@ -198,7 +198,7 @@ fold_whole (c ∷ cs) whole =
 -- ---- bytes
 
 -- a character that is no sign has no byte that is one
-encode_signs : (c : ℕ) → is_parting c ≡ false → has_sign (encode_utf8 c) ≡ false
+pub encode_signs : (c : ℕ) → is_parting c ≡ false → has_sign (encode_utf8 c) ≡ false
 encode_signs c plain = list_any_none is_parting (encode_utf8 c)
     (All-from_get_or (λ b. is_parting b ≡ false) (encode_utf8 c) 0
     (λ i lt. at i lt (is_parting (get_or (encode_utf8 c) i 0)) refl))
@@ -252,35 +252,39 @@ parted_front [] rest whole = refl
 parted_front (c ∷ cs) rest whole =
     (or_parts (has_sign cs) (has_sign rest) (sym (list_any-append is_parting cs rest) ∙ whole)).0
 
-begun_whole : (front word : List ℕ) → begins_with front word ≡ true → is_parted word ≡ false → is_parted front ≡ false
-begun_whole front word begun whole =
-    let is = (starts_is Decides-eqb word front true (sym begun)).0 refl in
-    parted_front front (drop (length front) word) (ap is_parted (sym is) ∙ whole)
-
-found_whole : (front : List ℕ) (pieces : List (List ℕ)) → AllPieces IsWhole pieces
+-- What no word of some pieces has, and with it nothing that it begins with, no front has that one of them begins with.
+pub found_kept : (bad : List ℕ → Bool) (IsGood : List ℕ → Type 0)
+    → ((front rest : List ℕ) → bad (front ++ rest) ≡ false → bad front ≡ false)
+    → ((cs : List ℕ) → IsGood cs → bad (fold_of (encode_utf8_all cs)) ≡ false)
+    → (front : List ℕ) (pieces : List (List ℕ)) → AllPieces IsGood pieces
     → list_any (begins_with front) (map fold_of (filter has_alphanumeric (map encode_utf8_all pieces))) ≡ true
-    → is_parted front ≡ false
-found_whole front [] all any = absurd (false≢true any)
-found_whole front (cs ∷ pieces) all any =
-    at (has_alphanumeric (encode_utf8_all cs)) any (found_whole front pieces all.1)
+    → bad front ≡ false
+found_kept bad IsGood in_front in_word front [] all any = absurd (false≢true any)
+found_kept bad IsGood in_front in_word front (cs ∷ pieces) all any =
+    at (has_alphanumeric (encode_utf8_all cs)) any (found_kept bad IsGood in_front in_word front pieces all.1)
   where
+    begun : (word : List ℕ) → begins_with front word ≡ true → bad word ≡ false → bad front ≡ false
+    begun word starts none =
+        let is = (starts_is Decides-eqb word front true (sym starts)).0 refl in
+        in_front front (drop (length front) word) (ap bad (sym is) ∙ none)
+
     at : (b : Bool)
         → list_any (begins_with front)
         (map fold_of
         (cond b (encode_utf8_all cs ∷ filter has_alphanumeric (map encode_utf8_all pieces))
         (filter has_alphanumeric (map encode_utf8_all pieces)))) ≡ true
         → (list_any (begins_with front) (map fold_of (filter has_alphanumeric (map encode_utf8_all pieces))) ≡ true
-        → is_parted front ≡ false)
-        → is_parted front ≡ false
+        → bad front ≡ false)
+        → bad front ≡ false
     at false any later = later any
     at true any later =
         either (begins_with front (fold_of (encode_utf8_all cs))) _ any
-        (λ begun. begun_whole front (fold_of (encode_utf8_all cs)) begun (word_whole cs all.0)) later
+        (λ starts. begun (fold_of (encode_utf8_all cs)) starts (in_word cs all.0)) later
 
 -- no word of a text begins with a front that has a sign behind its first byte
 pub front_whole : (text front : List ℕ) → IsUtf8 text → list_any (begins_with front) (words_of text) ≡ true
     → is_parted front ≡ false
 unfolding words_of segments
 front_whole text front utf8 any =
-    found_whole front (cut is_word_break [] (chars text) [])
+    found_kept is_parted IsWhole parted_front word_whole front (cut is_word_break [] (chars text) [])
     (cut_whole [] (chars text) [] (scalars-chars text utf8)) any

@@ -1,5 +1,5 @@
 -- Queries that hold of no article, and queries that hold of every one, as far as their trees tell.
-use Rattle.std.specs.Prelude.{◌≡◌, ℕ, Bool, true, false, not, ◌&&◌, List, [], ◌∷◌, String}
+use Rattle.std.specs.Prelude.{◌≡◌, ℕ, Bool, true, false, not, ◌&&◌, ◌||◌, nat_lt, List, [], ◌∷◌, String}
 use Rattle.std.specs.Global.{Global}
 use Rattle.std.specs.List.{list_any}
 use Rattle.std.specs.Ordering.{is_lt, is_gt}
@@ -20,7 +20,8 @@ is_void (End.Without low) (End.With high) = not (is_lt (bytes_cmp low high))
 is_void (End.Without low) (End.Without high) = not (is_lt (bytes_cmp low high))
 is_void _ _ = false
 
--- an ASCII sign that ends a word: none stands behind the first byte of one
+-- an ASCII sign that ends a word: none stands behind the first byte of one, and what one begins with is no such sign
+-- with an ASCII character behind it
 unfoldable pub is_parting : ℕ → Bool
 is_parting = is_one_of "!#$%&()*+-/<=>?@[\\]^`{|}~"
 
@@ -28,6 +29,15 @@ is_parting = is_one_of "!#$%&()*+-/<=>?@[\\]^`{|}~"
 abbrev pub is_parted : List ℕ → Bool
 is_parted [] = false
 is_parted (first ∷ others) = list_any is_parting others
+
+-- such a sign stands first, and an ASCII character behind it, as in `#metoo`
+abbrev pub is_led : List ℕ → Bool
+is_led (first ∷ second ∷ others) = is_parting first && nat_lt second 128
+is_led _ = false
+
+-- no word begins so
+abbrev pub begins_no_word : List ℕ → Bool
+begins_no_word front = is_parted front || is_led front
 
 -- what is best for a group is worst for its MustNot clauses
 abbrev pub for_child : Occur → (best : Bool) → Bool
@@ -41,7 +51,7 @@ abbrev mutual
   pub holds_in : Tree → (best : Bool) → Bool
   holds_in (Tree.Term field word) best = best && is_field_name field
   holds_in (Tree.Phrase field words) best = best && is_field_name field && is_nonempty words
-  holds_in (Tree.Prefix field front) best = best && is_field_name field && not (is_parted front)
+  holds_in (Tree.Prefix field front) best = best && is_field_name field && not (begins_no_word front)
   holds_in (Tree.Span field low high) best = best && is_field_name field && not (is_void low high)
   holds_in Tree.All best = true
   holds_in (Tree.Group clauses) best = group_holds (verdicts_in clauses best)

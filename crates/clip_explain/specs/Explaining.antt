@@ -1,15 +1,17 @@
--- How a text is read as a query, or why it is none.
-use Rattle.std.specs.Prelude.{◌≡◌, ◌≢◌, ℕ, Bool, true, false, List, map}
+-- How a text is read as a query, or why it is none and where.
+use Rattle.std.specs.Prelude.{◌≡◌, ◌≢◌, ℕ, ◌≤◌, Bool, true, false, List, map, length}
 use Rattle.std.specs.List.{list_any}
 use Rattle.clip_grammar.specs.Tree.{Tree, tree_of, nodes}
 use Rattle.clip_grammar.specs.Reading.{Reads, HasNoFault, IsFault}
-use Rattle.clip_grammar.specs.declared.fault.QueryFault.TheVariants as fault
+use Rattle.clip_grammar.specs.declared.fault.QueryFault.TheVariants as faults
 use Rattle.clip_meaning.specs.Article.{Fields}
 use Rattle.clip_extract.specs.Keys.{KeyValue, Any, Word, Front, key_of, share}
 use Rattle.clip_extract.specs.Covering.{article_keys}
 use Rattle.clip_extract.specs.Extraction.{query_keys, query_weight}
 use Rattle.clip_explain.specs.Certain.{is_never, is_always}
+use Rattle.clip_explain.specs.Places.{IsPlace}
 use Rattle.clip_explain.specs.declared.explaining.Explanation.{Explanation}
+use Rattle.clip_explain.specs.declared.explaining.Refusal.{Refusal}
 use Rattle.clip_explain.specs.declared.explaining.Explained.{Explained}
 use Rattle.clip_explain.specs.declared.explaining.Explained.TheVariants.{Read, Refused}
 
@@ -38,7 +40,14 @@ pub record IsReadAs (text : List ℕ) (told : Explanation) : Type 0 where
   pub never : told.never ≡ is_never (tree_of told.query)
   pub always : told.always ≡ is_always (tree_of told.query)
 
+-- The text is no query, for this reason, at this byte.
+pub record IsRefusedFor (text : List ℕ) (why : Refusal) : Type 0 where
+  pub fault : IsFault text why.fault
+  pub sure : why.fault ≢ faults.NoMemory
+  pub place : IsPlace text why.fault why.at
+  pub within : why.at ≤ length text
+
 -- what is told of a text
 abbrev pub Explains : List ℕ → Explained → Type 0
 Explains text (Read told) = IsReadAs text told
-Explains text (Refused why) = IsFault text why × (why ≢ fault.NoMemory)
+Explains text (Refused why) = IsRefusedFor text why

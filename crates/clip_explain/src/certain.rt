@@ -4,10 +4,11 @@ ghost use Rattle.std.specs.Arc.{arc_str_bytes};
 ghost use Rattle.std.specs.List.{list_any};
 ghost use Rattle.clip_grammar.specs.Tree.{tree_of, end_of};
 ghost use Rattle.clip_meaning.specs.Meaning.{is_nonempty};
-ghost use Rattle.clip_explain.specs.Certain.{is_void, is_parting, is_parted, for_child, holds_in, is_never, is_always};
+ghost use Rattle.clip_explain.specs.Certain.{is_void, is_parting, is_parted, is_led, begins_no_word};
+ghost use Rattle.clip_explain.specs.Certain.{for_child, holds_in, is_never, is_always};
 
-use crate::field_name::is_field_name;
 use clip_grammar::query::{Bound, Occur, Query};
+use clip_meaning::is_field_name;
 use std::sync::ArcStr;
 
 /// Whether the low end is past the high one, so that no word lies between them.
@@ -55,6 +56,23 @@ fn is_parted(text: &str) -> bool
     }
 }
 
+/// Whether a parting sign stands first, and an ASCII character behind it.
+fn is_led(text: &str) -> bool
+    ensures { result ≡ is_led text.now }
+{
+    match text.as_bytes() {
+        [first, second, ..] => is_parting(*first) && *second < 128,
+        _ => false,
+    }
+}
+
+/// Whether the front is one with which no word begins, as its signs tell.
+fn begins_no_word(front: &str) -> bool
+    ensures { result ≡ begins_no_word front.now }
+{
+    is_parted(front) || is_led(front)
+}
+
 /// Whether there is a word.
 fn has_words(words: &[ArcStr]) -> bool
     ensures { result ≡ is_nonempty (map arc_str_bytes words.now) }
@@ -83,7 +101,7 @@ fn holds_in(query: &Query, best: bool) -> bool
     match query {
         Query::Term { field, word: _ } => best && is_field_name(field),
         Query::Phrase { field, words } => best && is_field_name(field) && has_words(words),
-        Query::Prefix { field, front } => best && is_field_name(field) && !is_parted(front),
+        Query::Prefix { field, front } => best && is_field_name(field) && !begins_no_word(front),
         Query::Span { field, low, high } => best && is_field_name(field) && !is_void(low, high),
         Query::All => true,
         Query::Group(clauses) => {
@@ -104,9 +122,9 @@ fn holds_in(query: &Query, best: bool) -> bool
 }
 
 /// Whether the query's tree alone tells that no article holds it, as `never_law` says: a field that no article can
-/// have, a prefix with an ASCII sign in it at which words end, as `e-mobil*`, a range whose ends are past each other, a
-/// group that must have such a child, one that must not have a child which always holds, one whose clauses are all
-/// MustNot.
+/// have, a prefix with an ASCII sign in it at which words end, as `e-mobil*`, also as its first character where another
+/// one in ASCII follows, as `#metoo*`, a range whose ends are past each other, a group that must have such a child, one
+/// that must not have a child which always holds, one whose clauses are all MustNot.
 ///
 /// Not all such queries are found: words are not compared, so `+tea -tea` is not. Takes no memory. Cost: one walk over
 /// the query, which recurses as deep as its groups nest.

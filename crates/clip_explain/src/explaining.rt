@@ -7,6 +7,7 @@ ghost use Rattle.clip_extract.specs.Keys.{key_of};
 ghost use Rattle.clip_explain.specs.Explaining.{is_any, Explains};
 
 use crate::certain::{is_always, is_never};
+use crate::places::place;
 use clip_extract::{Key, keys, weight};
 use clip_grammar::query::Query;
 use clip_syntax::{QueryFault, read_query};
@@ -32,13 +33,27 @@ pub struct Explanation {
     pub always: bool,
 }
 
+/// Why a text is no query.
+#[derive(Clone, Copy, Debug)]
+pub struct Refusal {
+    /// The reason, which is never `NoMemory`.
+    pub fault: QueryFault,
+    /// The byte of the text at which the fault is, at most its length.
+    ///
+    /// `TooLong`: the first byte past the bound. `Lexical(at)`: that byte. `LeftOut`: the first byte of the first
+    /// lexeme that is left out. `Structure`: the first byte of the first lexeme that no clauses have behind those
+    /// before it, or the text's length where each lexeme may stand and something is missing at the end. `NoWords`: the
+    /// first byte of the first word or quoted text that is asked for and has no words. `TooBig`: the text's length.
+    pub at: usize,
+}
+
 /// What a text is as a query.
 #[derive(Debug, Drop)]
 pub enum Explained {
     /// A query.
     Read(Explanation),
-    /// None, for this reason, which is never `NoMemory`.
-    Refused(QueryFault),
+    /// None, for this reason.
+    Refused(Refusal),
 }
 
 /// How many nodes the tree of a query has, of at most `MOST_NODES`.
@@ -78,17 +93,20 @@ fn has_any(keys: &[Key]) -> bool
     false
 }
 
-/// How a text is read as a query, or why it is none: just what the reader says of it.
+/// How a text is read as a query, or why it is none and where: just what the reader says of it, with the place.
 ///
 /// `NoMemory` where an allocation failed. The cost is that of `read_query` and `keys`: linear in the bytes of the text,
-/// and a sort of the keys.
+/// and a sort of the keys; a refused text is cut into lexemes once more.
 pub fn explain(alloc: Global, text: &str) -> Result<Explained, NoMemory>
     ensures { IfOk result (λ explained. Explains text.now explained) }
 {
     let query = match read_query(alloc, text) {
         Ok(query) => query,
         Err(QueryFault::NoMemory) => return Err(NoMemory),
-        Err(fault) => return Ok(Explained::Refused(fault)),
+        Err(fault) => {
+            let at = place(alloc, text, fault)?;
+            return Ok(Explained::Refused(Refusal { fault, at }));
+        }
     };
     let keys = keys(alloc, &query)?;
     Ok(Explained::Read(Explanation {

@@ -1,7 +1,6 @@
 //! Queries spelled with all their signs and fields.
 ghost use Rattle.std.specs.Prelude.{◌≡◌, ◌++◌, IfOk, OnOk, map, string_bytes, codes};
 ghost use Rattle.std.specs.Arc.{arc_str_bytes};
-ghost use Rattle.clip_grammar.specs.Characters.{is_white, is_start};
 ghost use Rattle.clip_grammar.specs.Tree.{tree_of, end_of};
 ghost use Rattle.clip_explain.specs.Spelling.{plain_char, stands, escaped_char, escaped, in_quotes, is_operator};
 ghost use Rattle.clip_explain.specs.Spelling.{field_spelling, gap, words_spelling, end_spelling, low_bracket};
@@ -9,42 +8,10 @@ ghost use Rattle.clip_explain.specs.Spelling.{high_bracket, range_spelling, sign
 ghost use Rattle.std.specs.Prelude.{true, encode_utf8, encode_utf8_all};
 
 use clip_grammar::query::{Bound, Occur, Query};
+use clip_syntax::is_start;
 use clip_words::NoMemory;
 use std::alloc::Global;
 use std::sync::ArcStr;
-
-/// Whether the character is white space, which separates the words of a query.
-fn is_white(c: char) -> bool
-    ensures { result ≡ is_white c }
-{
-    matches!(c, ' ' | '\t' | '\n' | '\r' | '\u{3000}')
-}
-
-/// Whether a word may begin with the character and no backslash.
-fn is_start(c: char) -> bool
-    ensures { result ≡ is_start c }
-{
-    !is_white(c)
-        && !matches!(
-            c,
-            '+' | '-'
-                | '!'
-                | '('
-                | ')'
-                | ':'
-                | '^'
-                | '['
-                | ']'
-                | '"'
-                | '{'
-                | '}'
-                | '~'
-                | '*'
-                | '?'
-                | '\\'
-                | '/'
-        )
-}
 
 /// Whether the character stands in a word as it is, wherever it stands there.
 fn is_plain(c: char) -> bool
