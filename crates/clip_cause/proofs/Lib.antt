@@ -1,0 +1,9 @@
+pub mod KnownMembers
+pub mod LimitCauses
+pub mod LimitLaw
+pub mod Options
+pub mod Ordered
+pub mod ShapeCauses
+pub mod ShapeLaw
+pub mod Shaped
+pub mod Telling

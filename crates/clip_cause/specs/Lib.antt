@@ -1,0 +1,5 @@
+pub mod Causes
+pub mod Names
+pub mod Path
+pub mod Steps
+pub mod Wrong
