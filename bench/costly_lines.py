@@ -218,6 +218,11 @@ def deleting() -> Iterator[bytes]:
         yield line_of({"op": "delete", "ids": ids[at:at + 1_000]})
 
 
+def growing() -> Iterator[bytes]:
+    """A million queries, 1,024 a line."""
+    return registers(numbered("+press +w{}", 1_000_000))
+
+
 def one_a_line() -> Iterator[bytes]:
     """A query a line."""
     return (line for number in range(10_000) for line in registers([f"+press +w{number}"], lambda _: f"q{number}"))
@@ -228,6 +233,7 @@ LINES = [
     Case("204,800 queries replaced, 1,024 a line; a match", replacing, lambda: matches("press w199_5")),
     Case("200,000 queries deleted; a purge, a match", deleting,
          lambda: [line_of({"op": "purge"}), *matches("press w5")]),
+    Case("1,024 queries, on the way to a million", lambda: matches("press"), growing, 0.2),
     Case("10,000 queries, one a line; a match", one_a_line, lambda: matches("press w5")),
     case("100,000 queries under one key, 256 articles", partial(numbered, "+pressing +w{}", 100_000),
          lambda: numbered("pressing w{}", ARTICLES_A_LINE)),

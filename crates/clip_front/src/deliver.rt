@@ -8,14 +8,16 @@ ghost use Rattle.clip_front.specs.declared.settings.Settings.{Settings};
 ghost use Rattle.clip_front.specs.Outcome.{kept_rows, rows_of_article};
 ghost use Rattle.clip_stream.specs.Device.{AppendsFront, HandsOver};
 ghost use Rattle.clip_protocol.specs.Found.{found_value};
-ghost use Rattle.clip_protocol.specs.Reply.{alerts_data};
+ghost use Rattle.clip_protocol.specs.Reply.{alerts_data, article_data};
 ghost use Rattle.clip_protocol.specs.Steps.Flowing.{closing, item_text, opening};
 ghost use Rattle.clip_protocol.specs.Steps.Views.{alerts_by_id};
 ghost use Rattle.clip_front.specs.Steps.Found.{IsFor, told_in, rows_in, found_text};
 
 use crate::books::Books;
 use clip_listen::{Audience, Note, deliver_to};
-use clip_protocol::{Found, closed_text, found_text, opened_text, put_alerts};
+use clip_protocol::{
+    ArticlePart, Form, Found, Shown, closed_text, found_text, opened_text, put_alerts, put_part,
+};
 use clip_standing::Alerts;
 use clip_stream::{Flow, RunFault, Sink};
 use clip_words::NoMemory;
@@ -166,6 +168,27 @@ pub fn deliver_found<A: Audience>(
     deliver_shown(alloc, audience, books, number, &found)
 }
 
+/// Puts what is shown already of an article, after a comma where it stands behind another.
+fn put_shown<W: Sink>(flow: &mut Flow<'_, W>, later: bool, shown: &Shown) -> Result<(), RunFault>
+    ensures same_reference { flow.new.writer.ghost_name ≡ flow.old.writer.ghost_name }
+    ensures moved { OnOk result (HandsOver (W.taken flow.old.writer.now)
+        (flow.old.outbox.now ++ item_text later
+        (alerts_data shown.now.form (alerts_by_id (alerts_value shown.now.alerts.value))))
+        (W.taken flow.new.writer.now) flow.new.outbox.now) }
+    ensures well { OnOk result (W.has_failed flow.new.writer.now ≡ W.has_failed flow.old.writer.now) }
+    ensures fault { IfErr result (λ e. e ≢ RunFault.Read) }
+    ensures write { result ≡ Err RunFault.Write → W.has_failed flow.new.writer.now ≡ true }
+    ensures front { OnErr result (AppendsFront (W.taken flow.old.writer.now) (W.taken flow.new.writer.now)
+        (flow.old.outbox.now ++ item_text later
+        (alerts_data shown.now.form (alerts_by_id (alerts_value shown.now.alerts.value))))) }
+{
+    if !later {
+        return flow.put(shown.as_slice());
+    }
+    flow.put(b",")?;
+    flow.put(shown.as_slice())
+}
+
 /// The reply to a match that is on its way, article by article.
 #[derive(Drop)]
 pub struct MatchReply {
@@ -248,6 +271,93 @@ impl MatchReply {
         let later = self.has_article;
         self.has_article = true;
         put_alerts(flow, alloc, settings.form, later, alerts)
+    }
+
+    /// Puts what the reply shows in the plain form of an article whose alerts nobody hears: its id, and the ids of the
+    /// queries that hold of it.
+    ///
+    /// `NoMemory` where an allocation failed, `Write` where the writer fails; a front of the text may be put then. Its
+    /// cost is linear in the text.
+    pub fn add_unheard<W: Sink>(
+        &mut self,
+        alloc: Global,
+        flow: &mut Flow<'_, W>,
+        article: &str,
+        queries: &[&str],
+    ) -> Result<(), RunFault>
+        ensures same_reference { flow.new.writer.ghost_name ≡ flow.old.writer.ghost_name }
+        ensures number { self.new.number ≡ self.old.number }
+        ensures notes { self.new.notes.items ≡ self.old.notes.items }
+        ensures later { OnOk result (self.new.has_article ≡ true) }
+        ensures moved { OnOk result (HandsOver (W.taken flow.old.writer.now)
+            (flow.old.outbox.now ++ item_text self.old.has_article
+            (article_data Form.Plain article.now (map (λ id. id.now) queries.now) []))
+            (W.taken flow.new.writer.now) flow.new.outbox.now) }
+        ensures well { OnOk result (W.has_failed flow.new.writer.now ≡ W.has_failed flow.old.writer.now) }
+        ensures fault { IfErr result (λ e. e ≢ RunFault.Read) }
+        ensures write { result ≡ Err RunFault.Write → W.has_failed flow.new.writer.now ≡ true }
+        ensures front { OnErr result (AppendsFront (W.taken flow.old.writer.now) (W.taken flow.new.writer.now)
+            (flow.old.outbox.now ++ item_text self.old.has_article
+            (article_data Form.Plain article.now (map (λ id. id.now) queries.now) []))) }
+    {
+        let part = ArticlePart {
+            form: Form::Plain,
+            later: self.has_article,
+            article,
+            queries,
+            alerts: &[],
+        };
+        self.has_article = true;
+        put_part(flow, alloc, part)
+    }
+
+    /// Delivers what was found of an article, posts it, and puts what the reply shows of it. Of what is shown already,
+    /// for these books' settings, nobody hears, no row is kept, and the text is put as it is.
+    ///
+    /// `NoMemory` where an allocation failed or a listener answers it, `Write` where the writer fails; the listeners
+    /// have heard some first ones of the alerts then, and a front of the text may be put. Cost: that of `add`, or linear
+    /// in the text that is shown already.
+    pub fn add_found<A: Audience, W: Sink>(
+        &mut self,
+        alloc: Global,
+        audience: &mut A,
+        books: &mut Books,
+        flow: &mut Flow<'_, W>,
+        found: &Found,
+    ) -> Result<(), RunFault>
+        requires { IsFor books.old.settings found.now }
+        ensures same_reference { flow.new.writer.ghost_name ≡ flow.old.writer.ghost_name }
+        ensures number { self.new.number ≡ self.old.number }
+        ensures notes { OnOk result (map note_value self.new.notes.items
+            ≡ map note_value self.old.notes.items
+            ++ notes_of (A.hearers audience.old) (found_value found.now).alerts) }
+        ensures later { OnOk result (self.new.has_article ≡ true) }
+        ensures heard { OnOk result (A.hearers audience.new
+            ≡ told_all (found_value found.now).alerts (A.hearers audience.old)) }
+        ensures rows { OnOk result (books.new.ledger ≡ books.old.ledger ++ kept_rows books.old.settings.keeps_rows
+            (rows_of_article (A.hearers audience.old) self.old.number (found_value found.now).alerts)) }
+        ensures settings { books.new.settings ≡ books.old.settings }
+        ensures moved { OnOk result (HandsOver (W.taken flow.old.writer.now)
+            (flow.old.outbox.now ++ item_text self.old.has_article
+            (alerts_data books.old.settings.form (alerts_by_id (found_value found.now))))
+            (W.taken flow.new.writer.now) flow.new.outbox.now) }
+        ensures well { OnOk result (W.has_failed flow.new.writer.now ≡ W.has_failed flow.old.writer.now) }
+        ensures fault { IfErr result (λ e. e ≢ RunFault.Read) }
+        ensures write { result ≡ Err RunFault.Write → W.has_failed flow.new.writer.now ≡ true }
+        ensures err { OnErr result (HearsFront (found_value found.now).alerts
+            (A.hearers audience.old) (A.hearers audience.new)) }
+        ensures front { OnErr result (AppendsFront (W.taken flow.old.writer.now) (W.taken flow.new.writer.now)
+            (flow.old.outbox.now ++ item_text self.old.has_article
+            (alerts_data books.old.settings.form (alerts_by_id (found_value found.now))))) }
+    {
+        match found {
+            Found::Alerts(alerts) => self.add(alloc, audience, books, flow, alerts),
+            Found::Shown(shown) => {
+                let later = self.has_article;
+                self.has_article = true;
+                put_shown(flow, later, shown)
+            }
+        }
     }
 
     /// Puts the end of the reply, with what the listeners said.

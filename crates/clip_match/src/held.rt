@@ -1,5 +1,5 @@
 //! Entries whose queries hold of an article, and when their hits are found.
-ghost use Rattle.std.specs.Prelude.{◌≡◌, map, true, IfOk};
+ghost use Rattle.std.specs.Prelude.{◌≡◌, is_some, map, true, IfOk};
 ghost use Rattle.clip_words.specs.Order.{bytes_cmp};
 
 use clip_meaning::{compare_by_leads, lead_of};
@@ -116,6 +116,20 @@ pub(crate) struct Named<'a> {
 }
 
 impl<'a> Named<'a> {
+    /// The id of the query.
+    pub(crate) fn id(&self) -> &'a str
+        ensures { result.now ≡ self.now.held.registered.now.standing.id }
+    {
+        self.id.id
+    }
+
+    /// Whether the query has a listener.
+    pub(crate) fn has_listener(&self) -> bool
+        ensures { result ≡ is_some self.now.held.registered.now.standing.listener }
+    {
+        self.held.registered.standing().listener().is_some()
+    }
+
     /// The order of the ids of two entries. A text is looked at only where both have the same lead.
     pub(crate) fn order(&self, other: &Named<'a>) -> Ordering
         ensures { result
@@ -161,15 +175,4 @@ pub(crate) fn with_led_ids<'a>(
     ensures { IfOk result (λ named. map (λ n. n.held) named.items ≡ held.entry.items) }
 {
     with_leads(alloc, with_ids(alloc, held)?)
-}
-
-/// The entries, without their hits.
-pub(crate) fn entries_of<'a>(alloc: Global, held: &[Held<'a>]) -> Result<Vec<&'a Entry>, NoMemory>
-    ensures { IfOk result (λ entries. map (λ e. e.now) entries.items ≡ map (λ h. h.registered.now) held.now) }
-{
-    let mut entries = Vec::with_capacity(alloc, held.len())?;
-    for one in held {
-        entries.push(one.registered)?;
-    }
-    Ok(entries)
 }

@@ -12,6 +12,7 @@ mod trying;
 
 pub use gate::{Gate, OpenGate};
 pub use held::HitsFound;
-pub use matching::{match_article, match_article_finding, match_batch, match_batch_finding};
+pub use matching::{
+    DueEntries, entries_due, match_article, match_article_finding, match_batch, match_batch_finding,
+};
 pub use pieces::{match_piece, match_pieces};
-pub use trying::{Tried, holding};

@@ -1,11 +1,12 @@
 //! The alerts of an article, and of a batch of articles.
 ghost use Rattle.std.specs.Prelude.{◌≡◌, true, map, is_some, IfOk, IsPermutation};
-ghost use Rattle.std.specs.List.{All};
+ghost use Rattle.std.specs.List.{All, list_any};
 ghost use Rattle.std.specs.List.Sorted.{IsSortedByKey};
 ghost use Rattle.clip_words.specs.Order.{bytes_cmp};
 ghost use Rattle.clip_meaning.specs.Hits.{hit_value};
 ghost use Rattle.clip_standing.specs.Alerts.{alert_value, alerts_value, has_hits};
 ghost use Rattle.clip_match.specs.Alerts.{HaveHits, alert_due, alerts_due};
+ghost use Rattle.clip_match.specs.Steps.Due.{due_value, AreTheirHits, HaveTheirHits};
 ghost use Rattle.clip_match.specs.Steps.Held.{AreItsHits};
 
 use crate::held::{Held, HitPlaces, HitsFound, Named, with_led_ids};
@@ -68,14 +69,126 @@ fn alerts(
     Ok(alerts)
 }
 
+/// Whether the query of one of the entries has a listener.
+fn have_listener(named: &[Named<'_>]) -> bool
+    ensures { result ≡ list_any (λ n. is_some n.held.registered.now.standing.listener) named.now }
+{
+    named.iter().any(|one| one.has_listener())
+}
+
+/// What is due to an article at a view, before an alert is made of it: the entries of the queries that hold of it, in
+/// the byte order of their ids. An alert counts as a holder of its query and of its article; what nobody hears can be
+/// shown from here, with no alert made.
+#[derive(Drop)]
+pub struct DueEntries<'a> {
+    article: &'a Article,
+    place: u64,
+    asked: u64,
+    named: Vec<Named<'a>>,
+    all_hits: Arc<Vec<Hit>>,
+}
+
+impl<'a> DueEntries<'a> {
+    ghost use Rattle.std.specs.Prelude.{◌≡◌, true, map, is_some, IfOk};
+    ghost use Rattle.std.specs.List.{All, list_any};
+    ghost use Rattle.clip_standing.specs.Alerts.{alerts_value, has_hits};
+    ghost use Rattle.clip_match.specs.Steps.Due.{due_value, AreTheirHits, HaveTheirHits};
+
+    /// The id of the article. Constant time.
+    pub fn article_id(&self) -> &'a str
+        ensures { result.now ≡ (due_value self.now).article }
+    {
+        self.article.shared_id().as_str()
+    }
+
+    /// Whether one of the queries has a listener. Cost: a look at each of them, up to the first that has one.
+    pub fn has_listener(&self) -> bool
+        ensures { result ≡ list_any (λ a. is_some a.listener) (due_value self.now).alerts }
+    {
+        have_listener(&self.named)
+    }
+
+    /// The ids of the queries, in their byte order.
+    ///
+    /// `NoMemory` where an allocation failed. Cost: a step for each of them.
+    pub fn queries(&self, alloc: Global) -> Result<Vec<&'a str>, NoMemory>
+        ensures { IfOk result (λ ids. map (λ id. id.now) ids.items ≡ map (λ a. a.query) (due_value self.now).alerts) }
+    {
+        let mut ids = Vec::with_capacity(alloc, self.named.len())?;
+        let named = self.named.as_slice();
+        for one in named {
+            ids.push(one.id())?;
+        }
+        Ok(ids)
+    }
+
+    /// The alerts, with their hits where these were found.
+    ///
+    /// `NoMemory` where an allocation failed, or where the count of holders of a query or of the article is at its end.
+    /// Cost: a step for each of them.
+    pub fn alerts(self, alloc: Global) -> Result<Alerts, NoMemory>
+        requires { AreTheirHits self }
+        ensures value { IfOk result (λ found. alerts_value found ≡ due_value self.entry) }
+        ensures found { HaveTheirHits self.entry → IfOk result (λ found.
+            All (λ alert. has_hits alert ≡ true) found.alerts.items) }
+    {
+        let DueEntries {
+            article,
+            place,
+            asked,
+            named,
+            all_hits,
+        } = self;
+        Ok(Alerts {
+            article: article.shared_id().clone()?,
+            place,
+            asked,
+            alerts: alerts(alloc, named, article, &all_hits)?,
+        })
+    }
+}
+
+/// What is due to an article at a view: of each registered query that holds of it one entry, in the byte order of their
+/// ids, and of no other; with the view's place, and how many queries were tried. Just the article's candidates are
+/// tried. Where hits are found at once, they are kept until the alerts are made.
+///
+/// `NoMemory` where an allocation failed. Cost: a step for each word of the article, a look-up in each segment for each
+/// of its keys and the judging of each candidate's plan; and a sort of those that hold. No text is copied, and a query
+/// without a key of the article costs nothing. Where hits are found at once, in each segment of which a query holds
+/// that of `SegmentReading::spots`, and for each query that holds that of `SegmentSpots::add_hits`.
+pub fn entries_due<'a>(
+    alloc: Global,
+    view: &'a View,
+    article: &'a Article,
+    hits: HitsFound,
+) -> Result<DueEntries<'a>, NoMemory>
+    ensures due { IfOk result (λ due. due_value due ≡ alerts_due view.now article.now) }
+    ensures hits { IfOk result (λ due. AreTheirHits due) }
+    ensures there { hits ≡ HitsFound.AtOnce → IfOk result (λ due. HaveTheirHits due) }
+{
+    let Judged {
+        asked,
+        held,
+        all_hits,
+    } = judge_candidates(alloc, view, article, hits)?;
+    let all_hits = Arc::new(alloc, all_hits)?;
+    let mut named = with_led_ids(alloc, held)?;
+    sort_by_id(&mut named);
+    Ok(DueEntries {
+        article,
+        place: view.place(),
+        asked,
+        named,
+        all_hits,
+    })
+}
+
 /// The alerts of an article at a view: of each registered query that holds of it one, in the byte order of their ids,
 /// and of no other; with the view's place, and how many queries were tried.
 ///
 /// Just the article's candidates are tried.
 ///
-/// `NoMemory` where an allocation failed. Cost: that of `holding`, so a step for each word of the article, a look-up in
-/// each segment for each of its keys and the judging of each candidate's plan; and a sort of those that hold. No text
-/// is copied, and a query without a key of the article costs nothing.
+/// `NoMemory` where an allocation failed. Cost: that of `entries_due`, and a step for each alert.
 pub fn match_article(alloc: Global, view: &View, article: &Article) -> Result<Alerts, NoMemory>
     ensures { IfOk result (λ found. alerts_value found ≡ alerts_due view.now article.now) }
 {
@@ -86,8 +199,7 @@ pub fn match_article(alloc: Global, view: &View, article: &Article) -> Result<Al
 /// its own.
 ///
 /// `NoMemory` where an allocation failed, or, where hits are found at once, where the count of a field's name is at its
-/// end. Cost: that of `match_article`; where hits are found at once, in each segment of which a query holds that of
-/// `SegmentReading::spots`, and for each query that holds that of `SegmentSpots::add_hits`.
+/// end. Cost: that of `entries_due`, and a step for each alert.
 pub fn match_article_finding(
     alloc: Global,
     view: &View,
@@ -97,20 +209,7 @@ pub fn match_article_finding(
     ensures due { IfOk result (λ found. alerts_value found ≡ alerts_due view.now article.now) }
     ensures hits { IfOk result (λ found. HaveHits hits found) }
 {
-    let Judged {
-        asked,
-        held,
-        all_hits,
-    } = judge_candidates(alloc, view, article, hits)?;
-    let all_hits = Arc::new(alloc, all_hits)?;
-    let mut named = with_led_ids(alloc, held)?;
-    sort_by_id(&mut named);
-    Ok(Alerts {
-        article: article.shared_id().clone()?,
-        place: view.place(),
-        asked,
-        alerts: alerts(alloc, named, article, &all_hits)?,
-    })
+    entries_due(alloc, view, article, hits)?.alerts(alloc)
 }
 
 /// The alerts of each article of a batch, in the order of the articles, all at one view.

@@ -9,7 +9,7 @@ ghost use Rattle.clip_match.specs.Candidates.{candidates_of, MissesNone, AreRegi
 ghost use Rattle.clip_match.specs.Steps.Held.{HasItsHits};
 ghost use Rattle.clip_match.specs.Steps.Positions.{entries_at, live_with};
 
-use crate::held::{Held, HitPlaces, HitsFound, entries_of};
+use crate::held::{Held, HitPlaces, HitsFound};
 use clip_extract::covering_law;
 use clip_meaning::{Article, Hit};
 use clip_plan::Tally;
@@ -19,15 +19,6 @@ use clip_standing::Entry;
 use clip_terms::{Asking, FieldFlags};
 use clip_words::NoMemory;
 use std::alloc::Global;
-
-/// What came of trying the candidates of an article.
-#[derive(Drop)]
-pub struct Tried<'a> {
-    /// How many entries were tried.
-    pub asked: u64,
-    /// Those whose queries hold of the article, in rising seq.
-    pub entries: Vec<&'a Entry>,
-}
 
 /// The positions of those candidates of a segment that no second key rules out, in place of those that were in the
 /// list, and how many candidates it has: the live entries whose query has a key in common with the article. They are
@@ -287,7 +278,12 @@ impl Room {
 
 /// What comes of judging the candidates of an article, which are the live entries whose query has a key in common with
 /// it: how many there are, those whose queries hold of the article, in rising seq, and, where hits are found at once,
-/// the hits of these. `NoMemory` where an allocation failed. Cost: that of `holding`, and of `add_held`.
+/// the hits of these. Each registered query that holds of the article is among them.
+///
+/// `NoMemory` where an allocation failed. Cost: a step for each word of the article; in each segment that of
+/// `SegmentReading::sharer_marks`, a step for each 64 entries, one for each candidate that its second keys do not rule
+/// out, and for each that its first clause does not either that of `SegmentReading::holds`; and that of `add_held`. An
+/// entry is looked at only where its query holds.
 pub(crate) fn judge_candidates<'a>(
     alloc: Global,
     view: &'a View,
@@ -317,31 +313,4 @@ pub(crate) fn judge_candidates<'a>(
         room.try_segment(alloc, view, place, &reading, hits, &mut judged)?;
     }
     Ok(judged)
-}
-
-/// Of the candidates of an article, which are the live entries whose query has a key in common with it, how many there
-/// are, and those whose queries hold of the article, in rising seq. Each registered query that holds of the article is
-/// among them.
-///
-/// `NoMemory` where an allocation failed. Cost: a step for each word of the article; in each segment that of
-/// `SegmentReading::sharer_marks`, a step for each 64 entries, one for each candidate that its second keys do not rule
-/// out, and for each that its first clause does not either that of `SegmentReading::holds`. An entry is looked at only
-/// where its query holds.
-pub fn holding<'a>(
-    alloc: Global,
-    view: &'a View,
-    article: &'a Article,
-) -> Result<Tried<'a>, NoMemory>
-    ensures asked { IfOk result (λ found. found.asked ≡ length (candidates_of view.now article.now)) }
-    ensures held { IfOk result (λ found. map (λ e. e.now) found.entries.items
-        ≡ filter (λ r. holds r.standing.tree article.now.fields) (candidates_of view.now article.now)) }
-    ensures misses_none { IfOk result (λ _. MissesNone view.now article.now (candidates_of view.now article.now)) }
-    ensures registered { IfOk result (λ _. AreRegistered view.now (candidates_of view.now article.now)) }
-    ensures rising { IfOk result (λ _. IsRising (candidates_of view.now article.now)) }
-{
-    let found = judge_candidates(alloc, view, article, HitsFound::WhenAsked)?;
-    Ok(Tried {
-        asked: found.asked,
-        entries: entries_of(alloc, &found.held)?,
-    })
 }

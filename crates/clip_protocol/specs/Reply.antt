@@ -82,14 +82,22 @@ hit_data hit = object_of ((codes "field", string hit.0) ∷ (codes "position", n
 abbrev pub hits_data : List Alert → Data
 hits_data alerts = array_of (map (λ a. array_of (map hit_data a.hits)) alerts)
 
-abbrev pub queries_data : List Alert → Data
-queries_data alerts = array_of (map string (map (λ a. a.query) alerts))
+abbrev pub ids_data : List (List ℕ) → Data
+ids_data ids = array_of (map string ids)
 
--- an article's id and the ids of the queries, and with hits where each of them holds
+-- an article's id and the ids of the queries, and with hits where each of the alerts holds
+abbrev pub article_data : Form → List ℕ → List (List ℕ) → List Alert → Data
+article_data Plain id queries alerts = object_of ((codes "article", string id) ∷ (codes "queries", ids_data queries) ∷ [])
+article_data WithHits id queries alerts = object_of
+    ((codes "article", string id) ∷ (codes "hits", hits_data alerts) ∷ (codes "queries", ids_data queries) ∷ [])
+
+-- the ids of the alerts' queries
+abbrev pub query_ids : List Alert → List (List ℕ)
+query_ids alerts = map (λ a. a.query) alerts
+
+-- what is shown of the article of this id, and its alerts
 abbrev pub alerts_data : Form → List ℕ × List Alert → Data
-alerts_data Plain a = object_of ((codes "article", string a.0) ∷ (codes "queries", queries_data a.1) ∷ [])
-alerts_data WithHits a = object_of
-    ((codes "article", string a.0) ∷ (codes "hits", hits_data a.1) ∷ (codes "queries", queries_data a.1) ∷ [])
+alerts_data form a = article_data form a.0 (query_ids a.1) a.1
 
 -- the value of a reply to line n; that of no reply is never printed
 unfoldable pub reply_value : ℕ → Reply → Data

@@ -3,6 +3,7 @@
 pub mod Flowing
 pub mod Listings
 pub mod Outline
+pub mod Parts
 pub mod Printing
 pub mod Putting
 pub mod Views

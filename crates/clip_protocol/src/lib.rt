@@ -22,7 +22,7 @@ pub use listing::{ListFault, read_listing};
 pub use members::{
     has_members, items_of, members_of, take_member, three_members, two_members, two_of,
 };
-pub use put::put_alerts;
+pub use put::{ArticlePart, put_alerts, put_part};
 pub use refusal::{Refusal, UNSHAPED, Unread};
 pub use reply::{Reply, accepted};
 pub use request::{Draft, Listing, Request, drafts_of, listings_of, texts_of};

@@ -5,7 +5,7 @@ ghost use Rattle.json.specs.Print.{print};
 ghost use Rattle.serde_json.specs.Data.{string};
 ghost use Rattle.clip_meaning.specs.Hits.{hit_value};
 ghost use Rattle.clip_standing.specs.Alerts.{alert_value, alerts_value};
-ghost use Rattle.clip_protocol.specs.Reply.{alerts_data, hit_data, hits_data, number_of, queries_data, text_or_null};
+ghost use Rattle.clip_protocol.specs.Reply.{alerts_data, hit_data, hits_data, ids_data, number_of, query_ids, text_or_null};
 ghost use Rattle.clip_protocol.specs.Request.{array_of};
 ghost use Rattle.clip_protocol.specs.Steps.Flowing.{article_begun, items_begun};
 ghost use Rattle.clip_protocol.specs.Steps.Printing.{Appends, data_tokens, hits_tokens};
@@ -113,33 +113,43 @@ fn write_hits_of_all(out: &mut Writer, alloc: Global, alerts: &[Alert]) -> Resul
     Ok(())
 }
 
-/// Writes the ids of the queries, one after the other.
-fn write_each_query(out: &mut Writer, alerts: &[Alert]) -> Result<(), NoMemory>
-    ensures { Appends result out.old out.new
-        (flat_map data_tokens (map string (map (λ a. a.query) (map alert_value alerts.now)))) }
+/// The ids of the queries of alerts, in their order.
+pub fn query_ids<'a>(alloc: Global, alerts: &'a [Alert]) -> Result<Vec<&'a str>, NoMemory>
+    ensures { IfOk result (λ ids. map (λ id. id.now) ids.items ≡ query_ids (map alert_value alerts.now)) }
 {
+    let mut ids = Vec::with_capacity(alloc, alerts.len())?;
     for alert in alerts {
-        out.string(alert.query().as_str())?;
+        ids.push(alert.query().as_str())?;
+    }
+    Ok(ids)
+}
+
+/// Writes ids, one after the other.
+fn write_each_id(out: &mut Writer, ids: &[&str]) -> Result<(), NoMemory>
+    ensures { Appends result out.old out.new (flat_map data_tokens (map string (map (λ id. id.now) ids.now))) }
+{
+    for id in ids {
+        out.string(id)?;
     }
     Ok(())
 }
 
-/// The text, and after it the ids of the queries, with commas between.
-pub fn queries_text(text: Vec<u8>, alerts: &[Alert]) -> Result<Vec<u8>, NoMemory>
+/// The text, and after it ids, with commas between.
+pub fn ids_text(text: Vec<u8>, ids: &[&str]) -> Result<Vec<u8>, NoMemory>
     ensures { IfOk result (λ after. after.items
-        ≡ text.items ++ items_begun false (map string (map (λ a. a.query) (map alert_value alerts.now)))) }
+        ≡ text.items ++ items_begun false (map string (map (λ id. id.now) ids.now))) }
 {
     let mut out = Writer::new(text);
-    write_each_query(&mut out, alerts)?;
+    write_each_id(&mut out, ids)?;
     Ok(out.into_inner())
 }
 
-/// Writes the ids of the queries.
-fn write_queries(out: &mut Writer, alerts: &[Alert]) -> Result<(), NoMemory>
-    ensures { Appends result out.old out.new (data_tokens (queries_data (map alert_value alerts.now))) }
+/// Writes ids as an array.
+fn write_ids(out: &mut Writer, ids: &[&str]) -> Result<(), NoMemory>
+    ensures { Appends result out.old out.new (data_tokens (ids_data (map (λ id. id.now) ids.now))) }
 {
     out.begin_array()?;
-    write_each_query(out, alerts)?;
+    write_each_id(out, ids)?;
     out.end_array()?;
     Ok(())
 }
@@ -172,7 +182,8 @@ fn write_alerts(out: &mut Writer, alloc: Global, form: Form, found: &Alerts) -> 
     out.string(found.article.as_str())?;
     write_hits_member(out, alloc, form, &found.alerts)?;
     out.key("queries")?;
-    write_queries(out, &found.alerts)?;
+    let ids = query_ids(alloc, &found.alerts)?;
+    write_ids(out, &ids)?;
     out.end_object()?;
     Ok(())
 }

@@ -9,12 +9,13 @@ ghost use Rattle.clip_stream.specs.Device.{AppendsFront, HandsOver};
 ghost use Rattle.clip_protocol.specs.Reply.{alerts_data, hit_data};
 ghost use Rattle.clip_protocol.specs.Request.{array_of};
 ghost use Rattle.clip_protocol.specs.Steps.Flowing.{hits_member, item_text, items_begun};
+ghost use Rattle.clip_protocol.specs.Steps.Parts.{part_text};
 ghost use Rattle.clip_protocol.specs.Steps.Putting.{PutsText, stand};
 ghost use Rattle.clip_protocol.specs.Steps.Views.{alerts_by_id};
 
 use crate::form::Form;
 use crate::found::separate;
-use crate::printing::{article_begun_text, hits_text, queries_text};
+use crate::printing::{article_begun_text, hits_text, ids_text, query_ids};
 use clip_meaning::Hit;
 use clip_standing::{Alert, Alerts};
 use clip_stream::{Flow, RunFault, Sink};
@@ -131,51 +132,87 @@ fn put_hits_member<W: Sink>(
     }
 }
 
-/// Puts the ids of the queries behind the text, with commas between.
-fn put_queries<W: Sink>(
+/// Puts ids behind the text, with commas between.
+fn put_ids<W: Sink>(
     flow: &mut Flow<'_, W>,
     mut text: Vec<u8>,
-    alerts: &[Alert],
+    ids: &[&str],
 ) -> Result<Vec<u8>, RunFault>
     ensures same_reference { flow.new.writer.ghost_name ≡ flow.old.writer.ghost_name }
     ensures puts { PutsText result
         (stand W.taken W.has_failed flow.old.writer.now (flow.old.outbox.now ++ text.items))
         (stand W.taken W.has_failed flow.new.writer.now flow.new.outbox.now)
-        (items_begun false (map string (map (λ a. a.query) (map alert_value alerts.now)))) }
+        (items_begun false (map string (map (λ id. id.now) ids.now))) }
 {
     let mut at = 0;
-    while at < alerts.len() {
-        let end = alerts.len().min(at.saturating_add(PIECE_ITEMS));
+    while at < ids.len() {
+        let end = ids.len().min(at.saturating_add(PIECE_ITEMS));
         separate(&mut text, at > 0)?;
-        text = queries_text(text, &alerts[at..end])?;
+        text = ids_text(text, &ids[at..end])?;
         text = put_piece(flow, text)?;
         at = end;
     }
     Ok(text)
 }
 
-/// Puts what a reply of this form shows of an article behind the text, after a comma where it stands behind another.
+/// What a reply to a match shows of an article.
+#[derive(Clone, Copy)]
+pub struct ArticlePart<'a> {
+    /// The form of the reply.
+    pub form: Form,
+    /// Whether it stands behind another article.
+    pub later: bool,
+    /// The article's id.
+    pub article: &'a str,
+    /// The ids of the queries that hold of it.
+    pub queries: &'a [&'a str],
+    /// Their alerts, which tell the hits. The plain form shows nothing of them.
+    pub alerts: &'a [Alert],
+}
+
+/// Puts what a reply shows of an article behind the text, after a comma where it stands behind another.
 fn put_article<W: Sink>(
     flow: &mut Flow<'_, W>,
     mut text: Vec<u8>,
     alloc: Global,
-    form: Form,
-    later: bool,
-    found: &Alerts,
+    part: ArticlePart<'_>,
 ) -> Result<Vec<u8>, RunFault>
     ensures same_reference { flow.new.writer.ghost_name ≡ flow.old.writer.ghost_name }
     ensures puts { PutsText result
         (stand W.taken W.has_failed flow.old.writer.now (flow.old.outbox.now ++ text.items))
         (stand W.taken W.has_failed flow.new.writer.now flow.new.outbox.now)
-        (item_text later (alerts_data form (alerts_by_id (alerts_value found.now)))) }
+        (part_text part.entry) }
 {
-    separate(&mut text, later)?;
-    text = article_begun_text(text, found.article.as_str())?;
-    text = put_hits_member(flow, text, alloc, form, &found.alerts)?;
+    separate(&mut text, part.later)?;
+    text = article_begun_text(text, part.article)?;
+    text = put_hits_member(flow, text, alloc, part.form, part.alerts)?;
     text.extend_from_slice(b",\"queries\":[")?;
-    text = put_queries(flow, text, &found.alerts)?;
+    text = put_ids(flow, text, part.queries)?;
     text.extend_from_slice(b"]}")?;
     Ok(text)
+}
+
+/// Puts what a reply shows of an article, after a comma where it stands behind another. It goes by pieces, so the whole
+/// of it is never held.
+///
+/// `NoMemory` where an allocation failed, `Write` where the writer fails; a front of it may be put then. Its cost is
+/// linear in the text; with hits that of `Alert::hits` comes to it for each alert that carries none.
+pub fn put_part<W: Sink>(
+    flow: &mut Flow<'_, W>,
+    alloc: Global,
+    part: ArticlePart<'_>,
+) -> Result<(), RunFault>
+    ensures same_reference { flow.new.writer.ghost_name ≡ flow.old.writer.ghost_name }
+    ensures moved { OnOk result (HandsOver (W.taken flow.old.writer.now) (flow.old.outbox.now ++ part_text part.entry)
+        (W.taken flow.new.writer.now) flow.new.outbox.now) }
+    ensures well { OnOk result (W.has_failed flow.new.writer.now ≡ W.has_failed flow.old.writer.now) }
+    ensures fault { IfErr result (λ e. e ≢ RunFault.Read) }
+    ensures write { result ≡ Err RunFault.Write → W.has_failed flow.new.writer.now ≡ true }
+    ensures front { OnErr result (AppendsFront (W.taken flow.old.writer.now) (W.taken flow.new.writer.now)
+        (flow.old.outbox.now ++ part_text part.entry)) }
+{
+    let text = put_article(flow, Vec::new(alloc), alloc, part)?;
+    flow.put(&text)
 }
 
 /// Puts what a reply of this form shows of an article, after a comma where it stands behind another. It goes by pieces,
@@ -200,6 +237,13 @@ pub fn put_alerts<W: Sink>(
     ensures front { OnErr result (AppendsFront (W.taken flow.old.writer.now) (W.taken flow.new.writer.now)
         (flow.old.outbox.now ++ item_text later (alerts_data form (alerts_by_id (alerts_value alerts.now))))) }
 {
-    let text = put_article(flow, Vec::new(alloc), alloc, form, later, alerts)?;
-    flow.put(&text)
+    let queries = query_ids(alloc, &alerts.alerts)?;
+    let part = ArticlePart {
+        form,
+        later,
+        article: alerts.article.as_str(),
+        queries: &queries,
+        alerts: &alerts.alerts,
+    };
+    put_part(flow, alloc, part)
 }

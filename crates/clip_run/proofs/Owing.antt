@@ -1,18 +1,14 @@
 -- What is owed, and what was given.
-use Rattle.std.proofs.Common.{◌≡◌, ℕ, zero, suc, ◌+◌, ◌<◌, ◌≤◌, List, [], ◌∷◌, ◌++◌, length, drop, map, refl, sym, ap, ap₂, ◌∙◌, subst, arith, add-one, append_assoc, append-nil}
-use Rattle.std.specs.Prelude.{Option, Result, Ok, Err, OnOk, OnErr, Some}
+use Rattle.std.proofs.Common.{◌≡◌, ℕ, zero, suc, ◌+◌, ◌<◌, ◌≤◌, List, [], ◌∷◌, ◌++◌, length, drop, map, refl, sym, ap, ap₂, ◌∙◌, subst, arith, add-one, append_assoc}
+use Rattle.std.specs.Prelude.{Option, Result, Ok, Err, OnOk, OnErr}
 use Rattle.clip_stream.specs.Device.{AppendsFront, HandsOver}
 use Rattle.clip_stream.proofs.Flows.{front_behind, handed_more, handed_none, none_taken}
-use Rattle.std.specs.List.{slice_get}
 use Rattle.std.proofs.lemmas.List.{map-append}
 use Rattle.clip_model.specs.Alerts.{Alert}
 use Rattle.clip_model.specs.History.{History}
 use Rattle.clip_listen.specs.Heard.{Hearer, told_all, HearsFront}
 use Rattle.clip_listen.proofs.Hearing.{told_none, told_more, names_told, no_front, front_after, front_of_more}
 use Rattle.clip_meaning.specs.Article.{ArticleValue}
-use Rattle.clip_match.specs.Alerts.{alerts_due}
-use Rattle.clip_standing.specs.Alerts.{AlertsValue}
-use Rattle.clip_registry.specs.RegistryState.{RegistryState}
 use Rattle.clip_ledger.specs.Rows.{RowValue}
 use Rattle.clip_protocol.specs.LineMeaning.{Meaning, Means, after, nothing, refusal, refusal_at, command, purging, counting, showing, matching}
 use Rattle.clip_protocol.specs.Reply.{reply}
@@ -21,17 +17,12 @@ use Rattle.clip_front.specs.Steps.Taking.{IsQuiet, TakesQuietly}
 use Rattle.clip_front.specs.Outcome.{Outcome, nothing_given, followed_by, given, names_in, kept_rows}
 use Rattle.clip_protocol.specs.Steps.Outline.{outline}
 use Rattle.clip_front.proofs.Delivering.{none_posted}
-use Rattle.clip_front.specs.Steps.Found.{found_outcome}
-use Rattle.clip_run.proofs.Found.{found_given}
 use Rattle.clip_protocol.proofs.Meanings.{means_from}
 use Rattle.clip_front.proofs.OneOutcome.{outline_some}
 use Rattle.clip_front.proofs.Outcomes.{followed_assoc, followed_nothing, kept_append, given_kept}
 use Rattle.clip_front.specs.declared.settings.Settings.{Settings}
 use Rattle.clip_run.specs.Crews.{CrewIs, course}
-use Rattle.clip_run.specs.Due.{due_to}
-use Rattle.clip_run.specs.Pending.{owed_by, owed_at, owed_from}
-use Rattle.clip_run.specs.declared.batch.Batch.{Batch}
-use Rattle.clip_run.specs.declared.batch.Pending.TheVariants as pending
+use Rattle.clip_run.specs.Pending.{owed_by, owed_at}
 use Rattle.clip_run.specs.declared.batch.Pending.{Pending}
 use Rattle.clip_run.specs.Owed.{Owed, ready, matched, owed_of, owes, Course, Gave, Pays, Turns, BreaksOff, HearsOwed, PaysInto, StopsPaying, with_owed}
 
@@ -174,14 +165,6 @@ hears_after s t u a b p front =
       printed = ap (λ o. o.text s.settings.form) p.rest ∙ ap₂ (λ x y. x ++ y) p.printed later ∙ sym (append_assoc a b front.more);
     }
 
--- of the oldest a front was heard, and its text was on its way, or none of it
-pub hears_first : (s t : Course) (o : Owed) (more : List Owed) → s.owed ≡ o ∷ more → HearsFront (owed_of s.hearers o).alerts s.hearers t.hearers → HearsOwed s t []
-hears_first s t o more first front = record {
-  heard = subst (λ os. HearsFront (owes s.hearers os).alerts s.hearers t.hearers) (sym first) (front_of_more (owed_of s.hearers o).alerts (owes s.hearers more).alerts s.hearers t.hearers front);
-  more = (owes s.hearers s.owed).text s.settings.form;
-  printed = refl;
-}
-
 -- the line means something, whatever it is
 pub breaks_owed : (s t : Course) (n : ℕ) (line text : List ℕ) → HearsOwed s t text → BreaksOff s t n line text
 breaks_owed s t n line text front =
@@ -298,32 +281,33 @@ pays_line s t hearers now items line within heard same =
     (owed_next items line within) (record { heard = heard; rows = ap (λ crew. crew.rows) same; settings = ap (λ crew. crew.settings) same }) (ap (λ crew. crew.history) same)
 
 -- and its text put
-pub pays_into_line : (s t : CrewIs) (hearers now : List Hearer) (items : List Pending) (line : ℕ) (text : List ℕ) (taken taken_new : Option (List ℕ)) (gathered gathered_new : List ℕ) → line < length items
+pub pays_into_line : (s t : CrewIs) (hearers now : List Hearer) (items : List Pending) (line : ℕ) (taken taken_new : Option (List ℕ)) (gathered gathered_new : List ℕ) → line < length items
     → now ≡ told_all (owed_of hearers (owed_at items line)).alerts hearers → t ≡ record s { rows = s.rows ++ kept_rows s.settings.keeps_rows (owed_of hearers (owed_at items line)).rows }
-    → text ≡ (owed_of hearers (owed_at items line)).text s.settings.form → HandsOver taken (gathered ++ text) taken_new gathered_new
+    → HandsOver taken (gathered ++ (owed_of hearers (owed_at items line)).text s.settings.form) taken_new gathered_new
     → PaysInto (with_owed (course s hearers) (map owed_by (drop line items))) (with_owed (course t now) (map owed_by (drop (line + 1) items))) taken gathered taken_new gathered_new
-pays_into_line s t hearers now items line text taken taken_new gathered gathered_new within heard same is handed = record {
+pays_into_line s t hearers now items line taken taken_new gathered gathered_new within heard same handed = record {
   text = (owed_of hearers (owed_at items line)).text s.settings.form;
   pays = pays_line s t hearers now items line within heard same;
-  handed = subst (λ x. HandsOver taken (gathered ++ x) taken_new gathered_new) is handed;
+  handed = handed;
 }
 
 -- of the line that is settled a front was heard
-pub hears_line : (s t : Course) (items : List Pending) (line : ℕ) → line < length items → HearsFront (owed_of s.hearers (owed_at items line)).alerts s.hearers t.hearers → HearsOwed (with_owed s (map owed_by (drop line items))) t []
-hears_line s t items line within front = hears_first (with_owed s (map owed_by (drop line items))) t (owed_at items line) (map owed_by (drop (line + 1) items)) (owed_next items line within) front
-
--- the line was settled, and of its text a front was written
-pub stops_line : (s t : CrewIs) (hearers now : List Hearer) (items : List Pending) (line : ℕ) (text : List ℕ) (taken taken_new : Option (List ℕ)) (gathered : List ℕ) → line < length items
-    → now ≡ told_all (owed_of hearers (owed_at items line)).alerts hearers → t ≡ record s { rows = s.rows ++ kept_rows s.settings.keeps_rows (owed_of hearers (owed_at items line)).rows }
-    → text ≡ (owed_of hearers (owed_at items line)).text s.settings.form → AppendsFront taken taken_new (gathered ++ text) → StopsPaying (with_owed (course s hearers) (map owed_by (drop line items))) (course t now) taken gathered taken_new
-stops_line s t hearers now items line text taken taken_new gathered within heard same is front =
-    let left = with_owed (course t now) (map owed_by (drop (line + 1) items)) in
-    let paid = (owed_of hearers (owed_at items line)).text s.settings.form in
+hears_line : (s t : Course) (items : List Pending) (line : ℕ) → line < length items → HearsFront (owed_of s.hearers (owed_at items line)).alerts s.hearers t.hearers
+    → HearsOwed (with_owed s (map owed_by (drop line items))) t ((owed_of s.hearers (owed_at items line)).text s.settings.form)
+hears_line s t items line within front =
+    let o = owed_at items line in
+    let rest = map owed_by (drop (line + 1) items) in
+    let first = owed_next items line within in
     record {
-      text = paid ++ [];
-      broken = hears_after (with_owed (course s hearers) (map owed_by (drop line items))) left (course t now) paid [] (pays_line s t hearers now items line within heard same) (hears_none left (course t now) refl);
-      written = subst (λ x. AppendsFront taken taken_new (gathered ++ x)) (is ∙ sym (append-nil paid)) front;
+      heard = subst (λ os. HearsFront (owes s.hearers os).alerts s.hearers t.hearers) (sym first) (front_of_more (owed_of s.hearers o).alerts (owes s.hearers rest).alerts s.hearers t.hearers front);
+      more = (owes s.hearers rest).text s.settings.form;
+      printed = ap (λ os. (owes s.hearers os).text s.settings.form) first;
     }
+
+-- and of its text a front was written
+pub stops_line : (s t : Course) (items : List Pending) (line : ℕ) (taken taken_new : Option (List ℕ)) (gathered : List ℕ) → line < length items → HearsFront (owed_of s.hearers (owed_at items line)).alerts s.hearers t.hearers
+    → AppendsFront taken taken_new (gathered ++ (owed_of s.hearers (owed_at items line)).text s.settings.form) → StopsPaying (with_owed s (map owed_by (drop line items))) t taken gathered taken_new
+stops_line s t items line taken taken_new gathered within front written = record { text = (owed_of s.hearers (owed_at items line)).text s.settings.form; broken = hears_line s t items line within front; written = written }
 
 -- ---- a line that is settled
 
@@ -341,9 +325,12 @@ pub kept_none : (crew : CrewIs) (hearers : List Hearer) (o : Owed) (text : List 
 kept_none crew hearers o text is =
     subst (λ p. crew ≡ record crew { rows = crew.rows ++ kept_rows crew.settings.keeps_rows (owed_of hearers p).rows }) (sym is) (ap (λ rows. record crew { rows = rows }) (none_posted crew.settings.keeps_rows crew.rows))
 
--- what was found of a batch is what is owed to its line
-pub found_there : (hearers : List Hearer) (items : List Pending) (line : ℕ) (batch : Batch) (found : List AlertsValue) → slice_get items line ≡ Some (pending.Waiting batch) → found ≡ due_to batch → found_outcome hearers batch.number found ≡ owed_of hearers (owed_at items line)
-found_there hearers items line batch found is right = found_given batch.view hearers batch.number batch.drafts.items found right ∙ ap (λ item. owed_of hearers (owed_from item)) (sym is)
+-- nor has it more text
+pub handed_ready : (hearers : List Hearer) (o : Owed) (text : List ℕ) (form : Form) (old new : Option (List ℕ)) (gathered left : List ℕ) → o ≡ ready text → HandsOver old (gathered ++ text) new left → HandsOver old (gathered ++ (owed_of hearers o).text form) new left
+handed_ready hearers o text form old new gathered left is handed = subst (λ p. HandsOver old (gathered ++ (owed_of hearers p).text form) new left) (sym is) handed
+
+pub front_ready : (hearers : List Hearer) (o : Owed) (text : List ℕ) (form : Form) (old new : Option (List ℕ)) (gathered : List ℕ) → o ≡ ready text → AppendsFront old new (gathered ++ text) → AppendsFront old new (gathered ++ (owed_of hearers o).text form)
+front_ready hearers o text form old new gathered is front = subst (λ p. AppendsFront old new (gathered ++ (owed_of hearers p).text form)) (sym is) front
 
 -- ---- results
 

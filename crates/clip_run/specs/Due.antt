@@ -62,6 +62,18 @@ FindsOne settings line batch article old new result =
     (items : List Pending) → slice_get items line ≡ Some (pending.Waiting batch) → AreDue settings items old
     → AreDue settings items new × IfOk result (IsDue settings (due_to batch) article)
 
+-- At some lines, at which the batch waits at this place, the answers are due.
+pub record WaitsAt (settings : Settings) (line : ℕ) (batch : Batch) (answers : List Answer) : Type 0 where
+  pub items : List Pending
+  pub here : slice_get items line ≡ Some (pending.Waiting batch)
+  pub due : AreDue settings items answers
+
+-- At whatever lines the batch waits at this place, and whose answers these were, the answers that are left are due.
+abbrev pub KeepsDue : Settings → ℕ → Batch → List Answer → List Answer → Type 0
+KeepsDue settings line batch old new =
+    (items : List Pending) → slice_get items line ≡ Some (pending.Waiting batch) → AreDue settings items old
+    → AreDue settings items new
+
 -- Of helpers that were asked for one thing, some are left, and what was added is due to it.
 abbrev pub FinishesOne : List Helper → List Helper → List Answer → List Answer → Type 0
 FinishesOne helpers left old new =

@@ -1,7 +1,10 @@
 -- What is owed, by what a run has pending.
 use Rattle.std.specs.Prelude.{ℕ, List, [], Option, Some, None}
 use Rattle.std.specs.List.{slice_get}
-use Rattle.clip_run.specs.Owed.{Owed, ready, matched}
+use Rattle.clip_listen.specs.Heard.{Hearer}
+use Rattle.clip_front.specs.Outcome.{Outcome}
+use Rattle.clip_run.specs.Owed.{Owed, owed_of, ready, matched}
+use Rattle.clip_run.specs.declared.batch.Batch.{Batch}
 use Rattle.clip_run.specs.declared.batch.Pending.{Pending}
 use Rattle.clip_run.specs.declared.batch.Pending.TheVariants as pending
 
@@ -16,3 +19,7 @@ owed_from (Some item) = owed_by item
 
 abbrev pub owed_at : List Pending → ℕ → Owed
 owed_at items line = owed_from (slice_get items line)
+
+-- all that is owed to a line of which a batch waits
+abbrev pub owed_to : List Hearer → Batch → Outcome
+owed_to hearers batch = owed_of hearers (owed_by (pending.Waiting batch))

@@ -1,19 +1,23 @@
 //! A run on one thread: a registrar of its own, its books, and merge turns between the lines.
-ghost use Rattle.std.specs.Prelude.{◌≡◌, ◌≢◌, ◌++◌, true, Err, IfErr, IfOk, OnErr, OnOk};
-ghost use Rattle.clip_listen.specs.Heard.{HearsFront};
+ghost use Rattle.std.specs.Prelude.{◌≡◌, ◌≢◌, ◌++◌, map, true, Err, IfErr, IfOk, OnErr, OnOk};
+ghost use Rattle.clip_listen.specs.Heard.{HearsFront, note_value, notes_of, told_all};
 ghost use Rattle.clip_stream.specs.Device.{AppendsFront, HandsOver};
 ghost use Rattle.clip_stream.specs.Lines.{OfInput, OfLinesRead};
 ghost use Rattle.clip_front.specs.Devices.{AreFresh, IsHonest, devices_at};
 ghost use Rattle.clip_protocol.specs.LineMeaning.{matching};
-ghost use Rattle.clip_protocol.specs.Reply.{alerts_of_all, reply};
-ghost use Rattle.clip_front.specs.Outcome.{GivesAll, GivesFront};
+ghost use Rattle.clip_protocol.specs.Reply.{alerts_data, alerts_of_all, reply};
+ghost use Rattle.clip_protocol.specs.Steps.Flowing.{item_text};
+ghost use Rattle.clip_protocol.specs.Steps.Views.{alerts_by_id};
+ghost use Rattle.clip_match.specs.Steps.Due.{due_value, AreTheirHits};
+ghost use Rattle.clip_front.specs.Outcome.{GivesAll, GivesFront, kept_rows, rows_of_article};
 ghost use Rattle.clip_front.specs.Steps.Answers.{GoesOn, held};
 
 use crate::finding::hits_found;
 use clip_front::{Books, Ended, MatchReply, Registry, Server, Settings, Taken, serve, take_line};
 use clip_listen::Audience;
-use clip_match::match_article_finding;
+use clip_match::{DueEntries, entries_due};
 use clip_meaning::Article;
+use clip_protocol::Form;
 use clip_registry::{Registrar, View, merge_all};
 use clip_standing::{Applied, Command, Refused};
 use clip_stream::{Flow, RunFault, Sink, Source};
@@ -76,6 +80,53 @@ struct RunServer {
     pool: WordPool,
 }
 
+/// Delivers what is due to an article, posts it, and puts what the reply shows of it. No alert is made where the reply
+/// shows the queries' ids alone, none of them has a listener and no rows are kept.
+fn answer_article<A: Audience, W: Sink>(
+    alloc: Global,
+    audience: &mut A,
+    books: &mut Books,
+    flow: &mut Flow<'_, W>,
+    answer: &mut MatchReply,
+    due: DueEntries<'_>,
+) -> Result<(), RunFault>
+    requires { AreTheirHits due }
+    ensures same_reference { flow.new.writer.ghost_name ≡ flow.old.writer.ghost_name }
+    ensures number { answer.new.number ≡ answer.old.number }
+    ensures notes { OnOk result (map note_value answer.new.notes.items
+        ≡ map note_value answer.old.notes.items ++ notes_of (A.hearers audience.old) (due_value due.entry).alerts) }
+    ensures later { OnOk result (answer.new.has_article ≡ true) }
+    ensures heard { OnOk result (A.hearers audience.new
+        ≡ told_all (due_value due.entry).alerts (A.hearers audience.old)) }
+    ensures rows { OnOk result (books.new.ledger ≡ books.old.ledger ++ kept_rows books.old.settings.keeps_rows
+        (rows_of_article (A.hearers audience.old) answer.old.number (due_value due.entry).alerts)) }
+    ensures settings { books.new.settings ≡ books.old.settings }
+    ensures moved { OnOk result (HandsOver (W.taken flow.old.writer.now)
+        (flow.old.outbox.now ++ item_text answer.old.has_article
+        (alerts_data books.old.settings.form (alerts_by_id (due_value due.entry))))
+        (W.taken flow.new.writer.now) flow.new.outbox.now) }
+    ensures well { OnOk result (W.has_failed flow.new.writer.now ≡ W.has_failed flow.old.writer.now) }
+    ensures fault { IfErr result (λ e. e ≢ RunFault.Read) }
+    ensures write { result ≡ Err RunFault.Write → W.has_failed flow.new.writer.now ≡ true }
+    ensures err { OnErr result (HearsFront (due_value due.entry).alerts
+        (A.hearers audience.old) (A.hearers audience.new)) }
+    ensures front { OnErr result (AppendsFront (W.taken flow.old.writer.now) (W.taken flow.new.writer.now)
+        (flow.old.outbox.now ++ item_text answer.old.has_article
+        (alerts_data books.old.settings.form (alerts_by_id (due_value due.entry))))) }
+{
+    let Settings {
+        form,
+        keeps_rows,
+        ..
+    } = books.settings;
+    if form == Form::WithHits || keeps_rows || due.has_listener() {
+        let alerts = due.alerts(alloc)?;
+        return answer.add(alloc, audience, books, flow, &alerts);
+    }
+    let queries = due.queries(alloc)?;
+    answer.add_unheard(alloc, flow, due.article_id(), &queries)
+}
+
 /// Matches articles at a view, article by article: delivers the alerts of one, and puts what the reply to the line of
 /// this number shows of it, before the next is matched.
 fn answer_match<A: Audience, W: Sink>(
@@ -106,8 +157,8 @@ fn answer_match<A: Audience, W: Sink>(
     let hits = hits_found(books.settings);
     let mut answer = MatchReply::begin(alloc, flow, number)?;
     for article in articles {
-        let alerts = match_article_finding(alloc, view, article, hits)?;
-        answer.add(alloc, audience, books, flow, &alerts)?;
+        let due = entries_due(alloc, view, article, hits)?;
+        answer_article(alloc, audience, books, flow, &mut answer, due)?;
     }
     answer.end(alloc, flow)
 }

@@ -1,25 +1,27 @@
 //! The server of a run with workers.
-ghost use Rattle.std.specs.Prelude.{◌≡◌, ◌≢◌, ◌<◌, [], ◌∷◌, ◌++◌, map, vec_len, false, true, Some, Err, IfErr, IfOk};
+ghost use Rattle.std.specs.Prelude.{◌≡◌, ◌≢◌, ◌<◌, [], ◌∷◌, ◌++◌, map, vec_len, false, true, Err, IfErr};
 ghost use Rattle.std.specs.Prelude.{OnErr, OnOk};
-ghost use Rattle.std.specs.List.{All, slice_get};
-ghost use Rattle.clip_front.specs.Outcome.{kept_rows};
-ghost use Rattle.clip_front.specs.Steps.Found.{IsFor, told_in, rows_in, found_text};
+ghost use Rattle.clip_stream.specs.Device.{AppendsFront, HandsOver};
+ghost use Rattle.clip_front.specs.Outcome.{kept_rows, rows_of_article};
+ghost use Rattle.clip_front.specs.Steps.Found.{IsFor};
 ghost use Rattle.clip_front.specs.Steps.Serving.{AnswersInto, BreaksInto};
-ghost use Rattle.clip_listen.specs.Heard.{told_all, HearsFront};
+ghost use Rattle.clip_listen.specs.Heard.{told_all, note_value, notes_of, HearsFront};
 ghost use Rattle.clip_protocol.specs.Found.{found_value};
+ghost use Rattle.clip_protocol.specs.Reply.{alerts_data};
+ghost use Rattle.clip_protocol.specs.Steps.Flowing.{item_text};
+ghost use Rattle.clip_protocol.specs.Steps.Views.{alerts_by_id};
 ghost use Rattle.clip_run.specs.Crews.{CrewIs, course, course_at};
-ghost use Rattle.clip_run.specs.Due.{AreDue, FindsOne, due_to};
+ghost use Rattle.clip_run.specs.Due.{AreDue, FindsOne, KeepsDue, WaitsAt};
 ghost use Rattle.clip_run.specs.Owed.{owed_of, matched, with_owed, BreaksIn, BreaksOff, PaysInto, StopsPaying, Turns};
 ghost use Rattle.clip_run.specs.Owed.{TurnsIn};
-ghost use Rattle.clip_run.specs.Pending.{owed_at, owed_by};
-ghost use Rattle.clip_run.specs.declared.batch.Pending.TheVariants as pending;
+ghost use Rattle.clip_run.specs.Pending.{owed_at, owed_by, owed_to};
 
 use crate::batch::{Batch, Pending};
 use crate::caller::Caller;
 use crate::group::{Answer, Group, take_answer};
 use crate::helpers::{Helpers, Load};
 use clip_desk::DeskName;
-use clip_front::{Books, Settings, TakenUnread, deliver_shown, take_line_unread};
+use clip_front::{Books, MatchReply, Settings, TakenUnread, take_line_unread};
 use clip_ledger::Ledger;
 use clip_listen::Audience;
 use clip_match::Gate;
@@ -125,65 +127,95 @@ impl<'r, 'd, 'g, R: Threads + Wait + Sync, N: DeskName, G: Gate + Clone + Send +
         }
     }
 
-    /// What is found of the articles of a batch that waits at this place of the lines, in order.
-    fn find(
+    /// Delivers what was found of an article, and puts what the reply to its line shows of it.
+    fn add<A: Audience, W: Sink>(
         &mut self,
         alloc: Global,
-        items: &[Pending],
+        audience: &mut A,
+        reply: &mut MatchReply,
+        flow: &mut Flow<'_, W>,
+        found: &Found,
+    ) -> Result<(), RunFault>
+        requires fit { IsFor self.old.settings found.now }
+        ensures same_reference { flow.new.writer.ghost_name ≡ flow.old.writer.ghost_name }
+        ensures number { reply.new.number ≡ reply.old.number }
+        ensures notes { OnOk result (map note_value reply.new.notes.items
+            ≡ map note_value reply.old.notes.items
+            ++ notes_of (A.hearers audience.old) (found_value found.now).alerts) }
+        ensures later { OnOk result (reply.new.has_article ≡ true) }
+        ensures heard { OnOk result (A.hearers audience.new
+            ≡ told_all (found_value found.now).alerts (A.hearers audience.old)) }
+        ensures crew { OnOk result (self.new ≡ record self.old {
+          rows = self.old.rows ++ kept_rows self.old.settings.keeps_rows
+              (rows_of_article (A.hearers audience.old) reply.old.number (found_value found.now).alerts);
+        }) }
+        ensures moved { OnOk result (HandsOver (W.taken flow.old.writer.now)
+            (flow.old.outbox.now ++ item_text reply.old.has_article
+            (alerts_data self.old.settings.form (alerts_by_id (found_value found.now))))
+            (W.taken flow.new.writer.now) flow.new.outbox.now) }
+        ensures well { OnOk result (W.has_failed flow.new.writer.now ≡ W.has_failed flow.old.writer.now) }
+        ensures fault { IfErr result (λ e. e ≢ RunFault.Read) }
+        ensures write { result ≡ Err RunFault.Write → W.has_failed flow.new.writer.now ≡ true }
+        ensures err { OnErr result (HearsFront (found_value found.now).alerts
+            (A.hearers audience.old) (A.hearers audience.new)) }
+        ensures front { OnErr result (AppendsFront (W.taken flow.old.writer.now) (W.taken flow.new.writer.now)
+            (flow.old.outbox.now ++ item_text reply.old.has_article
+            (alerts_data self.old.settings.form (alerts_by_id (found_value found.now))))) }
+    {
+        reply.add_found(alloc, audience, &mut self.books, flow, found)
+    }
+
+    /// Gives what is owed to a line of which a batch waits at this place of the lines, article by article: what was
+    /// found of one is delivered, and what the reply shows of it is put, before the next is taken.
+    fn settle_batch<A: Audience, W: Sink>(
+        &mut self,
+        alloc: Global,
+        audience: &mut A,
         line: usize,
         batch: &Batch,
         answers: &mut Vec<Answer>,
-    ) -> Result<Vec<Found>, NoMemory>
-        requires here { slice_get items.now line ≡ Some (pending.Waiting batch.now) }
-        requires due { AreDue self.old.settings items.now answers.old.items }
-        ensures found { IfOk result (λ found. map found_value found.items ≡ due_to batch.now) }
-        ensures fit { IfOk result (λ found. All (IsFor self.old.settings) found.items) }
-        ensures due { OnOk result (AreDue self.old.settings items.now answers.new.items) }
-        ensures same { self.new ≡ self.old }
-    {
-        let mut all = Vec::with_capacity(alloc, batch.drafts.len())?;
-        for article in 0..batch.drafts.len() {
-            let found = self.find_one(alloc, line, batch, article, answers)?;
-            all.push(found)?;
-        }
-        Ok(all)
-    }
-
-    /// Delivers what was found of the articles of the line of this number, and gives the text of its reply.
-    fn deliver<A: Audience>(
-        &mut self,
-        alloc: Global,
-        audience: &mut A,
-        number: u64,
-        found: &[Found],
-    ) -> Result<Vec<u8>, NoMemory>
-        requires { All (IsFor self.old.settings) found.now }
-        ensures text { IfOk result (λ text. text.items
-            ≡ found_text self.old.settings.form (A.hearers audience.old) number (map found_value found.now)) }
+        flow: &mut Flow<'_, W>,
+    ) -> Result<(), RunFault>
+        requires waits { WaitsAt self.old.settings line batch.now answers.old.items }
+        ensures same_reference { flow.new.writer.ghost_name ≡ flow.old.writer.ghost_name }
         ensures heard { OnOk result (A.hearers audience.new
-            ≡ told_all (told_in (map found_value found.now)) (A.hearers audience.old)) }
+            ≡ told_all (owed_to (A.hearers audience.old) batch.now).alerts (A.hearers audience.old)) }
         ensures crew { OnOk result (self.new ≡ record self.old {
           rows = self.old.rows ++ kept_rows self.old.settings.keeps_rows
-              (rows_in (A.hearers audience.old) number (map found_value found.now));
+              (owed_to (A.hearers audience.old) batch.now).rows;
         }) }
-        ensures err { OnErr result (HearsFront (told_in (map found_value found.now))
+        ensures due { OnOk result (KeepsDue self.old.settings line batch.now answers.old.items answers.new.items) }
+        ensures moved { OnOk result (HandsOver (W.taken flow.old.writer.now)
+            (flow.old.outbox.now ++ (owed_to (A.hearers audience.old) batch.now).text self.old.settings.form)
+            (W.taken flow.new.writer.now) flow.new.outbox.now) }
+        ensures well { OnOk result (W.has_failed flow.new.writer.now ≡ W.has_failed flow.old.writer.now) }
+        ensures fault { IfErr result (λ e. e ≢ RunFault.Read) }
+        ensures write { result ≡ Err RunFault.Write → W.has_failed flow.new.writer.now ≡ true }
+        ensures err { OnErr result (HearsFront (owed_to (A.hearers audience.old) batch.now).alerts
             (A.hearers audience.old) (A.hearers audience.new)) }
+        ensures front { OnErr result (AppendsFront (W.taken flow.old.writer.now) (W.taken flow.new.writer.now)
+            (flow.old.outbox.now ++ (owed_to (A.hearers audience.old) batch.now).text self.old.settings.form)) }
     {
-        deliver_shown(alloc, audience, &mut self.books, number, found)
+        let mut reply = MatchReply::begin(alloc, flow, batch.number)?;
+        for article in 0..batch.drafts.len() {
+            let found = self.find_one(alloc, line, batch, article, answers)?;
+            self.add(alloc, audience, &mut reply, flow, &found)?;
+        }
+        reply.end(alloc, flow)
     }
 
-    /// Gives what is owed to the line at a place of the lines: its text, once its alerts are delivered.
-    fn settle<A: Audience>(
+    /// Puts what is owed to the line at a place of the lines into the flow, and delivers its alerts.
+    fn settle<A: Audience, W: Sink>(
         &mut self,
         alloc: Global,
         audience: &mut A,
         items: &[Pending],
         line: usize,
         answers: &mut Vec<Answer>,
-    ) -> Result<Vec<u8>, NoMemory>
+        flow: &mut Flow<'_, W>,
+    ) -> Result<(), RunFault>
         requires { AreDue self.old.settings items.now answers.old.items }
-        ensures text { IfOk result (λ text. text.items
-            ≡ (owed_of (A.hearers audience.old) (owed_at items.now line)).text self.old.settings.form) }
+        ensures same_reference { flow.new.writer.ghost_name ≡ flow.old.writer.ghost_name }
         ensures heard { OnOk result (A.hearers audience.new
             ≡ told_all (owed_of (A.hearers audience.old) (owed_at items.now line)).alerts (A.hearers audience.old)) }
         ensures crew { OnOk result (self.new ≡ record self.old {
@@ -191,18 +223,26 @@ impl<'r, 'd, 'g, R: Threads + Wait + Sync, N: DeskName, G: Gate + Clone + Send +
               (owed_of (A.hearers audience.old) (owed_at items.now line)).rows;
         }) }
         ensures due { OnOk result (AreDue self.old.settings items.now answers.new.items) }
+        ensures moved { OnOk result (HandsOver (W.taken flow.old.writer.now) (flow.old.outbox.now
+            ++ (owed_of (A.hearers audience.old) (owed_at items.now line)).text self.old.settings.form)
+            (W.taken flow.new.writer.now) flow.new.outbox.now) }
+        ensures well { OnOk result (W.has_failed flow.new.writer.now ≡ W.has_failed flow.old.writer.now) }
+        ensures fault { IfErr result (λ e. e ≢ RunFault.Read) }
+        ensures write { result ≡ Err RunFault.Write → W.has_failed flow.new.writer.now ≡ true }
         ensures err { OnErr result (HearsFront (owed_of (A.hearers audience.old) (owed_at items.now line)).alerts
             (A.hearers audience.old) (A.hearers audience.new)) }
+        ensures front { OnErr result (AppendsFront (W.taken flow.old.writer.now) (W.taken flow.new.writer.now)
+            (flow.old.outbox.now
+            ++ (owed_of (A.hearers audience.old) (owed_at items.now line)).text self.old.settings.form)) }
     {
         let Some(item) = items.get(line) else {
-            return Ok(Vec::new(alloc));
+            return Ok(());
         };
         match item {
-            Pending::Ready(text) => Ok(Vec::from_slice(alloc, text.as_slice())?),
-            Pending::Waiting(batch) => {
-                let found = self.find(alloc, items, line, batch, answers)?;
-                self.deliver(alloc, audience, batch.number, &found)
-            }
+            Pending::Ready(text) => flow.put(text),
+            Pending::Waiting(batch) => self.settle_batch(
+                alloc, audience, line, batch, answers, flow,
+            ),
         }
     }
 
@@ -232,8 +272,7 @@ impl<'r, 'd, 'g, R: Threads + Wait + Sync, N: DeskName, G: Gate + Clone + Send +
             (W.taken flow.new.writer.now)) }
     {
         for line in 0..items.len() {
-            let text = self.settle(alloc, audience, items, line, &mut answers)?;
-            flow.put(&text)?;
+            self.settle(alloc, audience, items, line, &mut answers, flow)?;
         }
         Ok(())
     }
@@ -326,7 +365,7 @@ impl<'r, 'd, 'g, R: Threads + Wait + Sync, N: DeskName, G: Gate + Clone + Send +
     /// `NoMemory` where an allocation failed or a listener answers it, `Write` where the writer fails; the listeners
     /// have heard a prefix of the alerts of what was owed and of the line then, and a prefix of their text is put.
     /// Cost: that of `take_line_unread`; and of what is given that of `Batch::find` for each article, shared among the
-    /// helpers and this thread, and that of `deliver_shown`. It waits for helpers that have taken an article.
+    /// helpers and this thread, and that of `MatchReply::add_found`. It waits for helpers that have taken an article.
     pub fn answer<A: Audience, W: Sink>(
         &mut self,
         alloc: Global,

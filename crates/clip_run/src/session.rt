@@ -193,8 +193,9 @@ fn run_desk<
 ///
 /// Cost: that of `run_alone`, of which matches and merges are shared among threads; for 32 match lines or fewer the
 /// start of as many threads as there are workers but one; and for each change a view. Memory: that of `run_alone`, with
-/// up to 32 batches, some 16 MiB of what was found of them and an article for each thread more, the reply to one line,
-/// and those to the lines that wait behind them.
+/// up to 32 batches, some 16 MiB of what was found of them and an article for each thread more, the text that one
+/// article has in a reply, and the replies to the other lines that wait among them. What was found of an article is let
+/// go once its part of the reply is put, so the reply to a line of many articles is not held.
 pub fn run<
     R: Threads + Wait + Sync,
     S: Source,

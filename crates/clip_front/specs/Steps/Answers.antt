@@ -49,7 +49,7 @@ pub record Replies (old new : History) (m : Meaning) (r : Reply) : Type 0 where
   pub history : new ≡ after old m
   pub reply : (form : Form) (hearers : List Hearer) → r ≡ answer_to form hearers old m
 
--- The same by a line that says this.
+-- Such a line says this, and this is the reply to it.
 abbrev pub Settles : List (List ℕ) → History → History → Outline → Reply → Type 0
 Settles names old new o r = (m : Meaning) × MeansOutline names old o m × Replies old new m r
 
@@ -86,7 +86,7 @@ pub record GoesOn (old new : Held) (n : ℕ) (m : Meaning) (text : List ℕ) : T
   pub leaves : new ≡ held_after old n m
   pub replies : text ≡ reply old.settings.form old.hearers n old.history m
 
--- The same by a line of these bytes.
+-- The run goes on by line n, which is these bytes, and this is the text of the reply.
 pub record Answers (old new : Held) (n : ℕ) (line text : List ℕ) : Type 0 where
   pub meaning : Meaning
   pub means : Means (names_in old.hearers) old.history line meaning

@@ -36,7 +36,7 @@ abbrev pub Takes : List (List ℕ) → History → History → ℕ → List ℕ 
 Takes names old new n line (taken.Text text) = TakesQuietly names old new n line text.items
 Takes names old new n line (taken.Articles articles) = Means names old line (matching articles.items) × (new ≡ old)
 
--- The same, where drafts stand for their articles.
+-- From the first history to the second by line n, where this is what it comes to, and drafts stand for the articles.
 abbrev pub TakesUnread : List (List ℕ) → History → History → ℕ → List ℕ → TakenUnread → Type 0
 TakesUnread names old new n line (unread.Text text) = TakesQuietly names old new n line text.items
 TakesUnread names old new n line (unread.Drafts drafts) = Means names old line (matching drafts.items) × (new ≡ old)

@@ -27,7 +27,7 @@ pub record PutsFront (fault : RunFault) (old new : Stand) (bytes : List ℕ) : T
   pub failed : fault ≡ Write → new.failed ≡ true
   pub front : AppendsFront old.taken new.taken (old.waiting ++ bytes)
 
--- the same, where a text waits behind
+-- where the writer stands, and a text that waits behind what waited
 abbrev pub with_text : Stand → List ℕ → Stand
 with_text s text = record { taken = s.taken; failed = s.failed; waiting = s.waiting ++ text }
 

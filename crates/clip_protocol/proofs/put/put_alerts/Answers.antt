@@ -1,27 +1,25 @@
-use Rattle.std.proofs.Common.{◌≡◌, List, ℕ, [], ◌++◌, Option, ap, subst, append-nil, ◌∙◌}
-use Rattle.std.proofs.lemmas.Result.{on_err_weaker, on_ok_weaker}
-use Rattle.clip_standing.specs.Alerts.{alerts_value}
-use Rattle.clip_stream.specs.Device.{HandsOver}
-use Rattle.clip_protocol.specs.Reply.{alerts_data}
+use Rattle.std.proofs.Common.{◌≡◌, ◌++◌, ◌∙◌, Bool, List, OnErr, ℕ, ap, map, subst}
+use Rattle.clip_model.specs.Alerts.{Alert}
+use Rattle.clip_standing.specs.Alerts.{alert_value}
+use Rattle.clip_stream.specs.Device.{AppendsFront}
+use Rattle.clip_protocol.specs.Reply.{article_data, query_ids}
 use Rattle.clip_protocol.specs.Steps.Flowing.{item_text}
-use Rattle.clip_protocol.specs.Steps.Views.{alerts_by_id}
-use Rattle.clip_protocol.proofs.Putting.{front_of_held, handed_on}
+use Rattle.clip_protocol.specs.declared.form.Form.{Form}
 use Rattle.clip_protocol.proofs.put.put_alerts.Goals as goal
 
--- no text stood behind what was gathered
-begun_empty : (old new : Option (List ℕ)) (gathered text whole left : List ℕ) → text ≡ [] → HandsOver old ((gathered ++ text) ++ whole) new left → HandsOver old (gathered ++ whole) new left
-begun_empty old new gathered text whole left none p = subst (λ t. HandsOver old (t ++ whole) new left) (ap (λ t. gathered ++ t) none ∙ append-nil gathered) p
-
-pub returns-clause-moved : goal.returns-clause-moved
-returns-clause-moved g c =
-    let taken = g.W.Sink.taken in
-    let whole = item_text c.args.later (alerts_data c.args.form (alerts_by_id (alerts_value c.args.alerts.now))) in
-    let first = begun_empty (taken c.args.flow.now.writer.now) (taken c.put_article.new.flow.writer.now) c.args.flow.now.outbox.now c.new.result.items whole (c.put_article.new.flow.outbox.now ++ c.in_ok-text.text.items) c.new.ensures.items c.in_ok-text.ensures.puts.handed in
-    on_ok_weaker c.put.result (handed_on (taken c.args.flow.now.writer.now) (taken c.put_article.new.flow.writer.now) (taken c.put.new.self.writer.now) (c.args.flow.now.outbox.now ++ whole) (c.put_article.new.flow.outbox.now ++ c.in_ok-text.text.items) c.put.new.self.outbox.now first) (rw c.deref.ensures.value at c.put.ensures.moved)
+same_part : (form : Form) (later : Bool) (i j : List ℕ) (p q : List (List ℕ)) (a b : List Alert) → i ≡ j → p ≡ q → a ≡ b
+    → item_text later (article_data form i p a) ≡ item_text later (article_data form j q b)
+same_part form later i j p q a b same_id same_queries same_alerts =
+    λ k. item_text later (article_data form (same_id k) (same_queries k) (same_alerts k))
 
 pub returns-clause-front : goal.returns-clause-front
 returns-clause-front g c =
+    let ids = ap (map (λ id. id.now)) c.deref-2.ensures.value ∙ c.in_ok-queries.ensures
+    ∙ ap (λ alerts. query_ids (map alert_value alerts)) c.deref.ensures.value in
+    let whole = same_part c.args.form c.args.later _ _ _ _ _ _ c.as_str.ensures.value ids
+    (ap (map alert_value) c.deref-3.ensures.value) in
     let taken = g.W.Sink.taken in
-    let whole = item_text c.args.later (alerts_data c.args.form (alerts_by_id (alerts_value c.args.alerts.now))) in
-    let first = begun_empty (taken c.args.flow.now.writer.now) (taken c.put_article.new.flow.writer.now) c.args.flow.now.outbox.now c.new.result.items whole (c.put_article.new.flow.outbox.now ++ c.in_ok-text.text.items) c.new.ensures.items c.in_ok-text.ensures.puts.handed in
-    on_err_weaker c.put.result (front_of_held (taken c.args.flow.now.writer.now) (taken c.put_article.new.flow.writer.now) (taken c.put.new.self.writer.now) (c.args.flow.now.outbox.now ++ whole) (c.put_article.new.flow.outbox.now ++ c.in_ok-text.text.items) first) (rw c.deref.ensures.value at c.put.ensures.front)
+    let P : List ℕ → Type 0 = λ t. OnErr c.put_part.result
+    (AppendsFront (taken c.args.flow.now.writer.now) (taken c.put_part.new.flow.writer.now)
+    (c.args.flow.now.outbox.now ++ t)) in
+    subst P whole c.put_part.ensures.front

@@ -4,11 +4,11 @@ use Rattle.serde_json.specs.Data.{string}
 use Rattle.serde_json.specs.View.{items_of}
 use Rattle.serde_json.specs.Written.{comma_if, items_text}
 use Rattle.clip_model.specs.Alerts.{Alert}
-use Rattle.clip_standing.specs.Alerts.{alerts_value}
-use Rattle.clip_protocol.specs.Reply.{alerts_data}
+use Rattle.clip_standing.specs.Alerts.{alert_value}
+use Rattle.clip_protocol.specs.Reply.{article_data}
 use Rattle.clip_protocol.specs.Steps.Flowing.{Data, article_begun, hits_member, item_text, items_begun}
 use Rattle.clip_protocol.specs.Steps.Putting.{Puts, Stand, stand, with_text}
-use Rattle.clip_protocol.specs.Steps.Views.{alerts_by_id}
+use Rattle.clip_protocol.specs.Steps.Parts.{part_text}
 use Rattle.clip_protocol.specs.declared.form.Form.{Form}
 use Rattle.clip_protocol.specs.declared.form.Form.TheVariants.{Plain, WithHits}
 use Rattle.clip_protocol.proofs.Printed.{items_closed}
@@ -23,17 +23,17 @@ named = 44 ∷ 34 ∷ (codes "queries" ++ 34 ∷ 58 ∷ 91 ∷ [])
 abbrev ended : List ℕ
 ended = 93 ∷ 125 ∷ []
 
-abbrev ids : List Alert → List Data
-ids alerts = map string (map (λ a. a.query) alerts)
+abbrev ids : List (List ℕ) → List Data
+ids queries = map string queries
 
 closed : (ds : List Data) → items_text false (items_of ds) ++ 125 ∷ [] ≡ items_begun false ds ++ ended
 closed ds = ap (λ t. t ++ 125 ∷ []) (sym (items_closed false ds)) ∙ append_assoc (items_begun false ds) (93 ∷ []) (125 ∷ [])
 
-parts : (form : Form) (later : Bool) (id : List ℕ) (alerts : List Alert)
-    → item_text later (alerts_data form (id, alerts)) ≡ comma_if later ++ (article_begun id ++ (hits_member form alerts ++ (named ++ (items_begun false (ids alerts) ++ ended))))
+parts : (form : Form) (later : Bool) (id : List ℕ) (queries : List (List ℕ)) (alerts : List Alert)
+    → item_text later (article_data form id queries alerts) ≡ comma_if later ++ (article_begun id ++ (hits_member form alerts ++ (named ++ (items_begun false (ids queries) ++ ended))))
 unfolding escape_byte
-parts Plain later id alerts = ap (λ t. comma_if later ++ (article_begun id ++ (named ++ t))) (closed (ids alerts))
-parts WithHits later id alerts = ap (λ t. comma_if later ++ (article_begun id ++ (hits_member WithHits alerts ++ (named ++ t)))) (closed (ids alerts))
+parts Plain later id queries alerts = ap (λ t. comma_if later ++ (article_begun id ++ (named ++ t))) (closed (ids queries))
+parts WithHits later id queries alerts = ap (λ t. comma_if later ++ (article_begun id ++ (hits_member WithHits alerts ++ (named ++ t)))) (closed (ids queries))
 
 up_to_hits : (c b h q i e : List ℕ) → c ++ (b ++ (h ++ (q ++ (i ++ e)))) ≡ ((c ++ b) ++ h) ++ (q ++ (i ++ e))
 up_to_hits c b h q i e = simp append_assoc
@@ -57,78 +57,88 @@ listed old now later first queries t3 t4 t5 p e q = puts_more old (with_text now
 
 pub returns-in_err-text-2-clause-puts : goal.returns-in_err-text-2-clause-puts
 returns-in_err-text-2-clause-puts g c =
-    let found = alerts_value c.args.found.now in
+    let part = c.args.part in
+    let alerts = map alert_value part.alerts.now in
+    let listed_ids = map (λ id. id.now) part.queries.now in
     let here = stand g.W.Sink.taken g.W.Sink.has_failed c.args.flow.now.writer.now c.args.flow.now.outbox.now in
     let old = with_text here c.args.text.items in
     let now = stand g.W.Sink.taken g.W.Sink.has_failed c.put_hits_member.new.flow.writer.now c.put_hits_member.new.flow.outbox.now in
-    let comma = comma_if c.args.later in
-    let begun = article_begun found.article in
-    let hits = hits_member c.args.form found.alerts in
-    let queries = items_begun false (ids found.alerts) in
-    let first = puts_one old here c.separate.new.text.items c.in_ok-text.text.items comma begun (puts_written here c.args.text.items c.separate.new.text.items comma c.in_ok-separate.ensures) (rw c.as_str.ensures.value at c.in_ok-text.ensures) in
-    let whole = parts c.args.form c.args.later found.article found.alerts ∙ up_to_hits comma begun hits named queries ended in
-    broken c.from_residual-in_err-text-2.result _ old (with_text here c.in_ok-text.text.items) now (comma ++ begun) hits (named ++ (queries ++ ended)) (item_text c.args.later (alerts_data c.args.form (alerts_by_id found))) c.from_residual-in_err-text-2.ensures.1 whole first
-    (rw c.deref.ensures.value at c.in_err-text-2.ensures.puts)
+    let comma = comma_if part.later in
+    let begun = article_begun part.article.now in
+    let hits = hits_member part.form alerts in
+    let queries = items_begun false (ids listed_ids) in
+    let first = puts_one old here c.separate.new.text.items c.in_ok-text.text.items comma begun (puts_written here c.args.text.items c.separate.new.text.items comma c.in_ok-separate.ensures) c.in_ok-text.ensures in
+    let whole = parts part.form part.later part.article.now listed_ids alerts ∙ up_to_hits comma begun hits named queries ended in
+    broken c.from_residual-in_err-text-2.result _ old (with_text here c.in_ok-text.text.items) now (comma ++ begun) hits (named ++ (queries ++ ended)) (part_text part) c.from_residual-in_err-text-2.ensures.1 whole first
+    c.in_err-text-2.ensures.puts
 
 pub returns-in_err-extend_from_slice-clause-puts : goal.returns-in_err-extend_from_slice-clause-puts
 returns-in_err-extend_from_slice-clause-puts g c =
-    let found = alerts_value c.args.found.now in
+    let part = c.args.part in
+    let alerts = map alert_value part.alerts.now in
+    let listed_ids = map (λ id. id.now) part.queries.now in
     let here = stand g.W.Sink.taken g.W.Sink.has_failed c.args.flow.now.writer.now c.args.flow.now.outbox.now in
     let now = stand g.W.Sink.taken g.W.Sink.has_failed c.put_hits_member.new.flow.writer.now c.put_hits_member.new.flow.outbox.now in
-    let comma = comma_if c.args.later in
-    let begun = article_begun found.article in
-    let hits = hits_member c.args.form found.alerts in
-    let queries = items_begun false (ids found.alerts) in
-    let most = shown here now comma begun hits c.args.text.items c.separate.new.text.items c.in_ok-text.text.items c.in_ok-text-2.text.items c.in_ok-separate.ensures (rw c.as_str.ensures.value at c.in_ok-text.ensures) (rw c.deref.ensures.value at c.in_ok-text-2.ensures.puts) in
-    let whole = parts c.args.form c.args.later found.article found.alerts ∙ up_to_hits comma begun hits named queries ended in
-    refused c.from_residual-in_err-extend_from_slice.result _ now c.in_ok-text-2.text.items ((comma ++ begun) ++ hits) (named ++ (queries ++ ended)) (item_text c.args.later (alerts_data c.args.form (alerts_by_id found))) c.from_residual-in_err-extend_from_slice.ensures.1 whole most
+    let comma = comma_if part.later in
+    let begun = article_begun part.article.now in
+    let hits = hits_member part.form alerts in
+    let queries = items_begun false (ids listed_ids) in
+    let most = shown here now comma begun hits c.args.text.items c.separate.new.text.items c.in_ok-text.text.items c.in_ok-text-2.text.items c.in_ok-separate.ensures c.in_ok-text.ensures c.in_ok-text-2.ensures.puts in
+    let whole = parts part.form part.later part.article.now listed_ids alerts ∙ up_to_hits comma begun hits named queries ended in
+    refused c.from_residual-in_err-extend_from_slice.result _ now c.in_ok-text-2.text.items ((comma ++ begun) ++ hits) (named ++ (queries ++ ended)) (part_text part) c.from_residual-in_err-extend_from_slice.ensures.1 whole most
 
 pub returns-in_err-text-3-clause-puts : goal.returns-in_err-text-3-clause-puts
 returns-in_err-text-3-clause-puts g c =
-    let found = alerts_value c.args.found.now in
+    let part = c.args.part in
+    let alerts = map alert_value part.alerts.now in
+    let listed_ids = map (λ id. id.now) part.queries.now in
     let here = stand g.W.Sink.taken g.W.Sink.has_failed c.args.flow.now.writer.now c.args.flow.now.outbox.now in
     let old = with_text here c.args.text.items in
     let now = stand g.W.Sink.taken g.W.Sink.has_failed c.put_hits_member.new.flow.writer.now c.put_hits_member.new.flow.outbox.now in
-    let later = stand g.W.Sink.taken g.W.Sink.has_failed c.put_queries.new.flow.writer.now c.put_queries.new.flow.outbox.now in
-    let comma = comma_if c.args.later in
-    let begun = article_begun found.article in
-    let hits = hits_member c.args.form found.alerts in
-    let queries = items_begun false (ids found.alerts) in
-    let most = shown here now comma begun hits c.args.text.items c.separate.new.text.items c.in_ok-text.text.items c.in_ok-text-2.text.items c.in_ok-separate.ensures (rw c.as_str.ensures.value at c.in_ok-text.ensures) (rw c.deref.ensures.value at c.in_ok-text-2.ensures.puts) in
+    let later = stand g.W.Sink.taken g.W.Sink.has_failed c.put_ids.new.flow.writer.now c.put_ids.new.flow.outbox.now in
+    let comma = comma_if part.later in
+    let begun = article_begun part.article.now in
+    let hits = hits_member part.form alerts in
+    let queries = items_begun false (ids listed_ids) in
+    let most = shown here now comma begun hits c.args.text.items c.separate.new.text.items c.in_ok-text.text.items c.in_ok-text-2.text.items c.in_ok-separate.ensures c.in_ok-text.ensures c.in_ok-text-2.ensures.puts in
     let next = puts_one old now c.in_ok-text-2.text.items c.extend_from_slice.new.self.items ((comma ++ begun) ++ hits) named most c.in_ok-extend_from_slice.ensures.items in
-    let whole = parts c.args.form c.args.later found.article found.alerts ∙ up_to_ids comma begun hits named queries ended in
-    broken c.from_residual-in_err-text-3.result _ old (with_text now c.extend_from_slice.new.self.items) later (((comma ++ begun) ++ hits) ++ named) queries ended (item_text c.args.later (alerts_data c.args.form (alerts_by_id found))) c.from_residual-in_err-text-3.ensures.1 whole next
-    (rw c.deref-2.ensures.value at c.in_err-text-3.ensures.puts)
+    let whole = parts part.form part.later part.article.now listed_ids alerts ∙ up_to_ids comma begun hits named queries ended in
+    broken c.from_residual-in_err-text-3.result _ old (with_text now c.extend_from_slice.new.self.items) later (((comma ++ begun) ++ hits) ++ named) queries ended (part_text part) c.from_residual-in_err-text-3.ensures.1 whole next
+    c.in_err-text-3.ensures.puts
 
 pub returns-in_err-extend_from_slice-2-clause-puts : goal.returns-in_err-extend_from_slice-2-clause-puts
 returns-in_err-extend_from_slice-2-clause-puts g c =
-    let found = alerts_value c.args.found.now in
+    let part = c.args.part in
+    let alerts = map alert_value part.alerts.now in
+    let listed_ids = map (λ id. id.now) part.queries.now in
     let here = stand g.W.Sink.taken g.W.Sink.has_failed c.args.flow.now.writer.now c.args.flow.now.outbox.now in
     let old = with_text here c.args.text.items in
     let now = stand g.W.Sink.taken g.W.Sink.has_failed c.put_hits_member.new.flow.writer.now c.put_hits_member.new.flow.outbox.now in
-    let later = stand g.W.Sink.taken g.W.Sink.has_failed c.put_queries.new.flow.writer.now c.put_queries.new.flow.outbox.now in
-    let comma = comma_if c.args.later in
-    let begun = article_begun found.article in
-    let hits = hits_member c.args.form found.alerts in
-    let queries = items_begun false (ids found.alerts) in
-    let most = shown here now comma begun hits c.args.text.items c.separate.new.text.items c.in_ok-text.text.items c.in_ok-text-2.text.items c.in_ok-separate.ensures (rw c.as_str.ensures.value at c.in_ok-text.ensures) (rw c.deref.ensures.value at c.in_ok-text-2.ensures.puts) in
-    let all = listed old now later ((comma ++ begun) ++ hits) queries c.in_ok-text-2.text.items c.extend_from_slice.new.self.items c.in_ok-text-3.text.items most c.in_ok-extend_from_slice.ensures.items (rw c.deref-2.ensures.value at c.in_ok-text-3.ensures.puts) in
-    let whole = parts c.args.form c.args.later found.article found.alerts ∙ up_to_ids comma begun hits named queries ended in
-    refused c.from_residual-in_err-extend_from_slice-2.result _ later c.in_ok-text-3.text.items ((((comma ++ begun) ++ hits) ++ named) ++ queries) ended (item_text c.args.later (alerts_data c.args.form (alerts_by_id found))) c.from_residual-in_err-extend_from_slice-2.ensures.1 whole all
+    let later = stand g.W.Sink.taken g.W.Sink.has_failed c.put_ids.new.flow.writer.now c.put_ids.new.flow.outbox.now in
+    let comma = comma_if part.later in
+    let begun = article_begun part.article.now in
+    let hits = hits_member part.form alerts in
+    let queries = items_begun false (ids listed_ids) in
+    let most = shown here now comma begun hits c.args.text.items c.separate.new.text.items c.in_ok-text.text.items c.in_ok-text-2.text.items c.in_ok-separate.ensures c.in_ok-text.ensures c.in_ok-text-2.ensures.puts in
+    let all = listed old now later ((comma ++ begun) ++ hits) queries c.in_ok-text-2.text.items c.extend_from_slice.new.self.items c.in_ok-text-3.text.items most c.in_ok-extend_from_slice.ensures.items c.in_ok-text-3.ensures.puts in
+    let whole = parts part.form part.later part.article.now listed_ids alerts ∙ up_to_ids comma begun hits named queries ended in
+    refused c.from_residual-in_err-extend_from_slice-2.result _ later c.in_ok-text-3.text.items ((((comma ++ begun) ++ hits) ++ named) ++ queries) ended (part_text part) c.from_residual-in_err-extend_from_slice-2.ensures.1 whole all
 
 pub returns-clause-puts : goal.returns-clause-puts
 returns-clause-puts g c =
-    let found = alerts_value c.args.found.now in
+    let part = c.args.part in
+    let alerts = map alert_value part.alerts.now in
+    let listed_ids = map (λ id. id.now) part.queries.now in
     let here = stand g.W.Sink.taken g.W.Sink.has_failed c.args.flow.now.writer.now c.args.flow.now.outbox.now in
     let old = with_text here c.args.text.items in
     let now = stand g.W.Sink.taken g.W.Sink.has_failed c.put_hits_member.new.flow.writer.now c.put_hits_member.new.flow.outbox.now in
-    let later = stand g.W.Sink.taken g.W.Sink.has_failed c.put_queries.new.flow.writer.now c.put_queries.new.flow.outbox.now in
-    let comma = comma_if c.args.later in
-    let begun = article_begun found.article in
-    let hits = hits_member c.args.form found.alerts in
-    let queries = items_begun false (ids found.alerts) in
-    let most = shown here now comma begun hits c.args.text.items c.separate.new.text.items c.in_ok-text.text.items c.in_ok-text-2.text.items c.in_ok-separate.ensures (rw c.as_str.ensures.value at c.in_ok-text.ensures) (rw c.deref.ensures.value at c.in_ok-text-2.ensures.puts) in
-    let all = listed old now later ((comma ++ begun) ++ hits) queries c.in_ok-text-2.text.items c.extend_from_slice.new.self.items c.in_ok-text-3.text.items most c.in_ok-extend_from_slice.ensures.items (rw c.deref-2.ensures.value at c.in_ok-text-3.ensures.puts) in
-    let whole = parts c.args.form c.args.later found.article found.alerts ∙ up_to_ids comma begun hits named queries ended in
+    let later = stand g.W.Sink.taken g.W.Sink.has_failed c.put_ids.new.flow.writer.now c.put_ids.new.flow.outbox.now in
+    let comma = comma_if part.later in
+    let begun = article_begun part.article.now in
+    let hits = hits_member part.form alerts in
+    let queries = items_begun false (ids listed_ids) in
+    let most = shown here now comma begun hits c.args.text.items c.separate.new.text.items c.in_ok-text.text.items c.in_ok-text-2.text.items c.in_ok-separate.ensures c.in_ok-text.ensures c.in_ok-text-2.ensures.puts in
+    let all = listed old now later ((comma ++ begun) ++ hits) queries c.in_ok-text-2.text.items c.extend_from_slice.new.self.items c.in_ok-text-3.text.items most c.in_ok-extend_from_slice.ensures.items c.in_ok-text-3.ensures.puts in
+    let whole = parts part.form part.later part.article.now listed_ids alerts ∙ up_to_ids comma begun hits named queries ended in
     subst (Puts old (with_text later c.extend_from_slice-2.new.self.items)) (sym whole)
     (puts_one old later c.in_ok-text-3.text.items c.extend_from_slice-2.new.self.items ((((comma ++ begun) ++ hits) ++ named) ++ queries) ended all c.in_ok-extend_from_slice-2.ensures.items)

@@ -4,7 +4,8 @@ use Rattle.clip_match.specs.Alerts.{alerts_due}
 use Rattle.clip_stream.specs.Device.{AppendsFront, HandsOver}
 use Rattle.clip_stream.proofs.Faults.{on_err, on_ok}
 use Rattle.clip_stream.proofs.Flows.{handed_more, none_taken}
-use Rattle.clip_standing.specs.Alerts.{AlertsValue, alerts_value}
+use Rattle.clip_standing.specs.Alerts.{AlertsValue}
+use Rattle.clip_match.specs.Steps.Due.{due_value}
 use Rattle.clip_listen.specs.Heard.{told_all, note_value, notes_of, HearsFront}
 use Rattle.clip_listen.proofs.Hearing.{element, no_front, told_none}
 use Rattle.clip_protocol.specs.Reply.{alerts_data}
@@ -53,12 +54,12 @@ loop-article-preserved g c =
     let vs = map (alerts_due c.args.view.now) c.args.articles.now in
     let v = alerts_due c.args.view.now c.article-item.result in
     let it = element (alerts_due c.args.view.now) c.args.articles.now c.args.articles.now i c.article-item.result refl c.loop-article-test.true c.article-item.is in
-    let is = c.in_ok-alerts.ensures.due in
+    let is = c.in_ok-due.ensures.due in
     let before = c.loop-article.invariant in
-    let added = c.in_ok-add.ensures in
-    let same = item_same c.loop-article.answer.has_article i form c.loop-article.books.settings.form v (alerts_value c.in_ok-alerts.alerts) before.later (ap (λ k. k.form) before.settings) is in
-    let P : List ℕ → Type 0 = λ t. HandsOver (g.W.Sink.taken c.args.flow.now.writer.now) (c.args.flow.now.outbox.now ++ t) (g.W.Sink.taken c.add.new.flow.writer.now) c.add.new.flow.outbox.now in
-    let posted = added.rows ∙ ap (λ n. c.loop-article.books.ledger ++ kept_rows c.loop-article.books.settings.keeps_rows (rows_of_article (hearers c.loop-article.audience) n (alerts_value c.in_ok-alerts.alerts).alerts)) before.number
+    let added = c.in_ok-answer_article.ensures in
+    let same = item_same c.loop-article.answer.has_article i form c.loop-article.books.settings.form v (due_value c.in_ok-due.due) before.later (ap (λ k. k.form) before.settings) is in
+    let P : List ℕ → Type 0 = λ t. HandsOver (g.W.Sink.taken c.args.flow.now.writer.now) (c.args.flow.now.outbox.now ++ t) (g.W.Sink.taken c.answer_article.new.flow.writer.now) c.answer_article.new.flow.outbox.now in
+    let posted = added.rows ∙ ap (λ n. c.loop-article.books.ledger ++ kept_rows c.loop-article.books.settings.keeps_rows (rows_of_article (hearers c.loop-article.audience) n (due_value c.in_ok-due.due).alerts)) before.number
     ∙ ap (λ w. c.loop-article.books.ledger ++ kept_rows c.loop-article.books.settings.keeps_rows (rows_of_article (hearers c.loop-article.audience) c.args.number w.alerts)) is in
     record {
       same_reference = added.same_reference ∙ before.same_reference;
@@ -69,16 +70,16 @@ loop-article-preserved g c =
       notes = added.notes ∙ notes_next vs i v _ _ _ _ it.0 it.1 before.heard before.notes (ap (λ w. notes_of (hearers c.loop-article.audience) w.alerts) is);
       rows = posted_next vs i c.args.number v _ _ c.args.books.now.settings.keeps_rows c.loop-article.books.settings.keeps_rows c.args.books.now.ledger c.loop-article.books.ledger _ it.0 it.1 before.heard (ap (λ k. k.keeps_rows) before.settings) before.rows posted;
       settings = added.settings ∙ before.settings;
-      handed = subst P (ap (λ t. begun_text (data_of form vs) i ++ t) same ∙ put_next form vs i v it.0 it.1) (handed_more _ _ _ c.args.flow.now.outbox.now c.loop-article.flow.outbox.now c.add.new.flow.outbox.now (begun_text (data_of form vs) i) _ before.handed added.moved);
+      handed = subst P (ap (λ t. begun_text (data_of form vs) i ++ t) same ∙ put_next form vs i v it.0 it.1) (handed_more _ _ _ c.args.flow.now.outbox.now c.loop-article.flow.outbox.now c.answer_article.new.flow.outbox.now (begun_text (data_of form vs) i) _ before.handed added.moved);
     }
 
-pub returns-in_err-alerts-clause-err : goal.returns-in_err-alerts-clause-err
-returns-in_err-alerts-clause-err g c =
+pub returns-in_err-due-clause-err : goal.returns-in_err-due-clause-err
+returns-in_err-due-clause-err g c =
     let hearers = g.A.Audience.hearers in
     on_err _ (subst (λ alerts. HearsFront alerts (hearers c.args.audience.now) (hearers c.loop-article.audience)) (told-alerts_due c.args.view.now c.args.articles.now) (heard_front (map (alerts_due c.args.view.now) c.args.articles.now) c.loop-article.article-index _ _ c.loop-article.invariant.heard))
 
-pub returns-in_err-alerts-clause-front : goal.returns-in_err-alerts-clause-front
-returns-in_err-alerts-clause-front g c =
+pub returns-in_err-due-clause-front : goal.returns-in_err-due-clause-front
+returns-in_err-due-clause-front g c =
     let form = c.args.books.now.settings.form in
     let hearers = g.A.Audience.hearers c.args.audience.now in
     let vs = map (alerts_due c.args.view.now) c.args.articles.now in
@@ -87,17 +88,17 @@ returns-in_err-alerts-clause-front g c =
     let e = sym (text-alerts_due form hearers c.args.number c.args.view.now c.args.articles.now) ∙ all.1 ∙ ap (λ t. t ++ all.0) (sym (append-nil first)) in
     on_err _ (front_of_whole _ _ _ c.args.flow.now.outbox.now c.loop-article.flow.outbox.now first [] all.0 _ e c.loop-article.invariant.handed (none_taken _ _))
 
-pub returns-in_err-add-clause-err : goal.returns-in_err-add-clause-err
-returns-in_err-add-clause-err g c =
+pub returns-in_err-answer_article-clause-err : goal.returns-in_err-answer_article-clause-err
+returns-in_err-answer_article-clause-err g c =
     let hearers = g.A.Audience.hearers in
     let vs = map (alerts_due c.args.view.now) c.args.articles.now in
     let v = alerts_due c.args.view.now c.article-item.result in
     let it = element (alerts_due c.args.view.now) c.args.articles.now c.args.articles.now c.loop-article.article-index c.article-item.result refl c.loop-article-test.true c.article-item.is in
-    let here = subst (λ w. HearsFront w.alerts (hearers c.loop-article.audience) (hearers c.add.new.audience)) c.in_ok-alerts.ensures.due c.in_err-add.ensures.err in
-    on_err _ (subst (λ alerts. HearsFront alerts (hearers c.args.audience.now) (hearers c.add.new.audience)) (told-alerts_due c.args.view.now c.args.articles.now) (front_here vs c.loop-article.article-index v _ _ _ it.0 it.1 c.loop-article.invariant.heard here))
+    let here = subst (λ w. HearsFront w.alerts (hearers c.loop-article.audience) (hearers c.answer_article.new.audience)) c.in_ok-due.ensures.due c.in_err-answer_article.ensures.err in
+    on_err _ (subst (λ alerts. HearsFront alerts (hearers c.args.audience.now) (hearers c.answer_article.new.audience)) (told-alerts_due c.args.view.now c.args.articles.now) (front_here vs c.loop-article.article-index v _ _ _ it.0 it.1 c.loop-article.invariant.heard here))
 
-pub returns-in_err-add-clause-front : goal.returns-in_err-add-clause-front
-returns-in_err-add-clause-front g c =
+pub returns-in_err-answer_article-clause-front : goal.returns-in_err-answer_article-clause-front
+returns-in_err-answer_article-clause-front g c =
     let i = c.loop-article.article-index in
     let form = c.args.books.now.settings.form in
     let hearers = g.A.Audience.hearers c.args.audience.now in
@@ -106,11 +107,11 @@ returns-in_err-add-clause-front g c =
     let it = element (alerts_due c.args.view.now) c.args.articles.now c.args.articles.now i c.article-item.result refl c.loop-article-test.true c.article-item.is in
     let before = c.loop-article.invariant in
     let first = begun_text (data_of form vs) i in
-    let more = item_text c.loop-article.answer.has_article (alerts_data c.loop-article.books.settings.form (alerts_by_id (alerts_value c.in_ok-alerts.alerts))) in
-    let same = item_same c.loop-article.answer.has_article i form c.loop-article.books.settings.form v (alerts_value c.in_ok-alerts.alerts) before.later (ap (λ k. k.form) before.settings) c.in_ok-alerts.ensures.due in
+    let more = item_text c.loop-article.answer.has_article (alerts_data c.loop-article.books.settings.form (alerts_by_id (due_value c.in_ok-due.due))) in
+    let same = item_same c.loop-article.answer.has_article i form c.loop-article.books.settings.form v (due_value c.in_ok-due.due) before.later (ap (λ k. k.form) before.settings) c.in_ok-due.ensures.due in
     let all = text_front form hearers c.args.number vs (i + 1) in
     let e = sym (text-alerts_due form hearers c.args.number c.args.view.now c.args.articles.now) ∙ all.1 ∙ ap (λ t. t ++ all.0) (sym (ap (λ t. first ++ t) same ∙ put_next form vs i v it.0 it.1)) in
-    on_err _ (front_of_whole _ _ _ c.args.flow.now.outbox.now c.loop-article.flow.outbox.now first more all.0 _ e before.handed c.in_err-add.ensures.front)
+    on_err _ (front_of_whole _ _ _ c.args.flow.now.outbox.now c.loop-article.flow.outbox.now first more all.0 _ e before.handed c.in_err-answer_article.ensures.front)
 
 pub returns-clause-goes_on : goal.returns-clause-goes_on
 returns-clause-goes_on g c =

@@ -1,35 +1,26 @@
-use Rattle.std.proofs.Common.{◌≡◌, ◌++◌, [], map, sym, ap, subst, ◌∙◌}
-use Rattle.std.specs.Prelude.{IfOk, OnOk, OnErr, Some}
-use Rattle.std.specs.List.{slice_get}
+use Rattle.std.proofs.Common.{◌≡◌, ◌++◌, [], map, refl, sym, ap, subst, ◌∙◌}
+use Rattle.std.specs.Prelude.{OnOk, OnErr, Some}
+use Rattle.std.proofs.lemmas.Result.{on_err_weaker, on_ok_weaker}
+use Rattle.clip_stream.specs.Device.{AppendsFront, HandsOver}
+use Rattle.clip_stream.proofs.Faults.{on_err, on_ok}
+use Rattle.clip_stream.proofs.Flows.{handed_none}
 use Rattle.clip_listen.specs.Heard.{told_all, HearsFront}
 use Rattle.clip_listen.proofs.Hearing.{no_front}
-use Rattle.clip_protocol.specs.Found.{found_value}
 use Rattle.clip_front.specs.Outcome.{kept_rows}
-use Rattle.clip_stream.proofs.Faults.{on_err}
+use Rattle.clip_run.specs.Due.{AreDue}
 use Rattle.clip_run.specs.Owed.{owed_of, ready}
-use Rattle.clip_run.specs.Pending.{owed_at, owed_from}
+use Rattle.clip_run.specs.Pending.{owed_at, owed_from, owed_to}
 use Rattle.clip_run.specs.declared.batch.Pending.TheVariants as pending
-use Rattle.clip_run.proofs.Owing.{owed_past, heard_none, kept_none, found_there}
+use Rattle.clip_run.proofs.Owing.{owed_past, handed_ready, front_ready, heard_none, kept_none}
 use Rattle.clip_run.proofs.Sharing.{got}
 use Rattle.clip_run.proofs.crew.Crew.settle.Goals as goal
 
-pub find-requires-clause-here : goal.find-requires-clause-here
-find-requires-clause-here g c κs within = got c.args.items.now c.args.line c.in-Some.item.now c.in-Some.ensures.lookup.3.0 c.in-Some.ensures.lookup.1 ∙ ap Some c.in-Waiting.is
-
-pub returns-in_err-from_slice-in-Ready-clause-err : goal.returns-in_err-from_slice-in-Ready-clause-err
-returns-in_err-from_slice-in-Ready-clause-err g c =
-    let hearers = g.A.Audience.hearers c.args.audience.now in
-    on_err _ (no_front (owed_of hearers (owed_at c.args.items.now c.args.line)).alerts hearers)
-
-pub returns-in_err-found-in-Waiting-clause-err : goal.returns-in_err-found-in-Waiting-clause-err
-returns-in_err-found-in-Waiting-clause-err g c =
-    let hearers = g.A.Audience.hearers c.args.audience.now in
-    on_err _ (no_front (owed_of hearers (owed_at c.args.items.now c.args.line)).alerts hearers)
-
-pub returns-in_default-clause-text : goal.returns-in_default-clause-text
-returns-in_default-clause-text g c =
-    let hearers = g.A.Audience.hearers c.args.audience.now in
-    c.new.ensures.items ∙ ap (λ o. (owed_of hearers o).text c.args.self.now.settings.form) (sym (owed_past c.args.items.now c.args.line c.in_default.ensures.lookup.3))
+pub settle_batch-requires-clause-waits : goal.settle_batch-requires-clause-waits
+settle_batch-requires-clause-waits g c κs within = record {
+  items = c.args.items.now;
+  here = got c.args.items.now c.args.line c.in-Some.item.now c.in-Some.ensures.lookup.3.0 c.in-Some.ensures.lookup.1 ∙ ap Some c.in-Waiting.is;
+  due = c.requires;
+}
 
 pub returns-in_default-clause-heard : goal.returns-in_default-clause-heard
 returns-in_default-clause-heard g c =
@@ -41,80 +32,108 @@ returns-in_default-clause-crew g c =
     let hearers = g.A.Audience.hearers c.args.audience.now in
     kept_none c.args.self.now hearers (owed_at c.args.items.now c.args.line) [] (owed_past c.args.items.now c.args.line c.in_default.ensures.lookup.3)
 
-pub returns-in_ok-from_slice-in-Ready-clause-text : goal.returns-in_ok-from_slice-in-Ready-clause-text
-returns-in_ok-from_slice-in-Ready-clause-text g c =
+pub returns-in_default-clause-moved : goal.returns-in_default-clause-moved
+returns-in_default-clause-moved g c =
     let hearers = g.A.Audience.hearers c.args.audience.now in
-    let items = c.args.items.now in
-    let line = c.args.line in
-    let read = got items line c.in-Some.item.now c.in-Some.ensures.lookup.3.0 c.in-Some.ensures.lookup.1 in
-    let text = c.in-Ready.text.items in
-    let is : owed_at items line ≡ ready text = ap owed_from (read ∙ ap Some c.in-Ready.is) in
-    c.in_ok-from_slice-in-Ready.ensures.items ∙ c.as_slice.ensures.value ∙ ap (λ o. (owed_of hearers o).text c.args.self.now.settings.form) (sym is)
+    let taken = g.W.Sink.taken c.args.flow.now.writer.now in
+    let gathered = c.args.flow.now.outbox.now in
+    handed_ready hearers (owed_at c.args.items.now c.args.line) [] c.args.self.now.settings.form taken taken gathered gathered (owed_past c.args.items.now c.args.line c.in_default.ensures.lookup.3) (handed_none taken gathered)
 
-pub returns-in_ok-from_slice-in-Ready-clause-heard : goal.returns-in_ok-from_slice-in-Ready-clause-heard
-returns-in_ok-from_slice-in-Ready-clause-heard g c =
+pub returns-in-Ready-clause-heard : goal.returns-in-Ready-clause-heard
+returns-in-Ready-clause-heard g c =
     let hearers = g.A.Audience.hearers c.args.audience.now in
     let items = c.args.items.now in
     let line = c.args.line in
     let read = got items line c.in-Some.item.now c.in-Some.ensures.lookup.3.0 c.in-Some.ensures.lookup.1 in
-    let text = c.in-Ready.text.items in
-    let is : owed_at items line ≡ ready text = ap owed_from (read ∙ ap Some c.in-Ready.is) in
-    heard_none hearers (owed_at items line) text is
+    on_ok _ (heard_none hearers (owed_at items line) c.in-Ready.text.items (ap owed_from (read ∙ ap Some c.in-Ready.is)))
 
-pub returns-in_ok-from_slice-in-Ready-clause-crew : goal.returns-in_ok-from_slice-in-Ready-clause-crew
-returns-in_ok-from_slice-in-Ready-clause-crew g c =
+pub returns-in-Ready-clause-crew : goal.returns-in-Ready-clause-crew
+returns-in-Ready-clause-crew g c =
     let hearers = g.A.Audience.hearers c.args.audience.now in
     let items = c.args.items.now in
     let line = c.args.line in
     let read = got items line c.in-Some.item.now c.in-Some.ensures.lookup.3.0 c.in-Some.ensures.lookup.1 in
-    let text = c.in-Ready.text.items in
-    let is : owed_at items line ≡ ready text = ap owed_from (read ∙ ap Some c.in-Ready.is) in
-    kept_none c.args.self.now hearers (owed_at items line) text is
+    on_ok _ (kept_none c.args.self.now hearers (owed_at items line) c.in-Ready.text.items (ap owed_from (read ∙ ap Some c.in-Ready.is)))
 
-pub returns-in_ok-found-in-Waiting-clause-text : goal.returns-in_ok-found-in-Waiting-clause-text
-returns-in_ok-found-in-Waiting-clause-text g c =
+pub returns-in-Ready-clause-moved : goal.returns-in-Ready-clause-moved
+returns-in-Ready-clause-moved g c =
     let hearers = g.A.Audience.hearers c.args.audience.now in
+    let taken = g.W.Sink.taken in
     let items = c.args.items.now in
     let line = c.args.line in
     let read = got items line c.in-Some.item.now c.in-Some.ensures.lookup.3.0 c.in-Some.ensures.lookup.1 in
-    let batch = c.in-Waiting.batch in
-    let is : slice_get items line ≡ Some (pending.Waiting batch) = read ∙ ap Some c.in-Waiting.is in
-    let same = found_there hearers items line batch (map found_value c.deref.result.now) is (ap (map found_value) c.deref.ensures.value ∙ c.in_ok-found-in-Waiting.ensures.found) in
-    let delivered = rw c.find.ensures.same at c.deliver.ensures in
-    subst (λ o. IfOk c.deliver.result (λ text. text.items ≡ o.text c.args.self.now.settings.form)) same delivered.text
+    on_ok_weaker c.put.result
+    (handed_ready hearers (owed_at items line) c.in-Ready.text.items c.args.self.now.settings.form (taken c.args.flow.now.writer.now) (taken c.put.new.self.writer.now) c.args.flow.now.outbox.now c.put.new.self.outbox.now (ap owed_from (read ∙ ap Some c.in-Ready.is)))
+    (rw c.deref.ensures.value at c.put.ensures.moved)
 
-pub returns-in_ok-found-in-Waiting-clause-heard : goal.returns-in_ok-found-in-Waiting-clause-heard
-returns-in_ok-found-in-Waiting-clause-heard g c =
+pub returns-in-Ready-clause-err : goal.returns-in-Ready-clause-err
+returns-in-Ready-clause-err g c =
     let hearers = g.A.Audience.hearers c.args.audience.now in
-    let items = c.args.items.now in
-    let line = c.args.line in
-    let read = got items line c.in-Some.item.now c.in-Some.ensures.lookup.3.0 c.in-Some.ensures.lookup.1 in
-    let batch = c.in-Waiting.batch in
-    let is : slice_get items line ≡ Some (pending.Waiting batch) = read ∙ ap Some c.in-Waiting.is in
-    let same = found_there hearers items line batch (map found_value c.deref.result.now) is (ap (map found_value) c.deref.ensures.value ∙ c.in_ok-found-in-Waiting.ensures.found) in
-    let delivered = rw c.find.ensures.same at c.deliver.ensures in
-    subst (λ o. OnOk c.deliver.result (g.A.Audience.hearers c.deliver.new.audience ≡ told_all o.alerts hearers)) same delivered.heard
+    on_err _ (no_front (owed_of hearers (owed_at c.args.items.now c.args.line)).alerts hearers)
 
-pub returns-in_ok-found-in-Waiting-clause-crew : goal.returns-in_ok-found-in-Waiting-clause-crew
-returns-in_ok-found-in-Waiting-clause-crew g c =
+pub returns-in-Ready-clause-front : goal.returns-in-Ready-clause-front
+returns-in-Ready-clause-front g c =
     let hearers = g.A.Audience.hearers c.args.audience.now in
+    let taken = g.W.Sink.taken in
     let items = c.args.items.now in
     let line = c.args.line in
     let read = got items line c.in-Some.item.now c.in-Some.ensures.lookup.3.0 c.in-Some.ensures.lookup.1 in
-    let batch = c.in-Waiting.batch in
-    let is : slice_get items line ≡ Some (pending.Waiting batch) = read ∙ ap Some c.in-Waiting.is in
-    let same = found_there hearers items line batch (map found_value c.deref.result.now) is (ap (map found_value) c.deref.ensures.value ∙ c.in_ok-found-in-Waiting.ensures.found) in
-    let delivered = rw c.find.ensures.same at c.deliver.ensures in
-    subst (λ o. OnOk c.deliver.result (c.deliver.new.self ≡ record c.args.self.now { rows = c.args.self.now.rows ++ kept_rows c.args.self.now.settings.keeps_rows o.rows })) same delivered.crew
+    on_err_weaker c.put.result
+    (front_ready hearers (owed_at items line) c.in-Ready.text.items c.args.self.now.settings.form (taken c.args.flow.now.writer.now) (taken c.put.new.self.writer.now) c.args.flow.now.outbox.now (ap owed_from (read ∙ ap Some c.in-Ready.is)))
+    (rw c.deref.ensures.value at c.put.ensures.front)
 
-pub returns-in_ok-found-in-Waiting-clause-err : goal.returns-in_ok-found-in-Waiting-clause-err
-returns-in_ok-found-in-Waiting-clause-err g c =
-    let hearers = g.A.Audience.hearers c.args.audience.now in
+pub returns-in-Waiting-clause-heard : goal.returns-in-Waiting-clause-heard
+returns-in-Waiting-clause-heard g c =
+    let hearers = g.A.Audience.hearers in
+    let old = hearers c.args.audience.now in
     let items = c.args.items.now in
     let line = c.args.line in
     let read = got items line c.in-Some.item.now c.in-Some.ensures.lookup.3.0 c.in-Some.ensures.lookup.1 in
-    let batch = c.in-Waiting.batch in
-    let is : slice_get items line ≡ Some (pending.Waiting batch) = read ∙ ap Some c.in-Waiting.is in
-    let same = found_there hearers items line batch (map found_value c.deref.result.now) is (ap (map found_value) c.deref.ensures.value ∙ c.in_ok-found-in-Waiting.ensures.found) in
-    let delivered = rw c.find.ensures.same at c.deliver.ensures in
-    subst (λ o. OnErr c.deliver.result (HearsFront o.alerts hearers (g.A.Audience.hearers c.deliver.new.audience))) same delivered.err
+    let same : owed_to old c.in-Waiting.batch ≡ owed_of old (owed_at items line) = ap (λ item. owed_of old (owed_from item)) (sym (read ∙ ap Some c.in-Waiting.is)) in
+    subst (λ o. OnOk c.settle_batch.result (hearers c.settle_batch.new.audience ≡ told_all o.alerts old)) same c.settle_batch.ensures.heard
+
+pub returns-in-Waiting-clause-crew : goal.returns-in-Waiting-clause-crew
+returns-in-Waiting-clause-crew g c =
+    let old = g.A.Audience.hearers c.args.audience.now in
+    let crew = c.args.self.now in
+    let items = c.args.items.now in
+    let line = c.args.line in
+    let read = got items line c.in-Some.item.now c.in-Some.ensures.lookup.3.0 c.in-Some.ensures.lookup.1 in
+    let same : owed_to old c.in-Waiting.batch ≡ owed_of old (owed_at items line) = ap (λ item. owed_of old (owed_from item)) (sym (read ∙ ap Some c.in-Waiting.is)) in
+    subst (λ o. OnOk c.settle_batch.result (c.settle_batch.new.self ≡ record crew { rows = crew.rows ++ kept_rows crew.settings.keeps_rows o.rows })) same c.settle_batch.ensures.crew
+
+pub returns-in-Waiting-clause-due : goal.returns-in-Waiting-clause-due
+returns-in-Waiting-clause-due g c =
+    let items = c.args.items.now in
+    let read = got items c.args.line c.in-Some.item.now c.in-Some.ensures.lookup.3.0 c.in-Some.ensures.lookup.1 in
+    on_ok_weaker c.settle_batch.result (λ keeps. keeps items (read ∙ ap Some c.in-Waiting.is) c.requires) c.settle_batch.ensures.due
+
+pub returns-in-Waiting-clause-moved : goal.returns-in-Waiting-clause-moved
+returns-in-Waiting-clause-moved g c =
+    let taken = g.W.Sink.taken in
+    let old = g.A.Audience.hearers c.args.audience.now in
+    let items = c.args.items.now in
+    let line = c.args.line in
+    let read = got items line c.in-Some.item.now c.in-Some.ensures.lookup.3.0 c.in-Some.ensures.lookup.1 in
+    let same : owed_to old c.in-Waiting.batch ≡ owed_of old (owed_at items line) = ap (λ item. owed_of old (owed_from item)) (sym (read ∙ ap Some c.in-Waiting.is)) in
+    subst (λ o. OnOk c.settle_batch.result (HandsOver (taken c.args.flow.now.writer.now) (c.args.flow.now.outbox.now ++ o.text c.args.self.now.settings.form) (taken c.settle_batch.new.flow.writer.now) c.settle_batch.new.flow.outbox.now)) same c.settle_batch.ensures.moved
+
+pub returns-in-Waiting-clause-err : goal.returns-in-Waiting-clause-err
+returns-in-Waiting-clause-err g c =
+    let hearers = g.A.Audience.hearers in
+    let old = hearers c.args.audience.now in
+    let items = c.args.items.now in
+    let line = c.args.line in
+    let read = got items line c.in-Some.item.now c.in-Some.ensures.lookup.3.0 c.in-Some.ensures.lookup.1 in
+    let same : owed_to old c.in-Waiting.batch ≡ owed_of old (owed_at items line) = ap (λ item. owed_of old (owed_from item)) (sym (read ∙ ap Some c.in-Waiting.is)) in
+    subst (λ o. OnErr c.settle_batch.result (HearsFront o.alerts old (hearers c.settle_batch.new.audience))) same c.settle_batch.ensures.err
+
+pub returns-in-Waiting-clause-front : goal.returns-in-Waiting-clause-front
+returns-in-Waiting-clause-front g c =
+    let taken = g.W.Sink.taken in
+    let old = g.A.Audience.hearers c.args.audience.now in
+    let items = c.args.items.now in
+    let line = c.args.line in
+    let read = got items line c.in-Some.item.now c.in-Some.ensures.lookup.3.0 c.in-Some.ensures.lookup.1 in
+    let same : owed_to old c.in-Waiting.batch ≡ owed_of old (owed_at items line) = ap (λ item. owed_of old (owed_from item)) (sym (read ∙ ap Some c.in-Waiting.is)) in
+    subst (λ o. OnErr c.settle_batch.result (AppendsFront (taken c.args.flow.now.writer.now) (taken c.settle_batch.new.flow.writer.now) (c.args.flow.now.outbox.now ++ o.text c.args.self.now.settings.form))) same c.settle_batch.ensures.front

@@ -1,9 +1,8 @@
 use Rattle.std.proofs.Common.{◌≡◌, ◌≤◌, ◌-◌, ◌++◌, false, length, map, take}
 use Rattle.serde_json.specs.Data.{string}
-use Rattle.clip_standing.specs.Alerts.{alert_value}
 use Rattle.clip_protocol.specs.Steps.Flowing.{items_begun}
 use Rattle.clip_protocol.specs.Steps.Putting.{Puts, stand}
-use Rattle.clip_protocol.proofs.put.put_queries.Given as goal
+use Rattle.clip_protocol.proofs.put.put_ids.Given as goal
 
 abbrev pub invariant-loop-at : goal.invariant-loop-at
 invariant-loop-at g l =
@@ -11,9 +10,9 @@ invariant-loop-at g l =
     let failed = g.W.Sink.has_failed in
     record {
       same_reference : l.flow.writer.ghost_name ≡ l.fn.flow.writer.ghost_name;
-      within : l.at ≤ length l.alerts;
-      puts : Puts (stand taken failed l.fn.flow.writer.now (l.fn.flow.outbox.now ++ l.fn.text.items)) (stand taken failed l.flow.writer.now (l.flow.outbox.now ++ l.text.items)) (items_begun false (take l.at (map string (map (λ a. a.query) (map alert_value l.alerts)))));
+      within : l.at ≤ length l.ids;
+      puts : Puts (stand taken failed l.fn.flow.writer.now (l.fn.flow.outbox.now ++ l.fn.text.items)) (stand taken failed l.flow.writer.now (l.flow.outbox.now ++ l.text.items)) (items_begun false (take l.at (map string (map (λ id. id.now) l.ids))));
     }
 
 abbrev pub decreases-loop-at : goal.decreases-loop-at
-decreases-loop-at g l = length l.alerts - l.at
+decreases-loop-at g l = length l.ids - l.at
