@@ -8,6 +8,7 @@ import subprocess
 import tempfile
 from dataclasses import dataclass
 from pathlib import Path
+from typing import Sequence
 
 from pressclip_service.engine import command_of, program
 
@@ -26,9 +27,9 @@ def need(holds: bool, what: str) -> None:
         raise Failed(what)
 
 
-def replies_of_engine(text: bytes) -> bytes:
-    """What the plain program answers."""
-    done = subprocess.run(command_of([], workers=0), input=text, stdout=subprocess.PIPE, check=False)
+def replies_of_engine(text: bytes, words: Sequence[str] = ()) -> bytes:
+    """What the plain program answers, with more words or without."""
+    done = subprocess.run([*command_of([], workers=0), *words], input=text, stdout=subprocess.PIPE, check=False)
     need(done.returncode == 0, f"{program()} ended with status {done.returncode}")
     return done.stdout
 

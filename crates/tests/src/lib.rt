@@ -4,6 +4,8 @@
 #![tactic(auto)]
 
 #[cfg(test)]
+mod causes;
+#[cfg(test)]
 mod command_line;
 #[cfg(test)]
 mod desk;
@@ -33,6 +35,8 @@ mod merge;
 mod pieces;
 #[cfg(test)]
 mod registry;
+#[cfg(test)]
+mod remarks;
 #[cfg(test)]
 mod runs;
 #[cfg(test)]

@@ -1,0 +1,4 @@
+pub mod ClausesTold
+pub mod Apart
+pub mod Serving
+pub mod Alone

@@ -1,0 +1,6 @@
+pub mod Asked
+pub mod Replied
+pub mod SpansData
+pub mod Steps
+pub mod Told
+pub mod TreeData

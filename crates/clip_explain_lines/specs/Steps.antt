@@ -1,0 +1,6 @@
+-- Stepping stones of proofs.
+pub mod Asking
+pub mod Explainers
+pub mod Forward
+pub mod Members
+pub mod Serving

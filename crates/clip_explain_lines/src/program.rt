@@ -1,0 +1,84 @@
+//! The program but for its `main`.
+ghost use Rattle.std.specs.Prelude.{◌≤◌};
+ghost use Rattle.std.specs.Process.{exit_status};
+
+use crate::form::Form;
+use crate::session::explain_lines;
+use clip_stream::{RunFault, StdSink, StdSource};
+use std::io::ErrorKind;
+use std::process::ExitCode;
+use std::rt::Env;
+use std::{env, io};
+
+/// The status after a fault.
+const FAILED: u8 = 1;
+
+/// The status where the words ask for nothing that the program can do.
+const REFUSED: u8 = 2;
+
+const USAGE: &str = "usage: pressclip-explain [--plain]";
+
+/// Says a text on standard error, and gives the status. A fault of standard error is dropped.
+fn end_with<R: Eprint>(rt: &R, status: u8, text: &str) -> ExitCode
+    requires { status ≤ 2 }
+    ensures { exit_status result ≤ 2 }
+{
+    let _ = rt.eprintln(text);
+    ExitCode::from(status)
+}
+
+/// Ends after a fault of the run.
+fn end<R: Eprint>(rt: &R, fault: RunFault) -> ExitCode
+    ensures { exit_status result ≤ 2 }
+{
+    match fault {
+        RunFault::NoMemory => end_with(rt, FAILED, "pressclip-explain: no memory"),
+        RunFault::Read => end_with(rt, FAILED, "pressclip-explain: read fault"),
+        RunFault::Write => end_with(rt, FAILED, "pressclip-explain: write fault"),
+    }
+}
+
+/// The form that the words after the program's name ask for: none, or `--plain`. An error where there is no memory for
+/// them, or where one is no text.
+fn form_of<R: Env + AllocGlobal>(rt: &R) -> io::Result<Option<Form>> {
+    let mut words = Vec::new(rt.alloc());
+    for word in env::args(rt)?.skip(1) {
+        words.push(word)?;
+    }
+    match words.as_slice() {
+        [] => Ok(Some(Form::Json)),
+        [word] => {
+            if word.as_str() == "--plain" {
+                Ok(Some(Form::Plain))
+            } else {
+                Ok(None)
+            }
+        }
+        _ => Ok(None),
+    }
+}
+
+/// Explains the lines of standard input on standard output, as JSON lines or, with `--plain`, for people.
+///
+/// The status is 0 where it ended well, 1 after a fault, and 2 for other words; the fault, or the words that there are,
+/// is said on standard error. The cost is that of `explain_lines`.
+pub fn play<R: Env + Input + Print + Eprint + AllocGlobal>(rt: &R) -> ExitCode
+    ensures { exit_status result ≤ 2 }
+{
+    let form = match form_of(rt) {
+        Ok(Some(form)) => form,
+        Ok(None) => return end_with(rt, REFUSED, USAGE),
+        Err(error) => {
+            if error.kind() == ErrorKind::OutOfMemory {
+                return end(rt, RunFault::NoMemory);
+            }
+            return end_with(rt, REFUSED, USAGE);
+        }
+    };
+    let mut source = StdSource::new(rt.reader());
+    let mut sink = StdSink::new(io::writer(rt));
+    match explain_lines(rt.alloc(), &mut source, &mut sink, form) {
+        Ok(_) => ExitCode::from(0),
+        Err(fault) => end(rt, fault),
+    }
+}
