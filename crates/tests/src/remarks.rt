@@ -99,7 +99,10 @@ fn each_text_has_its_hints(rt: HostRuntime) -> Result<(), Fail> {
 #[test]
 fn a_rule_has_a_level_and_a_sentence(rt: HostRuntime) {
     let says = Rule::BareBlank.says();
-    assert_eq!(rt; says, "A blank is read as OR: write AND between the two, or quotes around them.");
+    assert_eq!(rt;
+        says,
+        "A blank is read as OR: write AND between the two, or quotes around them."
+    );
     assert!(rt; matches!(Rule::BareBlank.level(), Level::Warning));
     assert!(rt; matches!(Rule::Capitals.level(), Level::Notice));
     assert!(rt; matches!(Rule::OtherField.level(), Level::Hint));
