@@ -28,7 +28,7 @@ extern "C" {
 typedef enum pressclip_status {
     PRESSCLIP_OK = 0,
     PRESSCLIP_LIMIT = 1,     /* limit: an id is not 1 to 256 bytes; over 16 fields; a bad field name, or one twice */
-    PRESSCLIP_QUERY = 2,     /* query: the text is no query */
+    PRESSCLIP_QUERY = 2,     /* query: the text is no query; pressclip_explain says why */
     PRESSCLIP_LISTENER = 3,  /* listener: neither mail nor feed */
     PRESSCLIP_FULL = 4,      /* full: over 1,000,000 queries, or 4,294,967,295 accepted changes */
     PRESSCLIP_NO_MEMORY = 5, /* memory: an allocation failed */
@@ -74,8 +74,8 @@ void pressclip_close(pressclip **engine);
  * taken and counted, and PRESSCLIP_NO_MEMORY is answered in the place of its reply. */
 int pressclip_line(pressclip *engine, const char *line, size_t length, char **reply, size_t *reply_length);
 
-/* Frees a reply. A null pointer is let be. */
-void pressclip_free(char *reply);
+/* Frees a reply, or the spans of pressclip_words. A null pointer is let be. */
+void pressclip_free(void *answer);
 
 /* Registers a query under an id, in the place of the one with this id, for the listener mail or feed, or for none where
  * listener is null.
@@ -106,12 +106,30 @@ size_t pressclip_result_count(const pressclip_result *result);
 bool pressclip_next_id(pressclip_result *result, const char **id, size_t *length);
 
 /* Gives the next hit of the id that was given last, by field name and then by position, and whether there is one: the
- * name of the field, which lies in the result, and which of its words it is, from 0. There are none where the engine
- * shows no hits. */
+ * name of the field, which lies in the result, and which of its words it is, from 0, as pressclip_words counts them.
+ * There are none where the engine shows no hits. */
 bool pressclip_next_hit(pressclip_result *result, const char **field, size_t *length, uint64_t *position);
 
 /* Frees a result, and all that lies in it. A null pointer is let be. */
 void pressclip_result_free(pressclip_result *result);
+
+/* Tells how a text is read as a query, or its fault and the byte at which it is: the JSON that pressclip-explain gives
+ * to {"query":..}, without a line feed. docs/EXPLAIN.md has its members. No engine is needed. The reply is the
+ * caller's, who frees it by pressclip_free.
+ * PRESSCLIP_NULL, PRESSCLIP_SIZE, PRESSCLIP_UTF8, PRESSCLIP_NO_MEMORY. */
+int pressclip_explain(const char *query, size_t length, char **reply, size_t *reply_length);
+
+/* Tells what a line of the protocol, without its line feed, would be refused for, whatever is registered: the JSON that
+ * pressclip-explain gives to {"line":..}, without a line feed. The line may be any bytes. No engine is needed. The
+ * reply is the caller's, who frees it by pressclip_free.
+ * PRESSCLIP_NULL, PRESSCLIP_SIZE, PRESSCLIP_FEED, PRESSCLIP_NO_MEMORY. */
+int pressclip_explain_line(const char *line, size_t length, char **reply, size_t *reply_length);
+
+/* Tells where the words of a text stand: how many there are, and for each, in order, two numbers, its first byte and
+ * the byte behind its last one. All count from 0, and the n-th word is the one at position n of a hit. No engine is
+ * needed. The spans are the caller's, who frees them by pressclip_free, also where there is no word.
+ * PRESSCLIP_NULL, PRESSCLIP_SIZE, PRESSCLIP_UTF8, PRESSCLIP_NO_MEMORY. */
+int pressclip_words(const char *text, size_t length, uint64_t **spans, size_t *count);
 
 #ifdef __cplusplus
 }

@@ -31,7 +31,13 @@ uint32_t clip_delete(slot *kept, const unsigned char *id, size_t length, uint64_
 uint32_t clip_count(slot *kept, uint64_t *count);
 uint32_t clip_match(slot *kept, const unsigned char *id, size_t id_length, const pressclip_field *fields, size_t count,
                     size_t *size);
+uint32_t clip_explain(slot *kept, const unsigned char *query, size_t length, size_t *size);
+uint32_t clip_explain_line(slot *kept, const unsigned char *line, size_t length, size_t *size);
+uint32_t clip_words(slot *kept, const unsigned char *text, size_t length, size_t *size);
 bool clip_take(slot *kept, unsigned char *room, size_t size);
+
+/* An export that answers a text by bytes, which are kept, and says how many these are. */
+typedef uint32_t answerer(slot *kept, const unsigned char *text, size_t length, size_t *size);
 
 #define MOST_FIELDS 1000000
 
@@ -75,22 +81,68 @@ static unsigned char *taken(pressclip *engine, size_t size) {
     return NULL;
 }
 
-int pressclip_line(pressclip *engine, const char *line, size_t length, char **reply, size_t *reply_length) {
-    if (engine == NULL) return PRESSCLIP_CLOSED;
-    if (reply == NULL || reply_length == NULL) return PRESSCLIP_NULL;
-    int status = text_status(line, length);
-    if (status != PRESSCLIP_OK) return status;
+/* Hands out what an engine answers to a text that may be handed on. */
+static int answered(pressclip *engine, answerer *call, const char *text, size_t length, char **reply,
+                    size_t *reply_length) {
     size_t size = 0;
-    status = (int)clip_line(&engine->kept, bytes_of(line), length, &size);
+    int status = (int)call(&engine->kept, bytes_of(text), length, &size);
     if (status != PRESSCLIP_OK) return status;
-    unsigned char *text = taken(engine, size);
-    if (text == NULL) return PRESSCLIP_NO_MEMORY;
-    *reply = (char *)text;
+    unsigned char *bytes = taken(engine, size);
+    if (bytes == NULL) return PRESSCLIP_NO_MEMORY;
+    *reply = (char *)bytes;
     *reply_length = size;
     return PRESSCLIP_OK;
 }
 
-void pressclip_free(char *reply) { free(reply); }
+/* Hands out what an engine that is there for this call alone answers to a text. */
+static int answered_alone(answerer *call, const char *text, size_t length, char **reply, size_t *reply_length) {
+    pressclip *engine;
+    if (reply == NULL || reply_length == NULL) return PRESSCLIP_NULL;
+    int status = text_status(text, length);
+    if (status == PRESSCLIP_OK) status = pressclip_open(false, &engine);
+    if (status != PRESSCLIP_OK) return status;
+    status = answered(engine, call, text, length, reply, reply_length);
+    pressclip_close(&engine);
+    return status;
+}
+
+int pressclip_line(pressclip *engine, const char *line, size_t length, char **reply, size_t *reply_length) {
+    if (engine == NULL) return PRESSCLIP_CLOSED;
+    if (reply == NULL || reply_length == NULL) return PRESSCLIP_NULL;
+    int status = text_status(line, length);
+    return status == PRESSCLIP_OK ? answered(engine, clip_line, line, length, reply, reply_length) : status;
+}
+
+int pressclip_explain(const char *query, size_t length, char **reply, size_t *reply_length) {
+    return answered_alone(clip_explain, query, length, reply, reply_length);
+}
+
+int pressclip_explain_line(const char *line, size_t length, char **reply, size_t *reply_length) {
+    return answered_alone(clip_explain_line, line, length, reply, reply_length);
+}
+
+/* The number that eight bytes are, the lowest first. */
+static uint64_t number_at(const unsigned char *bytes) {
+    uint64_t number = 0;
+    for (int byte = 7; byte >= 0; byte--) number = number << 8 | bytes[byte];
+    return number;
+}
+
+int pressclip_words(const char *text, size_t length, uint64_t **spans, size_t *count) {
+    char *bytes = NULL;
+    size_t size = 0;
+    if (spans == NULL || count == NULL) return PRESSCLIP_NULL;
+    int status = answered_alone(clip_words, text, length, &bytes, &size);
+    if (status != PRESSCLIP_OK) return status;
+    /* Each number is put where its bytes were. */
+    uint64_t *numbers = (uint64_t *)(void *)bytes;
+    for (size_t place = 0; place < size / 8; place++) numbers[place] = number_at(bytes_of(bytes + 8 * place));
+    *spans = numbers;
+    *count = size / 16;
+    return PRESSCLIP_OK;
+}
+
+void pressclip_free(void *answer) { free(answer); }
 
 int pressclip_register(pressclip *engine, const char *id, size_t id_length, const char *query, size_t query_length,
                        const char *listener, size_t listener_length) {
@@ -132,8 +184,7 @@ static int fields_status(const pressclip_field *fields, size_t count) {
 
 /* The next number of a result. */
 static uint64_t next_number(pressclip_result *result) {
-    uint64_t number = 0;
-    for (int byte = 7; byte >= 0; byte--) number = number << 8 | result->bytes[result->at + (size_t)byte];
+    uint64_t number = number_at(result->bytes + result->at);
     result->at += 8;
     return number;
 }

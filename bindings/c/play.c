@@ -1,4 +1,5 @@
-/* Answers the lines of its input by the library, and makes a few plain calls between: what valgrind is run on. */
+/* Answers the lines of its input by the library, explains them, and makes a few plain calls between: what valgrind is
+ * run on. */
 #define _GNU_SOURCE
 #include "pressclip.h"
 
@@ -25,6 +26,16 @@ static void call(pressclip *engine) {
     pressclip_delete(engine, "plain", 5, &number);
 }
 
+/* Calls that explain a text as a query, as a line and as words, whose answers are dropped. */
+static void explain(const char *text, size_t size) {
+    char *reply;
+    uint64_t *spans;
+    size_t length;
+    if (pressclip_explain(text, size, &reply, &length) == PRESSCLIP_OK) pressclip_free(reply);
+    if (pressclip_explain_line(text, size, &reply, &length) == PRESSCLIP_OK) pressclip_free(reply);
+    if (pressclip_words(text, size, &spans, &length) == PRESSCLIP_OK) pressclip_free(spans);
+}
+
 int main(void) {
     pressclip *engine;
     char *line = NULL, *reply;
@@ -36,6 +47,8 @@ int main(void) {
         fwrite(reply, 1, length, stdout);
         pressclip_free(reply);
         call(engine);
+        explain(line, size);
+        explain("w1 AND", 6);
     }
     free(line);
     pressclip_close(&engine);

@@ -1,0 +1,74 @@
+"""The calls of the library, and what they are refused for."""
+
+from __future__ import annotations
+
+import ctypes
+from ctypes import POINTER, Structure, byref, c_bool, c_char_p, c_int, c_size_t, c_uint64, c_void_p
+from typing import Any, Callable
+
+from ._library import load
+
+
+# The status of a text that is no query, as pressclip_status has it.
+QUERY = 2
+
+
+class Refused(Exception):
+    """A call was refused, and changed nothing. `word` says why, as `limit` or `full`: pressclip.h has all of them."""
+
+    __module__ = "pressclip"
+
+    def __init__(self, word: str) -> None:
+        super().__init__(word)
+        self.word = word
+
+
+class Field(Structure):
+    """A field of an article, as C sees it."""
+
+    _fields_ = [("name", c_char_p), ("name_length", c_size_t), ("text", c_char_p), ("text_length", c_size_t)]
+
+
+LIBRARY = load()
+LIBRARY.pressclip_word.restype = c_char_p
+LIBRARY.pressclip_result_count.restype = c_size_t
+LIBRARY.pressclip_next_id.restype = c_bool
+LIBRARY.pressclip_next_hit.restype = c_bool
+LIBRARY.pressclip_open.argtypes = [c_bool, POINTER(c_void_p)]
+LIBRARY.pressclip_close.argtypes = [POINTER(c_void_p)]
+LIBRARY.pressclip_close.restype = None
+LIBRARY.pressclip_free.argtypes = [c_void_p]
+LIBRARY.pressclip_free.restype = None
+LIBRARY.pressclip_line.argtypes = [c_void_p, c_char_p, c_size_t, POINTER(c_void_p), POINTER(c_size_t)]
+LIBRARY.pressclip_register.argtypes = [c_void_p, c_char_p, c_size_t, c_char_p, c_size_t, c_char_p, c_size_t]
+LIBRARY.pressclip_delete.argtypes = [c_void_p, c_char_p, c_size_t, POINTER(c_uint64)]
+LIBRARY.pressclip_count.argtypes = [c_void_p, POINTER(c_uint64)]
+LIBRARY.pressclip_match.argtypes = [c_void_p, c_char_p, c_size_t, POINTER(Field), c_size_t, POINTER(c_void_p)]
+LIBRARY.pressclip_next_id.argtypes = [c_void_p, POINTER(c_void_p), POINTER(c_size_t)]
+LIBRARY.pressclip_next_hit.argtypes = [c_void_p, POINTER(c_void_p), POINTER(c_size_t), POINTER(c_uint64)]
+LIBRARY.pressclip_result_free.argtypes = [c_void_p]
+LIBRARY.pressclip_result_free.restype = None
+LIBRARY.pressclip_explain.argtypes = [c_char_p, c_size_t, POINTER(c_void_p), POINTER(c_size_t)]
+LIBRARY.pressclip_explain_line.argtypes = [c_char_p, c_size_t, POINTER(c_void_p), POINTER(c_size_t)]
+LIBRARY.pressclip_words.argtypes = [c_char_p, c_size_t, POINTER(c_void_p), POINTER(c_size_t)]
+
+
+def well(status: int) -> None:
+    """Raises where a call did not go well."""
+    if status != 0:
+        raise Refused(LIBRARY.pressclip_word(c_int(status)).decode())
+
+
+def copied(address: c_void_p, length: int) -> bytes:
+    """The bytes at an address."""
+    return ctypes.string_at(address, length)
+
+
+def answer_of(call: Callable[..., int], *arguments: Any, size: int = 1) -> bytes:
+    """The bytes that a call hands out in items of so many bytes; they go back to the library."""
+    answer, count = c_void_p(), c_size_t()
+    try:
+        well(call(*arguments, byref(answer), byref(count)))
+        return copied(answer, count.value * size)
+    finally:
+        LIBRARY.pressclip_free(answer)
