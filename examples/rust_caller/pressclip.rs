@@ -8,13 +8,14 @@
 use std::error::Error;
 use std::ffi::CStr;
 use std::fmt;
+use std::ops::Range;
 use std::os::raw::{c_char, c_int};
 use std::ptr::{self, NonNull};
 use std::slice;
 
 /// What `include/pressclip.h` declares.
 mod raw {
-    use std::os::raw::{c_char, c_int};
+    use std::os::raw::{c_char, c_int, c_void};
 
     /// An engine, seen by its address alone.
     #[repr(C)]
@@ -48,7 +49,7 @@ mod raw {
             reply: *mut *mut c_char,
             reply_length: *mut usize,
         ) -> c_int;
-        pub fn pressclip_free(reply: *mut c_char);
+        pub fn pressclip_free(answer: *mut c_void);
         pub fn pressclip_register(
             engine: *mut Engine,
             id: *const c_char,
@@ -85,6 +86,24 @@ mod raw {
             position: *mut u64,
         ) -> bool;
         pub fn pressclip_result_free(result: *mut Result);
+        pub fn pressclip_explain(
+            query: *const c_char,
+            length: usize,
+            reply: *mut *mut c_char,
+            reply_length: *mut usize,
+        ) -> c_int;
+        pub fn pressclip_explain_line(
+            line: *const c_char,
+            length: usize,
+            reply: *mut *mut c_char,
+            reply_length: *mut usize,
+        ) -> c_int;
+        pub fn pressclip_words(
+            text: *const c_char,
+            length: usize,
+            spans: *mut *mut u64,
+            count: *mut usize,
+        ) -> c_int;
     }
 }
 
@@ -202,9 +221,7 @@ impl Monitor {
                 &mut length,
             )
         })?;
-        let text = unsafe { bytes(reply, length) }.to_vec();
-        unsafe { raw::pressclip_free(reply) };
-        Ok(text)
+        Ok(unsafe { taken(reply.cast(), length) })
     }
 
     /// Registers a query in the place of the one with its id. `Limit`, `Query`, `Listener`, `Full`, `NoMemory`.
@@ -312,6 +329,33 @@ impl Drop for Walk {
     }
 }
 
+/// How a text is read as a query, or its fault and the byte at which it is: JSON. `NoMemory`.
+pub fn explain(query: &str) -> Result<String, Refused> {
+    let (mut reply, mut length) = (ptr::null_mut(), 0);
+    check(unsafe { raw::pressclip_explain(chars(query), query.len(), &mut reply, &mut length) })?;
+    Ok(unsafe { taken_text(reply, length) })
+}
+
+/// What a line of the protocol would be refused for, whatever is registered: JSON. `Feed`, `NoMemory`.
+pub fn explain_line(line: &[u8]) -> Result<String, Refused> {
+    let (mut reply, mut length) = (ptr::null_mut(), 0);
+    check(unsafe {
+        raw::pressclip_explain_line(line.as_ptr().cast(), line.len(), &mut reply, &mut length)
+    })?;
+    Ok(unsafe { taken_text(reply, length) })
+}
+
+/// The bytes of a text in which its words stand; the n-th word, from 0, is the one at position n of a hit. `NoMemory`.
+pub fn words(text: &str) -> Result<Vec<Range<usize>>, Refused> {
+    let (mut spans, mut count) = (ptr::null_mut(), 0);
+    check(unsafe { raw::pressclip_words(chars(text), text.len(), &mut spans, &mut count) })?;
+    let places = unsafe { taken(spans, 2 * count) };
+    Ok(places
+        .chunks_exact(2)
+        .map(|ends| ends[0] as usize..ends[1] as usize)
+        .collect())
+}
+
 /// Where the bytes of a text are.
 fn chars(text: &str) -> *const c_char {
     text.as_ptr().cast()
@@ -327,15 +371,27 @@ fn field(name: &str, text: &str) -> raw::Field {
     }
 }
 
-/// The bytes at an address, none at null. So many are there, and stay while they are read.
-unsafe fn bytes<'a>(at: *const c_char, length: usize) -> &'a [u8] {
+/// The items at an address, none at null. So many are there, and stay while they are read.
+unsafe fn items<'a, T>(at: *const T, count: usize) -> &'a [T] {
     if at.is_null() {
         return &[];
     }
-    slice::from_raw_parts(at.cast(), length)
+    slice::from_raw_parts(at, count)
 }
 
 /// A copy of the text at an address, empty at null. So many bytes are there, and stay while they are read.
 unsafe fn text(at: *const c_char, length: usize) -> String {
-    String::from_utf8_lossy(bytes(at, length)).into_owned()
+    String::from_utf8_lossy(items(at.cast(), length)).into_owned()
+}
+
+/// A copy of what a call handed out, so many items, none at null. What was handed out is freed.
+unsafe fn taken<T: Copy>(at: *mut T, count: usize) -> Vec<T> {
+    let copy = items(at, count).to_vec();
+    raw::pressclip_free(at.cast());
+    copy
+}
+
+/// A copy of a text that a call handed out, so many bytes. What was handed out is freed.
+unsafe fn taken_text(at: *mut c_char, length: usize) -> String {
+    String::from_utf8_lossy(&taken(at.cast(), length)).into_owned()
 }

@@ -1,6 +1,6 @@
 //! What the wrapper gives and refuses.
 
-use crate::pressclip::{Found, Hit, Monitor, Refused};
+use crate::pressclip::{explain, explain_line, words, Found, Hit, Monitor, Refused};
 
 fn monitor(queries: &[(&str, &str)]) -> Monitor {
     let mut monitor = Monitor::open(true).unwrap();
@@ -92,6 +92,40 @@ fn refusals_are_shown_as_words() {
     let words =
         [Refused::NoMemory, Refused::Size, Refused::Unknown].map(|refused| refused.to_string());
     assert_eq!(words, ["memory", "size", "unknown"]);
+}
+
+#[test]
+fn a_query_is_explained_or_has_a_fault() {
+    let fault = r#"{"at":7,"fault":"Structure","says":"Something is missing at the end: a word, a phrase, or a closing parenthesis."}"#;
+    assert_eq!(explain("tea AND").unwrap(), fault);
+    let told = explain("tea AND coffee").unwrap();
+    assert!(
+        told.contains(r#""reads":"+text:tea +text:coffee""#),
+        "{told}"
+    );
+}
+
+#[test]
+fn a_line_is_taken_or_refused() {
+    assert_eq!(
+        explain_line(br#"{"op":"count"}"#).unwrap(),
+        r#"{"refused":null}"#
+    );
+    let told = explain_line(b"\xff").unwrap();
+    assert!(told.starts_with(r#"{"at":0,"refused":"json","#), "{told}");
+    assert_eq!(explain_line(b"{}\n"), Err(Refused::Feed));
+}
+
+#[test]
+fn words_stand_in_their_text() {
+    let text = "Can't stop, Straße";
+    let found: Vec<&str> = words(text)
+        .unwrap()
+        .into_iter()
+        .map(|span| &text[span])
+        .collect();
+    assert_eq!(found, ["Can't", "stop", "Straße"]);
+    assert_eq!(words(""), Ok(vec![]));
 }
 
 #[test]

@@ -1,12 +1,13 @@
-"""Tests of `docs/test` by pages of the test's own, of a unit that a page shows, and of an example without a module."""
+"""Tests of `docs/test` by pages of the test's own, of a unit that a page shows, and of an example that marks words."""
 
 from __future__ import annotations
 
+import json
 import os
 import re
 import subprocess
 from pathlib import Path
-from typing import Callable
+from typing import Callable, Sequence
 
 from pressclip_service.engine import program
 
@@ -80,12 +81,32 @@ def a_unit_starts_the_worker_of_its_name() -> None:
     need(told == "worker --shard 2 --replica 1 -- pressclip run 0\n", f"it starts {told!r}")
 
 
-def highlight_says_what_it_needs() -> None:
-    """In one line, where the module is missing: -S leaves out what Debian's packages have put in."""
-    done = subprocess.run(["/usr/bin/python3", "-S", "-I", str(HIGHLIGHT)], capture_output=True, check=False)
-    due = "examples/highlight: it needs Debian's Python with its module regex: apt-get install -y python3-regex\n"
-    need(done.returncode == 1 and done.stderr.decode() == due, f"{done}")
+def highlighted(requests: Sequence[dict[str, object]], engine: str) -> subprocess.CompletedProcess[bytes]:
+    """What the example shows of these requests, with this engine."""
+    lines = b"".join(json.dumps(request).encode() + b"\n" for request in requests)
+    return subprocess.run([str(HIGHLIGHT)], input=lines, capture_output=True, check=False,
+                          env={**os.environ, "PRESSCLIP": engine, "PYTHONIOENCODING": "utf-8"})
+
+
+def highlight_cuts_words_as_the_engine_does() -> None:
+    """Also those that have no blank between them, and in each field that has a hit."""
+    fields = {"text": "\U0001f375 日本語, naïve tea", "title": "Can't stop", "author": "-"}
+    queries = [{"id": "all", "query": "[* TO *]"}, {"id": "title", "query": "title:stop"}]
+    done = highlighted([{"op": "register", "queries": queries}, {"op": "count"},
+                        {"op": "match", "articles": [{"id": "a", "fields": fields}, {"id": "b", "fields": fields}]}],
+                       program())
+    due = ("{0} all text: \U0001f375 [日][本][語], [naïve] [tea]\n"
+           "{0} title title: Can't [stop]\n")
+    need(done.stdout.decode() == due.format("a") + due.format("b"), f"{done}")
+
+
+def highlight_says_which_program_is_missing() -> None:
+    """In one line, with status 1."""
+    done = highlighted([{"op": "count"}], "/none")
+    due = b"examples/highlight: there is no program at /none: run ./build\n"
+    need(done.returncode == 1 and done.stderr == due, f"{done}")
 
 
 TESTS: tuple[Callable[[], None], ...] = (examples_are_run_and_compared, a_unit_starts_the_worker_of_its_name,
-                                         highlight_says_what_it_needs)
+                                         highlight_cuts_words_as_the_engine_does,
+                                         highlight_says_which_program_is_missing)
