@@ -9,13 +9,15 @@ import ctypes
 import json
 import pickle
 import re
+from contextlib import contextmanager
 from random import Random
-from typing import Any, Callable
+from typing import Any, Callable, Iterator, TypeVar
 
 from pressclip_tests.explain_tests import PIECES, explained, quoted
 from pressclip_tests.inputs import Source
 from pressclip_tests.texts_in_scripts import TEXTS
 
+Watching = TypeVar("Watching")
 RANDOM_QUERIES = 2_000
 RANDOM_LINES = 400
 # A text, its fault's word, and the character at which that is; where they differ the byte would be a later one.
@@ -59,16 +61,24 @@ class Noted:
         return self.library.pressclip_words(text, *others)
 
 
-def texts_noted_in(work: Callable[[], object]) -> list[str]:
-    """The texts whose words the package asks for in some work."""
+@contextmanager
+def library_as(kind: Callable[[Any], Watching]) -> Iterator[Watching]:
+    """What the package calls in the place of the library, which it is made of, for a while."""
     from pressclip import _calls
 
-    noted = Noted(_calls.LIBRARY)
-    setattr(_calls, "LIBRARY", noted)
+    library = _calls.LIBRARY
+    watching = kind(library)
+    setattr(_calls, "LIBRARY", watching)
     try:
-        work()
+        yield watching
     finally:
-        setattr(_calls, "LIBRARY", noted.library)
+        setattr(_calls, "LIBRARY", library)
+
+
+def texts_noted_in(work: Callable[[], object]) -> list[str]:
+    """The texts whose words the package asks for in some work."""
+    with library_as(Noted) as noted:
+        work()
     return noted.texts
 
 

@@ -24,7 +24,8 @@ def build_wheel(wheel_directory: str, config_settings: object = None, metadata_d
         raise SystemExit(MISSING.format(path=LIBRARY))
     tag = "py3-none-" + sysconfig.get_platform().replace("-", "_").replace(".", "_")
     info = f"{NAME}-{VERSION}.dist-info"
-    files = {f"{NAME}/{path.name}": path.read_bytes() for path in sorted((HERE / NAME).glob("*.py*")) if path.is_file()}
+    files = {f"{NAME}/{path.name}": path.read_bytes() for path in sorted((HERE / NAME).iterdir())
+             if path.suffix in (".py", ".typed")}
     files[f"{NAME}/libpressclip.so"] = LIBRARY.read_bytes()
     files[f"{info}/METADATA"] = f"Metadata-Version: 2.1\nName: {NAME}\nVersion: {VERSION}\n".encode()
     files[f"{info}/WHEEL"] = f"Wheel-Version: 1.0\nGenerator: pressclip\nRoot-Is-Purelib: false\nTag: {tag}\n".encode()
