@@ -4,7 +4,18 @@
 
 ghost use Rattle.std.specs.Prelude.{◌≡◌, IsSome, None, length, true};
 ghost use Rattle.clip_engine.specs.Engine.{fresh};
-ghost use Rattle.clip_engine.specs.Calls.{Between, Keeps, LineTo, RegisterTo, DeleteTo, CountTo, MatchTo};
+ghost use Rattle.clip_engine.specs.Calls.{
+  Between,
+  Keeps,
+  LineTo,
+  RegisterTo,
+  DeleteTo,
+  CountTo,
+  MatchTo,
+  ExplainTo,
+  WordsTo,
+  ExplainLineTo,
+};
 ghost use Rattle.clip_engine.specs.Texts.{fields_of};
 
 use clip_engine::{Field, Kept, Slot};
@@ -106,6 +117,61 @@ pub extern "C" fn clip_match(
 {
     let mut kept = slot.take();
     let code = kept.match_article(alloc, id, fields);
+    *size = kept.text.len();
+    slot.put(kept);
+    code
+}
+
+/// Explains a query's text. What is told of it is kept as compact JSON, to be taken by `clip_take`, and `size` is how
+/// many bytes it has.
+#[unsafe(no_mangle)]
+pub extern "C" fn clip_explain(
+    alloc: Global,
+    slot: &mut Slot,
+    query: &[u8],
+    size: &mut usize,
+) -> u32
+    requires { IsSome slot.old.kept }
+    ensures tells { Between slot.old.kept slot.new.kept (ExplainTo query.now result) }
+    ensures size { Keeps slot.new.kept (λ kept. size.new ≡ length kept.text.items) }
+{
+    let mut kept = slot.take();
+    let code = kept.explain(alloc, query);
+    *size = kept.text.len();
+    slot.put(kept);
+    code
+}
+
+/// Finds where the words of a text stand: two numbers for each, kept as bytes, to be taken by `clip_take`, and `size` is
+/// how many there are.
+#[unsafe(no_mangle)]
+pub extern "C" fn clip_words(alloc: Global, slot: &mut Slot, text: &[u8], size: &mut usize) -> u32
+    requires { IsSome slot.old.kept }
+    ensures finds { Between slot.old.kept slot.new.kept (WordsTo text.now result) }
+    ensures size { Keeps slot.new.kept (λ kept. size.new ≡ length kept.text.items) }
+{
+    let mut kept = slot.take();
+    let code = kept.words(alloc, text);
+    *size = kept.text.len();
+    slot.put(kept);
+    code
+}
+
+/// Finds what a line would be refused for. It is kept as compact JSON, to be taken by `clip_take`, and `size` is how
+/// many bytes it has.
+#[unsafe(no_mangle)]
+pub extern "C" fn clip_explain_line(
+    alloc: Global,
+    slot: &mut Slot,
+    line: &[u8],
+    size: &mut usize,
+) -> u32
+    requires { IsSome slot.old.kept }
+    ensures tells { Between slot.old.kept slot.new.kept (ExplainLineTo line.now result) }
+    ensures size { Keeps slot.new.kept (λ kept. size.new ≡ length kept.text.items) }
+{
+    let mut kept = slot.take();
+    let code = kept.explain_line(alloc, line);
     *size = kept.text.len();
     slot.put(kept);
     code

@@ -1,8 +1,11 @@
 -- What the calls of the library leave, by the number that they answer.
-use Rattle.std.specs.Prelude.{◌≡◌, ℕ, List, [], ◌∷◌, Bool, Option, Some, None, Ok}
+use Rattle.std.specs.Prelude.{◌≡◌, ℕ, List, [], ◌∷◌, Bool, Option, Some, None, Ok, ⊤}
 use Rattle.std.specs.FinMap as finite
 use Rattle.clip_model.specs.History.{Delete, applied, replay}
+use Rattle.clip_where.specs.Spans.{spans_of}
+use Rattle.clip_explain_lines.specs.Told.{Tells}
 use Rattle.clip_engine.specs.Engine.{Replies, Registers, commanded}
+use Rattle.clip_engine.specs.Explained.{spans_bytes}
 use Rattle.clip_engine.specs.Texts.{listing_at, found_at}
 use Rattle.clip_engine.specs.declared.kept.Kept.{Kept}
 
@@ -43,3 +46,15 @@ CountTo code count old new = (code ≡ 0 → count ≡ finite.len (replay old.en
 -- this was found, and the engine is as it was
 abbrev pub MatchTo : List ℕ → List (List ℕ × List ℕ) → ℕ → Kept → Kept → Type 0
 MatchTo id fields code old new = (code ≡ 0 → new.text.items ≡ found_at old.engine id fields) × (new.engine ≡ old.engine)
+
+-- this is told of a query's text, and the engine is as it was
+abbrev pub ExplainTo : List ℕ → ℕ → Kept → Kept → Type 0
+ExplainTo query code old new = (code ≡ 0 → Tells query new.text.items) × (new.engine ≡ old.engine)
+
+-- the words of a text stand there, and the engine is as it was
+abbrev pub WordsTo : List ℕ → ℕ → Kept → Kept → Type 0
+WordsTo text code old new = (code ≡ 0 → new.text.items ≡ spans_bytes (spans_of text)) × (new.engine ≡ old.engine)
+
+-- this is told of a line, and the engine is as it was
+abbrev pub ExplainLineTo : List ℕ → ℕ → Kept → Kept → Type 0
+ExplainLineTo line code old new = (code ≡ 0 → ⊤) × (new.engine ≡ old.engine)

@@ -1,5 +1,6 @@
 pub mod Calls
 pub mod Engine
+pub mod Explained
 pub mod Found
 pub mod Slot
 pub mod Texts

@@ -11,7 +11,7 @@ use clip_words::NoMemory;
 use std::alloc::Global;
 
 /// Adds a number: eight bytes, the lowest first.
-fn add_number(bytes: &mut Vec<u8>, number: u64) -> Result<(), NoMemory>
+pub(crate) fn add_number(bytes: &mut Vec<u8>, number: u64) -> Result<(), NoMemory>
     ensures { OnOk result (bytes.new.items ≡ bytes.old.items ++ number_bytes number) }
 {
     bytes.extend_from_slice(&number.to_le_bytes())?;

@@ -1,13 +1,14 @@
 //! What C keeps: an engine, and the bytes that its last call left to be taken.
-ghost use Rattle.std.specs.Prelude.{◌≡◌, IfOk, IfErr, string_bytes, true};
+ghost use Rattle.std.specs.Prelude.{◌≡◌, IfOk, IfErr, Ok, string_bytes, true};
 ghost use Rattle.clip_meaning.specs.Article.{pairs_of};
 ghost use Rattle.clip_engine.specs.Engine.{fresh};
 ghost use Rattle.clip_protocol.specs.Steps.Views.{listing_view};
 ghost use Rattle.clip_engine.specs.Texts.{fields_of, found_at, listing_at};
-ghost use Rattle.clip_engine.specs.Calls.{CountTo, DeleteTo, LineTo, MatchTo, RegisterTo};
+ghost use Rattle.clip_engine.specs.Calls.{CountTo, DeleteTo, ExplainLineTo, ExplainTo, LineTo, MatchTo, RegisterTo, WordsTo};
 
 use crate::code;
 use crate::engine::Engine;
+use crate::explained::{line_told, query_told, words_told};
 use crate::found::bytes_of_found;
 use clip_protocol::Listing;
 use clip_words::NoMemory;
@@ -180,17 +181,51 @@ impl Kept {
         }
     }
 
-    /// Matches an article, and keeps what was found.
-    pub fn match_article(&mut self, alloc: Global, id: &[u8], fields: &[Field<'_>]) -> u32
-        ensures { MatchTo id.now (fields_of fields.now) result self.old self.new }
+    /// Keeps what was made, or answers why it was not.
+    fn keep(&mut self, made: Result<Vec<u8>, u32>) -> u32
+        requires { IfErr made (λ code. code ≡ 0 → ⊥) }
+        ensures kept { result ≡ 0 → made.entry ≡ Ok self.new.text }
+        ensures engine { self.new.engine ≡ self.old.engine }
     {
-        match self.found(alloc, id, fields) {
+        match made {
             Ok(bytes) => {
                 self.text = bytes;
                 code::OK
             }
             Err(code) => code,
         }
+    }
+
+    /// Matches an article, and keeps what was found.
+    pub fn match_article(&mut self, alloc: Global, id: &[u8], fields: &[Field<'_>]) -> u32
+        ensures { MatchTo id.now (fields_of fields.now) result self.old self.new }
+    {
+        let found = self.found(alloc, id, fields);
+        self.keep(found)
+    }
+
+    /// Explains a query's text, and keeps what is told of it as compact JSON: that of `query_text` of
+    /// `clip_explain_lines`. Its cost is that of `query_text`.
+    pub fn explain(&mut self, alloc: Global, query: &[u8]) -> u32
+        ensures { ExplainTo query.now result self.old self.new }
+    {
+        self.keep(query_told(alloc, query))
+    }
+
+    /// Finds where the words of a text stand, and keeps it as two numbers for each word, of eight bytes, the lowest
+    /// first: its first byte, and the byte behind its last one. Its cost is linear in the text.
+    pub fn words(&mut self, alloc: Global, text: &[u8]) -> u32
+        ensures { WordsTo text.now result self.old self.new }
+    {
+        self.keep(words_told(alloc, text))
+    }
+
+    /// Keeps what a line would be refused for as compact JSON: that of `line_text` of `clip_explain_lines`. Its cost is
+    /// that of `line_text`.
+    pub fn explain_line(&mut self, alloc: Global, line: &[u8]) -> u32
+        ensures { ExplainLineTo line.now result self.old self.new }
+    {
+        self.keep(line_told(alloc, line))
     }
 
     /// Copies the bytes that are kept to room of their size, and keeps none then. Whether there was such room.

@@ -5,6 +5,7 @@
 mod answer;
 mod code;
 mod engine;
+mod explained;
 mod found;
 mod house;
 mod kept;
