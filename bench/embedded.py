@@ -13,7 +13,7 @@ import subprocess
 from contextlib import closing
 from functools import cache
 from pathlib import Path
-from typing import Optional, Sequence
+from typing import Any, Optional, Sequence
 
 from engine import Engine, EngineFailed, Exchange
 from scenarios import Scenario
@@ -46,7 +46,7 @@ def text_of(text: str) -> bytes:
     return struct.pack("=Q", len(raw)) + raw
 
 
-def article_of(article: dict) -> bytes:
+def article_of(article: dict[str, Any]) -> bytes:
     """The call that matches an article."""
     fields = article["fields"]
     return b"".join([b"m", text_of(article["id"]), struct.pack("=Q", len(fields)),

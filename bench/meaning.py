@@ -12,6 +12,7 @@ from typing import Iterable, NamedTuple, Sequence
 
 from prose import Article, words_of
 from queries import All, Group, Phrase, Prefix, Query, Span, Word
+from reading import signs_after
 
 # The most characters of a front that find a prefix.
 FRONT = 8
@@ -64,14 +65,6 @@ def has_phrase(words: tuple[str, ...], field: Field) -> bool:
         return False
     size = len(words)
     return any(tuple(field.words[at:at + size]) == words for at in range(len(field.words) - size + 1))
-
-
-def signs_after(signs: Sequence[str], operators: Sequence[str]) -> list[str]:
-    """How clauses count that have these signs, and between each two of them these operators: what stands beside an
-    `AND` is required, unless it is excluded."""
-    joins = [operator in ("AND", "&&") for operator in operators]
-    beside = [before or after for before, after in zip([False, *joins], [*joins, False])]
-    return ["+" if sign == "" and joined else sign for sign, joined in zip(signs, beside)]
 
 
 def counted(group: Group) -> Sequence[tuple[str, Query]]:

@@ -205,8 +205,11 @@ class QuerySource:
     def who(self, least: int, most: int) -> Group:
         """One of several names or words, as in a list of companies."""
         count = self.rng.randint(least, most)
-        return either(*(self.name() if self.rng.random() < 0.4 else Word(self.word("low", "rare"))
-                        for _ in range(count)))
+        return either(*(self.name_or_word() for _ in range(count)))
+
+    def name_or_word(self) -> Query:
+        """One of a list of companies."""
+        return self.name() if self.rng.random() < 0.4 else Word(self.word("low", "rare"))
 
 
 def single(source: QuerySource) -> Query:
@@ -242,7 +245,8 @@ def excluding(source: QuerySource) -> Query:
 
 def group(source: QuerySource) -> Query:
     """`+(word "word word") +word`, at times without a word."""
-    clauses = (("+", source.who(2, 5)), ("+", Word(source.word("mid", "common"))))
+    clauses: tuple[tuple[str, Query], ...] = (
+        ("+", source.who(2, 5)), ("+", Word(source.word("mid", "common"))))
     if source.rng.random() < 0.35:
         clauses += (("-", Word(source.word("mid", "low"))),)
     return Group(clauses)

@@ -1,11 +1,8 @@
-#!/usr/bin/env python3
-"""Writes a long example of random events, with many merges and batches open, and the replies that they are to have.
+"""Random events, with many merges and batches open, and the replies that they are to have.
 
 Each query is one word, and an article is one word. What a batch is to give is
 worked out from the plain list of the commands before its look; whether a merge
-begins, is installed or is stale from lists of segments. No code is shared with
-the engine. `crates/examples` plays what it writes (random_traces.jsonl and
-.out). The same seed gives the same bytes. Needs Python 3.9 or later.
+begins, is installed or is stale from lists of segments.
 """
 
 from __future__ import annotations
@@ -13,7 +10,7 @@ from __future__ import annotations
 import random
 from typing import Iterator
 
-from examples import write
+from lines import Turn
 from segments import MERGED_AT_ONCE, level
 
 EVENTS = 3000
@@ -46,95 +43,91 @@ class Engine:
         """An id."""
         return f"q{self.dice.randrange(IDS)}"
 
-    def register(self) -> tuple[dict, dict]:
+    def register(self) -> Turn:
         """A register of one query."""
         id, word = self.id(), self.dice.choice(WORDS)
         self.listed += 1
         self.registered[id] = word, self.listed
         self.segments.append([self.listed])
-        return {"op": "register", "queries": [{"id": id, "query": word}]}, {"registered": 1}
+        return Turn({"op": "register", "queries": [{"id": id, "query": word}]}, {"registered": 1})
 
-    def delete(self) -> tuple[dict, dict]:
+    def delete(self) -> Turn:
         """A delete of one id."""
         id = self.id()
-        return {"op": "delete", "ids": [id]}, {"deleted": int(self.registered.pop(id, None) is not None)}
+        return Turn({"op": "delete", "ids": [id]}, {"deleted": int(self.registered.pop(id, None) is not None)})
 
-    def clear(self) -> tuple[dict, dict]:
+    def clear(self) -> Turn:
         """A clear: no segment is left."""
         count = len(self.registered)
         self.registered, self.segments = {}, []
-        return {"op": "clear"}, {"cleared": count}
+        return Turn({"op": "clear"}, {"cleared": count})
 
-    def purge(self) -> tuple[dict, dict]:
+    def purge(self) -> Turn:
         """A purge: a segment without dead entries stays as it is."""
         purged = [segment if self.kept(segment) == segment else self.kept(segment) for segment in self.segments]
         self.segments = [segment for segment in purged if segment]
-        return {"op": "purge"}, {"step": "purged"}
+        return Turn({"op": "purge"}, {"step": "purged"})
 
-    def begin(self) -> tuple[dict, dict]:
+    def begin(self) -> Turn:
         """A merge of the oldest four neighbours of one level, under a number that is free or used."""
         number = self.dice.randrange(MOST_OPEN)
         if number in self.merges:
-            return {"op": "begin", "merge": number}, {"step": "used"}
+            return Turn({"op": "begin", "merge": number}, {"step": "used"})
         levels = [level(len(segment)) for segment in self.segments]
         for first in range(len(levels) - MERGED_AT_ONCE + 1):
             if len(set(levels[first:first + MERGED_AT_ONCE])) == 1:
                 sources = self.segments[first:first + MERGED_AT_ONCE]
                 self.merges[number] = sources, [entry for segment in sources for entry in self.kept(segment)]
-                return {"op": "begin", "merge": number}, {"step": "begun"}
-        return {"op": "begin", "merge": number}, {"step": "nothing"}
+                return Turn({"op": "begin", "merge": number}, {"step": "begun"})
+        return Turn({"op": "begin", "merge": number}, {"step": "nothing"})
 
-    def install(self) -> tuple[dict, dict]:
+    def install(self) -> Turn:
         """A merge is installed where its sources still stand next to each other, each the very segment that it was."""
         number = self.dice.randrange(MOST_OPEN)
         if number not in self.merges:
-            return {"op": "install", "merge": number}, {"step": "unknown"}
+            return Turn({"op": "install", "merge": number}, {"step": "unknown"})
         sources, entries = self.merges.pop(number)
         for first in range(len(self.segments) - MERGED_AT_ONCE + 1):
             if all(here is source for here, source in zip(self.segments[first:], sources)):
                 self.segments[first:first + MERGED_AT_ONCE] = [entries] if entries else []
-                return {"op": "install", "merge": number}, {"step": "installed"}
-        return {"op": "install", "merge": number}, {"step": "stale"}
+                return Turn({"op": "install", "merge": number}, {"step": "installed"})
+        return Turn({"op": "install", "merge": number}, {"step": "stale"})
 
-    def look(self) -> tuple[dict, dict]:
+    def look(self) -> Turn:
         """A batch of one article, and what it is to give whenever it is finished."""
         number, word = self.dice.randrange(MOST_OPEN), self.dice.choice(WORDS)
         event = {"op": "look", "batch": number, "articles": [{"id": "a1", "fields": {"text": word}}]}
         if number in self.batches:
-            return event, {"step": "used"}
+            return Turn(event, {"step": "used"})
         due = sorted(id for id, (wanted, _) in self.registered.items() if wanted == word)
         self.batches[number] = "a1", due, False
-        return event, {"step": "looked"}
+        return Turn(event, {"step": "looked"})
 
-    def piece(self) -> tuple[dict, dict]:
+    def piece(self) -> Turn:
         """The article of a batch is matched, if it is not yet."""
         number = self.dice.randrange(MOST_OPEN)
         article, due, is_matched = self.batches.get(number, ("", [], True))
         if is_matched:
-            return {"op": "piece", "batch": number}, {"step": "unknown"}
+            return Turn({"op": "piece", "batch": number}, {"step": "unknown"})
         self.batches[number] = article, due, True
-        return {"op": "piece", "batch": number}, {"step": "matched"}
+        return Turn({"op": "piece", "batch": number}, {"step": "matched"})
 
-    def finish(self) -> tuple[dict, dict]:
+    def finish(self) -> Turn:
         """A batch is finished."""
         number = self.dice.randrange(MOST_OPEN)
         if number not in self.batches:
-            return {"op": "finish", "batch": number}, {"step": "unknown"}
+            return Turn({"op": "finish", "batch": number}, {"step": "unknown"})
         article, due, _ = self.batches.pop(number)
-        return {"op": "finish", "batch": number}, {"alerts": [{"article": article, "queries": due}]}
+        return Turn({"op": "finish", "batch": number}, {"alerts": [{"article": article, "queries": due}]})
 
-    def turn(self) -> tuple[dict, dict]:
+    def turn(self) -> Turn:
         """A random event, and its reply but for the number of its line."""
         shares = {self.register: 36, self.delete: 9, self.clear: 1, self.purge: 4, self.begin: 12, self.install: 9,
                   self.look: 13, self.piece: 5, self.finish: 11}
         return self.dice.choices([*shares], weights=[*shares.values()])[0]()
 
 
-def turns(seed: int) -> Iterator[tuple[dict, dict]]:
+def turns(seed: int) -> Iterator[Turn]:
     """Events with their replies."""
     engine = Engine(random.Random(seed))
     return (engine.turn() for _ in range(EVENTS))
-
-
-if __name__ == "__main__":
-    write("random_traces", __doc__, turns)

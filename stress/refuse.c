@@ -2,7 +2,7 @@
 
    Where the variable REFUSE_AFTER is set, only those are counted that come while the program has written so many lines
    on standard output; else all. That whose number, from 1, is REFUSE is refused. When the program ends, the file of the
-   number REFUSE_REPORT gets the count as a line. bench/refusals builds this and uses it. */
+   number REFUSE_REPORT gets the count as a line. stress/refusals builds this and uses it. */
 #define _GNU_SOURCE
 #include <errno.h>
 #include <stdatomic.h>

@@ -1,9 +1,6 @@
-#!/usr/bin/env python3
-"""Writes a long example of random rows of words, signs, operators, fields and parentheses, half of them no query.
+"""Random rows of words, signs, operators, fields and parentheses, half of them no query.
 
-The rows are drawn and read by `reading.py`. `crates/examples` plays what this
-writes (random_operators.jsonl and .out). The same seed gives the same bytes.
-Needs Python 3.9 or later.
+The rows are drawn and read by `reading.py`.
 """
 
 from __future__ import annotations
@@ -11,13 +8,13 @@ from __future__ import annotations
 import random
 from typing import Iterator
 
-from examples import write
+from lines import Turn, Value
 from reading import Drawing, Question
 
 LINES, IDS, ARTICLES = 600, 24, 4
 
 
-def turns(seed: int) -> Iterator[tuple[dict, dict]]:
+def turns(seed: int) -> Iterator[Turn]:
     """Registers of one row each, a refused one of which leaves the query under its id; one line in ten is a match."""
     drawing = Drawing(random.Random(seed))
     queries: dict[str, Question] = {}
@@ -27,17 +24,14 @@ def turns(seed: int) -> Iterator[tuple[dict, dict]]:
             text, question = drawing.row()
             if question:
                 queries[id] = question
-            yield ({"op": "register", "queries": [{"id": id, "query": text}]},
-                   {"registered": 1} if question else {"refused": "query", "which": 0})
+            yield Turn({"op": "register", "queries": [{"id": id, "query": text}]},
+                       {"registered": 1} if question else {"refused": "query", "which": 0})
         else:
-            articles, alerts = [], []
+            articles: list[Value] = []
+            alerts: list[Value] = []
             for number in range(ARTICLES):
                 fields = drawing.fields()
                 articles.append({"id": f"a{number}", "fields": {name: " ".join(its) for name, its in fields.items()}})
                 due = sorted(id for id, question in queries.items() if question(fields))
                 alerts.append({"article": f"a{number}", "queries": due})
-            yield {"op": "match", "articles": articles}, {"alerts": alerts, "notes": []}
-
-
-if __name__ == "__main__":
-    write("random_operators", __doc__, turns)
+            yield Turn({"op": "match", "articles": articles}, {"alerts": alerts, "notes": []})

@@ -6,7 +6,7 @@ import json
 import random
 from typing import Callable, NamedTuple, Union
 
-from examples import line_of
+from lines import Value, line_of
 from plain import LISTENERS, Plain, Standing
 from reading import Drawing, Fields, Question
 
@@ -21,7 +21,7 @@ FORMS: list[tuple[str, Question]] = [
     ("*:* -tea", lambda fields: "tea" not in fields["text"]),
 ]
 # Values that are no request.
-MISSHAPEN = [
+MISSHAPEN: list[object] = [
     [], {}, None, 3, "tea", True, [{"op": "count"}], {"op": None}, {"op": "counts"}, {"op": ["count"]}, {"Op": "count"},
     {"op": "count", "x": 1}, {"op": "show"}, {"op": "show", "id": 1}, {"op": "delete", "ids": "q1"},
     {"op": "delete", "ids": [1]}, {"op": "register"}, {"op": "register", "queries": [{"id": "q1"}]},
@@ -48,10 +48,10 @@ class Line(NamedTuple):
 
     kind: str
     text: bytes
-    due: Union[dict, None, Any]
+    due: Union[Value, None, Any]
 
 
-def refused(word: str) -> dict:
+def refused(word: str) -> Value:
     """The reply of a refusal."""
     return {"refused": word}
 
@@ -223,7 +223,7 @@ class Lines:
         return Line("long", text + (LONGEST + self.dice.randint(1, 9) - len(text)) * b" ", refused("long"))
 
 
-def is_free_reply(reply: dict) -> bool:
+def is_free_reply(reply: Value) -> bool:
     """Whether a reply but for its number is a refusal, or one of a request that changes nothing."""
     members = set(reply)
     return members in ({"refused"}, {"count"}, {"query"}, {"alerts", "notes"})

@@ -7,6 +7,7 @@ from __future__ import annotations
 
 from typing import Iterable, NamedTuple, Optional, Sequence
 
+from lines import Value
 from reading import Fields, Question
 
 # What the listeners of the program say.
@@ -27,32 +28,33 @@ class Plain:
     def __init__(self) -> None:
         self.queries: dict[str, Standing] = {}
 
-    def register(self, listed: Sequence[tuple[str, Standing]]) -> dict:
+    def register(self, listed: Sequence[tuple[str, Standing]]) -> Value:
         """Each takes the place of the one with its id."""
         self.queries.update(listed)
         return {"registered": len({id for id, _ in listed})}
 
-    def delete(self, ids: Iterable[str]) -> dict:
+    def delete(self, ids: Iterable[str]) -> Value:
         """Takes those out that are there."""
         return {"deleted": sum(self.queries.pop(id, None) is not None for id in set(ids))}
 
-    def clear(self) -> dict:
+    def clear(self) -> Value:
         """Takes all out."""
         count = len(self.queries)
         self.queries.clear()
         return {"cleared": count}
 
-    def count(self) -> dict:
+    def count(self) -> Value:
         """How many there are."""
         return {"count": len(self.queries)}
 
-    def show(self, id: str) -> dict:
+    def show(self, id: str) -> Value:
         """The text of one, or none."""
         return {"query": self.queries[id].text if id in self.queries else None}
 
-    def match(self, articles: Sequence[tuple[str, Fields]]) -> dict:
+    def match(self, articles: Sequence[tuple[str, Fields]]) -> Value:
         """Of each article the queries that hold of it, in the order of their ids, and what their listeners say."""
-        alerts, notes = [], []
+        alerts: list[Value] = []
+        notes: list[str] = []
         for article, fields in articles:
             due = sorted(id for id, query in self.queries.items() if query.question(fields))
             alerts.append({"article": article, "queries": due})

@@ -1,13 +1,9 @@
-#!/usr/bin/env python3
-"""Writes two long examples of random queries of every form, with the alerts that each article is to have.
+"""Random queries of every form, with the alerts and the hits that each article is to have.
 
 A query is drawn as its text and, beside it, as the plain question that it asks
-of an article's words and the places that it names among them; no code is
-shared with the engine. Between two clauses an operator stands or none. In the
-second example groups are nested up to 40 deep, so that much of a query is
-behind what decides it. `crates/examples` plays what it writes
-(random_queries.jsonl, .out and .hits, and deep_queries likewise). The same seed
-gives the same bytes. Needs Python 3.9 or later.
+of an article's words and the places that it names among them. Between two
+clauses an operator stands or none. In a second example groups are nested up to
+40 deep, so that much of a query is behind what decides it.
 """
 
 from __future__ import annotations
@@ -15,22 +11,18 @@ from __future__ import annotations
 import random
 from typing import Callable, Iterator, NamedTuple
 
-from examples import write
-from meaning import signs_after
+from lines import Turn, Value
+from reading import Fields, Question, signs_after
 
-# The words of an article's fields, in order.
-Fields = dict[str, list[str]]
 # A field, and a position among its words.
 Place = tuple[str, int]
-# A request or a reply.
-Line = dict[str, object]
 
 
 class Drawn(NamedTuple):
     """A query's text, whether it holds of an article, and the places of the words that it names there."""
 
     text: str
-    question: Callable[[Fields], bool]
+    question: Question
     places: Callable[[Fields], set[Place]]
 
 
@@ -144,34 +136,39 @@ class Nesting(Drawing):
         return drawn
 
 
-def hits_of(query: Drawn, fields: Fields) -> list[Line]:
+def hits_of(query: Drawn, fields: Fields) -> list[Value]:
     """The places that a query names, by the bytes of the field's name and then by position, as a reply shows them."""
     places = sorted(query.places(fields), key=lambda place: (place[0].encode(), place[1]))
     return [{"field": field, "position": position} for field, position in places]
 
 
-def turns(drawing: Drawing, rounds: int) -> Iterator[tuple[Line, Line, Line]]:
+def played(drawing: Drawing, rounds: int) -> Iterator[Turn]:
     """In each round the queries are replaced by others, and articles are matched. Each line with its reply, without hits
     and with them."""
     for _ in range(rounds):
         queries = {f"q{number}": drawing.query() for number in range(QUERIES)}
-        registered: Line = {"registered": QUERIES}
-        yield ({"op": "register", "queries": [{"id": id, "query": query.text} for id, query in queries.items()]},
-               registered, registered)
-        articles: list[Line] = []
-        plain: list[Line] = []
-        with_hits: list[Line] = []
+        registered: Value = {"registered": QUERIES}
+        yield Turn({"op": "register", "queries": [{"id": id, "query": query.text} for id, query in queries.items()]},
+                   registered, registered)
+        articles: list[Value] = []
+        plain: list[Value] = []
+        with_hits: list[Value] = []
         for number in range(ARTICLES):
             fields = drawing.fields()
             articles.append({"id": f"a{number}", "fields": {name: " ".join(words) for name, words in fields.items()}})
             due = sorted(id for id, query in queries.items() if query.question(fields))
-            alerts: Line = {"article": f"a{number}", "queries": due}
+            alerts: Value = {"article": f"a{number}", "queries": due}
             plain.append(alerts)
             with_hits.append({**alerts, "hits": [hits_of(queries[id], fields) for id in due]})
-        yield ({"op": "match", "articles": articles}, {"alerts": plain, "notes": []},
-               {"alerts": with_hits, "notes": []})
+        yield Turn({"op": "match", "articles": articles}, {"alerts": plain, "notes": []},
+                   {"alerts": with_hits, "notes": []})
 
 
-if __name__ == "__main__":
-    write("random_queries", __doc__, lambda seed: turns(Drawing(random.Random(seed)), ROUNDS))
-    write("deep_queries", __doc__, lambda seed: turns(Nesting(random.Random(seed)), DEEP_ROUNDS))
+def turns(seed: int) -> Iterator[Turn]:
+    """Queries of every form."""
+    return played(Drawing(random.Random(seed)), ROUNDS)
+
+
+def deep_turns(seed: int) -> Iterator[Turn]:
+    """Queries of nested groups."""
+    return played(Nesting(random.Random(seed)), DEEP_ROUNDS)

@@ -1,25 +1,18 @@
-#!/usr/bin/env python3
-"""Writes an example of random phrases over texts of few words, with the alerts and the hits that are due.
+"""Random phrases over texts of few words, with the alerts and the hits that are due.
 
 The texts repeat, so that phrases overlap one another and themselves; most of
 them are cut out of a text, and some of these changed in one word, some longer
 than any text, some cut over the border of two fields. They are looked for
-word by word, which shares no code with the engine. `crates/examples` plays
-what it writes (random_phrases.jsonl, .out and .hits). The same seed gives the
-same bytes. Needs Python 3.9 or later.
+word by word.
 """
 
 from __future__ import annotations
 
 import random
-from typing import Any, Iterator, NamedTuple
+from typing import Iterator, NamedTuple
 
-from examples import write
-from meaning import Field, has_phrase
-
-# The words of an article's fields, in order.
-Fields = dict[str, list[str]]
-Line = dict[str, Any]
+from lines import Turn, Value
+from reading import Fields
 
 NAMES = ["text", "title"]
 WORDS = ["a", "b", "c"]
@@ -39,8 +32,7 @@ class Phrase(NamedTuple):
 
     def holds(self, fields: Fields) -> bool:
         """Whether they do."""
-        words = fields[self.field]
-        return has_phrase(tuple(self.words), Field(words, frozenset(words)))
+        return bool(self.positions(fields))
 
     def positions(self, fields: Fields) -> list[int]:
         """The positions of the words at each place where they do."""
@@ -48,7 +40,7 @@ class Phrase(NamedTuple):
         starts = [at for at in range(len(words) - size + 1) if words[at:at + size] == self.words]
         return sorted({at + more for at in starts for more in range(size)})
 
-    def hits(self, fields: Fields) -> list[Line]:
+    def hits(self, fields: Fields) -> list[Value]:
         """These, as a reply shows them."""
         return [{"field": self.field, "position": at} for at in self.positions(fields)]
 
@@ -88,27 +80,25 @@ class Drawing:
         return Phrase(field, self.cut(fields[field] or WORDS))
 
 
-def turns(seed: int) -> Iterator[tuple[Line, Line, Line]]:
+def turns(seed: int) -> Iterator[Turn]:
     """In each round the queries are replaced by others, and articles are matched. Each line with its reply, without hits
     and with them."""
     drawing = Drawing(random.Random(seed))
     for _ in range(ROUNDS):
         articles = [{name: drawing.words() for name in NAMES} for _ in range(ARTICLES)]
         queries = {f"q{number}": drawing.phrase(articles) for number in range(QUERIES)}
-        registered = {"registered": QUERIES}
-        yield ({"op": "register", "queries": [{"id": id, "query": query.text()} for id, query in queries.items()]},
-               registered, registered)
-        plain, with_hits = [], []
+        registered: Value = {"registered": QUERIES}
+        yield Turn({"op": "register", "queries": [{"id": id, "query": query.text()} for id, query in queries.items()]},
+                   registered, registered)
+        plain: list[Value] = []
+        with_hits: list[Value] = []
         for number, fields in enumerate(articles):
             due = sorted(id for id, query in queries.items() if query.holds(fields))
-            alerts = {"article": f"a{number}", "queries": due}
+            alerts: Value = {"article": f"a{number}", "queries": due}
             places = [queries[id].hits(fields) for id in due]
             plain.append(alerts)
             with_hits.append({**alerts, "hits": places})
         asked = [{"id": f"a{number}", "fields": {name: " ".join(words) for name, words in fields.items()}}
                  for number, fields in enumerate(articles)]
-        yield ({"op": "match", "articles": asked}, {"alerts": plain, "notes": []}, {"alerts": with_hits, "notes": []})
-
-
-if __name__ == "__main__":
-    write("random_phrases", __doc__, turns)
+        yield Turn({"op": "match", "articles": asked}, {"alerts": plain, "notes": []},
+                   {"alerts": with_hits, "notes": []})

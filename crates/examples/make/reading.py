@@ -11,9 +11,7 @@ from __future__ import annotations
 import random
 from typing import Callable, Sequence
 
-from meaning import signs_after
-
-# The words of an article's fields.
+# The words of an article's fields, in order.
 Fields = dict[str, list[str]]
 # Whether a query holds of an article.
 Question = Callable[[Fields], bool]
@@ -29,6 +27,14 @@ LEXEMES = [*ITEMS, *SIGNS, *OPERATORS, *FIELDS, "(", ")"]
 # No blank is needed after the first of these, and none before the others.
 ENDED, APART = ["+", "-", "!", "(", ")", *FIELDS], ["!", "(", ")"]
 DEEPEST = 2
+
+
+def signs_after(signs: Sequence[str], operators: Sequence[str]) -> list[str]:
+    """How clauses count that have these signs, and between each two of them these operators: what stands beside an
+    `AND` is required, unless it is excluded."""
+    joins = [operator in ("AND", "&&") for operator in operators]
+    beside = [before or after for before, after in zip([False, *joins], [*joins, False])]
+    return ["+" if sign == "" and joined else sign for sign, joined in zip(signs, beside)]
 
 
 class Refused(Exception):
@@ -124,8 +130,9 @@ class Drawing:
     def clauses(self, depth: int) -> list[str]:
         """One to four clauses, between each two an operator or none."""
         lexemes = self.clause(depth)
+        between: list[list[str]] = [[], [], *([operator] for operator in OPERATORS)]
         for _ in range(self.dice.choice([0, 1, 1, 2, 2, 3])):
-            lexemes += self.dice.choice([[], [], *([operator] for operator in OPERATORS)]) + self.clause(depth)
+            lexemes += self.dice.choice(between) + self.clause(depth)
         return lexemes
 
     def clause(self, depth: int) -> list[str]:

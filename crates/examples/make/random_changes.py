@@ -1,10 +1,7 @@
-#!/usr/bin/env python3
-"""Writes a long example of random requests, with the replies that a plain filter gives.
+"""Random requests, with the replies that a plain filter gives.
 
 Each query is one word, or two of which either will do, and an article is a few
-words; the registered queries are a dictionary. It shares no code with the
-engine. `crates/examples` plays what it writes (random_changes.jsonl and .out).
-The same seed gives the same bytes. Needs Python 3.9 or later.
+words; the registered queries are a dictionary.
 """
 
 from __future__ import annotations
@@ -12,7 +9,7 @@ from __future__ import annotations
 import random
 from typing import Iterator
 
-from examples import write
+from lines import Turn, Value
 from plain import LISTENERS, Plain, Standing
 from reading import Question
 
@@ -41,7 +38,7 @@ class Changes:
         """Up to so many words, one at least."""
         return [f"w{self.dice.randrange(WORDS)}" for _ in range(self.dice.randint(1, most))]
 
-    def register(self) -> tuple[dict, dict]:
+    def register(self) -> Turn:
         """A register of one to three queries, and its reply."""
         listed, queries = [], []
         for _ in range(self.dice.randint(1, 3)):
@@ -50,39 +47,35 @@ class Changes:
             text = " ".join(words)
             listed.append({"id": id, "query": text} | ({"listener": listener} if listener else {}))
             queries.append((id, Standing(text, asking(set(words)), listener)))
-        return {"op": "register", "queries": listed}, self.plain.register(queries)
+        return Turn({"op": "register", "queries": listed}, self.plain.register(queries))
 
-    def delete(self) -> tuple[dict, dict]:
+    def delete(self) -> Turn:
         """A delete of one or two ids, and its reply."""
         ids = [self.id() for _ in range(self.dice.randint(1, 2))]
-        return {"op": "delete", "ids": ids}, self.plain.delete(ids)
+        return Turn({"op": "delete", "ids": ids}, self.plain.delete(ids))
 
-    def match(self) -> tuple[dict, dict]:
+    def match(self) -> Turn:
         """A match of one to three articles, and its reply."""
         articles = [(f"a{number}", self.words(3)) for number in range(self.dice.randint(1, 3))]
         listed = [{"fields": {"text": " ".join(words)}, "id": id} for id, words in articles]
         reply = self.plain.match([(id, {"text": words}) for id, words in articles])
-        return {"op": "match", "articles": listed}, reply
+        return Turn({"op": "match", "articles": listed}, reply)
 
-    def turn(self) -> tuple[dict, dict]:
+    def turn(self) -> Turn:
         """A random request, and its reply but for the number of its line."""
         roll = self.dice.randrange(100)
         if roll == 0:
-            return {"op": "clear"}, self.plain.clear()
+            return Turn({"op": "clear"}, self.plain.clear())
         if roll < 5:
-            return {"op": "purge"}, {"purged": True}
+            return Turn({"op": "purge"}, {"purged": True})
         if roll < 15:
             return self.delete()
         if roll < 20:
-            return {"op": "count"}, self.plain.count()
+            return Turn({"op": "count"}, self.plain.count())
         return self.match() if roll < 50 else self.register()
 
 
-def turns(seed: int) -> Iterator[tuple[dict, dict]]:
+def turns(seed: int) -> Iterator[Turn]:
     """Requests with their replies."""
     changes = Changes(random.Random(seed))
     return (changes.turn() for _ in range(LINES))
-
-
-if __name__ == "__main__":
-    write("random_changes", __doc__, turns)
