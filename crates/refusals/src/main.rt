@@ -1,7 +1,7 @@
 //! Makes public calls that take memory: of each is printed its name, and in the next line what it answers, as a number,
 //! or that it was refused. A refused call is made once more.
 //!
-//! `bench/refusals` runs this once for each allocation of each call, which it has refused.
+//! `stress/refusals` runs this once for each allocation of each call, which it has refused.
 #![tactic(auto)]
 
 mod desks;
