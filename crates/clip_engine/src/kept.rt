@@ -184,7 +184,7 @@ impl Kept {
     /// Keeps what was made, or answers why it was not.
     fn keep(&mut self, made: Result<Vec<u8>, u32>) -> u32
         requires { IfErr made (λ code. code ≡ 0 → ⊥) }
-        ensures kept { result ≡ 0 → made.entry ≡ Ok self.new.text }
+        ensures kept { result ≡ 0 → made ≡ Ok self.new.text }
         ensures engine { self.new.engine ≡ self.old.engine }
     {
         match made {
