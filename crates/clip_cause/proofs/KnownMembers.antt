@@ -9,7 +9,8 @@ use Rattle.std.specs.Prelude.{is_some, ⊤}
 use Rattle.serde_json.specs.Data.{Data, null, boolean, number, string, array, object, Members, no_members, member}
 use Rattle.serde_json.specs.Find.{get, get_member}
 use Rattle.clip_cause.specs.Steps.Ordered.{IsBefore, IsBeforeAll, IsOrdered, AreMembersOrdered}
-use Rattle.clip_cause.specs.Steps.Shapes.{missing, named, unknown, names_fault}
+use Rattle.clip_cause.specs.Faults.{named}
+use Rattle.clip_cause.specs.Shapes.{missing, unknown, names_fault}
 use Rattle.clip_cause.specs.declared.wrong.Wrong.TheVariants.{Missing, Unknown}
 use Rattle.clip_cause.proofs.Options.{some_is_none, passed, both_none, none_mapped}
 

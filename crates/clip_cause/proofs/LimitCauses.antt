@@ -24,9 +24,8 @@ use Rattle.clip_protocol.specs.declared.refusal.Refusal.TheVariants.{Limit}
 use Rattle.clip_cause.specs.Causes.{HasThere, HasFieldNamed, IsLongList, IsWideObject, IsWrongAt}
 use Rattle.clip_cause.specs.Names.{articles, fields, ids, queries}
 use Rattle.clip_cause.specs.Path.{Path, to_member, to_item, value_at}
-use Rattle.clip_cause.specs.Steps.Limits.{at_itself, wrong_of_id, id_fault, id_in, wrong_of_name, field_names_fault, fields_fault, draft_fault, each_fault, limit_fault}
-use Rattle.clip_cause.specs.Steps.Shapes.{beneath, here, in_item, named}
-use Rattle.clip_cause.specs.Steps.Sites.{Fault, item_path}
+use Rattle.clip_cause.specs.Limits.{at_itself, wrong_of_id, id_fault, id_in, wrong_of_name, field_names_fault, fields_fault, draft_fault, each_fault, limit_fault}
+use Rattle.clip_cause.specs.Faults.{Fault, beneath, here, in_item, item_path, named}
 use Rattle.clip_cause.specs.Wrong.{refusal_of}
 use Rattle.clip_cause.specs.declared.wrong.Wrong.{Wrong}
 use Rattle.clip_cause.specs.declared.wrong.Wrong.TheVariants as wrong

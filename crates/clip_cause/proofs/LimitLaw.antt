@@ -13,10 +13,9 @@ use Rattle.clip_meaning.specs.declared.fault.TheConstants.{MOST_FIELDS}
 use Rattle.clip_model.specs.declared.limits.TheConstants.{MOST_ARTICLES, MOST_LISTED}
 use Rattle.clip_protocol.specs.Request.{Draft, Request, register, delete, clear, purge, count, show, match, members_from, listing_value, field_value, draft_value, value_of, within}
 use Rattle.clip_cause.specs.Names.{articles, fields, ids, queries}
-use Rattle.clip_cause.specs.Steps.Limits.{at_itself, wrong_of_id, id_fault, id_in, field_names_fault, fields_fault, draft_fault, each_fault, listed_fault, limit_fault}
+use Rattle.clip_cause.specs.Limits.{at_itself, wrong_of_id, id_fault, id_in, field_names_fault, fields_fault, draft_fault, each_fault, listed_fault, limit_fault}
 use Rattle.clip_cause.specs.Steps.Ordered.{IsBefore, IsBeforeAll, IsOrdered, AreOrdered, AreMembersOrdered}
-use Rattle.clip_cause.specs.Steps.Shapes.{beneath, in_item, or_else}
-use Rattle.clip_cause.specs.Steps.Sites.{Fault}
+use Rattle.clip_cause.specs.Faults.{Fault, beneath, in_item, or_else}
 use Rattle.clip_cause.specs.declared.wrong.Wrong.{Wrong}
 use Rattle.clip_cause.proofs.Options.{some_is_none, passed, both_none, none_mapped, one_of}
 

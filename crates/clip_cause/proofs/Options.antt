@@ -1,7 +1,7 @@
 -- Options that are none, and tests that were passed.
 use Rattle.std.proofs.Common.{◌≡◌, ◌⊎◌, inl, inr, Bool, true, false, cond, Option, Some, None, option_map, refl}
 use Rattle.std.specs.Prelude.{is_some}
-use Rattle.clip_cause.specs.Steps.Shapes.{or_else}
+use Rattle.clip_cause.specs.Faults.{or_else}
 
 pub some_is_none : {A : Type 0} (x : A) → Some x ≡ None → ⊥
 some_is_none x e = cc

@@ -17,8 +17,8 @@ use Rattle.clip_cause.specs.Names as operation
 use Rattle.clip_cause.specs.Names.{Operation, AsksFor, name_of, operation_of, ids, queries, articles, fields, query_names, query_needs, article_names, line_names, names_at, needs_at}
 use Rattle.clip_cause.specs.Path.{Path, to_member, to_item, step_from, value_at}
 use Rattle.clip_cause.specs.Steps.Ordered.{IsBefore, IsBeforeAll, IsOrdered, AreOrdered, AreMembersOrdered}
-use Rattle.clip_cause.specs.Steps.Shapes.{here, named, or_else, in_item, missing, unknown, names_fault, text_fault, texts_fault, is_text_or_absent, is_text_if_there, query_fault, field_texts, fields_by, fields_fault, fields_in, article_fault, items_fault, list_fault, list_in, line_names_fault, content_fault, asked_by, word_by, op_by, shape_fault}
-use Rattle.clip_cause.specs.Steps.Sites.{Fault, item_path}
+use Rattle.clip_cause.specs.Faults.{Fault, here, in_item, item_path, named, or_else}
+use Rattle.clip_cause.specs.Shapes.{missing, unknown, names_fault, text_fault, texts_fault, is_text_or_absent, is_text_if_there, query_fault, field_texts, fields_by, fields_fault, fields_in, article_fault, items_fault, list_fault, list_in, line_names_fault, content_fault, asked_by, word_by, op_by, shape_fault}
 use Rattle.clip_cause.specs.Wrong.{refusal_of}
 use Rattle.clip_cause.specs.declared.wrong.Wrong.{Wrong}
 use Rattle.clip_cause.specs.declared.wrong.Wrong.TheVariants as wrong

@@ -6,8 +6,8 @@ use Rattle.clip_protocol.proofs.RequestLaw.{value_of-request_of}
 use Rattle.clip_protocol.specs.Request.{Listing, Draft, Request, register, delete, clear, purge, count, show, match, members_from, listing_value, field_value, draft_value, value_of}
 use Rattle.clip_protocol.specs.Steps.Outline.{request_of}
 use Rattle.clip_cause.specs.Names.{ids, queries, articles, fields}
-use Rattle.clip_cause.specs.Steps.Shapes.{or_else, beneath, in_item, text_fault, query_fault, field_texts, article_fault, items_fault, shape_fault}
-use Rattle.clip_cause.specs.Steps.Sites.{Fault}
+use Rattle.clip_cause.specs.Faults.{Fault, beneath, in_item, or_else}
+use Rattle.clip_cause.specs.Shapes.{text_fault, query_fault, field_texts, article_fault, items_fault, shape_fault}
 use Rattle.clip_cause.proofs.Options.{some_is_none}
 
 -- ---- the value of a request has no fault

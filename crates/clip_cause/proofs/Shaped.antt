@@ -12,8 +12,8 @@ use Rattle.clip_cause.specs.Names as operation
 use Rattle.clip_cause.specs.Names.{Operation, name_of, operation_of, ids, queries, articles, fields, query_names, query_needs, article_names, line_names}
 use Rattle.clip_cause.specs.Path.{to_member}
 use Rattle.clip_cause.specs.Steps.Ordered.{IsOrdered, AreOrdered, AreMembersOrdered}
-use Rattle.clip_cause.specs.Steps.Shapes.{in_item, names_fault, text_fault, texts_fault, query_fault, field_texts, fields_by, fields_in, article_fault, items_fault, list_fault, list_in, line_names_fault, content_fault, asked_by, word_by, op_by, shape_fault}
-use Rattle.clip_cause.specs.Steps.Sites.{Fault}
+use Rattle.clip_cause.specs.Faults.{Fault, in_item}
+use Rattle.clip_cause.specs.Shapes.{names_fault, text_fault, texts_fault, query_fault, field_texts, fields_by, fields_in, article_fault, items_fault, list_fault, list_in, line_names_fault, content_fault, asked_by, word_by, op_by, shape_fault}
 use Rattle.clip_cause.proofs.KnownMembers.{Begins, Lacks, begins, begins_there, none_known, named_well, needed_first, needed_behind, one_member, two_members}
 use Rattle.clip_cause.proofs.Options.{some_is_none, passed, both_none, none_mapped, held}
 

@@ -18,11 +18,12 @@ use Rattle.clip_cause.proofs.ShapeCauses.{shape_wrong}
 use Rattle.clip_cause.proofs.ShapeLaw.{unread_from_fault}
 use Rattle.clip_cause.proofs.Shaped.{read_from_shape}
 use Rattle.clip_cause.specs.Causes.{IsCauseOf, IsPlaceOf, IsWrongAt, told_by, told_of}
-use Rattle.clip_cause.specs.Steps.Limits.{limit_fault}
+use Rattle.clip_cause.specs.Limits.{limit_fault}
 use Rattle.clip_cause.specs.Steps.Ordered.{IsOrdered}
-use Rattle.clip_cause.specs.Steps.Shapes.{shape_fault}
-use Rattle.clip_cause.specs.Steps.Sites.{Fault}
-use Rattle.clip_cause.specs.Steps.Telling.{HasPath, IsCauseIn, IsToldAs, TellsOf, TellsOfLine}
+use Rattle.clip_cause.specs.Shapes.{shape_fault}
+use Rattle.clip_cause.specs.Faults.{Fault}
+use Rattle.clip_cause.specs.First.{HasPath, IsFirstFault, ComesFirst, IsToldAs, Tells, TellsFirst, TellsFirstOf}
+use Rattle.clip_cause.specs.Steps.Telling.{IsCauseIn, TellsOf, TellsOfLine}
 use Rattle.clip_cause.specs.Wrong.{refusal_of}
 use Rattle.clip_cause.specs.declared.cause.LineCause.{LineCause}
 use Rattle.clip_cause.specs.declared.cause.Place.{Place}
@@ -63,6 +64,16 @@ value_asked d r found e told =
 
 pub ordered_request : (d : Data) (r : Request) → IsOrdered d → request_of d ≡ Some r → IsOrdered (value_of r)
 ordered_request d r h e = subst IsOrdered (value_of-request_of d r e) h
+
+pub limit_told : (r : Request) (fault : Option Fault) (found : Option LineCause) → fault ≡ limit_fault r → Tells fault found → Tells (limit_fault r) found
+limit_told r fault found e told = subst (λ o. Tells o found) e told
+
+pub shape_told : (d : Data) (f : Fault) (c : LineCause) → shape_fault d ≡ Some f → IsToldAs f c → TellsFirst d (Some c)
+shape_told d f c e told = (Some f, subst (λ o. ComesFirst o d (Some f)) (sym e) refl, told)
+
+pub asked_told : (d : Data) (r : Request) (found : Option LineCause) → shape_fault d ≡ None → request_of d ≡ Some r → Tells (limit_fault r) found → TellsFirst d found
+asked_told d r found e is told =
+    (limit_fault r, subst (λ o. ComesFirst o d (limit_fault r)) (sym e) (r, value_of-request_of d r is, refl), told)
 
 -- a value with no fault is read
 pub never_unread : (d : Data) → IsOrdered d → shape_fault d ≡ None → request_of d ≡ None → ⊥
@@ -110,6 +121,26 @@ pub line_blank : (l : List ℕ) → length l ≤ MOST_LINE_BYTES → is_blank l 
 unfolding outline
 line_blank l short e =
     ap (λ b. told_of (cond b (refused Long) (cond (is_blank l) blank (outline_of_value (json_of l))))) (short_is l short) ∙ ap (λ b. told_of (cond b blank (outline_of_value (json_of l)))) e
+
+-- ---- the first fault of a line
+
+true_is_false : (b : Bool) → b ≡ true → b ≡ false → ⊥
+true_is_false b e is = cc
+
+pub first_of_long : (l : List ℕ) (found : Option LineCause) → MOST_LINE_BYTES < length l → TellsFirstOf l found
+first_of_long l found h filled d e = absurd (true_is_false (is_long l) (long_is l h) filled.short)
+
+pub first_of_blank : (l : List ℕ) (found : Option LineCause) → is_blank l ≡ true → TellsFirstOf l found
+first_of_blank l found h filled d e = absurd (true_is_false (is_blank l) h filled.some)
+
+pub first_of_bytes : (l : List ℕ) (found : Option LineCause) → json_of l ≡ None → TellsFirstOf l found
+first_of_bytes l found none filled d e = absurd (none_is_some d (sym none ∙ e))
+
+same_value : (d e : Data) → Some d ≡ Some e → d ≡ e
+same_value d e is = cc
+
+pub first_of_value : (l : List ℕ) (d : Data) (found : Option LineCause) → json_of l ≡ Some d → TellsFirst d found → TellsFirstOf l found
+first_of_value l d found is told filled e other = subst (λ v. TellsFirst v found) (same_value d e (sym is ∙ other)) told
 
 -- ---- what a line means
 

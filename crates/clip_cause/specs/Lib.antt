@@ -1,5 +1,9 @@
 pub mod Causes
+pub mod Faults
+pub mod First
+pub mod Limits
 pub mod Names
 pub mod Path
+pub mod Shapes
 pub mod Steps
 pub mod Wrong

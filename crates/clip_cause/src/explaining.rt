@@ -7,9 +7,11 @@ ghost use Rattle.clip_protocol.specs.Steps.Outline.{outline, outline_of_asked, o
 ghost use Rattle.clip_protocol.specs.Steps.Views.{request_view};
 ghost use Rattle.clip_protocol.specs.declared.refusal.Refusal.TheVariants.{Json};
 ghost use Rattle.clip_cause.specs.Causes.{IsCauseOf, told_by, told_of};
+ghost use Rattle.clip_cause.specs.First.{IsToldAs, Tells, TellsFirst, TellsFirstOf};
+ghost use Rattle.clip_cause.specs.Limits.{limit_fault};
 ghost use Rattle.clip_cause.specs.Steps.Ordered.{IsOrdered};
 ghost use Rattle.clip_cause.specs.Steps.Sites.{site_path};
-ghost use Rattle.clip_cause.specs.Steps.Telling.{IsToldAs, TellsOf, TellsOfLine};
+ghost use Rattle.clip_cause.specs.Steps.Telling.{TellsOf, TellsOfLine};
 
 use crate::cause::{LineCause, Place};
 use crate::limits::limit_fault;
@@ -51,8 +53,9 @@ fn cause_at(alloc: Global, site: Site<'_>, wrong: Wrong) -> Result<LineCause, No
 /// Why the request is refused, if it is beyond a limit.
 fn cause_of_request(alloc: Global, request: &Request) -> Result<Option<LineCause>, NoMemory>
     requires { IsOrdered (value_of (request_view request.now)) }
-    ensures { IfOk result (λ found. TellsOf (value_of (request_view request.now))
+    ensures told { IfOk result (λ found. TellsOf (value_of (request_view request.now))
         (outline_of_request (request_view request.now)) found) }
+    ensures first { IfOk result (λ found. Tells (limit_fault (request_view request.now)) found) }
 {
     match limit_fault(request) {
         Some((site, wrong)) => Ok(Some(cause_at(alloc, site, wrong)?)),
@@ -63,7 +66,8 @@ fn cause_of_request(alloc: Global, request: &Request) -> Result<Option<LineCause
 /// Why a line with this value is refused, if it is.
 fn cause_of_value(alloc: Global, value: Value) -> Result<Option<LineCause>, NoMemory>
     requires { IsOrdered (view value) }
-    ensures { IfOk result (λ found. TellsOf (view value) (outline_of_asked (request_of (view value))) found) }
+    ensures told { IfOk result (λ found. TellsOf (view value) (outline_of_asked (request_of (view value))) found) }
+    ensures first { IfOk result (λ found. TellsFirst (view value) found) }
 {
     if let Some((site, wrong)) = shape_fault(&value) {
         return Ok(Some(cause_at(alloc, site, wrong)?));
@@ -77,7 +81,8 @@ fn cause_of_value(alloc: Global, value: Value) -> Result<Option<LineCause>, NoMe
 
 /// Why a line is refused, where its cause is told.
 fn cause_of_line(alloc: Global, line: &[u8]) -> Result<Option<LineCause>, NoMemory>
-    ensures { IfOk result (λ found. TellsOfLine line.now found) }
+    ensures told { IfOk result (λ found. TellsOfLine line.now found) }
+    ensures first { IfOk result (λ found. TellsFirstOf line.now found) }
 {
     if line.len() > MOST_LINE_BYTES {
         return Ok(None);
@@ -103,6 +108,7 @@ pub fn explain_line(alloc: Global, line: &[u8]) -> Result<Option<LineCause>, NoM
     ensures meaning { IfOk result (λ found. (names : _) (history : _) (m : _) → Means names history line.now m
         → told_by m ≡ option_map (λ c. c.refusal) found) }
     ensures cause { IfOk result (λ found. IfSome found (IsCauseOf line.now)) }
+    ensures first { IfOk result (λ found. TellsFirstOf line.now found) }
 {
     cause_of_line(alloc, line)
 }

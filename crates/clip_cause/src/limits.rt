@@ -1,9 +1,9 @@
 //! Where a request is beyond its limits.
 ghost use Rattle.std.specs.Prelude.{◌≡◌, codes, map, option_map, string_bytes};
 ghost use Rattle.clip_meaning.specs.Article.{begins_with_digit, pairs_of};
-ghost use Rattle.clip_cause.specs.Steps.Limits as fault;
+ghost use Rattle.clip_cause.specs.Limits as fault;
 ghost use Rattle.clip_cause.specs.Names.{articles, fields, ids, queries};
-ghost use Rattle.clip_cause.specs.Steps.Shapes.{beneath};
+ghost use Rattle.clip_cause.specs.Faults.{beneath};
 ghost use Rattle.clip_cause.specs.Steps.Sites.{fault_of_site, fault_of_spot};
 ghost use Rattle.clip_cause.specs.declared.wrong.Wrong.TheVariants as wrong;
 ghost use Rattle.clip_protocol.specs.Steps.Views.{draft_view, listing_view, request_view};

@@ -5,7 +5,7 @@ ghost use Rattle.std.specs.Str.{bytes_eq};
 ghost use Rattle.serde_json.specs.View.{view, members_view};
 ghost use Rattle.clip_cause.specs.Names as asked;
 ghost use Rattle.clip_cause.specs.Names.{articles, ids, operation_of, queries};
-ghost use Rattle.clip_cause.specs.Steps.Shapes as fault;
+ghost use Rattle.clip_cause.specs.Shapes as fault;
 ghost use Rattle.clip_cause.specs.Steps.Sites.{fault_of_site, fault_of_spot};
 
 use crate::site::{Site, Spot};
@@ -271,7 +271,7 @@ fn asked_fault<'v>(value: &'v Value, operation: &'v str) -> Option<(Site<'v>, Wr
 
 /// The first place at which the value is no request's, and what is wrong there. The operation is judged first, then of
 /// each object which members are missing, which are unknown, and then each in order. Its cost is linear in the value.
-#[tactic(auto, unfolding(crate::specs::Steps::Shapes::shape_fault))]
+#[tactic(auto, unfolding(crate::specs::Shapes::shape_fault))]
 pub fn shape_fault<'v>(value: &'v Value) -> Option<(Site<'v>, Wrong)>
     ensures { option_map fault_of_site result ≡ fault.shape_fault (view value.now) }
 {

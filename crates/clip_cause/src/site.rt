@@ -1,7 +1,8 @@
 //! Places in the value of a line, and their texts.
 ghost use Rattle.std.specs.Prelude.{◌≡◌, ◌++◌, IfOk, OnOk, string_bytes};
 ghost use Rattle.clip_cause.specs.Path.{path_text, steps_text};
-ghost use Rattle.clip_cause.specs.Steps.Sites.{item_path, site_path, spot_path};
+ghost use Rattle.clip_cause.specs.Faults.{item_path};
+ghost use Rattle.clip_cause.specs.Steps.Sites.{site_path, spot_path};
 
 use clip_words::NoMemory;
 use std::alloc::Global;

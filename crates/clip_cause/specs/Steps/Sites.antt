@@ -1,24 +1,17 @@
 -- What contracts see of places in the value of a line.
-use Rattle.std.specs.Prelude.{ℕ, List, [], ◌∷◌, codes}
-use Rattle.clip_cause.specs.Path.{Path, to_member, to_item}
+use Rattle.std.specs.Prelude.{[], ◌∷◌, codes}
+use Rattle.clip_cause.specs.Faults.{Fault, item_path}
+use Rattle.clip_cause.specs.Path.{Path, to_member}
 use Rattle.clip_cause.specs.declared.site.Site.{Site}
 use Rattle.clip_cause.specs.declared.site.Site.TheVariants.{In, Item}
 use Rattle.clip_cause.specs.declared.site.Spot.{Spot}
 use Rattle.clip_cause.specs.declared.site.Spot.TheVariants.{Whole, Member, Field}
 use Rattle.clip_cause.specs.declared.wrong.Wrong.{Wrong}
 
--- a path, and what is wrong where it leads
-abbrev pub Fault : Type 0
-Fault = Path × Wrong
-
 abbrev pub spot_path : Spot → Path
 spot_path Whole = []
 spot_path (Member name) = to_member name.now ∷ []
 spot_path (Field name) = to_member (codes "fields") ∷ to_member name.now ∷ []
-
--- to an item of a list, and on from it
-abbrev pub item_path : List ℕ → ℕ → Path → Path
-item_path list place path = to_member list ∷ to_item place ∷ path
 
 abbrev pub site_path : Site → Path
 site_path (In spot) = spot_path spot

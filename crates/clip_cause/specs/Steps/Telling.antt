@@ -1,25 +1,11 @@
 -- What a cause tells of a fault, of a value and of a line.
-use Rattle.std.specs.Prelude.{◌≡◌, ℕ, List, Option, Some, None, string_bytes}
+use Rattle.std.specs.Prelude.{◌≡◌, ℕ, List, Option, Some, None}
 use Rattle.serde_json.specs.Data.{Data}
 use Rattle.clip_protocol.specs.Steps.Outline.{Outline, outline}
 use Rattle.clip_cause.specs.Causes.{IsCauseOf, IsWrongAt, told_of}
-use Rattle.clip_cause.specs.Path.{Path, path_text}
-use Rattle.clip_cause.specs.Steps.Sites.{Fault}
-use Rattle.clip_cause.specs.Wrong.{refusal_of}
+use Rattle.clip_cause.specs.Faults.{Fault}
+use Rattle.clip_cause.specs.First.{IsToldAs}
 use Rattle.clip_cause.specs.declared.cause.LineCause.{LineCause}
-use Rattle.clip_cause.specs.declared.cause.Place.{Place}
-use Rattle.clip_cause.specs.declared.cause.Place.TheVariants.{Byte, Member}
-
--- the place is the text of the path
-abbrev pub HasPath : Path → Place → Type 0
-HasPath path (Byte at) = ⊥
-HasPath path (Member text) = string_bytes text ≡ path_text path
-
--- the cause is this fault's
-pub record IsToldAs (f : Fault) (c : LineCause) : Type 0 where
-  pub place : HasPath f.0 c.place
-  pub wrong : c.wrong ≡ f.1
-  pub refusal : c.refusal ≡ refusal_of f.1
 
 -- the value has a fault whose cause this is
 pub record IsCauseIn (d : Data) (c : LineCause) : Type 0 where

@@ -1,7 +1,7 @@
 use Rattle.std.proofs.Common.{◌≡◌, drop, map}
 use Rattle.clip_protocol.specs.Steps.Views.{draft_view}
 use Rattle.clip_cause.specs.Names.{articles}
-use Rattle.clip_cause.specs.Steps.Limits.{draft_fault, each_fault}
+use Rattle.clip_cause.specs.Limits.{draft_fault, each_fault}
 use Rattle.clip_cause.proofs.limits.articles_fault.Given as goal
 
 abbrev pub invariant-loop-place : goal.invariant-loop-place

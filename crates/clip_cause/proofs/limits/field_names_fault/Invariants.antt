@@ -1,6 +1,6 @@
 use Rattle.std.proofs.Common.{◌≡◌, drop}
 use Rattle.clip_meaning.specs.Article.{pairs_of}
-use Rattle.clip_cause.specs.Steps.Limits.{field_names_fault}
+use Rattle.clip_cause.specs.Limits.{field_names_fault}
 use Rattle.clip_cause.proofs.limits.field_names_fault.Given as goal
 
 abbrev pub invariant-loop-name : goal.invariant-loop-name

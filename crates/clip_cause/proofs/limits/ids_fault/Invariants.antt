@@ -1,6 +1,6 @@
 use Rattle.std.proofs.Common.{◌≡◌, drop, map, string_bytes}
 use Rattle.clip_cause.specs.Names.{ids}
-use Rattle.clip_cause.specs.Steps.Limits.{each_fault, id_fault}
+use Rattle.clip_cause.specs.Limits.{each_fault, id_fault}
 use Rattle.clip_cause.proofs.limits.ids_fault.Given as goal
 
 abbrev pub invariant-loop-place : goal.invariant-loop-place

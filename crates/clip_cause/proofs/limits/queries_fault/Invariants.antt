@@ -1,7 +1,7 @@
 use Rattle.std.proofs.Common.{◌≡◌, drop, map}
 use Rattle.clip_protocol.specs.Steps.Views.{listing_view}
 use Rattle.clip_cause.specs.Names.{queries}
-use Rattle.clip_cause.specs.Steps.Limits.{each_fault, id_in}
+use Rattle.clip_cause.specs.Limits.{each_fault, id_in}
 use Rattle.clip_cause.proofs.limits.queries_fault.Given as goal
 
 abbrev pub invariant-loop-place : goal.invariant-loop-place

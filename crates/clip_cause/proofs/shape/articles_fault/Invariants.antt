@@ -2,7 +2,7 @@ use Rattle.std.proofs.Common.{◌≡◌, drop}
 use Rattle.serde_json.specs.Find.{as_array}
 use Rattle.serde_json.specs.View.{view, items_view}
 use Rattle.clip_cause.specs.Names.{articles}
-use Rattle.clip_cause.specs.Steps.Shapes.{items_fault, list_by, article_fault}
+use Rattle.clip_cause.specs.Shapes.{items_fault, list_by, article_fault}
 use Rattle.clip_cause.proofs.shape.articles_fault.Given as goal
 
 abbrev pub invariant-loop-place : goal.invariant-loop-place

@@ -1,6 +1,6 @@
 use Rattle.std.proofs.Common.{◌≡◌, drop, map}
 use Rattle.serde_json.specs.View.{view}
-use Rattle.clip_cause.specs.Steps.Shapes.{missing}
+use Rattle.clip_cause.specs.Shapes.{missing}
 use Rattle.clip_cause.proofs.shape.missing.Given as goal
 
 abbrev pub invariant-loop-name : goal.invariant-loop-name

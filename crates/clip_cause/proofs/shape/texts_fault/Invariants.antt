@@ -1,6 +1,6 @@
 use Rattle.std.proofs.Common.{◌≡◌, drop, map}
 use Rattle.serde_json.specs.View.{view}
-use Rattle.clip_cause.specs.Steps.Shapes.{texts_fault}
+use Rattle.clip_cause.specs.Shapes.{texts_fault}
 use Rattle.clip_cause.proofs.shape.texts_fault.Given as goal
 
 abbrev pub invariant-loop-name : goal.invariant-loop-name

@@ -1,6 +1,6 @@
 use Rattle.std.proofs.Common.{◌≡◌, map}
 use Rattle.serde_json.specs.View.{members_view}
-use Rattle.clip_cause.specs.Steps.Shapes.{unknown}
+use Rattle.clip_cause.specs.Shapes.{unknown}
 use Rattle.clip_cause.proofs.shape.unknown.Given as goal
 
 abbrev pub invariant-loop-key : goal.invariant-loop-key

@@ -1,37 +1,14 @@
--- The first fault in the shape of a line's value, found step by step.
+-- The first fault in the shape of a line's value. The operation is judged first; then of each object which members are
+-- missing, which are unknown, and what each holds.
 use Rattle.std.specs.Prelude.{ℕ, suc, List, [], ◌∷◌, Bool, true, if◌then◌else◌, Option, Some, None, option_map, option_and_then, is_some, codes, bytes_eq}
 use Rattle.std.specs.List.{list_any}
 use Rattle.serde_json.specs.Data.{Data, Items, no_items, item, Members, no_members, member}
 use Rattle.serde_json.specs.Find.{get, as_str, as_array, as_object}
+use Rattle.clip_cause.specs.Faults.{Fault, beneath, here, in_item, named, or_else}
 use Rattle.clip_cause.specs.Names as operation
 use Rattle.clip_cause.specs.Names.{Operation, operation_of, ids, queries, articles, fields, query_names, query_needs, article_names, line_names}
-use Rattle.clip_cause.specs.Path.{to_member}
-use Rattle.clip_cause.specs.Steps.Sites.{Fault, item_path}
 use Rattle.clip_cause.specs.declared.wrong.Wrong.{Wrong}
 use Rattle.clip_cause.specs.declared.wrong.Wrong.TheVariants.{NotAnObject, NotAList, NotAString, Missing, Unknown, NoOperation}
-
--- ---- faults
-
--- at the value itself
-abbrev pub here : Wrong → Option Fault
-here w = Some ([], w)
-
--- at the member of this name
-abbrev pub named : Wrong → List ℕ → Fault
-named w name = (to_member name ∷ [], w)
-
--- the first of two
-abbrev pub or_else : {A : Type 0} → Option A → Option A → Option A
-or_else None second = second
-or_else (Some x) second = Some x
-
--- of a member's value, as one of the object
-abbrev pub beneath : List ℕ → Option Fault → Option Fault
-beneath name o = option_map (λ f. (to_member name ∷ f.0, f.1)) o
-
--- of an item of a list, as one of the object that has the list
-abbrev pub in_item : List ℕ → ℕ → Option Fault → Option Fault
-in_item list place o = option_map (λ f. (item_path list place f.0, f.1)) o
 
 -- ---- the names of members
 
