@@ -22,7 +22,7 @@ use Rattle.clip_cause.specs.Limits.{limit_fault}
 use Rattle.clip_cause.specs.Steps.Ordered.{IsOrdered}
 use Rattle.clip_cause.specs.Shapes.{shape_fault}
 use Rattle.clip_cause.specs.Faults.{Fault}
-use Rattle.clip_cause.specs.First.{HasPath, IsFirstFault, ComesFirst, IsToldAs, Tells, TellsFirst, TellsFirstOf}
+use Rattle.clip_cause.specs.First.{HasPath, ComesFirst, IsToldAs, Tells, TellsFirst, TellsFirstOf}
 use Rattle.clip_cause.specs.Steps.Telling.{IsCauseIn, TellsOf, TellsOfLine}
 use Rattle.clip_cause.specs.Wrong.{refusal_of}
 use Rattle.clip_cause.specs.declared.cause.LineCause.{LineCause}

@@ -7,7 +7,6 @@ use Rattle.serde_json.specs.Find.{get, as_str, as_array, as_object}
 use Rattle.clip_cause.specs.Faults.{Fault, beneath, here, in_item, named, or_else}
 use Rattle.clip_cause.specs.Names as operation
 use Rattle.clip_cause.specs.Names.{Operation, operation_of, ids, queries, articles, fields, query_names, query_needs, article_names, line_names}
-use Rattle.clip_cause.specs.declared.wrong.Wrong.{Wrong}
 use Rattle.clip_cause.specs.declared.wrong.Wrong.TheVariants.{NotAnObject, NotAList, NotAString, Missing, Unknown, NoOperation}
 
 -- ---- the names of members
