@@ -2,3 +2,4 @@ pub mod ClausesTold
 pub mod Apart
 pub mod Serving
 pub mod Alone
+pub mod LinesTold

@@ -1,4 +1,5 @@
 pub mod Asked
+pub mod LineTold
 pub mod Replied
 pub mod SpansData
 pub mod Steps

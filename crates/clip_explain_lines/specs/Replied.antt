@@ -4,8 +4,10 @@ use Rattle.std.specs.Io.KnownBytes.{Appends}
 use Rattle.clip_stream.specs.Device.{AppendsFront}
 use Rattle.clip_stream.specs.Lines.{lines_of}
 use Rattle.clip_protocol.specs.Reply.{printed}
+use Rattle.serde_json.specs.Data.{Data}
 use Rattle.serde_json.specs.Written.{compact_text}
 use Rattle.clip_explain_lines.specs.Asked.{Ask, query, text, line, Input, blank, refused, asks, input_of, refused_data}
+use Rattle.clip_explain_lines.specs.LineTold.{LineTells}
 use Rattle.clip_explain_lines.specs.SpansData.{words_data}
 use Rattle.clip_explain_lines.specs.Told.{Tells}
 use Rattle.clip_explain_lines.specs.declared.form.Form.{Form}
@@ -15,7 +17,7 @@ use Rattle.clip_explain_lines.specs.declared.form.Form.TheVariants.{Json, Plain}
 abbrev pub Answers : Ask → List ℕ → Type 0
 Answers (query told) answer = Tells told answer
 Answers (text told) answer = answer ≡ compact_text (words_data told)
-Answers (line told) answer = ⊤
+Answers (line bytes) answer = (told : Data) × LineTells bytes told × (answer ≡ compact_text told)
 
 -- the reply to a line of the input: none to a blank one, a refusal with some sentence, or the answer and a line feed
 abbrev pub Replies : Input → List ℕ → Type 0

@@ -2,5 +2,6 @@
 pub mod Asking
 pub mod Explainers
 pub mod Forward
+pub mod LineFaults
 pub mod Members
 pub mod Serving

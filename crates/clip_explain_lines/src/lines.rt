@@ -1,5 +1,16 @@
 //! What a line of the protocol would be refused for.
-ghost use Rattle.std.specs.Prelude.{◌≡◌, ◌∷◌, [], IfOk, codes};
+ghost use Rattle.std.specs.Prelude.{◌≡◌, ◌∷◌, IfOk, None, map, string_bytes};
+ghost use Rattle.json.specs.Token.{key};
+ghost use Rattle.serde_json.specs.Written.{compact_text};
+ghost use Rattle.clip_protocol.specs.Steps.Outline.{outline};
+ghost use Rattle.clip_protocol.specs.Steps.Printing.{Appends, data_tokens};
+ghost use Rattle.clip_protocol.specs.Steps.Views.{listing_view};
+ghost use Rattle.clip_cause.specs.Causes.{told_of};
+ghost use Rattle.clip_cause.specs.Path.{path_text};
+ghost use Rattle.clip_explain_lines.specs.Asked as ask;
+ghost use Rattle.clip_explain_lines.specs.LineTold.{LineTells, TellsOfQueries, not_refused, query_path};
+ghost use Rattle.clip_explain_lines.specs.Replied.{Answers};
+ghost use Rattle.clip_explain_lines.specs.Steps.LineFaults.{IsFaultOfQuery, fault_data, place_data, told_data};
 
 use crate::faults::fault_says;
 use crate::refused::refused_says;
@@ -23,31 +34,44 @@ pub struct LineFault {
     pub says: &'static str,
 }
 
-/// Why the query of a list is refused, if it is one of those at this place.
-fn fault_of_listing(
-    alloc: Global,
-    listing: &Listing,
-    place: usize,
-) -> Result<Option<LineFault>, NoMemory> {
-    match explain(alloc, &listing.query)? {
+/// The path to the text of the query at a place of a list.
+fn query_path(alloc: Global, place: usize) -> Result<String, NoMemory>
+    ensures { IfOk result (λ path. string_bytes path ≡ path_text (query_path place)) }
+{
+    let number = place.to_string(alloc)?;
+    let mut path = String::from_str(alloc, "queries")?;
+    path.push('[')?;
+    path.push_str(number.as_str())?;
+    path.push(']')?;
+    path.push_str(".query")?;
+    Ok(path)
+}
+
+/// Why the query at a place of a list is refused, if it is one of those that are.
+fn fault_of_query(alloc: Global, query: &str, place: usize) -> Result<Option<LineFault>, NoMemory>
+    ensures { IfOk result (λ found. IsFaultOfQuery query.now place found) }
+{
+    let explained = explain(alloc, query)?;
+    match explained {
         Explained::Read(_) => Ok(None),
         Explained::Refused(why) => {
-            let mut path = String::from_str(alloc, "queries[")?;
-            path.push_str(&place.to_string(alloc)?)?;
-            path.push_str("].query")?;
+            let path = query_path(alloc, place)?;
             Ok(Some(LineFault {
                 refusal: Refusal::Query,
                 place: Place::Member(path),
-                says: fault_says(&listing.query, why.at, why.fault),
+                says: fault_says(query, why.at, why.fault),
             }))
         }
     }
 }
 
 /// Why a list of queries is refused, if it is: for the first of them whose text is no query.
-fn fault_of_listings(alloc: Global, listings: &[Listing]) -> Result<Option<LineFault>, NoMemory> {
+fn fault_of_listings(alloc: Global, listings: &[Listing]) -> Result<Option<LineFault>, NoMemory>
+    ensures { IfOk result (λ found. TellsOfQueries 0 (map listing_view listings.now) (told_data found)) }
+{
     for (place, listing) in listings.iter().enumerate() {
-        if let Some(fault) = fault_of_listing(alloc, listing, place)? {
+        let found = fault_of_query(alloc, listing.query.as_str(), place)?;
+        if let Some(fault) = found {
             return Ok(Some(fault));
         }
     }
@@ -55,21 +79,34 @@ fn fault_of_listings(alloc: Global, listings: &[Listing]) -> Result<Option<LineF
 }
 
 /// Why a line is refused that is a JSON value of the right shape and within its limits: for its length, or for a query.
-fn fault_of_others(alloc: Global, bytes: &[u8]) -> Result<Option<LineFault>, NoMemory> {
-    match Line::of_bytes(alloc, bytes)? {
+fn fault_of_others(alloc: Global, bytes: &[u8]) -> Result<Option<LineFault>, NoMemory>
+    requires { told_of (outline bytes.now) ≡ None }
+    ensures { IfOk result (λ found. LineTells bytes.now (told_data found)) }
+{
+    let line = Line::of_bytes(alloc, bytes)?;
+    match line {
         Line::Refused(refusal) => Ok(Some(LineFault {
             refusal,
             place: Place::Byte(MOST_LINE_BYTES),
             says: refused_says(refusal),
         })),
         Line::Register(listings) => fault_of_listings(alloc, &listings),
-        _ => Ok(None),
+        Line::Blank => Ok(None),
+        Line::Delete(_) => Ok(None),
+        Line::Clear => Ok(None),
+        Line::Purge => Ok(None),
+        Line::Count => Ok(None),
+        Line::Show(_) => Ok(None),
+        Line::Match(_) => Ok(None),
     }
 }
 
 /// Why a line would be refused, if it would be, whatever is registered and whatever listeners there are.
-pub fn fault_of_line(alloc: Global, bytes: &[u8]) -> Result<Option<LineFault>, NoMemory> {
-    match explain_line(alloc, bytes)? {
+pub fn fault_of_line(alloc: Global, bytes: &[u8]) -> Result<Option<LineFault>, NoMemory>
+    ensures { IfOk result (λ found. LineTells bytes.now (told_data found)) }
+{
+    let found = explain_line(alloc, bytes)?;
+    match found {
         Some(cause) => Ok(Some(LineFault {
             refusal: cause.refusal,
             place: cause.place,
@@ -80,11 +117,35 @@ pub fn fault_of_line(alloc: Global, bytes: &[u8]) -> Result<Option<LineFault>, N
 }
 
 /// Writes where a line is wrong.
-fn write_place(out: &mut Writer, place: &Place) -> Result<(), NoMemory> {
+fn write_place(out: &mut Writer, place: &Place) -> Result<(), NoMemory>
+    ensures { Appends result out.old out.new
+        (key (place_data place.now).0 ∷ data_tokens (place_data place.now).1) }
+{
     match place {
         Place::Byte(at) => write_number(out, "at", *at as u64),
         Place::Member(path) => write_text(out, "member", path),
     }
+}
+
+/// What is told of a line that would be refused: JSON.
+fn fault_text(alloc: Global, fault: &LineFault) -> Result<Vec<u8>, NoMemory>
+    ensures { IfOk result (λ text. text.items ≡ compact_text (fault_data fault.now)) }
+{
+    let mut out = begun(alloc)?;
+    write_place(&mut out, &fault.place)?;
+    write_text(&mut out, "refused", fault.refusal.word())?;
+    write_text(&mut out, "says", fault.says)?;
+    ended(out)
+}
+
+/// What is told of a line that would not be refused: JSON.
+fn taken_text(alloc: Global) -> Result<Vec<u8>, NoMemory>
+    ensures { IfOk result (λ text. text.items ≡ compact_text not_refused) }
+{
+    let mut out = begun(alloc)?;
+    out.key("refused")?;
+    out.null()?;
+    ended(out)
 }
 
 /// What a line of the protocol, its line feed left out, would be refused for whatever is registered, as compact JSON
@@ -93,19 +154,12 @@ fn write_place(out: &mut Writer, place: &Place) -> Result<(), NoMemory> {
 ///
 /// `NoMemory` where an allocation failed. The cost is that of `explain_line` of `clip_cause`, and for a register that of
 /// `explain` for each of its queries.
-pub fn line_text(alloc: Global, line: &[u8]) -> Result<Vec<u8>, NoMemory> {
-    let fault = fault_of_line(alloc, line)?;
-    let mut out = begun(alloc)?;
-    match fault {
-        Some(fault) => {
-            write_place(&mut out, &fault.place)?;
-            write_text(&mut out, "refused", fault.refusal.word())?;
-            write_text(&mut out, "says", fault.says)?;
-        }
-        None => {
-            out.key("refused")?;
-            out.null()?;
-        }
+pub fn line_text(alloc: Global, line: &[u8]) -> Result<Vec<u8>, NoMemory>
+    ensures { IfOk result (λ answer. Answers (ask.line line.now) answer.items) }
+{
+    let found = fault_of_line(alloc, line)?;
+    match found {
+        Some(fault) => fault_text(alloc, &fault),
+        None => taken_text(alloc),
     }
-    ended(out)
 }
