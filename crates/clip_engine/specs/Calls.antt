@@ -1,8 +1,10 @@
 -- What the calls of the library leave, by the number that they answer.
-use Rattle.std.specs.Prelude.{◌≡◌, ℕ, List, [], ◌∷◌, Bool, Option, Some, None, Ok, ⊤}
+use Rattle.std.specs.Prelude.{◌≡◌, ℕ, List, [], ◌∷◌, Bool, Option, Some, None, Ok}
 use Rattle.std.specs.FinMap as finite
 use Rattle.clip_model.specs.History.{Delete, applied, replay}
 use Rattle.clip_where.specs.Spans.{spans_of}
+use Rattle.clip_explain_lines.specs.Asked as ask
+use Rattle.clip_explain_lines.specs.Replied.{Answers}
 use Rattle.clip_explain_lines.specs.Told.{Tells}
 use Rattle.clip_engine.specs.Engine.{Replies, Registers, commanded}
 use Rattle.clip_engine.specs.Explained.{spans_bytes}
@@ -57,4 +59,4 @@ WordsTo text code old new = (code ≡ 0 → new.text.items ≡ spans_bytes (span
 
 -- this is told of a line, and the engine is as it was
 abbrev pub ExplainLineTo : List ℕ → ℕ → Kept → Kept → Type 0
-ExplainLineTo line code old new = (code ≡ 0 → ⊤) × (new.engine ≡ old.engine)
+ExplainLineTo line code old new = (code ≡ 0 → Answers (ask.line line) new.text.items) × (new.engine ≡ old.engine)

@@ -1,6 +1,8 @@
 //! What is told of a query, a text or a line, as bytes for a caller outside of Rattle.
 ghost use Rattle.std.specs.Prelude.{◌≡◌, ◌++◌, IfOk, IfErr, OnOk};
 ghost use Rattle.clip_where.specs.Spans.{spans_of};
+ghost use Rattle.clip_explain_lines.specs.Asked as ask;
+ghost use Rattle.clip_explain_lines.specs.Replied.{Answers};
 ghost use Rattle.clip_explain_lines.specs.Told.{Tells};
 ghost use Rattle.clip_engine.specs.Explained.{span_bytes, spans_bytes};
 
@@ -67,6 +69,7 @@ pub(crate) fn words_told(alloc: Global, text: &[u8]) -> Result<Vec<u8>, u32>
 
 /// What a line of the protocol would be refused for: that of `line_text`. `FEED` where it has a line feed.
 pub(crate) fn line_told(alloc: Global, line: &[u8]) -> Result<Vec<u8>, u32>
+    ensures ok { IfOk result (λ answer. Answers (ask.line line.now) answer.items) }
     ensures err { IfErr result (λ code. code ≡ 0 → ⊥) }
 {
     if line.contains(&b'\n') {

@@ -15,7 +15,7 @@ loop-place-preserved c = λ told tells.
 pub returns-in-Some : goal.returns-in-Some
 returns-in-Some c =
     let fault = fault_at c.as_str.result.now _ c.loop-place.place c.in_ok-found.found c.in-Some.fault c.in-Some.is
-        c.as_str.ensures.value c.in_ok-found.ensures in
+    c.as_str.ensures.value c.in_ok-found.ensures in
     c.loop-place.invariant (fault_data c.in-Some.fault)
     (one_refused listing_view c.loop-place.place c.args.listings.now c.index-listings-place.result
     (fault_data c.in-Some.fault) c.in-Some.fault.says.now c.loop-place-test.true c.index-listings-place.is fault.0 fault.1)
