@@ -1,16 +1,20 @@
 //! A line answered.
-ghost use Rattle.std.specs.Prelude.{◌≡◌, IfOk};
+ghost use Rattle.std.specs.Prelude.{◌≡◌, map, IfOk};
+ghost use Rattle.std.specs.List.{All};
+ghost use Rattle.clip_match.specs.Alerts.{alerts_due};
+ghost use Rattle.clip_protocol.specs.Found.{found_value};
 ghost use Rattle.clip_protocol.specs.LineMeaning.{matching};
 ghost use Rattle.clip_protocol.specs.Reply.{reply};
+ghost use Rattle.clip_front.specs.Steps.Found.{IsFor};
 ghost use Rattle.clip_engine.specs.Engine.{Answers, house};
 
 use crate::house::House;
 use crate::owned::Owned;
 use clip_front::{Books, Settings, Taken, deliver_found, take_line};
 use clip_listen::Audience;
-use clip_match::{HitsFound, match_batch_finding};
+use clip_match::{HitsFound, entries_due};
 use clip_meaning::Article;
-use clip_protocol::Form;
+use clip_protocol::{Form, Found};
 use clip_registry::View;
 use clip_words::{NoMemory, WordPool};
 use std::alloc::Global;
@@ -21,6 +25,25 @@ fn hits_found(form: Form) -> HitsFound {
         Form::WithHits => HitsFound::WhileFew,
         Form::Plain => HitsFound::WhenAsked,
     }
+}
+
+/// The alerts of each article, in the order of the articles, all at one view; none are shown already.
+fn found_of_each(
+    alloc: Global,
+    view: &View,
+    form: Form,
+    articles: &[Article],
+) -> Result<Vec<Found>, NoMemory>
+    ensures value { IfOk result (λ found. map found_value found.items ≡ map (alerts_due view.now) articles.now) }
+    ensures any { IfOk result (λ found. (settings : Settings) → All (IsFor settings) found.items) }
+{
+    let hits = hits_found(form);
+    let mut found = Vec::new(alloc);
+    for article in articles {
+        let due = entries_due(alloc, view, article, hits)?;
+        found.push(Found::Alerts(due.alerts(alloc)?))?;
+    }
+    Ok(found)
 }
 
 /// The text of the reply to the line of this number, which matches these articles.
@@ -35,14 +58,14 @@ fn matched(
     requires { ⟦<House as Audience>⟧.hearers listeners.old ≡ house }
     ensures { IfOk result (λ text. text.items ≡ reply form house number view.now.history (matching articles.now)) }
 {
-    let found = match_batch_finding(alloc, view, articles, hits_found(form))?;
+    let found = found_of_each(alloc, view, form, articles)?;
     let settings = Settings {
         form,
         keeps_rows: false,
         workers: 0,
     };
     let mut books = Books::new(alloc, settings);
-    deliver_found(alloc, listeners, &mut books, number, found)
+    deliver_found(alloc, listeners, &mut books, number, &found)
 }
 
 /// Answers the line of this number: the text of its reply, or nothing for a blank line.

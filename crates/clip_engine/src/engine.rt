@@ -18,7 +18,7 @@ ghost use Rattle.clip_engine.specs.Engine.{Registers, Replies, commanded, fresh,
 
 use crate::answer::answer;
 use crate::owned::Owned;
-use clip_match::{HitsFound, match_article_finding};
+use clip_match::{HitsFound, entries_due};
 use clip_meaning::{Article, ArticleFault};
 use clip_protocol::{Form, Listing, Refusal, Unread, read_listing};
 use clip_registry::Registrar;
@@ -132,7 +132,7 @@ impl Engine {
     /// `Feed` where the bytes have a line feed, `TooMany` where the count of lines is at its end, and `NoMemory` where
     /// an allocation failed. After a fault the engine is as it was, and the line is not counted.
     ///
-    /// Cost: that of `take_line`, and for a match that of `match_batch_finding` and of the reply.
+    /// Cost: that of `take_line`, and for a match that of `entries_due` for each article, and of the reply.
     pub fn line(&mut self, line: &[u8]) -> Result<Vec<u8>, LineFault>
         ensures replies { IfOk result (λ text. Replies self.old self.new line.now text.items) }
         ensures one { OnOk result (has_feed line.now ≡ false) }
@@ -244,8 +244,8 @@ impl Engine {
     /// `Limit` where the id or a field is beyond its limits, the first that `Article::read` refuses; `NoMemory` where
     /// an allocation failed. Whatever it answers, the engine stays as it is.
     ///
-    /// Cost: that of `Article::read_sharing`, with the words of the engine's last articles, and of
-    /// `clip_match::match_article_finding`.
+    /// Cost: that of `Article::read_sharing`, with the words of the engine's last articles, of `clip_match::entries_due`
+    /// and of `DueEntries::alerts`.
     pub fn match_article(&mut self, id: &str, fields: &[(String, String)]) -> Result<Alerts, Unread>
         ensures alerts { IfOk result (λ found. alerts_of found
             ≡ alerts self.old.history (article_value id.now (pairs_of fields.now))) }
@@ -261,7 +261,7 @@ impl Engine {
         } else {
             HitsFound::WhenAsked
         };
-        Ok(match_article_finding(self.alloc, &view, &article, hits)?)
+        Ok(entries_due(self.alloc, &view, &article, hits)?.alerts(self.alloc)?)
     }
 
     /// How many queries are registered. `NoMemory` where the count of the registry's holders is at its end. Constant

@@ -4,7 +4,6 @@ ghost use Rattle.std.specs.Arc.{arc_str_bytes};
 ghost use Rattle.std.specs.List.{All};
 ghost use Rattle.clip_standing.specs.Alerts.{alerts_value};
 ghost use Rattle.clip_listen.specs.Heard.{told_all, note_value, notes_of, alerts_of, HearsFront};
-ghost use Rattle.clip_front.specs.declared.settings.Settings.{Settings};
 ghost use Rattle.clip_front.specs.Outcome.{kept_rows, rows_of_article};
 ghost use Rattle.clip_stream.specs.Device.{AppendsFront, HandsOver};
 ghost use Rattle.clip_protocol.specs.Found.{found_value};
@@ -14,6 +13,7 @@ ghost use Rattle.clip_protocol.specs.Steps.Views.{alerts_by_id};
 ghost use Rattle.clip_front.specs.Steps.Found.{IsFor, told_in, rows_in, found_text};
 
 use crate::books::Books;
+use crate::settings::Settings;
 use clip_listen::{Audience, Note, deliver_to};
 use clip_protocol::{
     ArticlePart, Form, Found, Shown, closed_text, found_text, opened_text, put_alerts, put_part,
@@ -44,18 +44,6 @@ fn deliver_article<A: Audience>(
     let notes = deliver_to(alloc, audience, alerts)?;
     books.post(line, alerts, &notes)?;
     Ok(notes)
-}
-
-/// The alerts of articles, none of which are shown already.
-fn unshown(alloc: Global, all: Vec<Alerts>) -> Result<Vec<Found>, NoMemory>
-    ensures value { IfOk result (λ found. map found_value found.items ≡ map alerts_value all.items) }
-    ensures any { IfOk result (λ found. (settings : Settings) → All (IsFor settings) found.items) }
-{
-    let mut found = Vec::with_capacity(alloc, all.len())?;
-    for alerts in all {
-        found.push(Found::Alerts(alerts))?;
-    }
-    Ok(found)
 }
 
 /// Delivers what was found of an article, posts it, and gives what the listeners said: nothing of what is shown
@@ -121,7 +109,7 @@ fn deliver_all<A: Audience>(
 /// `NoMemory` where an allocation failed or a listener answers it; the listeners have heard some first ones of the
 /// alerts then, and some first rows may be posted. Cost: that of `deliver_to` and of `Books::post` for each article
 /// whose alerts are not shown already, and of the text.
-pub fn deliver_shown<A: Audience>(
+pub fn deliver_found<A: Audience>(
     alloc: Global,
     audience: &mut A,
     books: &mut Books,
@@ -144,30 +132,6 @@ pub fn deliver_shown<A: Audience>(
     found_text(alloc, form, number, found, &notes)
 }
 
-/// Delivers the alerts of a line's articles, of which none are shown already, as `deliver_shown` does.
-///
-/// `NoMemory` and cost as of `deliver_shown`.
-pub fn deliver_found<A: Audience>(
-    alloc: Global,
-    audience: &mut A,
-    books: &mut Books,
-    number: u64,
-    found: Vec<Alerts>,
-) -> Result<Vec<u8>, NoMemory>
-    ensures text { IfOk result (λ text. text.items
-        ≡ found_text books.old.settings.form (A.hearers audience.old) number (map alerts_value found.items)) }
-    ensures heard { OnOk result (A.hearers audience.new
-        ≡ told_all (told_in (map alerts_value found.items)) (A.hearers audience.old)) }
-    ensures rows { OnOk result (books.new.ledger ≡ books.old.ledger ++ kept_rows books.old.settings.keeps_rows
-        (rows_in (A.hearers audience.old) number (map alerts_value found.items))) }
-    ensures settings { books.new.settings ≡ books.old.settings }
-    ensures err { OnErr result (HearsFront (told_in (map alerts_value found.items))
-        (A.hearers audience.old) (A.hearers audience.new)) }
-{
-    let found = unshown(alloc, found)?;
-    deliver_shown(alloc, audience, books, number, &found)
-}
-
 /// Puts what is shown already of an article, after a comma where it stands behind another.
 fn put_shown<W: Sink>(flow: &mut Flow<'_, W>, later: bool, shown: &Shown) -> Result<(), RunFault>
     ensures same_reference { flow.new.writer.ghost_name ≡ flow.old.writer.ghost_name }
@@ -187,6 +151,33 @@ fn put_shown<W: Sink>(flow: &mut Flow<'_, W>, later: bool, shown: &Shown) -> Res
     }
     flow.put(b",")?;
     flow.put(shown.as_slice())
+}
+
+/// Puts what a reply shows of an article, after a comma where it stands behind another: of its alerts in the form of the
+/// settings, or the text that is shown already, which is of that form.
+fn put_found<W: Sink>(
+    flow: &mut Flow<'_, W>,
+    alloc: Global,
+    settings: Settings,
+    later: bool,
+    found: &Found,
+) -> Result<(), RunFault>
+    requires { IsFor settings found.now }
+    ensures same_reference { flow.new.writer.ghost_name ≡ flow.old.writer.ghost_name }
+    ensures moved { OnOk result (HandsOver (W.taken flow.old.writer.now)
+        (flow.old.outbox.now ++ item_text later (alerts_data settings.form (alerts_by_id (found_value found.now))))
+        (W.taken flow.new.writer.now) flow.new.outbox.now) }
+    ensures well { OnOk result (W.has_failed flow.new.writer.now ≡ W.has_failed flow.old.writer.now) }
+    ensures fault { IfErr result (λ e. e ≢ RunFault.Read) }
+    ensures write { result ≡ Err RunFault.Write → W.has_failed flow.new.writer.now ≡ true }
+    ensures front { OnErr result (AppendsFront (W.taken flow.old.writer.now) (W.taken flow.new.writer.now)
+        (flow.old.outbox.now
+        ++ item_text later (alerts_data settings.form (alerts_by_id (found_value found.now))))) }
+{
+    match found {
+        Found::Alerts(alerts) => put_alerts(flow, alloc, settings.form, later, alerts),
+        Found::Shown(shown) => put_shown(flow, later, shown),
+    }
 }
 
 /// The reply to a match that is on its way, article by article.
@@ -229,48 +220,52 @@ impl MatchReply {
         })
     }
 
-    /// Delivers an article's alerts, posts them, and puts what the reply shows of them.
+    /// Delivers what was found of an article, posts it, and puts what the reply shows of it. Of what is shown already,
+    /// for these books' settings, nobody hears, no row is kept, and the text is put as it is.
     ///
     /// `NoMemory` where an allocation failed or a listener answers it, `Write` where the writer fails; the listeners
-    /// have heard some first ones of the alerts then, and a front of the text may be put. Cost: that of `deliver_to`,
-    /// of `Books::post` and of `put_alerts`.
+    /// have heard some first ones of the alerts then, and a front of the text may be put. Its cost is linear in the
+    /// text; where it is not shown already, that of `deliver_to` and of `Books::post` comes to it, and with hits that
+    /// of `Alert::hits` for each alert that carries none.
     pub fn add<A: Audience, W: Sink>(
         &mut self,
         alloc: Global,
         audience: &mut A,
         books: &mut Books,
         flow: &mut Flow<'_, W>,
-        alerts: &Alerts,
+        found: &Found,
     ) -> Result<(), RunFault>
+        requires { IsFor books.old.settings found.now }
         ensures same_reference { flow.new.writer.ghost_name ≡ flow.old.writer.ghost_name }
         ensures number { self.new.number ≡ self.old.number }
         ensures notes { OnOk result (map note_value self.new.notes.items
-            ≡ map note_value self.old.notes.items ++ notes_of (A.hearers audience.old) (alerts_of alerts.now)) }
+            ≡ map note_value self.old.notes.items
+            ++ notes_of (A.hearers audience.old) (found_value found.now).alerts) }
         ensures later { OnOk result (self.new.has_article ≡ true) }
         ensures heard { OnOk result (A.hearers audience.new
-            ≡ told_all (alerts_of alerts.now) (A.hearers audience.old)) }
+            ≡ told_all (found_value found.now).alerts (A.hearers audience.old)) }
         ensures rows { OnOk result (books.new.ledger ≡ books.old.ledger ++ kept_rows books.old.settings.keeps_rows
-            (rows_of_article (A.hearers audience.old) self.old.number (alerts_of alerts.now))) }
+            (rows_of_article (A.hearers audience.old) self.old.number (found_value found.now).alerts)) }
         ensures settings { books.new.settings ≡ books.old.settings }
         ensures moved { OnOk result (HandsOver (W.taken flow.old.writer.now)
             (flow.old.outbox.now ++ item_text self.old.has_article
-            (alerts_data books.old.settings.form (alerts_by_id (alerts_value alerts.now))))
+            (alerts_data books.old.settings.form (alerts_by_id (found_value found.now))))
             (W.taken flow.new.writer.now) flow.new.outbox.now) }
         ensures well { OnOk result (W.has_failed flow.new.writer.now ≡ W.has_failed flow.old.writer.now) }
         ensures fault { IfErr result (λ e. e ≢ RunFault.Read) }
         ensures write { result ≡ Err RunFault.Write → W.has_failed flow.new.writer.now ≡ true }
-        ensures err { OnErr result (HearsFront (alerts_of alerts.now)
+        ensures err { OnErr result (HearsFront (found_value found.now).alerts
             (A.hearers audience.old) (A.hearers audience.new)) }
         ensures front { OnErr result (AppendsFront (W.taken flow.old.writer.now) (W.taken flow.new.writer.now)
             (flow.old.outbox.now ++ item_text self.old.has_article
-            (alerts_data books.old.settings.form (alerts_by_id (alerts_value alerts.now))))) }
+            (alerts_data books.old.settings.form (alerts_by_id (found_value found.now))))) }
     {
         let settings = books.settings;
-        let mut said = deliver_article(alloc, audience, books, self.number, alerts)?;
+        let mut said = deliver_one(alloc, audience, books, self.number, found)?;
         self.notes.append(&mut said)?;
         let later = self.has_article;
         self.has_article = true;
-        put_alerts(flow, alloc, settings.form, later, alerts)
+        put_found(flow, alloc, settings, later, found)
     }
 
     /// Puts what the reply shows in the plain form of an article whose alerts nobody hears: its id, and the ids of the
@@ -309,55 +304,6 @@ impl MatchReply {
         };
         self.has_article = true;
         put_part(flow, alloc, part)
-    }
-
-    /// Delivers what was found of an article, posts it, and puts what the reply shows of it. Of what is shown already,
-    /// for these books' settings, nobody hears, no row is kept, and the text is put as it is.
-    ///
-    /// `NoMemory` where an allocation failed or a listener answers it, `Write` where the writer fails; the listeners
-    /// have heard some first ones of the alerts then, and a front of the text may be put. Cost: that of `add`, or linear
-    /// in the text that is shown already.
-    pub fn add_found<A: Audience, W: Sink>(
-        &mut self,
-        alloc: Global,
-        audience: &mut A,
-        books: &mut Books,
-        flow: &mut Flow<'_, W>,
-        found: &Found,
-    ) -> Result<(), RunFault>
-        requires { IsFor books.old.settings found.now }
-        ensures same_reference { flow.new.writer.ghost_name ≡ flow.old.writer.ghost_name }
-        ensures number { self.new.number ≡ self.old.number }
-        ensures notes { OnOk result (map note_value self.new.notes.items
-            ≡ map note_value self.old.notes.items
-            ++ notes_of (A.hearers audience.old) (found_value found.now).alerts) }
-        ensures later { OnOk result (self.new.has_article ≡ true) }
-        ensures heard { OnOk result (A.hearers audience.new
-            ≡ told_all (found_value found.now).alerts (A.hearers audience.old)) }
-        ensures rows { OnOk result (books.new.ledger ≡ books.old.ledger ++ kept_rows books.old.settings.keeps_rows
-            (rows_of_article (A.hearers audience.old) self.old.number (found_value found.now).alerts)) }
-        ensures settings { books.new.settings ≡ books.old.settings }
-        ensures moved { OnOk result (HandsOver (W.taken flow.old.writer.now)
-            (flow.old.outbox.now ++ item_text self.old.has_article
-            (alerts_data books.old.settings.form (alerts_by_id (found_value found.now))))
-            (W.taken flow.new.writer.now) flow.new.outbox.now) }
-        ensures well { OnOk result (W.has_failed flow.new.writer.now ≡ W.has_failed flow.old.writer.now) }
-        ensures fault { IfErr result (λ e. e ≢ RunFault.Read) }
-        ensures write { result ≡ Err RunFault.Write → W.has_failed flow.new.writer.now ≡ true }
-        ensures err { OnErr result (HearsFront (found_value found.now).alerts
-            (A.hearers audience.old) (A.hearers audience.new)) }
-        ensures front { OnErr result (AppendsFront (W.taken flow.old.writer.now) (W.taken flow.new.writer.now)
-            (flow.old.outbox.now ++ item_text self.old.has_article
-            (alerts_data books.old.settings.form (alerts_by_id (found_value found.now))))) }
-    {
-        match found {
-            Found::Alerts(alerts) => self.add(alloc, audience, books, flow, alerts),
-            Found::Shown(shown) => {
-                let later = self.has_article;
-                self.has_article = true;
-                put_shown(flow, later, shown)
-            }
-        }
     }
 
     /// Puts the end of the reply, with what the listeners said.

@@ -11,7 +11,7 @@ mod settings;
 
 pub use answer::{Taken, TakenUnread, take_line, take_line_unread};
 pub use books::Books;
-pub use deliver::{MatchReply, deliver_found, deliver_shown};
+pub use deliver::{MatchReply, deliver_found};
 pub use registry::Registry;
 pub use server::{Server, serve};
 pub use session::{Ended, one_outcome};

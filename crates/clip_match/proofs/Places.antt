@@ -7,7 +7,8 @@ use Rattle.clip_meaning.specs.Hits.{HitValue}
 use Rattle.clip_match.specs.declared.held.Held.{Held}
 use Rattle.clip_match.specs.declared.held.HitPlaces.{HitPlaces}
 use Rattle.clip_match.specs.declared.held.HitsFound.{HitsFound}
-use Rattle.clip_match.specs.Steps.Held.{StandAt, HasItsHits}
+use Rattle.clip_match.specs.Due.{StandAt}
+use Rattle.clip_match.specs.Steps.Held.{HasItsHits}
 
 -- they stand where they stood when others are added
 stand_still : (all more found : List HitValue) (places : HitPlaces) → StandAt all found places → StandAt (all ++ more) found places

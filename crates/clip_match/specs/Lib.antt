@@ -1,3 +1,4 @@
 pub mod Alerts
 pub mod Candidates
+pub mod Due
 pub mod Steps

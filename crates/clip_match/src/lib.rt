@@ -12,7 +12,5 @@ mod trying;
 
 pub use gate::{Gate, OpenGate};
 pub use held::HitsFound;
-pub use matching::{
-    DueEntries, entries_due, match_article, match_article_finding, match_batch, match_batch_finding,
-};
+pub use matching::{DueEntries, entries_due, match_article, match_batch};
 pub use pieces::{match_piece, match_pieces};

@@ -5,9 +5,8 @@ ghost use Rattle.std.specs.List.Sorted.{IsSortedByKey};
 ghost use Rattle.clip_words.specs.Order.{bytes_cmp};
 ghost use Rattle.clip_meaning.specs.Hits.{hit_value};
 ghost use Rattle.clip_standing.specs.Alerts.{alert_value, alerts_value, has_hits};
-ghost use Rattle.clip_match.specs.Alerts.{HaveHits, alert_due, alerts_due};
-ghost use Rattle.clip_match.specs.Steps.Due.{due_value, AreTheirHits, HaveTheirHits};
-ghost use Rattle.clip_match.specs.Steps.Held.{AreItsHits};
+ghost use Rattle.clip_match.specs.Alerts.{alert_due, alerts_due};
+ghost use Rattle.clip_match.specs.Due.{due_value, AreItsHits, AreTheirHits, HaveTheirHits};
 
 use crate::held::{Held, HitPlaces, HitsFound, Named, with_led_ids};
 use crate::trying::{Judged, judge_candidates};
@@ -92,7 +91,7 @@ impl<'a> DueEntries<'a> {
     ghost use Rattle.std.specs.Prelude.{◌≡◌, true, map, is_some, IfOk};
     ghost use Rattle.std.specs.List.{All, list_any};
     ghost use Rattle.clip_standing.specs.Alerts.{alerts_value, has_hits};
-    ghost use Rattle.clip_match.specs.Steps.Due.{due_value, AreTheirHits, HaveTheirHits};
+    ghost use Rattle.clip_match.specs.Due.{due_value, AreTheirHits, HaveTheirHits};
 
     /// The id of the article. Constant time.
     pub fn article_id(&self) -> &'a str
@@ -122,7 +121,7 @@ impl<'a> DueEntries<'a> {
         Ok(ids)
     }
 
-    /// The alerts, with their hits where these were found.
+    /// The alerts, with their hits where these were found: each carries its own, where those of each query were.
     ///
     /// `NoMemory` where an allocation failed, or where the count of holders of a query or of the article is at its end.
     /// Cost: a step for each of them.
@@ -150,12 +149,13 @@ impl<'a> DueEntries<'a> {
 
 /// What is due to an article at a view: of each registered query that holds of it one entry, in the byte order of their
 /// ids, and of no other; with the view's place, and how many queries were tried. Just the article's candidates are
-/// tried. Where hits are found at once, they are kept until the alerts are made.
+/// tried. Where hits are found at once, they are kept until the alerts are made, which carry them then.
 ///
-/// `NoMemory` where an allocation failed. Cost: a step for each word of the article, a look-up in each segment for each
-/// of its keys and the judging of each candidate's plan; and a sort of those that hold. No text is copied, and a query
-/// without a key of the article costs nothing. Where hits are found at once, in each segment of which a query holds
-/// that of `SegmentReading::spots`, and for each query that holds that of `SegmentSpots::add_hits`.
+/// `NoMemory` where an allocation failed, or, where hits are found at once, where the count of a field's name is at its
+/// end. Cost: a step for each word of the article, a look-up in each segment for each of its keys and the judging of
+/// each candidate's plan; and a sort of those that hold. No text is copied, and a query without a key of the article
+/// costs nothing. Where hits are found at once, in each segment of which a query holds that of
+/// `SegmentReading::spots`, and for each query that holds that of `SegmentSpots::add_hits`.
 pub fn entries_due<'a>(
     alloc: Global,
     view: &'a View,
@@ -184,7 +184,8 @@ pub fn entries_due<'a>(
 }
 
 /// The alerts of an article at a view: of each registered query that holds of it one, in the byte order of their ids,
-/// and of no other; with the view's place, and how many queries were tried.
+/// and of no other; with the view's place, and how many queries were tried. Their hits are found when they are asked
+/// for; where they are to be found at once, go by `entries_due`.
 ///
 /// Just the article's candidates are tried.
 ///
@@ -192,24 +193,7 @@ pub fn entries_due<'a>(
 pub fn match_article(alloc: Global, view: &View, article: &Article) -> Result<Alerts, NoMemory>
     ensures { IfOk result (λ found. alerts_value found ≡ alerts_due view.now article.now) }
 {
-    match_article_finding(alloc, view, article, HitsFound::WhenAsked)
-}
-
-/// The alerts of an article at a view, those of `match_article`; where the hits are found at once, each alert carries
-/// its own.
-///
-/// `NoMemory` where an allocation failed, or, where hits are found at once, where the count of a field's name is at its
-/// end. Cost: that of `entries_due`, and a step for each alert.
-pub fn match_article_finding(
-    alloc: Global,
-    view: &View,
-    article: &Article,
-    hits: HitsFound,
-) -> Result<Alerts, NoMemory>
-    ensures due { IfOk result (λ found. alerts_value found ≡ alerts_due view.now article.now) }
-    ensures hits { IfOk result (λ found. HaveHits hits found) }
-{
-    entries_due(alloc, view, article, hits)?.alerts(alloc)
+    entries_due(alloc, view, article, HitsFound::WhenAsked)?.alerts(alloc)
 }
 
 /// The alerts of each article of a batch, in the order of the articles, all at one view.
@@ -222,25 +206,9 @@ pub fn match_batch(
 ) -> Result<Vec<Alerts>, NoMemory>
     ensures { IfOk result (λ found. map alerts_value found.items ≡ map (alerts_due view.now) articles.now) }
 {
-    match_batch_finding(alloc, view, articles, HitsFound::WhenAsked)
-}
-
-/// The alerts of each article of a batch, those of `match_batch`; where the hits are found at once, each alert carries
-/// its own.
-///
-/// `NoMemory` as of `match_article_finding`. Cost: that of `match_article_finding` for each article.
-pub fn match_batch_finding(
-    alloc: Global,
-    view: &View,
-    articles: &[Article],
-    hits: HitsFound,
-) -> Result<Vec<Alerts>, NoMemory>
-    ensures due { IfOk result (λ found. map alerts_value found.items ≡ map (alerts_due view.now) articles.now) }
-    ensures hits { IfOk result (λ found. All (HaveHits hits) found.items) }
-{
     let mut found = Vec::new(alloc);
     for article in articles {
-        found.push(match_article_finding(alloc, view, article, hits)?)?;
+        found.push(match_article(alloc, view, article)?)?;
     }
     Ok(found)
 }

@@ -1,5 +1,5 @@
 -- What is shown of an article whose alerts nobody hears.
-use Rattle.std.proofs.Common.{◌≡◌, ◌≢◌, All, Bool, List, None, Option, Some, [], false, is_some, map, refl, true, ℕ}
+use Rattle.std.proofs.Common.{◌≡◌, All, Bool, List, None, Option, Some, [], false, is_some, map, refl, true, ℕ}
 use Rattle.std.specs.List.{list_any}
 use Rattle.std.proofs.lemmas.List.Folds.{list_any_at}
 use Rattle.clip_model.specs.Alerts.{Alert}
@@ -16,10 +16,6 @@ none_if (Some x) h = absurd (h refl)
 pub unlistened : (alerts : List Alert) → list_any (λ a. is_some a.listener) alerts ≡ false → All (λ (a : Alert). a.listener ≡ None) alerts
 unlistened alerts none = λ k d h. none_if _ (λ some.
     let one : list_any (λ (a : Alert). is_some a.listener) alerts ≡ true = list_any_at (λ (a : Alert). is_some a.listener) alerts k d h some in cc)
-
-pub is_plain : (form : Form) → form ≢ WithHits → form ≡ Plain
-is_plain Plain other = refl
-is_plain WithHits other = absurd (other refl)
 
 -- the plain form shows nothing of the alerts but the ids of their queries
 pub shown_plainly : (form : Form) (later : Bool) (i j : List ℕ) (ids : List (List ℕ)) (alerts : List Alert) → form ≡ Plain → i ≡ j

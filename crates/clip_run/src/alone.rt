@@ -8,16 +8,16 @@ ghost use Rattle.clip_protocol.specs.LineMeaning.{matching};
 ghost use Rattle.clip_protocol.specs.Reply.{alerts_data, alerts_of_all, reply};
 ghost use Rattle.clip_protocol.specs.Steps.Flowing.{item_text};
 ghost use Rattle.clip_protocol.specs.Steps.Views.{alerts_by_id};
-ghost use Rattle.clip_match.specs.Steps.Due.{due_value, AreTheirHits};
+ghost use Rattle.clip_match.specs.Due.{due_value, AreTheirHits};
 ghost use Rattle.clip_front.specs.Outcome.{GivesAll, GivesFront, kept_rows, rows_of_article};
 ghost use Rattle.clip_front.specs.Steps.Answers.{GoesOn, held};
 
-use crate::finding::hits_found;
+use crate::finding::{hits_found, wants_alerts};
 use clip_front::{Books, Ended, MatchReply, Registry, Server, Settings, Taken, serve, take_line};
 use clip_listen::Audience;
 use clip_match::{DueEntries, entries_due};
 use clip_meaning::Article;
-use clip_protocol::Form;
+use clip_protocol::Found;
 use clip_registry::{Registrar, View, merge_all};
 use clip_standing::{Applied, Command, Refused};
 use clip_stream::{Flow, RunFault, Sink, Source};
@@ -114,14 +114,9 @@ fn answer_article<A: Audience, W: Sink>(
         (flow.old.outbox.now ++ item_text answer.old.has_article
         (alerts_data books.old.settings.form (alerts_by_id (due_value due.entry))))) }
 {
-    let Settings {
-        form,
-        keeps_rows,
-        ..
-    } = books.settings;
-    if form == Form::WithHits || keeps_rows || due.has_listener() {
-        let alerts = due.alerts(alloc)?;
-        return answer.add(alloc, audience, books, flow, &alerts);
+    if wants_alerts(books.settings, &due) {
+        let found = Found::Alerts(due.alerts(alloc)?);
+        return answer.add(alloc, audience, books, flow, &found);
     }
     let queries = due.queries(alloc)?;
     answer.add_unheard(alloc, flow, due.article_id(), &queries)

@@ -1,16 +1,15 @@
 //! Lines that wait for their turn, and what is found of an article of one of them.
 ghost use Rattle.std.specs.Prelude.{◌≡◌, ◌<◌, vec_len, IfOk};
-ghost use Rattle.clip_standing.specs.Alerts.{alerts_value};
+ghost use Rattle.clip_match.specs.Due.{due_value, AreTheirHits};
 ghost use Rattle.clip_protocol.specs.Found.{found_value};
 ghost use Rattle.clip_front.specs.Steps.Found.{IsFor};
 ghost use Rattle.clip_run.specs.Due.{IsDue, due_to};
 
 use crate::finding::hits_found;
 use clip_front::Settings;
-use clip_match::{Gate, match_article_finding};
+use clip_match::{DueEntries, Gate, entries_due};
 use clip_protocol::{Found, JudgedDraft};
 use clip_registry::View;
-use clip_standing::Alerts;
 use clip_words::{NoMemory, WordPool};
 use std::alloc::Global;
 
@@ -36,12 +35,14 @@ pub enum Pending {
     Waiting(Batch),
 }
 
-/// What a run with these settings finds of an article: where rows are kept its alerts, and else what a reply shows of
-/// them, unless somebody is to hear them.
-fn found_of(alloc: Global, settings: Settings, alerts: Alerts) -> Result<Found, NoMemory>
-    ensures value { IfOk result (λ found. found_value found ≡ alerts_value alerts) }
+/// What a run with these settings finds of an article: where rows are kept the alerts that are due, and else what a
+/// reply shows of them, unless somebody is to hear them.
+fn found_of(alloc: Global, settings: Settings, due: DueEntries<'_>) -> Result<Found, NoMemory>
+    requires { AreTheirHits due }
+    ensures value { IfOk result (λ found. found_value found ≡ due_value due.entry) }
     ensures fit { IfOk result (λ found. IsFor settings found) }
 {
+    let alerts = due.alerts(alloc)?;
     if settings.keeps_rows {
         Ok(Found::Alerts(alerts))
     } else {
@@ -57,10 +58,10 @@ fn piece_of(article: usize) -> u32 {
 impl Batch {
     /// What is found of one of its articles. It is read, with words that are shared with those of the pool, and then
     /// matched between the gate's `enter` and its `leave`, as a piece of the batch, all on the thread that calls, which
-    /// also writes what a reply shows of alerts that nobody hears, and lets go of them.
+    /// also makes the alerts, writes what a reply shows of those that nobody hears, and lets go of them.
     ///
-    /// `NoMemory` where an allocation failed. Cost: that of `JudgedDraft::read`, of `match_article_finding` and of
-    /// `Found::shown`.
+    /// `NoMemory` where an allocation failed. Cost: that of `JudgedDraft::read`, of `entries_due`, of
+    /// `DueEntries::alerts` and of `Found::shown`.
     pub fn find<G: Gate>(
         &self,
         alloc: Global,
@@ -77,8 +78,8 @@ impl Batch {
         let read = draft.read(alloc, pool)?;
         let hits = hits_found(settings);
         gate.enter(self.batch, piece);
-        let alerts = match_article_finding(alloc, &self.view, &read, hits);
+        let due = entries_due(alloc, &self.view, &read, hits);
         gate.leave(self.batch, piece);
-        found_of(alloc, settings, alerts?)
+        found_of(alloc, settings, due?)
     }
 }

@@ -162,7 +162,7 @@ impl<'r, 'd, 'g, R: Threads + Wait + Sync, N: DeskName, G: Gate + Clone + Send +
             (flow.old.outbox.now ++ item_text reply.old.has_article
             (alerts_data self.old.settings.form (alerts_by_id (found_value found.now))))) }
     {
-        reply.add_found(alloc, audience, &mut self.books, flow, found)
+        reply.add(alloc, audience, &mut self.books, flow, found)
     }
 
     /// Gives what is owed to a line of which a batch waits at this place of the lines, article by article: what was
@@ -365,7 +365,7 @@ impl<'r, 'd, 'g, R: Threads + Wait + Sync, N: DeskName, G: Gate + Clone + Send +
     /// `NoMemory` where an allocation failed or a listener answers it, `Write` where the writer fails; the listeners
     /// have heard a prefix of the alerts of what was owed and of the line then, and a prefix of their text is put.
     /// Cost: that of `take_line_unread`; and of what is given that of `Batch::find` for each article, shared among the
-    /// helpers and this thread, and that of `MatchReply::add_found`. It waits for helpers that have taken an article.
+    /// helpers and this thread, and that of `MatchReply::add`. It waits for helpers that have taken an article.
     pub fn answer<A: Audience, W: Sink>(
         &mut self,
         alloc: Global,

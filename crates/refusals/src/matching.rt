@@ -1,6 +1,6 @@
 //! Three queries and three articles.
 use crate::telling::{answered, call, refused};
-use clip_match::{HitsFound, OpenGate, match_article, match_article_finding, match_pieces};
+use clip_match::{HitsFound, OpenGate, entries_due, match_article, match_pieces};
 use clip_meaning::Article;
 use clip_registry::{Registrar, View};
 use clip_samples::article;
@@ -20,9 +20,14 @@ fn of_match_article<R: Print + AllocGlobal>(rt: &R, view: &View, article: &Artic
 }
 
 /// The alerts of an article with their hits.
+fn with_hits(alloc: Global, view: &View, article: &Article) -> Result<Alerts, NoMemory> {
+    entries_due(alloc, view, article, HitsFound::AtOnce)?.alerts(alloc)
+}
+
+/// The alerts of an article with their hits, and what came of it.
 fn of_finding_hits<R: Print + AllocGlobal>(rt: &R, view: &View, article: &Article) -> bool {
-    call(rt, "match_article_finding");
-    match match_article_finding(rt.alloc(), view, article, HitsFound::AtOnce) {
+    call(rt, "entries_due");
+    match with_hits(rt.alloc(), view, article) {
         Ok(found) => answered(rt, found.alerts.len() as u64),
         Err(NoMemory) => refused(rt),
     }

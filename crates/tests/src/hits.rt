@@ -1,6 +1,6 @@
 //! Hits: where in an article a query holds.
 use crate::script::answer;
-use clip_match::{HitsFound, match_article_finding};
+use clip_match::{HitsFound, entries_due};
 use clip_meaning::Hit;
 use clip_registry::Registrar;
 use clip_samples::{article, standing};
@@ -85,7 +85,8 @@ fn carried(
     answer(alloc, &mut registrar, 1, Command::Register(list))?;
     let (view, article) = (registrar.view()?, article(alloc, "a1", fields)?);
     let mut text = String::new(alloc);
-    for alert in &match_article_finding(alloc, &view, &article, hits)?.alerts {
+    let found = entries_due(alloc, &view, &article, hits)?.alerts(alloc)?;
+    for alert in &found.alerts {
         match alert.found_hits() {
             Some(hits) => add_hits(&mut text, hits)?,
             None => text.push_str("none")?,

@@ -2,7 +2,7 @@ use Rattle.std.proofs.Common.{◌-◌, IfSome, map, take, drop, sym, ap, subst, 
 use Rattle.std.proofs.lemmas.List.{take-map, drop-map}
 use Rattle.clip_meaning.specs.Hits.{hit_value, hits}
 use Rattle.clip_model.specs.Standing.{Standing}
-use Rattle.clip_match.specs.Steps.Held.{StandAt}
+use Rattle.clip_match.specs.Due.{StandAt}
 use Rattle.clip_match.proofs.matching.alert_of.Goals as goal
 
 -- the hits that stand at the places are those of the query

@@ -7,7 +7,7 @@ use Rattle.clip_meaning.specs.Hits.{hit_value}
 use Rattle.clip_standing.specs.Alerts.{has_hits}
 use Rattle.clip_standing.specs.declared.alert.Alert.{Alert}
 use Rattle.clip_match.specs.declared.held.Named.{Named}
-use Rattle.clip_match.specs.Steps.Held.{AreItsHits}
+use Rattle.clip_match.specs.Due.{AreItsHits}
 use Rattle.clip_match.proofs.matching.alerts.Goals as goal
 
 counted : (named : Vec Named Global) → named.len ≡ length named.items

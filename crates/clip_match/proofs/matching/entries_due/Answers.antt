@@ -10,7 +10,7 @@ use Rattle.clip_model.specs.History.{Registered}
 use Rattle.clip_match.specs.Candidates.{candidates_of}
 use Rattle.clip_match.specs.declared.held.Held.{Held}
 use Rattle.clip_match.specs.declared.held.Named.{Named}
-use Rattle.clip_match.specs.Steps.Held.{AreItsHits}
+use Rattle.clip_match.specs.Due.{AreItsHits}
 use Rattle.clip_match.specs.Alerts.{alert_due}
 use Rattle.clip_match.proofs.Due.{alerts_are_due}
 use Rattle.clip_match.proofs.matching.entries_due.Goals as goal

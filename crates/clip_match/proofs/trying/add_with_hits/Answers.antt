@@ -10,7 +10,8 @@ use Rattle.clip_model.specs.History.{Registered}
 use Rattle.clip_segment.specs.Segment.{AskedValue}
 use Rattle.clip_match.specs.declared.held.Held.{Held}
 use Rattle.clip_match.specs.declared.held.HitPlaces.{HitPlaces}
-use Rattle.clip_match.specs.Steps.Held.{HasItsHits, StandAt}
+use Rattle.clip_match.specs.Due.{StandAt}
+use Rattle.clip_match.specs.Steps.Held.{HasItsHits}
 use Rattle.clip_match.specs.Steps.Positions.{entries_at}
 use Rattle.clip_match.proofs.Places.{each_still, stand_last}
 use Rattle.clip_match.proofs.Positions.{entries_more}

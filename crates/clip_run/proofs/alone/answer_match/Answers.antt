@@ -5,7 +5,7 @@ use Rattle.clip_stream.specs.Device.{AppendsFront, HandsOver}
 use Rattle.clip_stream.proofs.Faults.{on_err, on_ok}
 use Rattle.clip_stream.proofs.Flows.{handed_more, none_taken}
 use Rattle.clip_standing.specs.Alerts.{AlertsValue}
-use Rattle.clip_match.specs.Steps.Due.{due_value}
+use Rattle.clip_match.specs.Due.{due_value}
 use Rattle.clip_listen.specs.Heard.{told_all, note_value, notes_of, HearsFront}
 use Rattle.clip_listen.proofs.Hearing.{element, no_front, told_none}
 use Rattle.clip_protocol.specs.Reply.{alerts_data}

@@ -1,11 +1,23 @@
 -- What is due to an article, before its alerts are made.
-use Rattle.std.specs.Prelude.{◌≡◌, true, map, is_some}
+use Rattle.std.specs.Prelude.{◌≡◌, ◌≤◌, ◌-◌, true, List, length, map, take, drop, is_some, IfSome}
 use Rattle.std.specs.List.{All}
-use Rattle.clip_meaning.specs.Hits.{hit_value}
+use Rattle.clip_meaning.specs.Article.{ArticleValue}
+use Rattle.clip_meaning.specs.Hits.{HitValue, hit_value, hits}
 use Rattle.clip_standing.specs.Alerts.{AlertsValue}
 use Rattle.clip_match.specs.Alerts.{alert_due}
-use Rattle.clip_match.specs.Steps.Held.{AreItsHits}
+use Rattle.clip_match.specs.declared.held.Held.{Held}
+use Rattle.clip_match.specs.declared.held.HitPlaces.{HitPlaces}
 use Rattle.clip_match.specs.declared.matching.DueEntries.{DueEntries}
+
+-- these hits stand in the list at the places
+pub record StandAt (all found : List HitValue) (places : HitPlaces) : Type 0 where
+  pub low : places.start ≤ places.end
+  pub high : places.end ≤ length all
+  pub are : take (places.end - places.start) (drop places.start all) ≡ found
+
+-- the hits that were found are those of the entry's query in the article, and stand in the list of those of all
+abbrev pub AreItsHits : ArticleValue → List HitValue → Held → Type 0
+AreItsHits article all held = IfSome held.hits (StandAt all (hits held.registered.now.standing.tree article.fields))
 
 -- the alerts that are made of it
 abbrev pub due_value : DueEntries → AlertsValue
