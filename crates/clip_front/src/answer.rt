@@ -35,8 +35,11 @@ fn is_here<A: Audience>(audience: &A, listener: &Option<String>) -> bool
     }
 }
 
-/// Reads a listed query, whose listener is to be here.
-fn take_listing<A: Audience>(
+/// Reads a listed query, whose listener, where it has one, is to be of the audience.
+///
+/// The first refusal that holds: `Query` where the text is no query, `Listener` where nobody of the audience has the
+/// listener's name. `NoMemory` where an allocation failed. Cost: that of `Audience::has` and of `read_listing`.
+pub fn take_listing<A: Audience>(
     alloc: Global,
     audience: &A,
     listing: Listing,

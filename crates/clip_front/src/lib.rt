@@ -9,7 +9,7 @@ mod server;
 mod session;
 mod settings;
 
-pub use answer::{Taken, TakenUnread, take_line, take_line_unread};
+pub use answer::{Taken, TakenUnread, take_line, take_line_unread, take_listing};
 pub use books::Books;
 pub use deliver::{MatchReply, deliver_found};
 pub use registry::Registry;
