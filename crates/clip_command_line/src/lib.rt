@@ -6,5 +6,5 @@ mod listeners;
 mod mode;
 
 pub use command_line::ending;
-pub use listeners::{feed, mail, named};
+pub use listeners::{FEED_NAME, MAIL_NAME, feed, mail, named};
 pub use mode::Mode;

@@ -7,6 +7,12 @@ use clip_listen::{Listener, Named, Render, Style, Teller};
 use clip_words::NoMemory;
 use std::alloc::Global;
 
+/// The name of the listener `mail`.
+pub const MAIL_NAME: &str = "mail";
+
+/// The name of the listener `feed`.
+pub const FEED_NAME: &str = "feed";
+
 /// The listener `mail`, which says `mail: `, the query's id, ` in ` and the article's. It has heard nothing.
 pub fn mail(alloc: Global) -> Result<Teller<Style>, NoMemory>
     ensures style { IfOk result (λ teller. ⟦<Teller<Style> as Listener>⟧.style teller
@@ -36,7 +42,7 @@ pub fn named(
     ensures { IfOk result (λ parts. names_of parts.items ≡ codes "mail" ∷ codes "feed" ∷ []) }
 {
     let mut parts: Vec<Named> = Vec::new(alloc);
-    parts.push((String::from_str(alloc, "mail")?, mail))?;
-    parts.push((String::from_str(alloc, "feed")?, feed))?;
+    parts.push((String::from_str(alloc, MAIL_NAME)?, mail))?;
+    parts.push((String::from_str(alloc, FEED_NAME)?, feed))?;
     Ok(parts)
 }
