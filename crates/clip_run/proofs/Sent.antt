@@ -1,4 +1,4 @@
--- Threads may share a group, and hand over what was found of its articles.
+-- Threads may share a group, and hand over what was found of its articles, and a registrar of one's own.
 use denote.RattleType.{RattleType}
 use denote.Param.Send.{IsSend, IsSync, sendable}
 use denote.Param.SendFields.{declared_send, declared_sync, variants_send, variants_sync, as_row_send, as_row_sync}
@@ -8,11 +8,13 @@ use Rattle.std.below.std_heap.proofs.GlobalAllocator.TheSendSync as allocator_se
 use Rattle.std.specs.contracts.alloc.Global as global_type
 use Rattle.std.specs.contracts.impls.GlobalAllocator.TheImpl as global_allocator
 use Rattle.std.specs.contracts.sync.Arc as arc
+use Rattle.std.proofs.result.Result.TheSendSync as result_sent
 use Rattle.std.proofs.vec.Vec.TheSendSync as vec_sent
 use Rattle.std.proofs.sync.Arc.TheSendSync as arc_sent
 use Rattle.std.proofs.sync.atomic.AtomicUsize.TheSendSync as counter_sent
+use Rattle.clip_words.proofs.NoMemory.TheSendSync as no_memory_sent
 use Rattle.clip_words.proofs.pool.WordPool.TheSendSync as pool_sent
-use Rattle.clip_registry.proofs.Sent.{view_is_send, view_is_sync}
+use Rattle.clip_registry.proofs.Sent.{registrar_send, view_is_send, view_is_sync}
 use Rattle.clip_protocol.proofs.judged.JudgedDraft.TheSendSync as judged_sent
 use Rattle.clip_protocol.proofs.Sent.{found_send}
 use Rattle.clip_front.proofs.settings.Settings.TheSendSync as settings_sent
@@ -22,6 +24,7 @@ use Rattle.clip_run.specs.contracts.batch.Pending as pending
 use Rattle.clip_run.specs.contracts.group.Answer as answer
 use Rattle.clip_run.specs.contracts.group.Group as group
 use Rattle.clip_run.specs.contracts.helpers.Helped as helped
+use Rattle.clip_run.specs.contracts.own_registrar.OwnRegistrar as own_registrar
 
 ruleset global = (sendable, global_sent.the_send, global_sent.the_sync, allocator_sent.the_frees)
 
@@ -55,3 +58,6 @@ answer_send = declared_send answer.the_type (search sendable, (place_sent.the_se
 
 pub helped_send : IsSend helped.the_row
 helped_send = declared_send helped.the_type (search (parts, answer_send), (pool_sent.the_send, tt))
+
+pub own_registrar_send : IsSend own_registrar.the_row
+own_registrar_send = declared_send own_registrar.the_type (registrar_send, (search (sendable, result_sent.the_send, no_memory_sent.the_send), tt))

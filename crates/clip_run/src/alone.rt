@@ -13,69 +13,22 @@ ghost use Rattle.clip_front.specs.Outcome.{GivesAll, GivesFront, kept_rows, rows
 ghost use Rattle.clip_front.specs.Steps.Answers.{GoesOn, held};
 
 use crate::finding::{hits_found, wants_alerts};
-use clip_front::{Books, Ended, MatchReply, Registry, Server, Settings, Taken, serve, take_line};
+use crate::own_registrar::OwnRegistrar;
+use clip_front::{Books, Ended, MatchReply, Server, Settings, Taken, serve, take_line};
 use clip_listen::Audience;
 use clip_match::{DueEntries, entries_due};
 use clip_meaning::Article;
 use clip_protocol::Found;
-use clip_registry::{Registrar, View, merge_all};
-use clip_standing::{Applied, Command, Refused};
+use clip_registry::View;
 use clip_stream::{Flow, RunFault, Sink, Source};
-use clip_words::{NoMemory, WordPool};
+use clip_words::WordPool;
 use std::alloc::Global;
-
-/// The caller of each change.
-const CALLER: u32 = 1;
-
-/// A registrar that one run owns. Each accepted change is followed by merge turns.
-#[derive(Drop)]
-struct Owned {
-    registrar: Registrar,
-    /// How the merge turns after the last accepted change ended: segments are few where none was refused memory.
-    merges: Result<(), NoMemory>,
-}
-
-impl Registry for Owned {
-    ghost use Rattle.std.specs.Prelude.{◌≡◌};
-    ghost use Rattle.clip_registry.specs.Merging.{purged};
-    ghost use Rattle.clip_run.specs.Unpurged.{GoesOnUnpurged};
-
-    ghost history_in = { λ o. o.registrar.history };
-
-    ghost purges = { λ old new. new.registrar ≡ purged old.registrar };
-
-    ghost goes_on = { GoesOnUnpurged };
-
-    /// Accepts a command, and takes merge turns then, until segments are few or a turn is refused memory.
-    fn accept(&mut self, command: Command) -> Result<Option<Applied>, NoMemory> {
-        match self.registrar.apply(CALLER, command) {
-            Ok(applied) => {
-                self.merges = merge_all(&mut self.registrar);
-                Ok(Some(applied))
-            }
-            Err((_, Refused::Full)) => Ok(None),
-            Err((_, Refused::NoMemory)) => Err(NoMemory),
-        }
-    }
-
-    fn purge_dead(&mut self) -> Result<(), NoMemory> {
-        self.registrar.purge()
-    }
-
-    fn count(&mut self) -> Result<u64, NoMemory> {
-        Ok(self.registrar.view()?.count())
-    }
-
-    fn show(&mut self, alloc: Global, id: &str) -> Result<Option<String>, NoMemory> {
-        self.registrar.view()?.copied_text(alloc, id)
-    }
-}
 
 /// The registry of a run, its books, and words of its last articles. They answer requests, with an audience to which
 /// alerts are told.
 #[derive(Drop)]
 struct RunServer {
-    registry: Owned,
+    registry: OwnRegistrar,
     books: Books,
     pool: WordPool,
 }
@@ -262,10 +215,7 @@ pub fn run_alone<R: Source, W: Sink, A: Audience>(
         (W.taken writer.old) (W.taken writer.new))) }
 {
     let mut server = RunServer {
-        registry: Owned {
-            registrar: Registrar::without_history(alloc),
-            merges: Ok(()),
-        },
+        registry: OwnRegistrar::new(alloc),
         books: Books::new(alloc, settings),
         pool: WordPool::new(alloc),
     };

@@ -9,6 +9,7 @@ mod crew;
 mod finding;
 mod group;
 mod helpers;
+mod own_registrar;
 mod serving;
 mod session;
 
@@ -16,4 +17,6 @@ pub use alone::run_alone;
 pub use clip_front::{Ended, Settings};
 pub use clip_match::OpenGate;
 pub use clip_protocol::Form;
+pub use finding::hits_found;
+pub use own_registrar::OwnRegistrar;
 pub use session::run;
