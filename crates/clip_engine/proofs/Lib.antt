@@ -1,5 +1,4 @@
 mod Answered
-mod Due
 mod Keeping
 mod Sent
 mod Telling

@@ -9,35 +9,27 @@ ghost use Rattle.clip_front.specs.Steps.Found.{IsFor};
 ghost use Rattle.clip_engine.specs.Engine.{Answers, house};
 
 use crate::house::House;
-use crate::owned::Owned;
 use clip_front::{Books, Settings, Taken, deliver_found, take_line};
 use clip_listen::Audience;
-use clip_match::{HitsFound, entries_due};
+use clip_match::entries_due;
 use clip_meaning::Article;
 use clip_protocol::{Form, Found};
 use clip_registry::View;
+use clip_run::{OwnRegistrar, hits_found};
 use clip_words::{NoMemory, WordPool};
 use std::alloc::Global;
-
-/// When hits are found: at once, while they are few, where replies show them, and else when they are asked for.
-fn hits_found(form: Form) -> HitsFound {
-    match form {
-        Form::WithHits => HitsFound::WhileFew,
-        Form::Plain => HitsFound::WhenAsked,
-    }
-}
 
 /// The alerts of each article, in the order of the articles, all at one view; none are shown already.
 fn found_of_each(
     alloc: Global,
     view: &View,
-    form: Form,
+    settings: Settings,
     articles: &[Article],
 ) -> Result<Vec<Found>, NoMemory>
     ensures value { IfOk result (λ found. map found_value found.items ≡ map (alerts_due view.now) articles.now) }
-    ensures any { IfOk result (λ found. (settings : Settings) → All (IsFor settings) found.items) }
+    ensures any { IfOk result (λ found. (s : Settings) → All (IsFor s) found.items) }
 {
-    let hits = hits_found(form);
+    let hits = hits_found(settings);
     let mut found = Vec::new(alloc);
     for article in articles {
         let due = entries_due(alloc, view, article, hits)?;
@@ -58,12 +50,12 @@ fn matched(
     requires { ⟦<House as Audience>⟧.hearers listeners.old ≡ house }
     ensures { IfOk result (λ text. text.items ≡ reply form house number view.now.history (matching articles.now)) }
 {
-    let found = found_of_each(alloc, view, form, articles)?;
     let settings = Settings {
         form,
         keeps_rows: false,
         workers: 0,
     };
+    let found = found_of_each(alloc, view, settings, articles)?;
     let mut books = Books::new(alloc, settings);
     deliver_found(alloc, listeners, &mut books, number, &found)
 }
@@ -72,7 +64,7 @@ fn matched(
 pub(crate) fn answer(
     alloc: Global,
     pool: &mut WordPool,
-    owned: &mut Owned,
+    owned: &mut OwnRegistrar,
     form: Form,
     number: u64,
     line: &[u8],

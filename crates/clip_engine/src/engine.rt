@@ -1,7 +1,7 @@
 //! An engine: lines and plain calls over one registrar.
 ghost use Rattle.std.specs.Prelude.{◌≡◌, ◌⊎◌, [], ◌∷◌, IfOk, IfErr, OnOk, OnErr, Err, None, IsTrue, IsFalse, true};
 ghost use Rattle.std.specs.Prelude.{false};
-ghost use Rattle.std.specs.Prelude.{string_bytes, option_map};
+ghost use Rattle.std.specs.Prelude.{string_bytes};
 ghost use Rattle.std.specs.FinMap as finite;
 ghost use Rattle.clip_model.specs.History.{Delete, applied, fits, has_room, replay};
 ghost use Rattle.clip_model.specs.Alerts.{alerts};
@@ -11,29 +11,26 @@ ghost use Rattle.clip_words.specs.Ids.{is_id};
 ghost use Rattle.clip_protocol.specs.Steps.Views.{listing_view};
 ghost use Rattle.clip_protocol.specs.declared.refusal.Unread.TheVariants as unread;
 ghost use Rattle.clip_standing.specs.Command.{command_of};
-ghost use Rattle.clip_protocol.specs.LineMeaning.{is_here};
-ghost use Rattle.clip_front.specs.Outcome.{names_in};
-ghost use Rattle.clip_front.specs.Steps.Answers.{TakesListing};
-ghost use Rattle.clip_engine.specs.Engine.{Registers, Replies, commanded, fresh, has_feed, house};
+ghost use Rattle.clip_engine.specs.Engine.{Registers, Replies, commanded, fresh, has_feed};
 
 use crate::answer::answer;
-use crate::owned::Owned;
+use crate::house::House;
+use clip_front::take_listing;
 use clip_match::{HitsFound, entries_due};
 use clip_meaning::{Article, ArticleFault};
-use clip_protocol::{Form, Listing, Refusal, Unread, read_listing};
-use clip_registry::Registrar;
-use clip_standing::{Alerts, Applied, Command, Refused, Standing};
+use clip_protocol::{Form, Listing, Refusal, Unread};
+use clip_run::OwnRegistrar;
+use clip_standing::{Alerts, Applied, Command, Refused};
 use clip_words::{NoMemory, WordPool, is_id};
 use std::alloc::Global;
 use std::marker::Model;
-use std::sync::Arc;
 
-/// An engine: a registrar, words of its last articles, how many lines it has answered, and whether its replies show
-/// hits. Contracts see the history of the accepted commands for the registrar.
+/// An engine: a registrar of its own, words of its last articles, how many lines it has answered, and whether its
+/// replies show hits. Contracts see the history of the accepted commands for the registrar.
 #[derive(Drop)]
 pub struct Engine {
     alloc: Global,
-    owned: Owned,
+    owned: OwnRegistrar,
     pool: WordPool,
     lines: u64,
     hits: bool,
@@ -58,30 +55,6 @@ pub enum LineFault {
     TooMany,
     /// An allocation failed.
     NoMemory,
-}
-
-/// Whether there is no listener to hear, or one of the program's.
-fn is_here(listener: &Option<String>) -> bool
-    ensures { result ≡ is_here (names_in house) (option_map string_bytes listener.now) }
-{
-    match listener {
-        Some(name) => name.as_str() == "mail" || name.as_str() == "feed",
-        None => true,
-    }
-}
-
-/// Reads a listed query, whose listener is to be one of the program's.
-fn take_listing(alloc: Global, listing: Listing) -> Result<Arc<Standing>, Unread>
-    requires { is_id (listing_view listing).id ≡ true }
-    ensures { TakesListing (names_in house) (listing_view listing) result }
-{
-    let here = is_here(&listing.listener);
-    let standing = read_listing(alloc, listing)?;
-    if here {
-        Ok(standing)
-    } else {
-        Err(Unread::Refused(Refusal::Listener))
-    }
 }
 
 /// Reads an article.
@@ -110,9 +83,7 @@ impl Engine {
     {
         Engine {
             alloc,
-            owned: Owned {
-                registrar: Registrar::without_history(alloc),
-            },
+            owned: OwnRegistrar::new(alloc),
             pool: WordPool::new(alloc),
             lines: 0,
             hits,
@@ -152,7 +123,7 @@ impl Engine {
         } else {
             Form::Plain
         };
-        let Ok(before) = self.owned.registrar.copy() else {
+        let Ok(before) = self.owned.copy() else {
             return Err(LineFault::NoMemory);
         };
         match answer(
@@ -168,7 +139,7 @@ impl Engine {
                 Ok(text)
             }
             Err(NoMemory) => {
-                self.owned.registrar = before;
+                self.owned = before;
                 Err(LineFault::NoMemory)
             }
         }
@@ -207,7 +178,8 @@ impl Engine {
         if !is_id(listing.id.as_str()) {
             return Err(Unread::Refused(Refusal::Limit));
         }
-        let standing = take_listing(self.alloc, listing)?;
+        let listeners = House::new(self.alloc)?;
+        let standing = take_listing(self.alloc, &listeners, listing)?;
         let mut standings = Vec::new(self.alloc);
         standings.push(standing)?;
         self.command(Command::Register(standings))?;

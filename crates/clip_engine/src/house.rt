@@ -5,7 +5,7 @@ ghost use Rattle.clip_listen.specs.Heard.{note_value, text_of};
 ghost use Rattle.clip_standing.specs.Alerts.{alert_value};
 ghost use Rattle.clip_engine.specs.Engine.{house};
 
-use clip_command_line::{feed, mail};
+use clip_command_line::{FEED_NAME, MAIL_NAME, feed, mail};
 use clip_listen::{Audience, Listener, Note, Style, Teller};
 use clip_standing::Alert;
 use clip_words::NoMemory;
@@ -76,17 +76,17 @@ impl Audience for House {
     } ∷ [] };
 
     fn has(&self, name: &str) -> bool {
-        name == "mail" || name == "feed"
+        name == MAIL_NAME || name == FEED_NAME
     }
 
     fn tell(&mut self, alloc: Global, alert: &Alert) -> Result<Option<Note>, NoMemory> {
         let Some(name) = alert.listener() else {
             return Ok(None);
         };
-        if name.as_str() == "mail" {
+        if name.as_str() == MAIL_NAME {
             return Ok(Some(heard_by(alloc, &mut self.mail, name, alert)?));
         }
-        if name.as_str() == "feed" {
+        if name.as_str() == FEED_NAME {
             return Ok(Some(heard_by(alloc, &mut self.feed, name, alert)?));
         }
         Ok(None)

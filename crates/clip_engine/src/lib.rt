@@ -9,7 +9,6 @@ mod explained;
 mod found;
 mod house;
 mod kept;
-mod owned;
 mod slot;
 
 pub use engine::{Engine, LineFault};

@@ -3,8 +3,8 @@ use Rattle.std.proofs.lemmas.Result.{IfOk-weaker}
 use Rattle.clip_listen.specs.Heard.{style_value}
 use Rattle.clip_protocol.specs.Found.{found_value}
 use Rattle.clip_front.specs.Steps.Found.{IsFor, found_text}
+use Rattle.clip_run.proofs.Found.{text-alerts_due}
 use Rattle.clip_engine.specs.Engine.{house}
-use Rattle.clip_engine.proofs.Due.{text_due}
 use Rattle.clip_engine.proofs.Telling.{both}
 use Rattle.clip_engine.proofs.answer.matched.Goals as goal
 
@@ -19,5 +19,5 @@ returns c =
     IfOk-weaker c.deliver_found.result _ _
     (λ text printed.
     printed ∙ ap (λ s. found_text s.form (both (style_value l.mail.render.style) l.mail.told.alerts (style_value l.feed.render.style) l.feed.told.alerts) n found) c.new-books.ensures.settings ∙ ap (λ hearers. found_text form hearers n found) c.requires
-    ∙ ap (found_text form house n) (ap (map found_value) c.deref.ensures.value ∙ c.in_ok-found.ensures.value) ∙ text_due form house n c.args.view.now c.args.articles.now)
+    ∙ ap (found_text form house n) (ap (map found_value) c.deref.ensures.value ∙ c.in_ok-found.ensures.value) ∙ text-alerts_due form house n c.args.view.now c.args.articles.now)
     c.deliver_found.ensures.text
