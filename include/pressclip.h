@@ -54,6 +54,23 @@ typedef struct pressclip_field {
     size_t text_length;
 } pressclip_field;
 
+/* All that was found of an article, in arrays. The texts of ids, and of names of fields, lie one after another, each with
+ * a byte 0 behind it, and an array has where each begins, and last where they end: the id n is the id_at[n + 1] -
+ * id_at[n] - 1 bytes from ids + id_at[n]. Its hits have the numbers from hit_at[n] on, up to and without hit_at[n + 1].
+ * The hit h is the word hit_position[h] of the field whose name has the number hit_name[h]. No array is null. */
+typedef struct pressclip_found {
+    size_t count;                 /* How many ids there are. */
+    const char *ids;              /* Their texts, in the byte order of ids. */
+    const uint64_t *id_at;        /* count + 1 places. */
+    const uint64_t *hit_at;       /* count + 1 numbers of hits. */
+    size_t hit_count;             /* How many hits there are: of an id by field name and then by position. */
+    const uint64_t *hit_name;     /* hit_count numbers of names. */
+    const uint64_t *hit_position; /* hit_count numbers of words, from 0, as pressclip_words counts them. */
+    size_t name_count;            /* How many fields have a hit. */
+    const char *names;            /* Their names, once each, in no promised order. */
+    const uint64_t *name_at;      /* name_count + 1 places. */
+} pressclip_found;
+
 /* The word for a status, as in the list above; "ok" for 0, and "unknown" for what is none. Not to be freed. */
 const char *pressclip_word(int status);
 
@@ -109,6 +126,11 @@ bool pressclip_next_id(pressclip_result *result, const char **id, size_t *length
  * name of the field, which lies in the result, and which of its words it is, from 0, as pressclip_words counts them.
  * There are none where the engine shows no hits. */
 bool pressclip_next_hit(pressclip_result *result, const char **field, size_t *length, uint64_t *position);
+
+/* Gives all ids and hits of a result at once, and leaves what pressclip_next_id and pressclip_next_hit give next. It is
+ * put together by the first call, lies in the result, and stays as long as that is not freed.
+ * PRESSCLIP_NULL, PRESSCLIP_NO_MEMORY. */
+int pressclip_result_all(pressclip_result *result, const pressclip_found **found);
 
 /* Frees a result, and all that lies in it. A null pointer is let be. */
 void pressclip_result_free(pressclip_result *result);

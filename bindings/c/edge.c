@@ -14,10 +14,15 @@ struct pressclip {
     max_align_t room[];
 };
 
-/* The bytes that the crate answers: a count of ids, and then as pressclip_next_id and pressclip_next_hit read them. */
+/* The bytes that the crate answers: a count of ids, and then as pressclip_next_id and pressclip_next_hit read them. What
+ * pressclip_result_all gives of them lies in room, which is null before its first call. The article has so many fields,
+ * whose names are so large with a byte 0 behind each. */
 struct pressclip_result {
     size_t count, left, hits_left, at;
     unsigned char *bytes;
+    size_t most_names, most_names_size;
+    uint64_t *room;
+    pressclip_found found;
 };
 
 /* The exports of clip_c. All but clip_open want a slot that keeps an engine, and all but clip_close leave one. */
@@ -123,9 +128,8 @@ int pressclip_explain_line(const char *line, size_t length, char **reply, size_t
 
 /* The number that eight bytes are, the lowest first. */
 static uint64_t number_at(const unsigned char *bytes) {
-    uint64_t number = 0;
-    for (int byte = 7; byte >= 0; byte--) number = number << 8 | bytes[byte];
-    return number;
+    return (uint64_t)bytes[0] | (uint64_t)bytes[1] << 8 | (uint64_t)bytes[2] << 16 | (uint64_t)bytes[3] << 24 |
+           (uint64_t)bytes[4] << 32 | (uint64_t)bytes[5] << 40 | (uint64_t)bytes[6] << 48 | (uint64_t)bytes[7] << 56;
 }
 
 int pressclip_words(const char *text, size_t length, uint64_t **spans, size_t *count) {
@@ -196,6 +200,13 @@ static void next_text(pressclip_result *result, const char **text, size_t *lengt
     result->at += *length;
 }
 
+/* Makes the first id of a result the next one. */
+static void begin(pressclip_result *result) {
+    result->at = 8;
+    result->left = result->count;
+    result->hits_left = 0;
+}
+
 int pressclip_match(pressclip *engine, const char *id, size_t id_length, const pressclip_field *fields, size_t count,
                     pressclip_result **result) {
     static const pressclip_field none = {"", 0, "", 0};
@@ -213,9 +224,11 @@ int pressclip_match(pressclip *engine, const char *id, size_t id_length, const p
         free(made);
         return status == PRESSCLIP_OK ? PRESSCLIP_NO_MEMORY : status;
     }
-    made->at = 0;
-    made->hits_left = 0;
-    made->count = made->left = (size_t)next_number(made);
+    made->most_names = made->most_names_size = count;
+    for (size_t place = 0; place < count; place++) made->most_names_size += fields[place].name_length;
+    made->room = NULL;
+    made->count = (size_t)number_at(made->bytes);
+    begin(made);
     *result = made;
     return PRESSCLIP_OK;
 }
@@ -243,8 +256,83 @@ bool pressclip_next_id(pressclip_result *result, const char **id, size_t *length
     return true;
 }
 
+/* Texts that are put one after another, a byte 0 behind each, and where they begin and end. */
+typedef struct texts {
+    char *bytes;
+    uint64_t *at;
+    size_t count, size;
+} texts;
+
+/* No texts yet, in this room. */
+static texts no_texts(char *bytes, uint64_t *at) {
+    at[0] = 0;
+    return (texts){bytes, at, 0, 0};
+}
+
+/* Puts a text behind the others. */
+static void put(texts *all, const char *text, size_t length) {
+    memcpy(all->bytes + all->size, text, length);
+    all->bytes[all->size + length] = '\0';
+    all->size += length + 1;
+    all->at[++all->count] = all->size;
+}
+
+/* Whether the text with this number is this one. */
+static bool is_text(const texts *all, size_t number, const char *text, size_t length) {
+    const uint64_t *at = all->at + number;
+    return at[1] - at[0] == length + 1 && memcmp(all->bytes + at[0], text, length) == 0;
+}
+
+/* The number of a text, which is put behind the others where it is none of them. It is looked for at a number first. */
+static size_t number_of(texts *all, size_t first, const char *text, size_t length) {
+    if (first < all->count && is_text(all, first, text, length)) return first;
+    for (size_t number = 0; number < all->count; number++)
+        if (is_text(all, number, text, length)) return number;
+    put(all, text, length);
+    return all->count - 1;
+}
+
+/* Puts the arrays of a result together, and says whether there is memory for them. */
+static bool put_together(pressclip_result *result) {
+    pressclip_result walk = *result;
+    const char *text;
+    size_t length, ids_size = 0, hit_count = 0, hit = 0, name = 0;
+    begin(&walk);
+    while (pressclip_next_id(&walk, &text, &length)) {
+        ids_size += length + 1;
+        hit_count += walk.hits_left;
+    }
+    size_t places = result->count + 1;
+    size_t numbers = 2 * places + 2 * hit_count + result->most_names + 1;
+    uint64_t *room = malloc(numbers * sizeof *room + ids_size + result->most_names_size);
+    if (room == NULL) return false;
+    uint64_t *hit_at = room + places, *hit_name = hit_at + places, *hit_position = hit_name + hit_count;
+    texts ids = no_texts((char *)(room + numbers), room);
+    texts names = no_texts(ids.bytes + ids_size, hit_position + hit_count);
+    begin(&walk);
+    while (pressclip_next_id(&walk, &text, &length)) {
+        hit_at[ids.count] = hit;
+        put(&ids, text, length);
+        for (; pressclip_next_hit(&walk, &text, &length, &hit_position[hit]); hit++)
+            hit_name[hit] = name = number_of(&names, name, text, length);
+    }
+    hit_at[ids.count] = hit;
+    result->room = room;
+    result->found = (pressclip_found){ids.count, ids.bytes, ids.at,      hit_at,      hit,
+                                      hit_name,  hit_position, names.count, names.bytes, names.at};
+    return true;
+}
+
+int pressclip_result_all(pressclip_result *result, const pressclip_found **found) {
+    if (result == NULL || found == NULL) return PRESSCLIP_NULL;
+    if (result->room == NULL && !put_together(result)) return PRESSCLIP_NO_MEMORY;
+    *found = &result->found;
+    return PRESSCLIP_OK;
+}
+
 void pressclip_result_free(pressclip_result *result) {
     if (result == NULL) return;
+    free(result->room);
     free(result->bytes);
     free(result);
 }

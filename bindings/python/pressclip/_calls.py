@@ -29,6 +29,14 @@ class Field(Structure):
     _fields_ = [("name", c_char_p), ("name_length", c_size_t), ("text", c_char_p), ("text_length", c_size_t)]
 
 
+class Found(Structure):
+    """What was found of an article, as C sees it: pressclip_found."""
+
+    _fields_ = [("count", c_size_t), ("ids", c_void_p), ("id_at", c_void_p), ("hit_at", c_void_p),
+                ("hit_count", c_size_t), ("hit_name", c_void_p), ("hit_position", c_void_p),
+                ("name_count", c_size_t), ("names", c_void_p), ("name_at", c_void_p)]
+
+
 LIBRARY = load()
 LIBRARY.pressclip_word.restype = c_char_p
 LIBRARY.pressclip_result_count.restype = c_size_t
@@ -46,6 +54,7 @@ LIBRARY.pressclip_count.argtypes = [c_void_p, POINTER(c_uint64)]
 LIBRARY.pressclip_match.argtypes = [c_void_p, c_char_p, c_size_t, POINTER(Field), c_size_t, POINTER(c_void_p)]
 LIBRARY.pressclip_next_id.argtypes = [c_void_p, POINTER(c_void_p), POINTER(c_size_t)]
 LIBRARY.pressclip_next_hit.argtypes = [c_void_p, POINTER(c_void_p), POINTER(c_size_t), POINTER(c_uint64)]
+LIBRARY.pressclip_result_all.argtypes = [c_void_p, POINTER(POINTER(Found))]
 LIBRARY.pressclip_result_free.argtypes = [c_void_p]
 LIBRARY.pressclip_result_free.restype = None
 LIBRARY.pressclip_explain.argtypes = [c_char_p, c_size_t, POINTER(c_void_p), POINTER(c_size_t)]
@@ -62,6 +71,23 @@ def well(status: int) -> None:
 def copied(address: c_void_p, length: int) -> bytes:
     """The bytes at an address."""
     return ctypes.string_at(address, length)
+
+
+def numbers_at(address: int, count: int) -> list[int]:
+    """So many numbers of eight bytes at an address."""
+    return memoryview(ctypes.string_at(address, 8 * count)).cast("Q").tolist()
+
+
+def texts_at(address: int, places: int, count: int) -> list[str]:
+    """So many texts at an address, a byte 0 behind each; `places` is the address of the numbers where they begin."""
+    encoded = ctypes.string_at(address, numbers_at(places + 8 * count, 1)[0])
+    texts = encoded.decode().split("\0")
+    if len(texts) == count + 1:
+        texts.pop()
+        return texts
+    # A text has a character 0 within.
+    at = numbers_at(places, count + 1)
+    return [encoded[begin:end - 1].decode() for begin, end in zip(at, at[1:])]
 
 
 def answer_of(call: Callable[..., int], *arguments: Any, size: int = 1) -> bytes:

@@ -3,12 +3,13 @@
 from __future__ import annotations
 
 import threading
-from ctypes import byref, c_size_t, c_uint64, c_void_p
+from ctypes import POINTER, byref, c_uint64, c_void_p
+from itertools import repeat
 from types import TracebackType
-from typing import Any, Mapping, NamedTuple, NoReturn
+from typing import Any, Callable, Dict, Mapping, NamedTuple, NoReturn
 
 from . import _calls
-from ._calls import QUERY, Field, answer_of, copied, well
+from ._calls import QUERY, Field, answer_of, numbers_at, texts_at, well
 from ._explain import explain
 from ._words import FieldWords
 
@@ -29,23 +30,40 @@ class Found(NamedTuple):
     hits: list[Hit]
 
 
-def _hits(result: c_void_p, words: FieldWords) -> list[Hit]:
-    """The hits of the id that was read last."""
-    name, length, position = c_void_p(), c_size_t(), c_uint64()
-    hits = []
-    while _calls.LIBRARY.pressclip_next_hit(result, byref(name), byref(length), byref(position)):
-        field = copied(name, length.value)
-        hits.append(Hit(field.decode(), position.value, *words.span(field, position.value)))
-    return hits
+# Makes what is found of a pair, as `Found._make` does, with no call of a function in Python.
+_MAKE: Callable[[type[Found], tuple[str, list[Hit]]], Found] = tuple.__new__
+
+
+class _FieldHits(Dict[int, Hit]):
+    """The hits in a field by their positions; each is made when it is first asked for."""
+
+    def __init__(self, field: str, words: FieldWords) -> None:
+        super().__init__()
+        self._field, self._words = field, words
+
+    def __missing__(self, position: int) -> Hit:
+        hit = self[position] = Hit(self._field, position, *self._words.span(self._field.encode(), position))
+        return hit
+
+
+def _hits(all: _calls.Found, words: FieldWords) -> list[list[Hit]]:
+    """The hits of each id."""
+    if all.hit_count == 0:
+        return [[] for _ in range(all.count)]
+    fields = [_FieldHits(name, words) for name in texts_at(all.names, all.name_at, all.name_count)]
+    names, positions = numbers_at(all.hit_name, all.hit_count), numbers_at(all.hit_position, all.hit_count)
+    hits = [fields[name][position] for name, position in zip(names, positions)]
+    at = numbers_at(all.hit_at, all.count + 1)
+    return [hits[begin:end] for begin, end in zip(at, at[1:])]
 
 
 def _found(result: c_void_p, words: FieldWords) -> list[Found]:
     """All that a result has."""
-    query, length = c_void_p(), c_size_t()
-    found = []
-    while _calls.LIBRARY.pressclip_next_id(result, byref(query), byref(length)):
-        found.append(Found(copied(query, length.value).decode(), _hits(result, words)))
-    return found
+    given = POINTER(_calls.Found)()
+    well(_calls.LIBRARY.pressclip_result_all(result, byref(given)))
+    all = given.contents
+    pairs = zip(texts_at(all.ids, all.id_at, all.count), _hits(all, words))
+    return list(map(_MAKE, repeat(Found), pairs))
 
 
 class Monitor:

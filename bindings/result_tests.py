@@ -1,0 +1,197 @@
+"""Tests of what a match found: all of it at once, against ids and hits one by one, and what the package makes of it."""
+
+from __future__ import annotations
+
+import ctypes
+from contextlib import contextmanager
+from ctypes import POINTER, byref, c_size_t, c_uint64, c_void_p
+from random import Random
+from typing import Any, Callable, Iterator, List, Tuple
+
+from pressclip_tests.inputs import Source, WORDS
+
+# An id, and the name and position of each of its hits.
+Listed = List[Tuple[bytes, List[Tuple[bytes, int]]]]
+SEEDS = 150
+# Ids that a byte 0 behind each text could be mistaken in, which inputs.py has none of.
+WITH_ZEROS = ["\0", "a\0b", "a\0", "\0a", "\0\0"]
+FIELDS = ["text", "title", "author", "t", "tex"]
+
+
+@contextmanager
+def result_of(engine: c_void_p, fields: dict[str, str]) -> Iterator[c_void_p]:
+    """What C finds of an article."""
+    from pressclip import _calls
+
+    pairs = [(name.encode(), text.encode()) for name, text in fields.items()]
+    given = (_calls.Field * len(pairs))(*[_calls.Field(name, len(name), text, len(text)) for name, text in pairs])
+    result = c_void_p()
+    assert _calls.LIBRARY.pressclip_match(engine, b"a", 1, given, len(pairs), byref(result)) == 0
+    try:
+        yield result
+    finally:
+        _calls.LIBRARY.pressclip_result_free(result)
+
+
+def hits_one_by_one(result: c_void_p) -> list[tuple[bytes, int]]:
+    """The hits of the id that was given last which were not given yet."""
+    from pressclip._calls import LIBRARY
+
+    name, length, position = c_void_p(), c_size_t(), c_uint64()
+    hits = []
+    while LIBRARY.pressclip_next_hit(result, byref(name), byref(length), byref(position)):
+        hits.append((ctypes.string_at(name, length.value), position.value))
+    return hits
+
+
+def one_by_one(result: c_void_p, most: int = 2 ** 63) -> Listed:
+    """What was not given yet, by so many calls of pressclip_next_id at most."""
+    from pressclip._calls import LIBRARY
+
+    id, length = c_void_p(), c_size_t()
+    found: Listed = []
+    while len(found) < most and LIBRARY.pressclip_next_id(result, byref(id), byref(length)):
+        found.append((ctypes.string_at(id, length.value), hits_one_by_one(result)))
+    return found
+
+
+def numbers(address: int, count: int) -> list[int]:
+    """So many numbers at an address."""
+    assert address, "an array is null"
+    return list((c_uint64 * count).from_address(address))
+
+
+def texts(address: int, places: int, count: int) -> list[bytes]:
+    """So many texts at an address, each with a byte 0 behind it."""
+    at = numbers(places, count + 1)
+    assert address and at[0] == 0, at
+    every = [ctypes.string_at(address + begin, end - begin) for begin, end in zip(at, at[1:])]
+    assert all(text.endswith(b"\0") for text in every), every
+    return [text[:-1] for text in every]
+
+
+def at_once(result: c_void_p) -> Listed:
+    """What pressclip_result_all gives, which is the same object at each call."""
+    from pressclip._calls import LIBRARY, Found
+
+    first, second = POINTER(Found)(), POINTER(Found)()
+    assert LIBRARY.pressclip_result_all(result, byref(first)) == 0
+    assert LIBRARY.pressclip_result_all(result, byref(second)) == 0
+    assert ctypes.addressof(first.contents) == ctypes.addressof(second.contents)
+    found = first.contents
+    assert found.count == LIBRARY.pressclip_result_count(result)
+    names = texts(found.names, found.name_at, found.name_count)
+    assert len(set(names)) == len(names), names
+    which, positions = numbers(found.hit_name, found.hit_count), numbers(found.hit_position, found.hit_count)
+    hits = [(names[number], position) for number, position in zip(which, positions)]
+    assert set(which) == set(range(len(names))), (which, names)
+    at = numbers(found.hit_at, found.count + 1)
+    assert at[0] == 0 and at[-1] == len(hits), at
+    ids = texts(found.ids, found.id_at, found.count)
+    return [(id, hits[begin:end]) for id, begin, end in zip(ids, at, at[1:])]
+
+
+def registered(seed: int, hits: bool) -> Any:
+    """A monitor with the queries of random lines, and some under ids with a byte 0 within and in other fields."""
+    from pressclip import Monitor
+
+    source, dice = Source(seed, 12), Random(seed)
+    monitor = Monitor(hits)
+    for line in source.lines(20 + seed % 20):
+        monitor.line(line)
+    for id in dice.sample(WITH_ZEROS, dice.choice([0, 0, 1, 5])):
+        monitor.register(id, source.text(3))
+    for name in FIELDS:
+        monitor.register(f"in {name}", f"{name}:({source.text(3)}) {dice.choice(WORDS)} é{name}")
+    return monitor
+
+
+def article(dice: Random) -> dict[str, str]:
+    """The fields of an article: one to five, some of them with letters of several bytes, and one without a word."""
+    names = dice.sample(FIELDS, dice.randint(1, len(FIELDS)))
+    return {name: " ".join(dice.choices([*WORDS, f"é{name}", "🍵"], k=dice.choice([0, 1, 12]))) for name in names}
+
+
+def all_at_once_is_what_comes_one_by_one() -> None:
+    """Of random articles: from the beginning, and begun in between, where the rest comes as if it had not been."""
+    had_hits = had_none = 0
+    for seed in range(SEEDS):
+        dice, hits = Random(seed), seed % 4 != 0
+        with registered(seed, hits) as monitor:
+            for _ in range(4):
+                with result_of(monitor._engine, article(dice)) as result:
+                    before = one_by_one(result, dice.randint(0, 3))
+                    every = at_once(result)
+                    assert before + one_by_one(result) == every and at_once(result) == every, seed
+                    assert hits or not any(of_id for _, of_id in every), seed
+                had_hits += any(of_id for _, of_id in every)
+                had_none += not every
+    assert had_hits and had_none, (had_hits, had_none)
+
+
+def the_package_gives_what_c_gives() -> None:
+    """Each id in its order, and each hit with its word's place; lists that are changed are the caller's own."""
+    from pressclip import Found, Hit, word_spans
+
+    for seed in range(SEEDS):
+        dice = Random(seed)
+        with registered(seed, seed % 4 != 0) as monitor:
+            fields = article(dice)
+            found = monitor.match({"id": "a", "fields": fields})
+            with result_of(monitor._engine, fields) as result:
+                due = one_by_one(result)
+        spans = {name: word_spans(text) for name, text in fields.items()}
+        assert [(one.query.encode(), [(hit.field.encode(), hit.position) for hit in one.hits]) for one in found] == due
+        for one in found:
+            assert type(one) is Found and type(one.query) is str and type(one.hits) is list, one
+            for hit in one.hits:
+                assert type(hit) is Hit and (hit.start, hit.end) == spans[hit.field][hit.position], (seed, hit)
+        for one in found:
+            one.hits.clear()
+            one.hits.append(Hit("own", 0, 0, 0))
+        assert all(len(one.hits) == 1 for one in found), seed
+
+
+def ids_with_a_zero_are_told_apart() -> None:
+    """Also where they are all that is found."""
+    from pressclip import Monitor
+
+    for ids in (WITH_ZEROS, [*WITH_ZEROS, "a", "b", "é\0🍵"], ["\0"]):
+        for hits in (False, True):
+            with Monitor(hits) as monitor:
+                for id in ids:
+                    monitor.register(id, "tea")
+                found = monitor.match({"id": "a", "fields": {"text": "Tea"}})
+            assert [one.query for one in found] == sorted(ids, key=str.encode), found
+            assert all(len(one.hits) == hits for one in found), found
+
+
+def null_gives_nothing() -> None:
+    """A null pointer is refused, and nothing is written."""
+    from pressclip import Monitor
+    from pressclip._calls import LIBRARY, Found
+
+    found = POINTER(Found)()
+    assert LIBRARY.pressclip_word(LIBRARY.pressclip_result_all(None, byref(found))) == b"null" and not found
+    assert LIBRARY.pressclip_word(LIBRARY.pressclip_result_all(None, None)) == b"null"
+    with Monitor(True) as monitor:
+        monitor.register("q", "tea")
+        with result_of(monitor._engine, {"text": "tea"}) as result:
+            assert LIBRARY.pressclip_word(LIBRARY.pressclip_result_all(result, None)) == b"null"
+            assert at_once(result) == [(b"q", [(b"text", 0)])]
+
+
+def a_result_stays_when_its_engine_is_closed() -> None:
+    """What is found at once too, put together after the end of the engine."""
+    from pressclip import Monitor
+
+    monitor = Monitor(True)
+    monitor.register("q", "title:tea milk")
+    with result_of(monitor._engine, {"title": "green tea", "text": "milk"}) as result:
+        monitor.close()
+        assert at_once(result) == [(b"q", [(b"text", 0), (b"title", 1)])] == one_by_one(result)
+
+
+TESTS: tuple[Callable[[], None], ...] = (
+    all_at_once_is_what_comes_one_by_one, the_package_gives_what_c_gives, ids_with_a_zero_are_told_apart,
+    null_gives_nothing, a_result_stays_when_its_engine_is_closed)
