@@ -1,7 +1,7 @@
 /* pressclip as a library: register queries once, then hand in articles, and read which queries hold of each.
  *
  * Build it by ./build and then bindings/c/build, and link with bindings/c/libpressclip.a (bindings/c/libpressclip.so is
- * the same for languages that load libraries).
+ * the same for languages that load libraries). make -C bindings/c install puts it where compilers and pkg-config look.
  *
  * Texts are bytes in UTF-8 with their length; they need no byte 0 at the end, and may have some within. What a call is
  * handed is the caller's, is read in the call alone, and may be changed or freed after it. Each call answers one of the
@@ -54,10 +54,11 @@ typedef struct pressclip_field {
     size_t text_length;
 } pressclip_field;
 
-/* All that was found of an article, in arrays. The texts of ids, and of names of fields, lie one after another, each with
- * a byte 0 behind it, and an array has where each begins, and last where they end: the id n is the id_at[n + 1] -
- * id_at[n] - 1 bytes from ids + id_at[n]. Its hits have the numbers from hit_at[n] on, up to and without hit_at[n + 1].
- * The hit h is the word hit_position[h] of the field whose name has the number hit_name[h]. No array is null. */
+/* All that was found of an article, in arrays. The texts of ids lie one after another, each with a byte 0 behind it,
+ * and id_at has where each begins, and last where they end: the id n is the id_at[n + 1] - id_at[n] - 1 bytes from
+ * ids + id_at[n]. Names of fields lie in the same way. The hits of the id n have the numbers from hit_at[n] on, below
+ * hit_at[n + 1]. The hit h is the word hit_position[h] of the field with the name hit_name[h]. All count from 0, and no
+ * array is null. */
 typedef struct pressclip_found {
     size_t count;                 /* How many ids there are. */
     const char *ids;              /* Their texts, in the byte order of ids. */

@@ -14,9 +14,9 @@ struct pressclip {
     max_align_t room[];
 };
 
-/* The bytes that the crate answers: a count of ids, and then as pressclip_next_id and pressclip_next_hit read them. What
- * pressclip_result_all gives of them lies in room, which is null before its first call. The article has so many fields,
- * whose names are so large with a byte 0 behind each. */
+/* The bytes that the crate answers: a count of ids, and then as pressclip_next_id and pressclip_next_hit read them.
+ * What pressclip_result_all gives of them lies in room, which is null before its first call. The article has most_names
+ * fields, whose names with a byte 0 behind each take most_names_size bytes. */
 struct pressclip_result {
     size_t count, left, hits_left, at;
     unsigned char *bytes;
