@@ -3,19 +3,58 @@
 from __future__ import annotations
 
 import ctypes
+import subprocess
+import tempfile
 from contextlib import contextmanager
 from ctypes import POINTER, byref, c_size_t, c_uint64, c_void_p
+from pathlib import Path
 from random import Random
 from typing import Any, Callable, Iterator, List, Tuple
 
 from pressclip_tests.inputs import Source, WORDS
 
+TOP = Path(__file__).resolve().parent.parent
 # An id, and the name and position of each of its hits.
 Listed = List[Tuple[bytes, List[Tuple[bytes, int]]]]
 SEEDS = 150
 # Ids that a byte 0 behind each text could be mistaken in, which inputs.py has none of.
 WITH_ZEROS = ["\0", "a\0b", "a\0", "\0a", "\0\0"]
 FIELDS = ["text", "title", "author", "t", "tex"]
+# Asks for all that was found while malloc refuses, and then once more. Returns the number of the step that goes wrong.
+REFUSED = '''
+#include "pressclip.h"
+
+#include <string.h>
+
+void *__real_malloc(size_t size);
+void *__wrap_malloc(size_t size);
+
+static bool refuses;
+
+void *__wrap_malloc(size_t size) { return refuses ? NULL : __real_malloc(size); }
+
+int main(void) {
+    pressclip *engine;
+    pressclip_result *result;
+    pressclip_field field = {"text", 4, "tea", 3};
+    const pressclip_found *found = NULL;
+    const char *id;
+    size_t length;
+    if (pressclip_open(true, &engine) != PRESSCLIP_OK) return 1;
+    if (pressclip_register(engine, "q", 1, "tea", 3, NULL, 0) != PRESSCLIP_OK) return 2;
+    if (pressclip_match(engine, "a", 1, &field, 1, &result) != PRESSCLIP_OK) return 3;
+    refuses = true;
+    if (pressclip_result_all(result, &found) != PRESSCLIP_NO_MEMORY || found != NULL) return 4;
+    refuses = false;
+    if (pressclip_result_all(result, &found) != PRESSCLIP_OK || strcmp(found->ids, "q") != 0) return 5;
+    refuses = true;
+    if (pressclip_result_all(result, &found) != PRESSCLIP_OK || found->hit_count != 1) return 6;
+    if (!pressclip_next_id(result, &id, &length) || length != 1 || *id != 'q') return 7;
+    pressclip_result_free(result);
+    pressclip_close(&engine);
+    return 0;
+}
+'''
 
 
 @contextmanager
@@ -181,6 +220,17 @@ def null_gives_nothing() -> None:
             assert at_once(result) == [(b"q", [(b"text", 0)])]
 
 
+def no_memory_is_told_and_asked_for_again() -> None:
+    """A call that malloc refuses writes nothing, the next one goes well, and those after it ask for none."""
+    with tempfile.TemporaryDirectory() as folder:
+        subprocess.run(["gcc", "-std=c11", "-Wall", "-Wextra", "-Werror", "-Wl,--wrap=malloc", f"-I{TOP}/include", "-x",
+                        "c", "-", "-x", "none", TOP / "bindings" / "c" / "libpressclip.a", "-o", f"{folder}/refused"],
+                       input=REFUSED.encode(), check=True)
+        run = subprocess.run(["valgrind", "-q", "--leak-check=full", "--error-exitcode=9", f"{folder}/refused"],
+                             stderr=subprocess.PIPE)
+        assert (run.returncode, run.stderr) == (0, b""), run
+
+
 def a_result_stays_when_its_engine_is_closed() -> None:
     """What is found at once too, put together after the end of the engine."""
     from pressclip import Monitor
@@ -194,4 +244,4 @@ def a_result_stays_when_its_engine_is_closed() -> None:
 
 TESTS: tuple[Callable[[], None], ...] = (
     all_at_once_is_what_comes_one_by_one, the_package_gives_what_c_gives, ids_with_a_zero_are_told_apart,
-    null_gives_nothing, a_result_stays_when_its_engine_is_closed)
+    null_gives_nothing, no_memory_is_told_and_asked_for_again, a_result_stays_when_its_engine_is_closed)
