@@ -80,7 +80,7 @@ def numbers_at(address: int, count: int) -> list[int]:
 
 def texts_at(address: int, places: int, count: int) -> list[str]:
     """So many texts at an address, a byte 0 behind each; `places` is the address of the numbers where they begin."""
-    encoded = ctypes.string_at(address, numbers_at(places + 8 * count, 1)[0])
+    encoded = ctypes.string_at(address, c_uint64.from_address(places + 8 * count).value)
     texts = encoded.decode().split("\0")
     if len(texts) == count + 1:
         texts.pop()

@@ -59,6 +59,8 @@ def _hits(all: _calls.Found, words: FieldWords) -> list[list[Hit]]:
 
 def _found(result: c_void_p, words: FieldWords) -> list[Found]:
     """All that a result has."""
+    if _calls.LIBRARY.pressclip_result_count(result) == 0:
+        return []
     given = POINTER(_calls.Found)()
     well(_calls.LIBRARY.pressclip_result_all(result, byref(given)))
     all = given.contents
