@@ -67,4 +67,4 @@ class Replacing:
 
     def is_right(self, reply: bytes) -> bool:
         """Whether it is the reply to the last article."""
-        return json.loads(reply).get("alerts") == [{"article": f"a{self._change}", "queries": self.due()}]
+        return bool(json.loads(reply).get("alerts") == [{"article": f"a{self._change}", "queries": self.due()}])
