@@ -2,6 +2,7 @@
 #![tactic(auto)]
 
 mod ending;
+mod memory;
 mod playing;
 mod streams;
 mod words;

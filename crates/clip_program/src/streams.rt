@@ -1,6 +1,7 @@
 //! Runs and traces over the standard streams.
 ghost use Rattle.std.specs.Prelude.{◌≤◌};
 
+use crate::memory::keep_freed;
 use clip_command_line::{feed, mail, named};
 use clip_listen::Listeners;
 use clip_run::{Ended, Form, OpenGate, Settings, run};
@@ -22,6 +23,7 @@ pub fn run_heard<R: Input + Print + Threads + Wait + Sync + AllocGlobal>(
     requires { workers ≤ MOST_WORKERS }
 {
     let alloc = rt.alloc();
+    keep_freed(alloc);
     let mail = Box::new(alloc, mail(alloc)?)?;
     let feed = Box::new(alloc, feed(alloc)?)?;
     let Ok(mut listeners) = Listeners::new(named(alloc, mail, feed)?) else {
