@@ -2,6 +2,8 @@
 
 from __future__ import annotations
 
+import json
+import resource
 import subprocess
 from pathlib import Path
 from typing import Callable
@@ -45,4 +47,23 @@ def other_words_are_refused() -> None:
         same(done.stdout, b"", f"{words} on standard output")
 
 
-TESTS: tuple[Callable[[], None], ...] = (hits_are_shown_where_the_words_ask, other_words_are_refused)
+def faults_of_a_match(queries: int, articles: int) -> int:
+    """How many pages a run takes from the system that matches so many articles, of which so many queries hold."""
+    listings = [{"id": f"q{number}", "query": "*:*"} for number in range(queries)]
+    lines: list[dict[str, object]] = [{"op": "register", "queries": listings[start:start + 1_000]}
+                                      for start in range(0, queries, 1_000)]
+    lines.append({"op": "match", "articles": [{"id": f"a{number}", "fields": {}} for number in range(articles)]})
+    before = resource.getrusage(resource.RUSAGE_CHILDREN).ru_minflt
+    done = run(["run", "0"], b"".join(json.dumps(line).encode() + b"\n" for line in lines))
+    need(done.returncode == 0, f"it ended with status {done.returncode}")
+    return resource.getrusage(resource.RUSAGE_CHILDREN).ru_minflt - before
+
+
+def memory_of_an_article_serves_the_next() -> None:
+    """What an article takes, some 600 pages here, is not given back to the system and taken anew by each."""
+    more = faults_of_a_match(20_000, 72) - faults_of_a_match(20_000, 8)
+    need(more < 64 * 60, f"64 articles more take {more} pages more")
+
+
+TESTS: tuple[Callable[[], None], ...] = (hits_are_shown_where_the_words_ask, other_words_are_refused,
+                                         memory_of_an_article_serves_the_next)
