@@ -20,17 +20,43 @@ use Rattle.busy_desk.specs.contracts.merging.Room as room
 use Rattle.std.proofs.sync.atomic.AtomicBool.TheSendSync as flag_sent
 use Rattle.busy_desk.proofs.merging.Merger.TheSendSync as merger_sent
 
-ruleset global = (sendable, global_sent.the_send, global_sent.the_sync, allocator_sent.the_frees, nudge_sent.the_send, nudge_sent.the_sync)
+ruleset global = (
+  sendable,
+  global_sent.the_send,
+  global_sent.the_sync,
+  allocator_sent.the_frees,
+  nudge_sent.the_send,
+  nudge_sent.the_sync,
+)
 
 pub room_sync : (N : RattleType) (g : Ghosts N.Denot) → IsSync (room.the_row N g)
 room_sync N g =
-    declared_sync (room.the_type N g) (search global, (desk_sync N log.the_row g log_impl.ghosts log_sent.the_send, (search (global, sender_sent.the_sync) depth 20, (search (global, receiver_sent.the_sync) depth 20, (search (global, flag_sent.the_sync), (search global, (search (global, merger_sent.the_sync), tt)))))))
+    declared_sync (room.the_type N g) (
+      search global,
+      (
+        desk_sync N log.the_row g log_impl.ghosts log_sent.the_send,
+        (
+          search (global, sender_sent.the_sync) depth 20,
+          (
+            search (global, receiver_sent.the_sync) depth 20,
+            (search (global, flag_sent.the_sync), (search global, (search (global, merger_sent.the_sync), tt))),
+          ),
+        ),
+      ),
+    )
 
 -- a closure of two captures
 pub two_send : (name : Sym) (A B : RattleType) → IsSend A → IsSend B → IsSend (TupleAt name (A ∷ B ∷ []))
-two_send name A B a b = declared_send (type_at name (A ∷ B ∷ [])) (as_row_send (row_field A) a, (as_row_send (row_field B) b, tt))
+two_send name A B a b = declared_send (type_at name (A ∷ B ∷ [])) (
+  as_row_send (row_field A) a,
+  (as_row_send (row_field B) b, tt),
+)
 
 -- a closure of three captures
-pub three_send : (name : Sym) (A B C : RattleType) → IsSend A → IsSend B → IsSend C → IsSend (TupleAt name (A ∷ B ∷ C ∷ []))
+pub three_send : (name : Sym) (A B C : RattleType) → IsSend A → IsSend B → IsSend C
+    → IsSend (TupleAt name (A ∷ B ∷ C ∷ []))
 three_send name A B C a b c =
-    declared_send (type_at name (A ∷ B ∷ C ∷ [])) (as_row_send (row_field A) a, (as_row_send (row_field B) b, (as_row_send (row_field C) c, tt)))
+    declared_send (type_at name (A ∷ B ∷ C ∷ [])) (
+      as_row_send (row_field A) a,
+      (as_row_send (row_field B) b, (as_row_send (row_field C) c, tt)),
+    )

@@ -1,5 +1,6 @@
 -- What is told of a line, from what is told of its value.
-use Rattle.std.proofs.Common.{◌≡◌, inl, inr, ℕ, ◌<◌, ◌≤◌, List, length, Bool, true, false, cond, Option, Some, None, option_map, Result, Ok, Err, refl, sym, ap, subst, ◌∙◌, arith}
+use Rattle.std.proofs.Common.{◌≡◌, inl, inr, ℕ, ◌<◌, ◌≤◌, List, length, Bool, true, false, cond, Option, Some, None}
+use Rattle.std.proofs.Common.{option_map, Result, Ok, Err, refl, sym, ap, subst, ◌∙◌, arith}
 use Rattle.std.proofs.lemmas.Bool.Decides.{nat_tests}
 use Rattle.std.specs.Prelude.{IfOk}
 use Rattle.serde_json.specs.Data.{Data}
@@ -10,7 +11,9 @@ use Rattle.clip_protocol.proofs.RequestLaw.{none_is_some, value_of-request_of}
 use Rattle.clip_protocol.specs.LineMeaning as line
 use Rattle.clip_protocol.specs.LineMeaning.{Meaning, Means, json_of, is_blank, is_long}
 use Rattle.clip_protocol.specs.Request.{Request, register, delete, clear, purge, count, show, match, value_of}
-use Rattle.clip_protocol.specs.Steps.Outline.{Outline, MeansOutline, blank, refused, registers, deletes, clears, purges, counts, shows, matches, outline, outline_of_asked, outline_of_request, outline_of_value, request_of, requests}
+use Rattle.clip_protocol.specs.Steps.Outline.{Outline, MeansOutline, blank, refused, registers, deletes, clears, purges}
+use Rattle.clip_protocol.specs.Steps.Outline.{counts, shows, matches, outline, outline_of_asked, outline_of_request}
+use Rattle.clip_protocol.specs.Steps.Outline.{outline_of_value, request_of, requests}
 use Rattle.clip_protocol.specs.declared.refusal.Refusal.TheVariants.{Long, Json, Shape, Limit, Full}
 use Rattle.clip_cause.proofs.LimitCauses.{limit_wrong}
 use Rattle.clip_cause.proofs.LimitLaw.{within_from_fault, within_from_limits}
@@ -41,37 +44,50 @@ untold count = refl
 untold (show id) = refl
 untold (match drafts) = refl
 
-pub request_beyond : (r : Request) (f : Fault) (c : LineCause) → limit_fault r ≡ Some f → IsToldAs f c → TellsOf (value_of r) (outline_of_request r) (Some c)
+pub request_beyond : (r : Request) (f : Fault) (c : LineCause) → limit_fault r ≡ Some f → IsToldAs f c
+    → TellsOf (value_of r) (outline_of_request r) (Some c)
 request_beyond r f c e told =
     let w = limit_wrong r f e in
-    let refusal : c.refusal ≡ Limit = told.refusal ∙ w.1 in
-    (ap (λ b. told_of (cond b (requests r) (refused Limit))) (within_from_fault r f e) ∙ ap Some (sym refusal), record { fault = f; told = told; wrong = w.0 })
+    let refusal : c.refusal ≡ Limit = told.refusal ∙ w.1 in (
+      ap (λ b. told_of (cond b (requests r) (refused Limit))) (within_from_fault r f e)
+          ∙ ap Some (sym refusal),
+      record { fault = f; told = told; wrong = w.0 },
+    )
 
-pub request_taken : (r : Request) → IsOrdered (value_of r) → limit_fault r ≡ None → TellsOf (value_of r) (outline_of_request r) None
+pub request_taken : (r : Request) → IsOrdered (value_of r) → limit_fault r ≡ None
+    → TellsOf (value_of r) (outline_of_request r) None
 request_taken r h e = ap (λ b. told_of (cond b (requests r) (refused Limit))) (within_from_limits r h e) ∙ untold r
 
 -- ---- values
 
-pub value_unshaped : (d : Data) (f : Fault) (c : LineCause) → IsOrdered d → shape_fault d ≡ Some f → IsToldAs f c → TellsOf d (outline_of_asked (request_of d)) (Some c)
+pub value_unshaped : (d : Data) (f : Fault) (c : LineCause) → IsOrdered d → shape_fault d ≡ Some f → IsToldAs f c
+    → TellsOf d (outline_of_asked (request_of d)) (Some c)
 value_unshaped d f c h e told =
     let w = shape_wrong d h f e in
-    let refusal : c.refusal ≡ Shape = told.refusal ∙ w.1 in
-    (ap (λ o. told_of (outline_of_asked o)) (unread_from_fault d f (request_of d) e refl) ∙ ap Some (sym refusal), record { fault = f; told = told; wrong = w.0 })
+    let refusal : c.refusal ≡ Shape = told.refusal ∙ w.1 in (
+      ap (λ o. told_of (outline_of_asked o)) (unread_from_fault d f (request_of d) e refl)
+          ∙ ap Some (sym refusal),
+      record { fault = f; told = told; wrong = w.0 },
+    )
 
-pub value_asked : (d : Data) (r : Request) (found : Option LineCause) → request_of d ≡ Some r → TellsOf (value_of r) (outline_of_request r) found → TellsOf d (outline_of_asked (request_of d)) found
+pub value_asked : (d : Data) (r : Request) (found : Option LineCause) → request_of d ≡ Some r
+    → TellsOf (value_of r) (outline_of_request r) found → TellsOf d (outline_of_asked (request_of d)) found
 value_asked d r found e told =
-    subst (λ o. TellsOf d (outline_of_asked o) found) (sym e) (subst (λ v. TellsOf v (outline_of_request r) found) (sym (value_of-request_of d r e)) told)
+    subst (λ o. TellsOf d (outline_of_asked o) found) (sym e)
+    (subst (λ v. TellsOf v (outline_of_request r) found) (sym (value_of-request_of d r e)) told)
 
 pub ordered_request : (d : Data) (r : Request) → IsOrdered d → request_of d ≡ Some r → IsOrdered (value_of r)
 ordered_request d r h e = subst IsOrdered (value_of-request_of d r e) h
 
-pub limit_told : (r : Request) (fault : Option Fault) (found : Option LineCause) → fault ≡ limit_fault r → Tells fault found → Tells (limit_fault r) found
+pub limit_told : (r : Request) (fault : Option Fault) (found : Option LineCause) → fault ≡ limit_fault r
+    → Tells fault found → Tells (limit_fault r) found
 limit_told r fault found e told = subst (λ o. Tells o found) e told
 
 pub shape_told : (d : Data) (f : Fault) (c : LineCause) → shape_fault d ≡ Some f → IsToldAs f c → TellsFirst d (Some c)
 shape_told d f c e told = (Some f, subst (λ o. ComesFirst o d (Some f)) (sym e) refl, told)
 
-pub asked_told : (d : Data) (r : Request) (found : Option LineCause) → shape_fault d ≡ None → request_of d ≡ Some r → Tells (limit_fault r) found → TellsFirst d found
+pub asked_told : (d : Data) (r : Request) (found : Option LineCause) → shape_fault d ≡ None → request_of d ≡ Some r
+    → Tells (limit_fault r) found → TellsFirst d found
 asked_told d r found e is told =
     (limit_fault r, subst (λ o. ComesFirst o d (limit_fault r)) (sym e) (r, value_of-request_of d r is, refl), told)
 
@@ -86,7 +102,8 @@ if_ok (Err e) P Q f h = h
 
 -- ---- lines
 
-place_by : (l : List ℕ) (d : Data) (f : Fault) (w : Wrong) (p : Place) → json_of l ≡ Some d → HasPath f.0 p → w ≡ f.1 → IsWrongAt f.0 f.1 d → IsPlaceOf l p w
+place_by : (l : List ℕ) (d : Data) (f : Fault) (w : Wrong) (p : Place) → json_of l ≡ Some d → HasPath f.0 p → w ≡ f.1
+    → IsWrongAt f.0 f.1 d → IsPlaceOf l p w
 place_by l d f w (Byte at) e has same is = absurd has
 place_by l d f w (Member text) e has same is = (d, e, f.0, has, subst (λ v. IsWrongAt f.0 v d) (sym same) is)
 
@@ -98,7 +115,8 @@ cause_of_line l d c e is = record {
 
 filled : (l : List ℕ) → is_long l ≡ false → is_blank l ≡ false → outline l ≡ outline_of_value (json_of l)
 unfolding outline
-filled l short some = ap (λ b. cond b (refused Long) (cond (is_blank l) blank (outline_of_value (json_of l)))) short ∙ ap (λ b. cond b blank (outline_of_value (json_of l))) some
+filled l short some = ap (λ b. cond b (refused Long) (cond (is_blank l) blank (outline_of_value (json_of l)))) short
+    ∙ ap (λ b. cond b blank (outline_of_value (json_of l))) some
 
 long_is : (l : List ℕ) → MOST_LINE_BYTES < length l → is_long l ≡ true
 long_is l h = grind (arith, nat_tests)
@@ -106,21 +124,27 @@ long_is l h = grind (arith, nat_tests)
 short_is : (l : List ℕ) → length l ≤ MOST_LINE_BYTES → is_long l ≡ false
 short_is l h = grind (arith, nat_tests)
 
-pub line_of_value : (l : List ℕ) (d : Data) (found : Option LineCause) → length l ≤ MOST_LINE_BYTES → is_blank l ≡ false → json_of l ≡ Some d → TellsOf d (outline_of_asked (request_of d)) found → TellsOfLine l found
+pub line_of_value : (l : List ℕ) (d : Data) (found : Option LineCause) → length l ≤ MOST_LINE_BYTES
+    → is_blank l ≡ false → json_of l ≡ Some d → TellsOf d (outline_of_asked (request_of d)) found → TellsOfLine l found
 line_of_value l d None short some e told = ap told_of (filled l (short_is l short) some ∙ ap outline_of_value e) ∙ told
-line_of_value l d (Some c) short some e told = (ap told_of (filled l (short_is l short) some ∙ ap outline_of_value e) ∙ told.0, cause_of_line l d c e told.1)
+line_of_value l d (Some c) short some e told =
+    (ap told_of (filled l (short_is l short) some ∙ ap outline_of_value e) ∙ told.0, cause_of_line l d c e told.1)
 
-pub line_of_bytes : (l : List ℕ) (c : LineCause) → length l ≤ MOST_LINE_BYTES → is_blank l ≡ false → json_of l ≡ None → IsCauseOf l c → c.refusal ≡ Json → TellsOfLine l (Some c)
-line_of_bytes l c short some e is refusal = (ap told_of (filled l (short_is l short) some ∙ ap outline_of_value e) ∙ ap Some (sym refusal), is)
+pub line_of_bytes : (l : List ℕ) (c : LineCause) → length l ≤ MOST_LINE_BYTES → is_blank l ≡ false → json_of l ≡ None
+    → IsCauseOf l c → c.refusal ≡ Json → TellsOfLine l (Some c)
+line_of_bytes l c short some e is refusal =
+    (ap told_of (filled l (short_is l short) some ∙ ap outline_of_value e) ∙ ap Some (sym refusal), is)
 
 pub line_too_long : (l : List ℕ) → MOST_LINE_BYTES < length l → TellsOfLine l None
 unfolding outline
-line_too_long l h = ap (λ b. told_of (cond b (refused Long) (cond (is_blank l) blank (outline_of_value (json_of l))))) (long_is l h)
+line_too_long l h = ap (λ b. told_of (cond b (refused Long) (cond (is_blank l) blank (outline_of_value (json_of l)))))
+    (long_is l h)
 
 pub line_blank : (l : List ℕ) → length l ≤ MOST_LINE_BYTES → is_blank l ≡ true → TellsOfLine l None
 unfolding outline
 line_blank l short e =
-    ap (λ b. told_of (cond b (refused Long) (cond (is_blank l) blank (outline_of_value (json_of l))))) (short_is l short) ∙ ap (λ b. told_of (cond b blank (outline_of_value (json_of l)))) e
+    ap (λ b. told_of (cond b (refused Long) (cond (is_blank l) blank (outline_of_value (json_of l)))))
+    (short_is l short) ∙ ap (λ b. told_of (cond b blank (outline_of_value (json_of l)))) e
 
 -- ---- the first fault of a line
 
@@ -139,7 +163,8 @@ first_of_bytes l found none filled d e = absurd (none_is_some d (sym none ∙ e)
 same_value : (d e : Data) → Some d ≡ Some e → d ≡ e
 same_value d e is = cc
 
-pub first_of_value : (l : List ℕ) (d : Data) (found : Option LineCause) → json_of l ≡ Some d → TellsFirst d found → TellsFirstOf l found
+pub first_of_value : (l : List ℕ) (d : Data) (found : Option LineCause) → json_of l ≡ Some d → TellsFirst d found
+    → TellsFirstOf l found
 first_of_value l d found is told filled e other = subst (λ v. TellsFirst v found) (same_value d e (sym is ∙ other)) told
 
 -- ---- what a line means
@@ -148,11 +173,13 @@ judged_untold : (b : Bool) (c : Command) → told_by (cond b (line.command c) (l
 judged_untold true c = refl
 judged_untold false c = refl
 
-pub outline_told : (names : List (List ℕ)) (h : History) (o : Outline) (m : Meaning) → MeansOutline names h o m → told_by m ≡ told_of o
+pub outline_told : (names : List (List ℕ)) (h : History) (o : Outline) (m : Meaning) → MeansOutline names h o m
+    → told_by m ≡ told_of o
 outline_told names h blank m e = ap told_by e
 outline_told names h (refused r) m e = ap told_by e
 outline_told names h (registers listings) m (inl w) = ap told_by w.3
-outline_told names h (registers listings) m (inr w) = ap told_by w.2 ∙ judged_untold (has_room h (Register w.0)) (Register w.0)
+outline_told names h (registers listings) m (inr w) =
+    ap told_by w.2 ∙ judged_untold (has_room h (Register w.0)) (Register w.0)
 outline_told names h (deletes ids) m e = ap told_by e ∙ judged_untold (has_room h (Delete ids)) (Delete ids)
 outline_told names h clears m e = ap told_by e ∙ judged_untold (has_room h Clear) Clear
 outline_told names h purges m e = ap told_by e
@@ -160,9 +187,11 @@ outline_told names h counts m e = ap told_by e
 outline_told names h (shows id) m e = ap told_by e
 outline_told names h (matches articles) m e = ap told_by e
 
-pub meaning_told : (names : List (List ℕ)) (h : History) (l : List ℕ) (m : Meaning) → Means names h l m → told_by m ≡ told_of (outline l)
+pub meaning_told : (names : List (List ℕ)) (h : History) (l : List ℕ) (m : Meaning) → Means names h l m
+    → told_by m ≡ told_of (outline l)
 meaning_told names h l m means = outline_told names h (outline l) m (means_to names h l m means)
 
-pub refusal_told : (l : List ℕ) (found : Option LineCause) → TellsOfLine l found → option_map (λ c. c.refusal) found ≡ told_of (outline l)
+pub refusal_told : (l : List ℕ) (found : Option LineCause) → TellsOfLine l found → option_map (λ c. c.refusal) found
+    ≡ told_of (outline l)
 refusal_told l None told = sym told
 refusal_told l (Some c) told = sym told.0

@@ -1,5 +1,6 @@
 -- Why a line is refused, and where.
-use Rattle.std.specs.Prelude.{◌≡◌, ◌⊎◌, ℕ, ◌<◌, ◌≤◌, List, [], ◌∷◌, ◌++◌, length, true, false, Option, Some, None, is_some, codes, bytes_eq, string_bytes}
+use Rattle.std.specs.Prelude.{◌≡◌, ◌⊎◌, ℕ, ◌<◌, ◌≤◌, List, [], ◌∷◌, ◌++◌, length, true, false, Option, Some, None}
+use Rattle.std.specs.Prelude.{is_some, codes, bytes_eq, string_bytes}
 use Rattle.std.specs.List.{list_all, list_any}
 use Rattle.serde_json.specs.Data.{Data, string, array, object, Items, Members}
 use Rattle.serde_json.specs.Events.{items_len, members_len}
@@ -101,7 +102,8 @@ IsWrongAt path wrong.NotAString d = HasThere path d (λ e. as_str e ≡ None)
 IsWrongAt path wrong.Missing d = LacksMember path d
 IsWrongAt path wrong.Unknown d = HasForeign path d
 IsWrongAt path wrong.NoOperation d =
-    (path ≡ to_member (codes "op") ∷ []) × HasThere path d (λ e. (word : List ℕ) × (e ≡ string word) × (operation_of word ≡ None))
+    (path ≡ to_member (codes "op") ∷ [])
+    × HasThere path d (λ e. (word : List ℕ) × (e ≡ string word) × (operation_of word ≡ None))
 IsWrongAt path wrong.TooManyQueries d = (path ≡ to_member queries ∷ []) × HasThere path d (IsLongList MOST_LISTED)
 IsWrongAt path wrong.TooManyIds d = (path ≡ to_member ids ∷ []) × HasThere path d (IsLongList MOST_LISTED)
 IsWrongAt path wrong.TooManyArticles d = (path ≡ to_member articles ∷ []) × HasThere path d (IsLongList MOST_ARTICLES)

@@ -1,6 +1,8 @@
--- The first fault of a request that is beyond its limits: the length of its list, then each item in order, of an article
+-- The first fault of a request that is beyond its limits: the length of its list, then each item in order, of an
+-- article
 -- its id, then how many fields it has, then their names.
-use Rattle.std.specs.Prelude.{ℕ, suc, List, [], ◌∷◌, ◌==◌, length, nat_lt, if◌then◌else◌, Option, Some, None, option_map, codes}
+use Rattle.std.specs.Prelude.{ℕ, suc, List, [], ◌∷◌, ◌==◌, length, nat_lt, if◌then◌else◌, Option, Some, None}
+use Rattle.std.specs.Prelude.{option_map, codes}
 use Rattle.clip_words.specs.Ids.{is_id}
 use Rattle.clip_meaning.specs.Article.{begins_with_digit, is_field_name}
 use Rattle.clip_meaning.specs.declared.fault.TheConstants.{MOST_FIELDS, MOST_NAME_BYTES}
@@ -9,7 +11,9 @@ use Rattle.clip_protocol.specs.Request.{Draft, Request, register, delete, clear,
 use Rattle.clip_cause.specs.Faults.{Fault, beneath, here, in_item, named, or_else}
 use Rattle.clip_cause.specs.Names.{articles, fields, ids, queries}
 use Rattle.clip_cause.specs.declared.wrong.Wrong.{Wrong}
-use Rattle.clip_cause.specs.declared.wrong.Wrong.TheVariants.{TooManyQueries, TooManyIds, TooManyArticles, TooManyFields, EmptyId, LongId, EmptyName, LongName, ByteOfName, DigitFirst}
+use Rattle.clip_cause.specs.declared.wrong.Wrong.TheVariants.{TooManyQueries, TooManyIds, TooManyArticles}
+use Rattle.clip_cause.specs.declared.wrong.Wrong.TheVariants.{TooManyFields, EmptyId, LongId, EmptyName, LongName}
+use Rattle.clip_cause.specs.declared.wrong.Wrong.TheVariants.{ByteOfName, DigitFirst}
 
 -- ---- ids and names
 

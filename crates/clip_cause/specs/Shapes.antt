@@ -1,13 +1,16 @@
 -- The first fault in the shape of a line's value. The operation is judged first; then of each object which members are
 -- missing, which are unknown, and what each holds.
-use Rattle.std.specs.Prelude.{ℕ, suc, List, [], ◌∷◌, Bool, true, if◌then◌else◌, Option, Some, None, option_map, option_and_then, is_some, codes, bytes_eq}
+use Rattle.std.specs.Prelude.{ℕ, suc, List, [], ◌∷◌, Bool, true, if◌then◌else◌, Option, Some, None, option_map}
+use Rattle.std.specs.Prelude.{option_and_then, is_some, codes, bytes_eq}
 use Rattle.std.specs.List.{list_any}
 use Rattle.serde_json.specs.Data.{Data, Items, no_items, item, Members, no_members, member}
 use Rattle.serde_json.specs.Find.{get, as_str, as_array, as_object}
 use Rattle.clip_cause.specs.Faults.{Fault, beneath, here, in_item, named, or_else}
 use Rattle.clip_cause.specs.Names as operation
-use Rattle.clip_cause.specs.Names.{Operation, operation_of, ids, queries, articles, fields, query_names, query_needs, article_names, line_names}
-use Rattle.clip_cause.specs.declared.wrong.Wrong.TheVariants.{NotAnObject, NotAList, NotAString, Missing, Unknown, NoOperation}
+use Rattle.clip_cause.specs.Names.{Operation, operation_of, ids, queries, articles, fields, query_names, query_needs}
+use Rattle.clip_cause.specs.Names.{article_names, line_names}
+use Rattle.clip_cause.specs.declared.wrong.Wrong.TheVariants.{NotAnObject, NotAList, NotAString, Missing, Unknown}
+use Rattle.clip_cause.specs.declared.wrong.Wrong.TheVariants.{NoOperation}
 
 -- ---- the names of members
 

@@ -1,5 +1,6 @@
 -- Each step of an end keeps the rule.
-use Rattle.std.proofs.Common.{◌≡◌, ℕ, ◌≢◌, List, [], ◌∷◌, ◌++◌, fold, set, sym, refl, ap, ◌∙◌, subst, ⊎_elim, Option, None, Some, zero, suc, Result, Ok, Err, MatchResult}
+use Rattle.std.proofs.Common.{◌≡◌, ℕ, ◌≢◌, List, [], ◌∷◌, ◌++◌, fold, set, sym, refl, ap, ◌∙◌, subst, ⊎_elim, Option}
+use Rattle.std.proofs.Common.{None, Some, zero, suc, Result, Ok, Err, MatchResult}
 use mathlib.Core.Option.{some, some-injective, some-ne-none}
 use lib.ListN.{get_elem?}
 use Rattle.left_right.specs.Register.{Admits, TurnsAt, Forks, Merges}
@@ -14,9 +15,11 @@ continues_self x = (refl, refl, refl, prefix_self x.view.history)
 
 pub fits_later : (x y : Published) (v : Option Published) → Continues x y → Fits x v → Fits y v
 fits_later x y None on fits = tt
-fits_later x y (Some p) on fits = (on.0 ∙ fits.0, on.1 ∙ fits.1, on.2 ∙ fits.2, prefix_trans p.view.history x.view.history y.view.history fits.3 on.3)
+fits_later x y (Some p) on fits =
+    (on.0 ∙ fits.0, on.1 ∙ fits.1, on.2 ∙ fits.2, prefix_trans p.view.history x.view.history y.view.history fits.3 on.3)
 
-fits_set : (x : Published) (views : List (Option Published)) (seat : ℕ) (w : Option Published) → ((j : ℕ) (u : Option Published) → get_elem? views j ≡ some u → Fits x u) → Fits x w → Keeps x (set views seat w)
+fits_set : (x : Published) (views : List (Option Published)) (seat : ℕ) (w : Option Published)
+    → ((j : ℕ) (u : Option Published) → get_elem? views j ≡ some u → Fits x u) → Fits x w → Keeps x (set views seat w)
 fits_set x views seat w others mine j u e = ⊎_elim
     (λ (t : (j ≡ seat) × (w ≡ u)). subst (Fits x) t.1 mine)
     (λ (t : (j ≢ seat) × (get_elem? views j ≡ some u)). others j u t.1)
@@ -52,22 +55,26 @@ merges seat v other w x views h at apart there =
     fits_set x (set views seat w) other None (fits_set x views seat w h theirs) tt
 
 -- an end that saw a later value is of the same desk
-pub of_later : (book : Book) (n : ℕ) (v : Option Published) (y : Published) → Fits y v → IsOf book n v → IsOf book n (Some y)
+pub of_later : (book : Book) (n : ℕ) (v : Option Published) (y : Published) → Fits y v → IsOf book n v
+    → IsOf book n (Some y)
 of_later book n None y fits of = absurd of
 of_later book n (Some p) y fits of = (fits.0 ∙ of.0, fits.1 ∙ of.1)
 
 -- an end of a desk sees a later value whose history is kept just where it was
-pub keeps_later : (book : Book) (n : ℕ) (v : Option Published) (y : Published) → Fits y v → IsOf book n v → y.view.keeps ≡ seen_keeps v
+pub keeps_later : (book : Book) (n : ℕ) (v : Option Published) (y : Published) → Fits y v → IsOf book n v
+    → y.view.keeps ≡ seen_keeps v
 keeps_later book n None y fits of = absurd of
 keeps_later book n (Some p) y fits of = fits.2
 
 -- the last of the operations decides
-pub last_decides : (s : Published) (ops : List Published) (next : Published) → fold (λ (x y : Published). y) s (ops ++ next ∷ []) ≡ next
+pub last_decides : (s : Published) (ops : List Published) (next : Published)
+    → fold (λ (x y : Published). y) s (ops ++ next ∷ []) ≡ next
 last_decides s [] next = refl
 last_decides s (op ∷ ops) next = last_decides op ops next
 
 -- two facts by cases of one answer
-pub both_ways : {A E : Type 0} (P Q S : A → Type 0) (P' Q' S' : E → Type 0) (r : Result A E) → MatchResult r P P' → MatchResult r Q Q' → ((a : A) → P a → Q a → S a) → ((e : E) → P' e → Q' e → S' e) → MatchResult r S S'
+pub both_ways : {A E : Type 0} (P Q S : A → Type 0) (P' Q' S' : E → Type 0) (r : Result A E) → MatchResult r P P'
+    → MatchResult r Q Q' → ((a : A) → P a → Q a → S a) → ((e : E) → P' e → Q' e → S' e) → MatchResult r S S'
 both_ways P Q S P' Q' S' (Ok a) p q f g = f a p q
 both_ways P Q S P' Q' S' (Err e) p q f g = g e p q
 

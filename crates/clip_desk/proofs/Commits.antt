@@ -1,5 +1,6 @@
 -- What a commit adds, over plain histories.
-use Rattle.std.proofs.Common.{◌≡◌, ℕ, ◌+◌, ◌≤◌, ◌<◌, List, [], ◌∷◌, ◌++◌, length, take, sym, ap, ◌∙◌, subst, arith, length-append, take_all, Result, Ok, Err, IfOk}
+use Rattle.std.proofs.Common.{◌≡◌, ℕ, ◌+◌, ◌≤◌, ◌<◌, List, [], ◌∷◌, ◌++◌, length, take, sym, ap, ◌∙◌, subst, arith}
+use Rattle.std.proofs.Common.{length-append, take_all, Result, Ok, Err, IfOk}
 use mathlib.Core.List.{IsPrefix}
 use Rattle.clip_model.specs.History.{History, Command, own, next_entry, with_command}
 use Rattle.clip_registry.specs.RegistryState.{RegistryState, state_after}
@@ -7,31 +8,46 @@ use Rattle.clip_chronicle.specs.Callers.{IsBy}
 use Rattle.clip_chronicle.proofs.Beginnings.{prefix_trans}
 use Rattle.clip_desk.proofs.Histories.{own_next, by_more}
 
-pub own_grown : (before after : History) (mine : List Command) (c : ℕ) (command : Command) → after ≡ with_command before c command → own before c ≡ mine → own after c ≡ mine ++ command ∷ []
-own_grown before after mine c command is own_is = ap (λ l. own l c) is ∙ own_next before c command ∙ ap (λ m. m ++ command ∷ []) own_is
+pub own_grown : (before after : History) (mine : List Command) (c : ℕ) (command : Command)
+    → after ≡ with_command before c command → own before c ≡ mine → own after c ≡ mine ++ command ∷ []
+own_grown before after mine c command is own_is = ap (λ l. own l c) is ∙ own_next before c command
+    ∙ ap (λ m. m ++ command ∷ []) own_is
 
-pub mine_grown : (before after : History) (mine : List Command) (c : ℕ) (command : Command) → after ≡ with_command before c command → own before c ≡ mine → take (length mine + 1) (own after c) ≡ mine ++ command ∷ []
+pub mine_grown : (before after : History) (mine : List Command) (c : ℕ) (command : Command)
+    → after ≡ with_command before c command → own before c ≡ mine → take (length mine + 1) (own after c)
+    ≡ mine ++ command ∷ []
 mine_grown before after mine c command is own_is =
-    ap (take (length mine + 1)) (own_grown before after mine c command is own_is) ∙ take_all (length mine + 1) (mine ++ command ∷ []) (omega (arith, length-append mine (command ∷ [])))
+    ap (take (length mine + 1)) (own_grown before after mine c command is own_is)
+    ∙ take_all (length mine + 1) (mine ++ command ∷ []) (omega (arith, length-append mine (command ∷ [])))
 
-pub own_fits : (before after : History) (mine : List Command) (c : ℕ) (command : Command) → after ≡ with_command before c command → own before c ≡ mine → IsPrefix mine (own after c) × (length mine + 1 ≤ length (own after c))
+pub own_fits : (before after : History) (mine : List Command) (c : ℕ) (command : Command)
+    → after ≡ with_command before c command → own before c ≡ mine
+    → IsPrefix mine (own after c) × (length mine + 1 ≤ length (own after c))
 own_fits before after mine c command is own_is =
     let o = own_grown before after mine c command is own_is in
     ((command ∷ [], sym o), omega (arith, ap length o, length-append mine (command ∷ [])))
 
-pub seen_grown : (seen before after : History) (c : ℕ) (command : Command) → IsPrefix seen before → after ≡ with_command before c command → IsPrefix seen after
-seen_grown seen before after c command p is = prefix_trans seen before after p (next_entry before c command ∷ [], sym is)
+pub seen_grown : (seen before after : History) (c : ℕ) (command : Command) → IsPrefix seen before
+    → after ≡ with_command before c command → IsPrefix seen after
+seen_grown seen before after c command p is =
+    prefix_trans seen before after p (next_entry before c command ∷ [], sym is)
 
 -- the history of the view that is shown has this desk's callers
-pub by_grown : (n m c : ℕ) (shown before after : History) (command : Command) → IsBy n shown → shown ≡ before → after ≡ with_command before c command → 0 < c → c ≤ m → n ≡ m → IsBy n after
+pub by_grown : (n m c : ℕ) (shown before after : History) (command : Command) → IsBy n shown → shown ≡ before
+    → after ≡ with_command before c command → 0 < c → c ≤ m → n ≡ m → IsBy n after
 by_grown n m c shown before after command by same is low high nm =
-    subst (IsBy n) (sym is) (by_more n before (next_entry before c command) (subst (IsBy n) same by) (omega arith) (omega arith))
+    subst (IsBy n) (sym is) (by_more n before (next_entry before c command) (subst (IsBy n) same by) (omega arith)
+    (omega arith))
 
 -- the chronicle, once it has followed the registrar that took the command
-pub followed : (registrar next : RegistryState) (seen after : History) (c c' : ℕ) (command : Command) → after ≡ next.history → next ≡ state_after registrar c' command → seen ≡ registrar.history → c' ≡ c → after ≡ with_command seen c command
-followed registrar next seen after c c' command added is log ca = added ∙ ap (λ s. s.history) is ∙ (λ i. with_command (sym log i) (ca i) command)
+pub followed : (registrar next : RegistryState) (seen after : History) (c c' : ℕ) (command : Command)
+    → after ≡ next.history → next ≡ state_after registrar c' command → seen ≡ registrar.history → c' ≡ c
+    → after ≡ with_command seen c command
+followed registrar next seen after c c' command added is log ca = added ∙ ap (λ s. s.history) is
+    ∙ (λ i. with_command (sym log i) (ca i) command)
 
 -- two facts of what is Ok
-pub both_ok : {A E : Type 0} (P Q S : A → Type 0) (r : Result A E) → IfOk r P → IfOk r Q → ((a : A) → P a → Q a → S a) → IfOk r S
+pub both_ok : {A E : Type 0} (P Q S : A → Type 0) (r : Result A E) → IfOk r P → IfOk r Q → ((a : A) → P a → Q a → S a)
+    → IfOk r S
 both_ok P Q S (Ok a) p q f = f a p q
 both_ok P Q S (Err e) p q f = tt

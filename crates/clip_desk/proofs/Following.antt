@@ -1,9 +1,11 @@
 -- Listeners follow a history that goes on.
-use Rattle.std.proofs.Common.{◌≡◌, ℕ, zero, suc, List, [], ◌∷◌, ◌++◌, length, slice_get, Some, refl, sym, ap, subst, ◌∙◌, arith, inl, inr, append_assoc, append-nil}
+use Rattle.std.proofs.Common.{◌≡◌, ℕ, zero, suc, List, [], ◌∷◌, ◌++◌, length, slice_get, Some, refl, sym, ap, subst}
+use Rattle.std.proofs.Common.{◌∙◌, arith, inl, inr, append_assoc, append-nil}
 use Rattle.std.proofs.lemmas.Option.{slice_get_within, slice_get_cases}
 use mathlib.Core.List.{IsPrefix}
 use Rattle.clip_model.specs.History.{Command, Register, Delete, Clear, History, HistoryEntry}
-use Rattle.clip_desk.specs.Updates.{Event, Updated, Deleted, Cleared, Purged, event_of, events_of, without_purges, Heard, IsTold, hears, misses, is_passed, AreTold, Follows, AllFollow, all_heard}
+use Rattle.clip_desk.specs.Updates.{Event, Updated, Deleted, Cleared, Purged, event_of, events_of, without_purges}
+use Rattle.clip_desk.specs.Updates.{Heard, IsTold, hears, misses, is_passed, AreTold, Follows, AllFollow, all_heard}
 
 prefix_of_same : {A : Type 0} (xs ys : List A) → xs ≡ ys → IsPrefix xs ys
 prefix_of_same [] ys e = (ys, refl)
@@ -14,7 +16,8 @@ prefix_grows : {A : Type 0} (xs ys zs : List A) → IsPrefix xs ys → IsPrefix 
 prefix_grows xs ys zs p = (p.0 ++ zs, sym (append_assoc xs p.0 zs) ∙ ap (λ l. l ++ zs) p.1)
 
 -- the event of a command is heard last
-told_by_command : (events : List Event) (command : Command) → without_purges (events ++ event_of command ∷ []) ≡ without_purges events ++ event_of command ∷ []
+told_by_command : (events : List Event) (command : Command) → without_purges (events ++ event_of command ∷ [])
+    ≡ without_purges events ++ event_of command ∷ []
 told_by_command [] (Register standings) = refl
 told_by_command [] (Delete ids) = refl
 told_by_command [] Clear = refl
@@ -30,23 +33,28 @@ told_by_purge (Deleted ids ∷ events) = ap (λ l. Deleted ids ∷ l) (told_by_p
 told_by_purge (Cleared ∷ events) = ap (λ l. Cleared ∷ l) (told_by_purge events)
 told_by_purge (Purged ∷ events) = told_by_purge events
 
-events_more : (history : History) (e : HistoryEntry) → events_of (history ++ e ∷ []) ≡ events_of history ++ event_of e.command ∷ []
+events_more : (history : History) (e : HistoryEntry) → events_of (history ++ e ∷ [])
+    ≡ events_of history ++ event_of e.command ∷ []
 events_more [] e = refl
 events_more (d ∷ history) e = ap (λ l. event_of d.command ∷ l) (events_more history e)
 
 -- what is to be heard is one event longer
-wanted_more : (before : List Event) (history : History) (e : HistoryEntry) → before ++ events_of (history ++ e ∷ []) ≡ (before ++ events_of history) ++ event_of e.command ∷ []
-wanted_more before history e = ap (λ l. before ++ l) (events_more history e) ∙ sym (append_assoc before (events_of history) (event_of e.command ∷ []))
+wanted_more : (before : List Event) (history : History) (e : HistoryEntry) → before ++ events_of (history ++ e ∷ [])
+    ≡ (before ++ events_of history) ++ event_of e.command ∷ []
+wanted_more before history e = ap (λ l. before ++ l) (events_more history e)
+    ∙ sym (append_assoc before (events_of history) (event_of e.command ∷ []))
 
 module _ (before : List Event) (history : History) (h w : Heard) (follows : Follows before history h) where
   front_more : (e : HistoryEntry) → IsPrefix (without_purges h.events) (before ++ events_of (history ++ e ∷ []))
   front_more e =
-      subst (λ (events : List Event). IsPrefix (without_purges h.events) events) (sym (wanted_more before history e)) (prefix_grows _ _ (event_of e.command ∷ []) follows.front)
+      subst (λ (events : List Event). IsPrefix (without_purges h.events) events) (sym (wanted_more before history e))
+      (prefix_grows _ _ (event_of e.command ∷ []) follows.front)
 
   one_more : (e : HistoryEntry) → IsTold (event_of e.command) h w → Follows before (history ++ e ∷ []) w
   one_more e (hears unmarked is) =
       let all : without_purges (h.events ++ event_of e.command ∷ []) ≡ before ++ events_of (history ++ e ∷ []) =
-      told_by_command h.events e.command ∙ ap (λ l. l ++ event_of e.command ∷ []) (follows.whole unmarked) ∙ sym (wanted_more before history e) in
+      told_by_command h.events e.command ∙ ap (λ l. l ++ event_of e.command ∷ []) (follows.whole unmarked)
+      ∙ sym (wanted_more before history e) in
       rw is (record { whole = λ _. all; front = prefix_of_same _ _ all })
   one_more e (misses unmarked is) = rw is (record { whole = λ no. absurd cc; front = front_more e })
   one_more e (is_passed marked is) = rw is (record { whole = λ no. absurd cc; front = front_more e })
@@ -54,36 +62,50 @@ module _ (before : List Event) (history : History) (h w : Heard) (follows : Foll
   none_more : IsTold Purged h w → Follows before history w
   none_more (hears unmarked is) =
       let same = told_by_purge h.events in
-      rw is (record { whole = λ _. same ∙ follows.whole unmarked; front = subst (λ (events : List Event). IsPrefix events (before ++ events_of history)) (sym same) follows.front })
+      rw is (record {
+        whole = λ _. same ∙ follows.whole unmarked;
+        front =
+            subst (λ (events : List Event). IsPrefix events (before ++ events_of history)) (sym same) follows.front;
+      })
   none_more (misses unmarked is) = rw is (record { whole = λ no. absurd cc; front = follows.front })
   none_more (is_passed marked is) = rw is follows
 
 -- a listener that stands after an event stood before
-stood : (all new : List Heard) (k : ℕ) (w : Heard) → length new ≡ length all → slice_get new k ≡ Some w → (h : Heard) × (slice_get all k ≡ Some h)
+stood : (all new : List Heard) (k : ℕ) (w : Heard) → length new ≡ length all → slice_get new k ≡ Some w
+    → (h : Heard) × (slice_get all k ≡ Some h)
 stood all new k w same now =
     let within = slice_get_within new k w now in
-    elim ((slice_get_cases all k).1) [ inl there ↦ (there.0, there.2) | inr past ↦ absurd (let p = past.0 in omega arith) ]
+    elim ((slice_get_cases all k).1) [
+      | inl there ↦ (there.0, there.2)
+      | inr past ↦
+          absurd (let p = past.0 in omega arith)
+    ]
 
-module _ (before : List (List Event)) (history : History) (all new : List Heard) (follow : AllFollow before history all) where
+module _ (before : List (List Event)) (history : History) (all new : List Heard)
+    (follow : AllFollow before history all) where
   -- each listener is told what an entry's command did
-  pub all_follow_entry : (e : HistoryEntry) → AreTold (event_of e.command) all new → AllFollow before (history ++ e ∷ []) new
+  pub all_follow_entry : (e : HistoryEntry) → AreTold (event_of e.command) all new
+      → AllFollow before (history ++ e ∷ []) new
   all_follow_entry e told = record {
     same = told.same ∙ follow.same;
-    each = λ k b w had now. let h = stood all new k w told.same now in one_more b history h.0 w (follow.each k b h.0 had h.1) e (told.each k h.0 w h.1 now);
+    each = λ k b w had now. let h = stood all new k w told.same now in
+        one_more b history h.0 w (follow.each k b h.0 had h.1) e (told.each k h.0 w h.1 now);
   }
 
   -- each listener is told of a purge
   pub all_follow_purge : AreTold Purged all new → AllFollow before history new
   all_follow_purge told = record {
     same = told.same ∙ follow.same;
-    each = λ k b w had now. let h = stood all new k w told.same now in none_more b history h.0 w (follow.each k b h.0 had h.1) (told.each k h.0 w h.1 now);
+    each = λ k b w had now. let h = stood all new k w told.same now in
+        none_more b history h.0 w (follow.each k b h.0 had h.1) (told.each k h.0 w h.1 now);
   }
 
 as_many_heard : (all : List Heard) → length all ≡ length (all_heard all)
 as_many_heard [] = refl
 as_many_heard (h ∷ all) = ap suc (as_many_heard all)
 
-heard_there : (all : List Heard) (k : ℕ) (b : List Event) (h : Heard) → slice_get (all_heard all) k ≡ Some b → slice_get all k ≡ Some h → without_purges h.events ≡ b
+heard_there : (all : List Heard) (k : ℕ) (b : List Event) (h : Heard) → slice_get (all_heard all) k ≡ Some b
+    → slice_get all k ≡ Some h → without_purges h.events ≡ b
 heard_there [] k b h had at = absurd (cc at)
 heard_there (g ∷ all) zero b h had at = cc (had, at)
 heard_there (g ∷ all) (suc k) b h had at = heard_there all k b h had at
@@ -92,5 +114,6 @@ heard_there (g ∷ all) (suc k) b h had at = heard_there all k b h had at
 pub all_follow_first : (all : List Heard) → AllFollow (all_heard all) [] all
 all_follow_first all = record {
   same = as_many_heard all;
-  each = λ k b h had at. let same = heard_there all k b h had at ∙ sym (append-nil b) in record { whole = λ _. same; front = prefix_of_same _ _ same };
+  each = λ k b h had at. let same = heard_there all k b h had at ∙ sym (append-nil b) in
+      record { whole = λ _. same; front = prefix_of_same _ _ same };
 }

@@ -28,21 +28,43 @@ use Rattle.clip_desk.specs.contracts.locked.Locked.TheInside as locked_inside
 use Rattle.clip_desk.specs.contracts.desk.Desk as desk
 use Rattle.clip_desk.specs.contracts.desk.Desk.TheInside as desk_inside
 
-ruleset global = (sendable, global_sent.the_send, global_sent.the_sync, allocator_sent.the_frees, published_send, published_sync)
+ruleset global = (
+  sendable,
+  global_sent.the_send,
+  global_sent.the_sync,
+  allocator_sent.the_frees,
+  published_send,
+  published_sync,
+)
 
 pub seat_send : IsSend seat.the_row
-seat_send = view_send seat_inside.the_row _ _ _ _ (declared_send seat_inside.the_type (search (global, reader_sent.the_send) depth 20, (seen_history_sent.the_send, (search sendable, (search sendable, (right_sent.the_send, tt))))))
+seat_send = view_send seat_inside.the_row _ _ _ _
+    (declared_send seat_inside.the_type (
+      search (global, reader_sent.the_send) depth 20,
+      (seen_history_sent.the_send, (search sendable, (search sendable, (right_sent.the_send, tt)))),
+    ))
 
 module _ (N L : RattleType) (g : Ghosts N.Denot) (h : heard.Ghosts L.Denot) (sent : IsSend L) where
   part_send : IsSend (Tuple (L ∷ bool ∷ []))
   part_send = declared_send (tuple_type (L ∷ bool ∷ [])) (as_row_send (row_field L) sent, (search sendable, tt))
 
   updates_send : IsSend (updates.the_row L h)
-  updates_send = view_send (updates_inside.the_row L h) _ _ _ _ (declared_send (updates_inside.the_type L h) (search (global, vec_sent.the_send, part_send) depth 20, tt))
+  updates_send = view_send (updates_inside.the_row L h) _ _ _ _
+      (declared_send (updates_inside.the_type L h) (search (global, vec_sent.the_send, part_send) depth 20, tt))
 
   locked_send : IsSend (locked.the_row N L g h)
   locked_send = view_send (locked_inside.the_row N L g h) _ _ _ _
-      (declared_send (locked_inside.the_type N L g h) (registrar_send, (search (global, writer_sent.the_send) depth 20, (head_sent.the_send, (seen_history_sent.the_send, (updates_send, (search global, (search sendable, tt))))))))
+      (declared_send (locked_inside.the_type N L g h) (
+        registrar_send,
+        (
+          search (global, writer_sent.the_send) depth 20,
+          (head_sent.the_send, (seen_history_sent.the_send, (updates_send, (search global, (search sendable, tt))))),
+        ),
+      ))
 
   pub desk_sync : IsSync (desk.the_row N L g h)
-  desk_sync = view_sync (desk_inside.the_row N L g h) _ _ _ _ (declared_sync (desk_inside.the_type N L g h) (search (global, mutex_sent.the_sync, locked_send), (search sendable, (search sendable, tt))))
+  desk_sync = view_sync (desk_inside.the_row N L g h) _ _ _ _
+      (declared_sync (desk_inside.the_type N L g h) (
+        search (global, mutex_sent.the_sync, locked_send),
+        (search sendable, (search sendable, tt)),
+      ))

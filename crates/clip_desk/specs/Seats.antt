@@ -1,5 +1,6 @@
 -- What contracts see of a seat, of a receipt and of a desk.
-use Rattle.std.specs.Prelude.{◌≡◌, ℕ, Bool, ◌+◌, ◌<◌, ◌≤◌, ◌⊎◌, List, [], length, take, slice_get, Some, nat_lt, if◌then◌else◌, refl}
+use Rattle.std.specs.Prelude.{◌≡◌, ℕ, Bool, ◌+◌, ◌<◌, ◌≤◌, ◌⊎◌, List, [], length, take, slice_get, Some, nat_lt}
+use Rattle.std.specs.Prelude.{if◌then◌else◌, refl}
 use Rattle.std.specs.Coded.{Coded, code_by, coded×, coded⊎, coded_ℕ, coded_bool, coded_list}
 use Rattle.std.proofs.Common.{inl, inr}
 use mathlib.Core.List.{IsPrefix}

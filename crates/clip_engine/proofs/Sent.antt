@@ -13,7 +13,11 @@ use Rattle.clip_engine.specs.contracts.kept.Kept as kept
 ruleset plain = (sendable, global_sent.the_send, allocator_sent.the_frees)
 
 engine_send : IsSend engine.the_row
-engine_send = view_send engine_inside.the_row _ _ _ _ (declared_send engine_inside.the_type (search plain, (own_registrar_send, (pool_sent.the_send, (search plain, (search plain, tt))))))
+engine_send = view_send engine_inside.the_row _ _ _ _
+    (declared_send engine_inside.the_type (
+      search plain,
+      (own_registrar_send, (pool_sent.the_send, (search plain, (search plain, tt)))),
+    ))
 
 pub kept_send : IsSend kept.the_row
 kept_send = declared_send kept.the_type (engine_send, (search (plain, vec_sent.the_send) depth 20, tt))

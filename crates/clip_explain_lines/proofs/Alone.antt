@@ -16,6 +16,7 @@ left_none m no_members e = refl
 left_none m (member k d ms) e = absurd (some_none e)
 
 -- where one is, some are left
-pub left_some : (m : List ℕ × Data) (ms : Members) (p : (List ℕ × Data) × Members) → first_of ms ≡ Some p → when_none_left m ms ≡ None
+pub left_some : (m : List ℕ × Data) (ms : Members) (p : (List ℕ × Data) × Members) → first_of ms ≡ Some p
+    → when_none_left m ms ≡ None
 left_some m no_members p e = absurd (none_some e)
 left_some m (member k d ms) p e = refl

@@ -21,7 +21,8 @@ clauses cs = clauses_of (map (λ c. (c.0, tree_of c.1)) cs)
 abbrev pub tokens_from : ℕ → List (Occur × Query) → List Token
 tokens_from i cs = items_tokens (items_outline (clauses_data (clauses (drop i cs))))
 
-pub none_left : (i : ℕ) (cs : List (Occur × Query)) → length cs ≤ i → tokens_from i cs ≡ items_tokens (items_outline no_items)
+pub none_left : (i : ℕ) (cs : List (Occur × Query)) → length cs ≤ i
+    → tokens_from i cs ≡ items_tokens (items_outline no_items)
 none_left i cs le = ap (λ x. items_tokens (items_outline (clauses_data (clauses x)))) (drop_all i cs le)
 
 pub one_more : (i : ℕ) (cs : List (Occur × Query)) (c : Occur × Query) → i < length cs → c ≡ get_or cs i c

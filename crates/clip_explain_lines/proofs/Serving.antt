@@ -1,5 +1,6 @@
 -- What a run writes, by the replies to its lines.
-use Rattle.std.proofs.Common.{◌≡◌, ℕ, suc, List, [], ◌∷◌, ◌++◌, Bool, true, false, cond, Option, Some, None, if◌then◌else◌}
+use Rattle.std.proofs.Common.{◌≡◌, ℕ, suc, List, [], ◌∷◌, ◌++◌, Bool, true, false, cond, Option, Some, None}
+use Rattle.std.proofs.Common.{if◌then◌else◌}
 use Rattle.std.proofs.Common.{refl, sym, ap, ◌∙◌, subst, append-nil, length, inl, inr}
 use Rattle.serde_json.specs.Data.{Data}
 use Rattle.clip_stream.specs.Device.{AppendsFront}
@@ -32,7 +33,8 @@ are_replied form s t f n (line ∷ lines) text is p =
       are_replied form p.0 t f (suc n) lines p.2 (p.3.1 ∙ is) p.5,
     )
 
-pub run_gives : {S : Type 0} (form : S → Form) (s t : S) (f : Form) (left taken_first taken : Option (List ℕ)) (count : ℕ)
+pub run_gives : {S : Type 0} (form : S → Form) (s t : S) (f : Form) (left taken_first taken : Option (List ℕ))
+    (count : ℕ)
     → form s ≡ f → OfInput left (ServesAll (AnswersIn form) s t taken_first taken count)
     → OfInput left (RepliesAll f taken_first taken count)
 run_gives form s t f left taken_first taken count is p =
@@ -46,7 +48,8 @@ run_gives form s t f left taken_first taken count is p =
     }) p
 
 -- nothing of the line that was begun was on its way
-none_begun : {S : Type 0} (s t : S) (n : ℕ) (later : List (List ℕ)) (begun : List ℕ) → StopsAt BreaksIn s t n later begun
+none_begun : {S : Type 0} (s t : S) (n : ℕ) (later : List (List ℕ)) (begun : List ℕ)
+    → StopsAt BreaksIn s t n later begun
     → begun ≡ []
 none_begun s t n [] begun stopped = stopped.1
 none_begun s t n (line ∷ later) begun (inl stopped) = stopped.1

@@ -58,7 +58,8 @@ remark_data remark = object_of ((codes "at", number_of remark.at)
 -- all that is told of a query, with remarks and a sentence
 abbrev pub query_data : Explanation → List Remark → List ℕ → Data
 query_data told remarks says =
-    object_of ((codes "always", boolean told.always) ∷ (codes "keys", array_of (map key_data (map key_of told.keys.items)))
+    object_of ((codes "always", boolean told.always)
+    ∷ (codes "keys", array_of (map key_data (map key_of told.keys.items)))
     ∷ (codes "never", boolean told.never) ∷ (codes "nodes", number_of told.nodes)
     ∷ (codes "reads", string (spelling (tree_of told.query))) ∷ (codes "remarks", array_of (map remark_data remarks))
     ∷ (codes "says", string says)

@@ -35,7 +35,8 @@ abbrev mutual
   -- a leaf as an object named by its kind, and a group as the list of its clauses
   pub tree_data : Tree → Data
   tree_data (Tree.Term field word) = leaf_data (codes "term") field ((codes "word", string word) ∷ [])
-  tree_data (Tree.Phrase field words) = leaf_data (codes "phrase") field ((codes "words", array_of (map string words)) ∷ [])
+  tree_data (Tree.Phrase field words) =
+      leaf_data (codes "phrase") field ((codes "words", array_of (map string words)) ∷ [])
   tree_data (Tree.Prefix field front) = leaf_data (codes "prefix") field ((codes "front", string front) ∷ [])
   tree_data (Tree.Span field low high) =
       leaf_data (codes "range") field ((codes "high", end_data high) ∷ (codes "low", end_data low) ∷ [])

@@ -1,5 +1,6 @@
 -- Lists that strictly rise, as the keys of finite maps: they are what their members are.
-use Rattle.std.proofs.Common.{◌≡◌, true, ◌||◌, List, [], ◌∷◌, map, flat_map, Option, Some, None, Bool, is_some, refl, sym, ap, ◌∙◌, subst, is_lt}
+use Rattle.std.proofs.Common.{◌≡◌, true, ◌||◌, List, [], ◌∷◌, map, flat_map, Option, Some, None, Bool, is_some, refl}
+use Rattle.std.proofs.Common.{sym, ap, ◌∙◌, subst, is_lt}
 use Rattle.std.specs.Cmp.{IsEquivalence, IsTotalOrder, Equal-is, eq_by_cmp_equiv}
 use Rattle.std.specs.FinMap as finite
 use Rattle.std.specs.FinMap.{IsAntisymmetric}
@@ -19,22 +20,28 @@ use Rattle.clip_grammar.proofs.Booleans.{truth, same_answer}
 use Rattle.clip_grammar.proofs.Orderings.{less}
 
 -- the members of one list are among those of another
-pub any_kept : {A : Type 0} (p : A → Bool) (xs ys : List A) → ((x : A) → Contains xs x → Contains ys x) → list_any p xs ≡ true → list_any p ys ≡ true
+pub any_kept : {A : Type 0} (p : A → Bool) (xs ys : List A) → ((x : A) → Contains xs x → Contains ys x)
+    → list_any p xs ≡ true → list_any p ys ≡ true
 any_kept p xs ys keeps h =
     let a = Any-from_list_any p xs h in
     let c = keeps a.1 (a.0, a.2, a.3) in
     list_any_at p ys c.0 a.1 c.1 (ap p c.2 ∙ a.4)
 
-pub any_map : {A B : Type 0} (p : B → Bool) (f : A → B) (xs : List A) → list_any p (map f xs) ≡ list_any (λ x. p (f x)) xs
+pub any_map : {A B : Type 0} (p : B → Bool) (f : A → B) (xs : List A)
+    → list_any p (map f xs) ≡ list_any (λ x. p (f x)) xs
 any_map p f [] = refl
 any_map p f (x ∷ xs) = ap (λ b. p (f x) || b) (any_map p f xs)
 
-pub any_flat_map : {A B : Type 0} (p : B → Bool) (f : A → List B) (xs : List A) → list_any p (flat_map f xs) ≡ list_any (λ a. list_any p (f a)) xs
+pub any_flat_map : {A B : Type 0} (p : B → Bool) (f : A → List B) (xs : List A)
+    → list_any p (flat_map f xs) ≡ list_any (λ a. list_any p (f a)) xs
 any_flat_map p f [] = refl
-any_flat_map p f (a ∷ xs) = list_any-append p (f a) (flat_map f xs) ∙ ap (λ x. list_any p (f a) || x) (any_flat_map p f xs)
+any_flat_map p f (a ∷ xs) = list_any-append p (f a) (flat_map f xs)
+    ∙ ap (λ x. list_any p (f a) || x) (any_flat_map p f xs)
 
 -- a `dedup` by an equality that f respects keeps what passes a test of f
-pub any_deduped : {A B : Type 0} {eq : A → A → Bool} (laws : IsEquivalence eq) (f : A → B) (same : (x y : A) → eq x y ≡ true → f x ≡ f y) (p : B → Bool) (xs : List A) → list_any (λ x. p (f x)) (dedup eq xs) ≡ list_any (λ x. p (f x)) xs
+pub any_deduped : {A B : Type 0} {eq : A → A → Bool} (laws : IsEquivalence eq) (f : A → B) (same : (x y : A)
+    → eq x y ≡ true → f x ≡ f y) (p : B → Bool) (xs : List A) → list_any (λ x. p (f x)) (dedup eq xs)
+    ≡ list_any (λ x. p (f x)) xs
 any_deduped {eq = eq} laws f same p xs =
     same_answer _ _
     (any_kept (λ x. p (f x)) (dedup eq xs) xs (Contains-from_dedup eq xs))
@@ -76,7 +83,8 @@ module _ {K X : Type 0} (R : K → K → Ordering) where
       (keys_below e.0 es parts.0, keys_rise es parts.1)
 
 -- the entries of a finite map are sorted, and its keys rise strictly
-pub entries_in_order : {K X : Type 0} (R : K → K → Ordering) (m : finite.FinMap R X) → is_sorted R (finite.entries m) ≡ true
+pub entries_in_order : {K X : Type 0} (R : K → K → Ordering) (m : finite.FinMap R X) → is_sorted R (finite.entries m)
+    ≡ true
 entries_in_order R m = truth _ (finite.entries_sorted m)
 
 pub keys_in_order : {K X : Type 0} (R : K → K → Ordering) (m : finite.FinMap R X) → IsStrictlySortedBy R (finite.keys m)
@@ -90,37 +98,46 @@ unmarked : {K : Type 0} (ks : List K) → map (λ (e : K × Unit {0}). e.0) (mar
 unmarked [] = refl
 unmarked (k ∷ ks) = ap (λ xs. k ∷ xs) (unmarked ks)
 
-is_found : {K : Type 0} (R : K → K → Ordering) (q : K) (ks : List K) → is_some (finite.find R q (marked ks)) ≡ list_any (eq_by_cmp R q) ks
+is_found : {K : Type 0} (R : K → K → Ordering) (q : K) (ks : List K) → is_some (finite.find R q (marked ks))
+    ≡ list_any (eq_by_cmp R q) ks
 is_found R q ks = is_some-find R q (marked ks) ∙ ap (list_any (eq_by_cmp R q)) (unmarked ks)
 
 module _ {K : Type 0} {R : K → K → Ordering} (o : IsTotalOrder R) (exact : IsAntisymmetric R) where
   -- a strictly sorted list has the keys of the finite map of a list with the same members
-  pub strict_keys : (ks ls : List K) → IsStrictlySortedBy R ks → ((q : K) → list_any (eq_by_cmp R q) ks ≡ list_any (eq_by_cmp R q) ls)
+  pub strict_keys : (ks ls : List K) → IsStrictlySortedBy R ks
+      → ((q : K) → list_any (eq_by_cmp R q) ks ≡ list_any (eq_by_cmp R q) ls)
       → ks ≡ finite.keys (finite.from_entries {R = R} (map (λ k. (k, tt {0})) ls))
   strict_keys ks ls strict same =
-      let sorted = T_from_true (is_sorted R (marked ks)) (sorted_keys R (marked ks) (subst (IsStrictlySortedBy R) (sym (unmarked ks)) strict)) in
+      let sorted = T_from_true (is_sorted R (marked ks))
+      (sorted_keys R (marked ks) (subst (IsStrictlySortedBy R) (sym (unmarked ks)) strict)) in
       let maps : finite.from_sorted {R = R} (marked ks) ≡ finite.from_entries {R = R} (marked ls) =
       finite.same_map o exact _ _
       (λ q. finite.get-from_sorted R (marked ks) q sorted
       ∙ same_option _ _ (is_found R q ks ∙ same q ∙ sym (is_found R q ls))
       ∙ sym (finite.get-from_entries o (marked ls) q)) in
-      sym (unmarked ks) ∙ ap (map (λ (e : K × Unit {0}). e.0)) (sym (finite.entries-from_sorted R (marked ks) sorted)) ∙ ap finite.keys maps
+      sym (unmarked ks) ∙ ap (map (λ (e : K × Unit {0}). e.0)) (sym (finite.entries-from_sorted R (marked ks) sorted))
+      ∙ ap finite.keys maps
 
   -- two strictly sorted lists with the same members are one
-  pub same_strict : (ms ns : List K) → IsStrictlySortedBy R ms → IsStrictlySortedBy R ns → ((q : K) → list_any (eq_by_cmp R q) ms ≡ list_any (eq_by_cmp R q) ns) → ms ≡ ns
+  pub same_strict : (ms ns : List K) → IsStrictlySortedBy R ms → IsStrictlySortedBy R ns
+      → ((q : K) → list_any (eq_by_cmp R q) ms ≡ list_any (eq_by_cmp R q) ns) → ms ≡ ns
   same_strict ms ns left right same = strict_keys ms ns left same ∙ sym (strict_keys ns ns right (λ q. refl))
 
   -- two lists with the same members pass each test alike
-  pub same_members : (p : K → Bool) (ks ls : List K) → ((q : K) → list_any (eq_by_cmp R q) ks ≡ list_any (eq_by_cmp R q) ls) → list_any p ks ≡ list_any p ls
+  pub same_members : (p : K → Bool) (ks ls : List K)
+      → ((q : K) → list_any (eq_by_cmp R q) ks ≡ list_any (eq_by_cmp R q) ls) → list_any p ks ≡ list_any p ls
   same_members p ks ls same =
       let laws = eq_by_cmp_equiv o in
       let equal : (x y : K) → eq_by_cmp R x y ≡ true → x ≡ y = λ x y tied. exact x y ((Equal-is (R x y)).0 tied) in
       same_answer _ _
-      (any_kept p ks ls (λ x among. Contains-from_any equal x ls (sym (same x) ∙ list_any-from_Contains laws x ks among)))
+      (any_kept p ks ls (λ x among. Contains-from_any equal x ls (sym (same x)
+      ∙ list_any-from_Contains laws x ks among)))
       (any_kept p ls ks (λ x among. Contains-from_any equal x ks (same x ∙ list_any-from_Contains laws x ls among)))
 
   -- those keys have the members of the list
-  pub keys_members : (q : K) (ks : List K) → list_any (eq_by_cmp R q) (finite.keys (finite.from_entries {R = R} (map (λ k. (k, tt {0})) ks))) ≡ list_any (eq_by_cmp R q) ks
+  pub keys_members : (q : K) (ks : List K)
+      → list_any (eq_by_cmp R q) (finite.keys (finite.from_entries {R = R} (map (λ k. (k, tt {0})) ks)))
+      ≡ list_any (eq_by_cmp R q) ks
   keys_members q ks =
       sym (finite.contains_key-keys (finite.from_entries {R = R} (marked ks)) q)
       ∙ ap is_some (finite.get-from_entries o (marked ks) q)

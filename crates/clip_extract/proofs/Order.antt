@@ -32,7 +32,8 @@ key_cmp_same (Word f w) (Word g v) e = ap word_again (slice_cmp-IsAntisymmetric 
 key_cmp_same (Word f w) (Front g v) e = absurd (false≢true (ap is_eq e))
 key_cmp_same (Front f w) Any e = absurd (false≢true (ap is_eq e))
 key_cmp_same (Front f w) (Word g v) e = absurd (false≢true (ap is_eq e))
-key_cmp_same (Front f w) (Front g v) e = ap front_again (slice_cmp-IsAntisymmetric bytes_exact (f ∷ w ∷ []) (g ∷ v ∷ []) e)
+key_cmp_same (Front f w) (Front g v) e =
+    ap front_again (slice_cmp-IsAntisymmetric bytes_exact (f ∷ w ∷ []) (g ∷ v ∷ []) e)
 
 pub same_key : (k l : KeyValue) → is_same k l ≡ true → k ≡ l
 same_key k l e = key_cmp_same k l ((Equal-is (key_cmp k l)).0 e)
@@ -49,7 +50,8 @@ any_in_order p ks = same_members key_cmp_total key_cmp_same p (in_order ks) ks (
 
 -- order and repetition say nothing of what is in common
 pub share_in_order : (ks ls : List KeyValue) → share (in_order ks) (in_order ls) ≡ share ks ls
-share_in_order ks ls = any_in_order (λ k. list_any (is_same k) (in_order ls)) ks ∙ ap (λ f. list_any f ks) (λ i k. among_in_order ls k i)
+share_in_order ks ls = any_in_order (λ k. list_any (is_same k) (in_order ls)) ks
+    ∙ ap (λ f. list_any f ks) (λ i k. among_in_order ls k i)
 
 -- nothing stays nothing
 pub nothing_in_order : in_order [] ≡ []

@@ -1,5 +1,6 @@
 -- A list of keys that is sorted and has none twice.
-use Rattle.std.proofs.Common.{◌≡◌, ℕ, Bool, ◌&&◌, List, [], ◌∷◌, map, length, ◌<◌, refl, sym, ap, ◌∙◌, subst, arith, IsPermutation}
+use Rattle.std.proofs.Common.{◌≡◌, ℕ, Bool, ◌&&◌, List, [], ◌∷◌, map, length, ◌<◌, refl, sym, ap, ◌∙◌, subst, arith}
+use Rattle.std.proofs.Common.{IsPermutation}
 use Rattle.std.specs.Ordering.{is_eq, on, nat_cmp, ordering_then}
 use Rattle.std.specs.declared.cmp.Ordering.TheVariants.{Less, Equal, Greater}
 use Rattle.std.specs.declared.cmp.Ordering.{Ordering}
@@ -31,7 +32,8 @@ then_equal Equal = refl
 then_equal Greater = refl
 
 -- two texts each, first by first
-pub two_texts : (f w g v : List ℕ) → ordering_then (bytes_cmp f g) (bytes_cmp w v) ≡ slice_cmp bytes_cmp (f ∷ w ∷ []) (g ∷ v ∷ [])
+pub two_texts : (f w g v : List ℕ) → ordering_then (bytes_cmp f g) (bytes_cmp w v)
+    ≡ slice_cmp bytes_cmp (f ∷ w ∷ []) (g ∷ v ∷ [])
 two_texts f w g v = ap (ordering_then (bytes_cmp f g)) (then_equal (bytes_cmp w v))
 
 pub key_order : (x y : Key) → key_ord.ghosts.cmp x y ≡ key_cmp (key_of x) (key_of y)
@@ -39,11 +41,13 @@ key_order variant.Any variant.Any = refl
 key_order variant.Any (variant.Word g v) = refl
 key_order variant.Any (variant.Front g v) = refl
 key_order (variant.Word f w) variant.Any = refl
-key_order (variant.Word f w) (variant.Word g v) = two_texts (arc_str_bytes f) (arc_str_bytes w) (arc_str_bytes g) (arc_str_bytes v)
+key_order (variant.Word f w) (variant.Word g v) =
+    two_texts (arc_str_bytes f) (arc_str_bytes w) (arc_str_bytes g) (arc_str_bytes v)
 key_order (variant.Word f w) (variant.Front g v) = refl
 key_order (variant.Front f w) variant.Any = refl
 key_order (variant.Front f w) (variant.Word g v) = refl
-key_order (variant.Front f w) (variant.Front g v) = two_texts (arc_str_bytes f) (arc_str_bytes w) (arc_str_bytes g) (arc_str_bytes v)
+key_order (variant.Front f w) (variant.Front g v) =
+    two_texts (arc_str_bytes f) (arc_str_bytes w) (arc_str_bytes g) (arc_str_bytes v)
 
 two_same : (f w g v : List ℕ) → (bytes_eq f g && bytes_eq w v) ≡ is_eq (slice_cmp bytes_cmp (f ∷ w ∷ []) (g ∷ v ∷ []))
 two_same f w g v =
@@ -55,18 +59,21 @@ key_equality variant.Any variant.Any = refl
 key_equality variant.Any (variant.Word g v) = refl
 key_equality variant.Any (variant.Front g v) = refl
 key_equality (variant.Word f w) variant.Any = refl
-key_equality (variant.Word f w) (variant.Word g v) = two_same (arc_str_bytes f) (arc_str_bytes w) (arc_str_bytes g) (arc_str_bytes v)
+key_equality (variant.Word f w) (variant.Word g v) =
+    two_same (arc_str_bytes f) (arc_str_bytes w) (arc_str_bytes g) (arc_str_bytes v)
 key_equality (variant.Word f w) (variant.Front g v) = refl
 key_equality (variant.Front f w) variant.Any = refl
 key_equality (variant.Front f w) (variant.Word g v) = refl
-key_equality (variant.Front f w) (variant.Front g v) = two_same (arc_str_bytes f) (arc_str_bytes w) (arc_str_bytes g) (arc_str_bytes v)
+key_equality (variant.Front f w) (variant.Front g v) =
+    two_same (arc_str_bytes f) (arc_str_bytes w) (arc_str_bytes g) (arc_str_bytes v)
 
 -- ---- after a sort and a `dedup`
 
 abbrev same_keys : Key → Key → Bool
 same_keys x y = is_same (key_of x) (key_of y)
 
-all_mapped : (k : KeyValue) (xs : List Key) → AllByRecursion (λ y. key_cmp k (key_of y) ≡ Less) xs → AllByRecursion (λ l. key_cmp k l ≡ Less) (map key_of xs)
+all_mapped : (k : KeyValue) (xs : List Key) → AllByRecursion (λ y. key_cmp k (key_of y) ≡ Less) xs
+    → AllByRecursion (λ l. key_cmp k l ≡ Less) (map key_of xs)
 all_mapped k [] all = tt
 all_mapped k (x ∷ xs) all = (all.0, all_mapped k xs all.1)
 
@@ -75,16 +82,24 @@ unfolding IsStrictlySortedBy
 strict_mapped [] sorted = tt
 strict_mapped (x ∷ xs) sorted = (all_mapped (key_of x) xs sorted.0, strict_mapped xs sorted.1)
 
-pub sorted_keys : (xs ys zs : List Key) → IsPermutation xs ys → IsSorted key_ord.ghosts.cmp ys → IsFiltered (DiffersFromLast key_eq.ghosts.eq) [] ys zs → map key_of zs ≡ in_order (map key_of xs)
+pub sorted_keys : (xs ys zs : List Key) → IsPermutation xs ys → IsSorted key_ord.ghosts.cmp ys
+    → IsFiltered (DiffersFromLast key_eq.ghosts.eq) [] ys zs → map key_of zs ≡ in_order (map key_of xs)
 sorted_keys xs ys zs moved sorted filtered =
     let order : key_ord.ghosts.cmp ≡ on key_of key_cmp = λ i x y. key_order x y i in
     let equality : key_eq.ghosts.eq ≡ same_keys = λ i x y. key_equality x y i in
     let rising : IsSorted (on key_of key_cmp) ys = subst (λ (C : Key → Key → Ordering). IsSorted C ys) order sorted in
-    let left : zs ≡ dedup same_keys ys = dedup_is same_keys ys zs (subst (λ (E : Key → Key → Bool). IsFiltered (DiffersFromLast E) [] ys zs) equality filtered) in
-    let strict : IsStrictlySortedBy (on key_of key_cmp) (dedup same_keys ys) = IsStrictlySortedBy-dedup (on_total key_of key_cmp_total) (λ x y. refl) ys rising in
+    let left : zs ≡ dedup same_keys ys =
+    dedup_is same_keys ys zs
+    (subst (λ (E : Key → Key → Bool). IsFiltered (DiffersFromLast E) [] ys zs) equality filtered) in
+    let strict : IsStrictlySortedBy (on key_of key_cmp) (dedup same_keys ys) =
+    IsStrictlySortedBy-dedup (on_total key_of key_cmp_total) (λ x y. refl) ys rising in
     ap (map key_of) left
-    ∙ strict_keys key_cmp_total key_cmp_same (map key_of (dedup same_keys ys)) (map key_of xs) (strict_mapped (dedup same_keys ys) strict)
-    (λ k. any_map (is_same k) key_of (dedup same_keys ys) ∙ any_deduped (eq_by_cmp_equiv (on_total key_of key_cmp_total)) key_of (λ x y. same_key (key_of x) (key_of y)) (is_same k) ys ∙ sym (list_any-IsPermutation (λ x. is_same k (key_of x)) xs ys moved) ∙ sym (any_map (is_same k) key_of xs))
+    ∙ strict_keys key_cmp_total key_cmp_same (map key_of (dedup same_keys ys)) (map key_of xs)
+    (strict_mapped (dedup same_keys ys) strict)
+    (λ k. any_map (is_same k) key_of (dedup same_keys ys)
+    ∙ any_deduped (eq_by_cmp_equiv (on_total key_of key_cmp_total)) key_of (λ x y. same_key (key_of x) (key_of y))
+    (is_same k) ys ∙ sym (list_any-IsPermutation (λ x. is_same k (key_of x)) xs ys moved)
+    ∙ sym (any_map (is_same k) key_of xs))
 
 -- so few need no sort
 few_rise : (ks : List KeyValue) → length ks < 2 → IsStrictlySortedBy key_cmp ks
@@ -96,4 +111,5 @@ few_rise (k ∷ l ∷ ks) few = absurd (omega arith)
 pub few_keys : (xs : List Key) → length xs < 2 → map key_of xs ≡ in_order (map key_of xs)
 few_keys xs few =
     let long = length-map xs key_of in
-    strict_keys key_cmp_total key_cmp_same (map key_of xs) (map key_of xs) (few_rise (map key_of xs) (omega (arith, long))) (λ k. refl)
+    strict_keys key_cmp_total key_cmp_same (map key_of xs) (map key_of xs)
+    (few_rise (map key_of xs) (omega (arith, long))) (λ k. refl)

@@ -1,6 +1,7 @@
 -- The keys that are extracted of a query: an article of which it holds has one of them. Lucene's term-filtered
 -- presearcher extracts terms in this way.
-use Rattle.std.specs.Prelude.{ℕ, Bool, true, false, min, nat_lt, List, [], ◌∷◌, ◌++◌, map, fold, length, Option, Some, None, unwrap_or, if◌then◌else◌}
+use Rattle.std.specs.Prelude.{ℕ, Bool, true, false, min, nat_lt, List, [], ◌∷◌, ◌++◌, map, fold, length, Option, Some}
+use Rattle.std.specs.Prelude.{None, unwrap_or, if◌then◌else◌}
 use Rattle.std.specs.List.{list_all, list_any}
 use Rattle.std.specs.Str.{chars}
 use Rattle.clip_grammar.specs.Tree.{Tree, Clauses, none, clause}

@@ -3,7 +3,8 @@ use Rattle.std.proofs.Common.{◌≡◌, ℕ, List, Bool, true, false, cond, ref
 use Rattle.clip_model.specs.History.{History, Command, Register, Delete, Clear, has_room}
 use Rattle.clip_protocol.specs.declared.refusal.Refusal.TheVariants.{Full}
 use Rattle.clip_protocol.specs.LineMeaning.{Means, command, refusal, purging, judged}
-use Rattle.clip_protocol.specs.Steps.Outline.{Outline, blank, refused, registers, deletes, clears, purges, counts, shows, matches, outline, MeansOutline}
+use Rattle.clip_protocol.specs.Steps.Outline.{Outline, blank, refused, registers, deletes, clears, purges, counts}
+use Rattle.clip_protocol.specs.Steps.Outline.{shows, matches, outline, MeansOutline}
 use Rattle.clip_protocol.proofs.Meanings.{means_from, means_to}
 use Rattle.clip_front.specs.Steps.Taking.{PurgesIf}
 use Rattle.clip_front.proofs.Responses.{judged-room}
@@ -28,8 +29,11 @@ purging_only names h (shows id) means = absurd (cc means)
 purging_only names h (matches articles) means = absurd (cc means)
 
 -- a line means a purge just where its outline is one
-pub purges_meant : {H : Type 0} (purged goes_on : H → H → Type 0) (s t : H) (names : List (List ℕ)) (h : History) (line : List ℕ) (o : Outline) → outline line ≡ o → PurgesIf (o ≡ purges) purged goes_on s t → PurgesIf (Means names h line purging) purged goes_on s t
+pub purges_meant : {H : Type 0} (purged goes_on : H → H
+    → Type 0) (s t : H) (names : List (List ℕ)) (h : History) (line : List ℕ) (o : Outline) → outline line ≡ o
+    → PurgesIf (o ≡ purges) purged goes_on s t → PurgesIf (Means names h line purging) purged goes_on s t
 purges_meant purged goes_on s t names h line o said p = record {
   purged = λ means. p.purged (sym said ∙ purging_only names h (outline line) (means_to names h line purging means));
-  unpurged = λ none. p.unpurged (λ e. none (means_from names h line purging (subst (λ x. MeansOutline names h x purging) (sym (said ∙ e)) refl)));
+  unpurged = λ none. p.unpurged
+      (λ e. none (means_from names h line purging (subst (λ x. MeansOutline names h x purging) (sym (said ∙ e)) refl)));
 }

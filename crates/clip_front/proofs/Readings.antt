@@ -1,5 +1,6 @@
 -- Lists of texts that were read as queries.
-use Rattle.std.proofs.Common.{◌≡◌, ◌≢◌, ℕ, suc, List, [], ◌∷◌, length, Bool, true, false, ◌&&◌, refl, sym, ap, true≢false, arith}
+use Rattle.std.proofs.Common.{◌≡◌, ◌≢◌, ℕ, suc, List, [], ◌∷◌, length, Bool, true, false, ◌&&◌, refl, sym, ap}
+use Rattle.std.proofs.Common.{true≢false, arith}
 use Rattle.clip_grammar.specs.Reading.{IsFault}
 use Rattle.clip_grammar.specs.Tree.{Tree}
 use Rattle.clip_grammar.specs.declared.fault.QueryFault.{QueryFault}
@@ -8,7 +9,8 @@ use Rattle.clip_model.specs.Standing.{Standing}
 use Rattle.clip_protocol.specs.Request.{Listing}
 use Rattle.clip_protocol.specs.LineMeaning.{IsQuery, AreTakenAs}
 
-pub length-AreTakenAs : (names : List (List ℕ)) (ls : List Listing) (ss : List Standing) → AreTakenAs names ls ss → length ss ≡ length ls
+pub length-AreTakenAs : (names : List (List ℕ)) (ls : List Listing) (ss : List Standing) → AreTakenAs names ls ss
+    → length ss ≡ length ls
 length-AreTakenAs names [] [] r = refl
 length-AreTakenAs names [] (s ∷ ss) r = absurd r
 length-AreTakenAs names (l ∷ ls) [] r = absurd r

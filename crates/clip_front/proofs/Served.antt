@@ -1,5 +1,7 @@
 -- What a run gives, by the answers to its lines.
-use Rattle.std.proofs.Common.{◌≡◌, ℕ, zero, suc, ◌+◌, ◌≤◌, List, [], ◌∷◌, ◌++◌, length, take, drop, Bool, true, false, cond, Option, refl, sym, ap, ap₂, ◌∙◌, subst, arith, append_assoc, append-nil, true≢false, if◌then◌else◌, inl, inr}
+use Rattle.std.proofs.Common.{◌≡◌, ℕ, zero, suc, ◌+◌, ◌≤◌, List, [], ◌∷◌, ◌++◌, length, take, drop, Bool, true, false}
+use Rattle.std.proofs.Common.{cond, Option, refl, sym, ap, ap₂, ◌∙◌, subst, arith, append_assoc, append-nil, true≢false}
+use Rattle.std.proofs.Common.{if◌then◌else◌, inl, inr}
 use Rattle.std.specs.Prelude.{nat_lt}
 use Rattle.std.specs.Io.KnownBytes.{Appends}
 use Rattle.std.proofs.Math.Seq.{take-append_seam}
@@ -16,7 +18,8 @@ use Rattle.clip_model.specs.History.{History}
 use Rattle.clip_listen.specs.Heard.{Hearer, told_all, HearsFront}
 use Rattle.clip_listen.proofs.Hearing.{told_none, told_more, names_told, front_after, front_of_more}
 use Rattle.clip_protocol.specs.LineMeaning.{Meaning, is_long, is_blank, json_of, Means, after}
-use Rattle.clip_front.specs.Outcome.{Outcome, nothing_given, followed_by, given, names_in, kept_rows, Gives, GivesAll, GivesFront}
+use Rattle.clip_front.specs.Outcome.{Outcome, nothing_given, followed_by, given, names_in, kept_rows, Gives, GivesAll}
+use Rattle.clip_front.specs.Outcome.{GivesFront}
 use Rattle.clip_front.specs.declared.settings.Settings.{Settings}
 use Rattle.clip_front.specs.Steps.Answers.{Held, Answers, AnswersIn, Breaks, BreaksIn}
 use Rattle.clip_protocol.specs.Steps.Outline.{outline, blank, outline_of_value, MeansOutline}
@@ -43,10 +46,12 @@ choose false false u x y e h = h refl
 choose true false u x y e h = absurd (true≢false e)
 choose false true u x y e h = absurd (true≢false (sym e))
 
-cut_at : (limit k : ℕ) (line : List ℕ) → k ≡ suc limit → nat_lt limit (length (take k line)) ≡ nat_lt limit (length line)
+cut_at : (limit k : ℕ) (line : List ℕ) → k ≡ suc limit → nat_lt limit (length (take k line))
+    ≡ nat_lt limit (length line)
 cut_at limit k line e = let len = length-take k line in grind (arith, nat_tests, len, e)
 
-cut_within : (limit k : ℕ) (line : List ℕ) → k ≡ suc limit → nat_lt limit (length (take k line)) ≡ false → take k line ≡ line
+cut_within : (limit k : ℕ) (line : List ℕ) → k ≡ suc limit → nat_lt limit (length (take k line)) ≡ false
+    → take k line ≡ line
 cut_within limit k line e h = take_all k line (let len = length-take k line in grind (arith, nat_tests, len, e, h))
 
 pub cut_is_long : (line : List ℕ) → is_long (cut line) ≡ is_long line
@@ -59,17 +64,28 @@ cut_is_whole line = cut_within MOST_LINE_BYTES (suc MOST_LINE_BYTES) line refl
 
 outline-cut : (line : List ℕ) → outline (cut line) ≡ outline line
 unfolding outline
-outline-cut line = choose _ _ _ _ _ (cut_is_long line) (λ e. ap (λ l. if is_blank l then blank else outline_of_value (json_of l)) (cut_is_whole line e))
+outline-cut line = choose _ _ _ _ _ (cut_is_long line)
+    (λ e. ap (λ l. if is_blank l then blank else outline_of_value (json_of l)) (cut_is_whole line e))
 
-means_cut : (names : List (List ℕ)) (h : History) (line : List ℕ) (m : Meaning) → Means names h (cut line) m → Means names h line m
-means_cut names h line m means = means_from names h line m (subst (λ o. MeansOutline names h o m) (outline-cut line) (means_to names h (cut line) m means))
+means_cut : (names : List (List ℕ)) (h : History) (line : List ℕ) (m : Meaning) → Means names h (cut line) m
+    → Means names h line m
+means_cut names h line m means =
+    means_from names h line m
+    (subst (λ o. MeansOutline names h o m) (outline-cut line) (means_to names h (cut line) m means))
 
 -- ---- the path of a server
 -- what was heard before changes nothing that is given
-gives_kept : (front : List Alert) (hearers : List Hearer) (n : ℕ) (h : History) (lines : List (List ℕ)) (o : Outcome) → Gives (told_all front hearers) n h lines o → Gives hearers n h lines o
+gives_kept : (front : List Alert) (hearers : List Hearer) (n : ℕ) (h : History) (lines : List (List ℕ)) (o : Outcome)
+    → Gives (told_all front hearers) n h lines o → Gives hearers n h lines o
 gives_kept front hearers n h [] o g = g
-gives_kept front hearers n h (line ∷ lines) o g =
-    (g.0, g.1, subst (λ ns. Means ns h line g.0) (names_told front hearers) g.2, g.3 ∙ ap (λ x. followed_by x g.1) (given_kept front hearers n h g.0), gives_kept front hearers (suc n) (after h g.0) lines g.1 g.4)
+gives_kept front hearers n h (line ∷ lines) o g = (
+  g.0,
+  g.1,
+  subst (λ ns. Means ns h line g.0) (names_told front hearers) g.2,
+  g.3
+      ∙ ap (λ x. followed_by x g.1) (given_kept front hearers n h g.0),
+  gives_kept front hearers (suc n) (after h g.0) lines g.1 g.4,
+)
 
 -- ---- one line and those after it
 
@@ -77,17 +93,27 @@ gives_kept front hearers n h (line ∷ lines) o g =
 abbrev given_now : (s t : Held) (n : ℕ) (line text : List ℕ) → Answers s t n line text → Outcome
 given_now s t n line text answers = given s.hearers n s.history answers.meaning
 
-heard_now : (s t : Held) (n : ℕ) (line text : List ℕ) (a : Answers s t n line text) → t.hearers ≡ told_all (given_now s t n line text a).alerts s.hearers
+heard_now : (s t : Held) (n : ℕ) (line text : List ℕ) (a : Answers s t n line text)
+    → t.hearers ≡ told_all (given_now s t n line text a).alerts s.hearers
 heard_now s t n line text a = ap (λ x. x.hearers) a.goes_on.leaves
 
-text_now : (s t : Held) (n : ℕ) (line text : List ℕ) (a : Answers s t n line text) → (given_now s t n line text a).text s.settings.form ≡ text
+text_now : (s t : Held) (n : ℕ) (line text : List ℕ) (a : Answers s t n line text)
+    → (given_now s t n line text a).text s.settings.form ≡ text
 text_now s t n line text a = sym a.goes_on.replies
 
-gives_first : (s t : Held) (n : ℕ) (line text : List ℕ) (lines : List (List ℕ)) (rest : Outcome) (a : Answers s t n (cut line) text) → Gives t.hearers (suc n) t.history lines rest → Gives s.hearers n s.history (line ∷ lines) (followed_by (given_now s t n (cut line) text a) rest)
+gives_first : (s t : Held) (n : ℕ) (line text : List ℕ) (lines : List (List ℕ)) (rest : Outcome)
+    (a : Answers s t n (cut line) text) → Gives t.hearers (suc n) t.history lines rest
+    → Gives s.hearers n s.history (line ∷ lines) (followed_by (given_now s t n (cut line) text a) rest)
 gives_first s t n line text lines rest a gives =
     let m = a.meaning in
-    let now = given_now s t n (cut line) text a in
-    (m, rest, means_cut (names_in s.hearers) s.history line m a.means, refl, gives_kept now.alerts s.hearers (suc n) (after s.history m) lines rest (subst (λ x. Gives x.hearers (suc n) x.history lines rest) a.goes_on.leaves gives))
+    let now = given_now s t n (cut line) text a in (
+      m,
+      rest,
+      means_cut (names_in s.hearers) s.history line m a.means,
+      refl,
+      gives_kept now.alerts s.hearers (suc n) (after s.history m) lines rest
+          (subst (λ x. Gives x.hearers (suc n) x.history lines rest) a.goes_on.leaves gives),
+    )
 
 -- ---- all lines were answered
 
@@ -98,20 +124,27 @@ record GivenBy (s t : Held) (n : ℕ) (lines : List (List ℕ)) (text : List ℕ
   heard : t.hearers ≡ told_all outcome.alerts s.hearers
   rows : t.rows ≡ s.rows ++ kept_rows s.settings.keeps_rows outcome.rows
 
-given_first : (s t u : Held) (n : ℕ) (line first rest text : List ℕ) (lines : List (List ℕ)) → Answers s t n (cut line) first → text ≡ first ++ rest → GivenBy t u (suc n) lines rest → GivenBy s u n (line ∷ lines) text
+given_first : (s t u : Held) (n : ℕ) (line first rest text : List ℕ) (lines : List (List ℕ))
+    → Answers s t n (cut line) first → text ≡ first ++ rest → GivenBy t u (suc n) lines rest
+    → GivenBy s u n (line ∷ lines) text
 given_first s t u n line first rest text lines a e more =
     let now = given_now s t n (cut line) first a in
     record {
       outcome = followed_by now more.outcome;
       gives = gives_first s t n line first lines more.outcome a more.gives;
-      printed = ap₂ (λ x y. x ++ y) (text_now s t n (cut line) first a) (ap (λ x. more.outcome.text x.settings.form) (sym a.goes_on.leaves) ∙ more.printed) ∙ sym e;
-      heard = more.heard ∙ ap (told_all more.outcome.alerts) (heard_now s t n (cut line) first a) ∙ told_more now.alerts more.outcome.alerts s.hearers;
+      printed = ap₂ (λ x y. x ++ y) (text_now s t n (cut line) first a)
+          (ap (λ x. more.outcome.text x.settings.form) (sym a.goes_on.leaves) ∙ more.printed) ∙ sym e;
+      heard = more.heard ∙ ap (told_all more.outcome.alerts) (heard_now s t n (cut line) first a)
+          ∙ told_more now.alerts more.outcome.alerts s.hearers;
       rows =
           more.rows ∙ ap (λ x. x.rows ++ kept_rows x.settings.keeps_rows more.outcome.rows) a.goes_on.leaves
-          ∙ append_assoc s.rows (kept_rows s.settings.keeps_rows now.rows) (kept_rows s.settings.keeps_rows more.outcome.rows) ∙ ap (λ xs. s.rows ++ xs) (kept_append s.settings.keeps_rows now.rows more.outcome.rows);
+          ∙ append_assoc s.rows (kept_rows s.settings.keeps_rows now.rows)
+          (kept_rows s.settings.keeps_rows more.outcome.rows)
+          ∙ ap (λ xs. s.rows ++ xs) (kept_append s.settings.keeps_rows now.rows more.outcome.rows);
     }
 
-given_by : {S : Type 0} (view : S → Held) (s t : S) (n : ℕ) (lines : List (List ℕ)) (text : List ℕ) → Serves (AnswersIn view) s t n lines text → GivenBy (view s) (view t) n lines text
+given_by : {S : Type 0} (view : S → Held) (s t : S) (n : ℕ) (lines : List (List ℕ)) (text : List ℕ)
+    → Serves (AnswersIn view) s t n lines text → GivenBy (view s) (view t) n lines text
 given_by view s t n [] text p = record {
   outcome = nothing_given;
   gives = refl;
@@ -119,9 +152,13 @@ given_by view s t n [] text p = record {
   heard = ap (λ x. (view x).hearers) p.0 ∙ sym (told_none (view s).hearers);
   rows = ap (λ x. (view x).rows) p.0 ∙ none_posted (view s).settings.keeps_rows (view s).rows;
 }
-given_by view s t n (line ∷ lines) text p = given_first (view s) (view p.0) (view t) n line p.1 p.2 text lines p.3 p.4 (given_by view p.0 t (suc n) lines p.2 p.5)
+given_by view s t n (line ∷ lines) text p =
+    given_first (view s) (view p.0) (view t) n line p.1 p.2 text lines p.3 p.4
+    (given_by view p.0 t (suc n) lines p.2 p.5)
 
-gives_all : {S : Type 0} (view : S → Held) (s t : S) (settings : Settings) (taken_first taken : Option (List ℕ)) (count : ℕ) (input : List ℕ) → (view s).history ≡ [] → (view s).rows ≡ [] → (view s).settings ≡ settings → ServesAll (AnswersIn view) s t taken_first taken count input
+gives_all : {S : Type 0} (view : S → Held) (s t : S) (settings : Settings) (taken_first taken : Option (List ℕ))
+    (count : ℕ) (input : List ℕ) → (view s).history ≡ [] → (view s).rows ≡ [] → (view s).settings ≡ settings
+    → ServesAll (AnswersIn view) s t taken_first taken count input
     → GivesAll (view s).hearers (view t).hearers settings taken_first taken count (view t).rows input
 gives_all view s t settings taken_first taken count input start none same p =
     let g = given_by view s t 1 (lines_of input) p.text p.served in
@@ -134,10 +171,14 @@ gives_all view s t settings taken_first taken count input start none same p =
       counted = p.counted;
     }
 
-pub run_gives : {S : Type 0} (view : S → Held) (s t : S) (settings : Settings) (left taken_first taken : Option (List ℕ)) (count : ℕ) → (view s).history ≡ [] → (view s).rows ≡ [] → (view s).settings ≡ settings → OfInput left (ServesAll (AnswersIn view) s t taken_first taken count)
+pub run_gives : {S : Type 0} (view : S
+    → Held) (s t : S) (settings : Settings) (left taken_first taken : Option (List ℕ)) (count : ℕ)
+    → (view s).history ≡ [] → (view s).rows ≡ [] → (view s).settings ≡ settings
+    → OfInput left (ServesAll (AnswersIn view) s t taken_first taken count)
     → OfInput left (GivesAll (view s).hearers (view t).hearers settings taken_first taken count (view t).rows)
 run_gives view s t settings left taken_first taken count start none same p =
-    of_input_weaker left _ _ (λ input served. gives_all view s t settings taken_first taken count input start none same served) p
+    of_input_weaker left _ _ (λ input served. gives_all view s t settings taken_first taken count input start none same
+    served) p
 
 -- ---- some first lines were answered, and the next was begun at most
 
@@ -154,49 +195,80 @@ begun_here s t n line text b =
     let now = given s.hearers n s.history b.meaning in
     record {
       outcome = now;
-      gives = (b.meaning, nothing_given, means_cut (names_in s.hearers) s.history line b.meaning b.means, sym (followed_nothing now), refl);
+      gives = (
+        b.meaning,
+        nothing_given,
+        means_cut (names_in s.hearers) s.history line b.meaning b.means,
+        sym (followed_nothing now),
+        refl,
+      );
       more = b.more;
       printed = b.replies;
       heard = b.heard;
     }
 
-begun_first : (s t u : Held) (n : ℕ) (line first rest text : List ℕ) (lines : List (List ℕ)) → Answers s t n (cut line) first → text ≡ first ++ rest → BegunBy t u (suc n) lines rest → BegunBy s u n (line ∷ lines) text
+begun_first : (s t u : Held) (n : ℕ) (line first rest text : List ℕ) (lines : List (List ℕ))
+    → Answers s t n (cut line) first → text ≡ first ++ rest → BegunBy t u (suc n) lines rest
+    → BegunBy s u n (line ∷ lines) text
 begun_first s t u n line first rest text lines a e later =
     let now = given_now s t n (cut line) first a in
     record {
       outcome = followed_by now later.outcome;
       gives = gives_first s t n line first lines later.outcome a later.gives;
       more = later.more;
-      printed = ap₂ (λ x y. x ++ y) (text_now s t n (cut line) first a) (ap (λ x. later.outcome.text x.settings.form) (sym a.goes_on.leaves) ∙ later.printed) ∙ sym (append_assoc first rest later.more) ∙ ap (λ x. x ++ later.more) (sym e);
-      heard = front_after now.alerts later.outcome.alerts s.hearers t.hearers u.hearers (heard_now s t n (cut line) first a) later.heard;
+      printed = ap₂ (λ x y. x ++ y) (text_now s t n (cut line) first a)
+          (ap (λ x. later.outcome.text x.settings.form) (sym a.goes_on.leaves) ∙ later.printed)
+          ∙ sym (append_assoc first rest later.more) ∙ ap (λ x. x ++ later.more) (sym e);
+      heard = front_after now.alerts later.outcome.alerts s.hearers t.hearers u.hearers
+          (heard_now s t n (cut line) first a) later.heard;
     }
 
-begun_by : {S : Type 0} (view : S → Held) (s t u : S) (n k : ℕ) (lines : List (List ℕ)) (line text begun : List ℕ) → Serves (AnswersIn view) s t n lines text → k ≡ n + length lines → BreaksIn view t u k (cut line) begun → BegunBy (view s) (view u) n (lines ++ line ∷ []) (text ++ begun)
+begun_by : {S : Type 0} (view : S → Held) (s t u : S) (n k : ℕ) (lines : List (List ℕ)) (line text begun : List ℕ)
+    → Serves (AnswersIn view) s t n lines text → k ≡ n + length lines → BreaksIn view t u k (cut line) begun
+    → BegunBy (view s) (view u) n (lines ++ line ∷ []) (text ++ begun)
 begun_by view s t u n k [] line text begun p e broken =
     let here : k ≡ n = omega (arith, e) in
     let whole : text ++ begun ≡ begun = ap (λ x. x ++ begun) p.1 in
-    subst (BegunBy (view s) (view u) n (line ∷ [])) (sym whole) (begun_here (view s) (view u) n line begun (subst (λ x. BreaksIn view x u n (cut line) begun) p.0 (subst (λ j. BreaksIn view t u j (cut line) begun) here broken)))
+    subst (BegunBy (view s) (view u) n (line ∷ [])) (sym whole)
+    (begun_here (view s) (view u) n line begun
+    (subst (λ x. BreaksIn view x u n (cut line) begun) p.0
+    (subst (λ j. BreaksIn view t u j (cut line) begun) here broken)))
 begun_by view s t u n k (l ∷ lines) line text begun p e broken =
-    begun_first (view s) (view p.0) (view u) n l p.1 (p.2 ++ begun) (text ++ begun) (lines ++ line ∷ []) p.3 (ap (λ x. x ++ begun) p.4 ∙ append_assoc p.1 p.2 begun) (begun_by view p.0 t u (suc n) k lines line p.2 begun p.5 (omega (arith, e)) broken)
+    begun_first (view s) (view p.0) (view u) n l p.1 (p.2 ++ begun) (text ++ begun) (lines ++ line ∷ []) p.3
+    (ap (λ x. x ++ begun) p.4
+    ∙ append_assoc p.1 p.2 begun)
+    (begun_by view p.0 t u (suc n) k lines line p.2 begun p.5 (omega (arith, e)) broken)
 
-ended_by : {S : Type 0} (view : S → Held) (s t : S) (n : ℕ) (lines : List (List ℕ)) (text : List ℕ) → Serves (AnswersIn view) s t n lines text → BegunBy (view s) (view t) n lines text
+ended_by : {S : Type 0} (view : S → Held) (s t : S) (n : ℕ) (lines : List (List ℕ)) (text : List ℕ)
+    → Serves (AnswersIn view) s t n lines text → BegunBy (view s) (view t) n lines text
 ended_by view s t n lines text p =
     let g = given_by view s t n lines text p in
-    record { outcome = g.outcome; gives = g.gives; more = []; printed = g.printed ∙ sym (append-nil text); heard = record { front = g.outcome.alerts; rest = []; cut = sym (append-nil g.outcome.alerts); heard = g.heard } }
+    record {
+      outcome = g.outcome;
+      gives = g.gives;
+      more = [];
+      printed = g.printed ∙ sym (append-nil text);
+      heard =
+          record { front = g.outcome.alerts; rest = []; cut = sym (append-nil g.outcome.alerts); heard = g.heard };
+    }
 
 -- lines that were not begun
-begun_more : (s t : Held) (n : ℕ) (lines later : List (List ℕ)) (text : List ℕ) → BegunBy s t n lines text → BegunBy s t n (lines ++ later) text
+begun_more : (s t : Held) (n : ℕ) (lines later : List (List ℕ)) (text : List ℕ) → BegunBy s t n lines text
+    → BegunBy s t n (lines ++ later) text
 begun_more s t n lines later text b =
     let on = gives_on s.hearers n s.history lines later b.outcome b.gives in
     record {
       outcome = followed_by b.outcome on.0;
       gives = on.1;
       more = b.more ++ on.0.text s.settings.form;
-      printed = ap (λ x. x ++ on.0.text s.settings.form) b.printed ∙ append_assoc text b.more (on.0.text s.settings.form);
+      printed = ap (λ x. x ++ on.0.text s.settings.form) b.printed
+          ∙ append_assoc text b.more (on.0.text s.settings.form);
       heard = front_of_more b.outcome.alerts on.0.alerts s.hearers t.hearers b.heard;
     }
 
-front_given : (s t : Held) (taken_first taken : Option (List ℕ)) (text : List ℕ) (lines : List (List ℕ)) → s.history ≡ [] → BegunBy s t 1 lines text → AppendsFront taken_first taken text → GivesFront s.hearers t.hearers s.settings.form taken_first taken lines
+front_given : (s t : Held) (taken_first taken : Option (List ℕ)) (text : List ℕ) (lines : List (List ℕ))
+    → s.history ≡ [] → BegunBy s t 1 lines text → AppendsFront taken_first taken text
+    → GivesFront s.hearers t.hearers s.settings.form taken_first taken lines
 front_given s t taken_first taken text lines start b written = record {
   outcome = b.outcome;
   gives = subst (λ h. Gives s.hearers 1 h lines b.outcome) start b.gives;
@@ -204,25 +276,40 @@ front_given s t taken_first taken text lines start b written = record {
   told = b.heard;
 }
 
-begun_none : {S : Type 0} (view : S → Held) (s t u : S) (text begun : List ℕ) (lines later : List (List ℕ)) → Serves (AnswersIn view) s t 1 lines text → u ≡ t → begun ≡ [] → BegunBy (view s) (view u) 1 (lines ++ later) (text ++ begun)
+begun_none : {S : Type 0} (view : S → Held) (s t u : S) (text begun : List ℕ) (lines later : List (List ℕ))
+    → Serves (AnswersIn view) s t 1 lines text → u ≡ t → begun ≡ []
+    → BegunBy (view s) (view u) 1 (lines ++ later) (text ++ begun)
 begun_none view s t u text begun lines later p same none =
     subst (BegunBy (view s) (view u) 1 (lines ++ later)) (sym (ap (λ x. text ++ x) none ∙ append-nil text))
-    (begun_more (view s) (view u) 1 lines later text (ended_by view s u 1 lines text (subst (λ x. Serves (AnswersIn view) s x 1 lines text) (sym same) p)))
+    (begun_more (view s) (view u) 1 lines later text
+    (ended_by view s u 1 lines text (subst (λ x. Serves (AnswersIn view) s x 1 lines text) (sym same) p)))
 
-begun_at : {S : Type 0} (view : S → Held) (s t u : S) (text begun : List ℕ) (lines later : List (List ℕ)) → Serves (AnswersIn view) s t 1 lines text → StopsAt (BreaksIn view) t u (suc (length lines)) later begun → BegunBy (view s) (view u) 1 (lines ++ later) (text ++ begun)
+begun_at : {S : Type 0} (view : S → Held) (s t u : S) (text begun : List ℕ) (lines later : List (List ℕ))
+    → Serves (AnswersIn view) s t 1 lines text → StopsAt (BreaksIn view) t u (suc (length lines)) later begun
+    → BegunBy (view s) (view u) 1 (lines ++ later) (text ++ begun)
 begun_at view s t u text begun lines [] p stopped = begun_none view s t u text begun lines [] p stopped.0 stopped.1
-begun_at view s t u text begun lines (line ∷ later) p (inl stopped) = begun_none view s t u text begun lines (line ∷ later) p stopped.0 stopped.1
+begun_at view s t u text begun lines (line ∷ later) p (inl stopped) =
+    begun_none view s t u text begun lines (line ∷ later) p stopped.0 stopped.1
 begun_at view s t u text begun lines (line ∷ later) p (inr broken) =
     subst (λ ls. BegunBy (view s) (view u) 1 ls (text ++ begun)) (append_assoc lines (line ∷ []) later)
-    (begun_more (view s) (view u) 1 (lines ++ line ∷ []) later (text ++ begun) (begun_by view s t u 1 (suc (length lines)) lines line text begun p (omega arith) broken))
+    (begun_more (view s) (view u) 1 (lines ++ line ∷ []) later (text ++ begun)
+    (begun_by view s t u 1 (suc (length lines)) lines line text begun p (omega arith) broken))
 
-gives_front : {S : Type 0} (view : S → Held) (s t : S) (settings : Settings) (taken_first taken : Option (List ℕ)) (lines : List (List ℕ)) → (view s).history ≡ [] → (view s).settings ≡ settings → ServesFront (AnswersIn view) (BreaksIn view) s t taken_first taken lines
+gives_front : {S : Type 0} (view : S → Held) (s t : S) (settings : Settings) (taken_first taken : Option (List ℕ))
+    (lines : List (List ℕ)) → (view s).history ≡ [] → (view s).settings ≡ settings
+    → ServesFront (AnswersIn view) (BreaksIn view) s t taken_first taken lines
     → GivesFront (view s).hearers (view t).hearers settings.form taken_first taken lines
 gives_front view s t settings taken_first taken lines start same p =
-    let begun = subst (λ ls. BegunBy (view s) (view t) 1 ls (p.text ++ p.begun)) (sym p.parts) (begun_at view s p.between t p.text p.begun p.front p.later p.served p.stops) in
-    subst (λ k. GivesFront (view s).hearers (view t).hearers k.form taken_first taken lines) same (front_given (view s) (view t) taken_first taken (p.text ++ p.begun) lines start begun p.written)
+    let begun = subst (λ ls. BegunBy (view s) (view t) 1 ls (p.text ++ p.begun)) (sym p.parts)
+    (begun_at view s p.between t p.text p.begun p.front p.later p.served p.stops) in
+    subst (λ k. GivesFront (view s).hearers (view t).hearers k.form taken_first taken lines) same
+    (front_given (view s) (view t) taken_first taken (p.text ++ p.begun) lines start begun p.written)
 
-pub run_gives_front : {S : Type 0} (view : S → Held) (s t : S) (settings : Settings) (left left_new : Option (List ℕ)) (met_end : Bool) (taken_first taken : Option (List ℕ)) → (view s).history ≡ [] → (view s).settings ≡ settings
-    → OfLinesRead left left_new met_end (ServesFront (AnswersIn view) (BreaksIn view) s t taken_first taken) → OfLinesRead left left_new met_end (GivesFront (view s).hearers (view t).hearers settings.form taken_first taken)
+pub run_gives_front : {S : Type 0} (view : S → Held) (s t : S) (settings : Settings) (left left_new : Option (List ℕ))
+    (met_end : Bool) (taken_first taken : Option (List ℕ)) → (view s).history ≡ [] → (view s).settings ≡ settings
+    → OfLinesRead left left_new met_end (ServesFront (AnswersIn view) (BreaksIn view) s t taken_first taken)
+    → OfLinesRead left left_new met_end
+    (GivesFront (view s).hearers (view t).hearers settings.form taken_first taken)
 run_gives_front view s t settings left left_new met_end taken_first taken start same p =
-    of_lines_read_weaker left left_new met_end _ _ (λ lines served. gives_front view s t settings taken_first taken lines start same served) p
+    of_lines_read_weaker left left_new met_end _ _
+    (λ lines served. gives_front view s t settings taken_first taken lines start same served) p

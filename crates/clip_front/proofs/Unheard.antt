@@ -6,7 +6,8 @@ use Rattle.clip_listen.specs.Heard.{Hearer, told_all, notes_of}
 use Rattle.clip_listen.proofs.Hearing.{told_more, told_none, unnamed}
 
 -- nobody hears them, and nothing is said of them
-pub unheard : (alerts : List Alert) (hearers : List Hearer) → All (λ (a : Alert). a.listener ≡ None) alerts → (told_all alerts hearers ≡ hearers) × (notes_of hearers alerts ≡ [])
+pub unheard : (alerts : List Alert) (hearers : List Hearer) → All (λ (a : Alert). a.listener ≡ None) alerts
+    → (told_all alerts hearers ≡ hearers) × (notes_of hearers alerts ≡ [])
 unheard [] hearers none = (told_none hearers, refl)
 unheard (a ∷ alerts) hearers none =
     let first = unnamed a hearers (none 0 a (omega arith)) in

@@ -1,5 +1,6 @@
 -- A text has one fault, or one tree.
-use Rattle.std.proofs.Common.{◌≡◌, ◌≢◌, ℕ, ◌<◌, Bool, true, false, not, ◌&&◌, nat_lt, List, [], length, refl, sym, ap, subst, ◌∙◌, arith, append-nil, IsTrue}
+use Rattle.std.proofs.Common.{◌≡◌, ◌≢◌, ℕ, ◌<◌, Bool, true, false, not, ◌&&◌, nat_lt, List, [], length, refl, sym, ap}
+use Rattle.std.proofs.Common.{subst, ◌∙◌, arith, append-nil, IsTrue}
 use Rattle.std.specs.Str.{chars, IsUtf8}
 use Rattle.std.proofs.lemmas.Str.{encodes-chars}
 use Rattle.std.proofs.lemmas.Bool.Decides.{nat_tests}
@@ -9,20 +10,23 @@ use Rattle.clip_grammar.specs.Shape.{Written, tokens, lacks_words}
 use Rattle.clip_grammar.specs.Reading.{IsStuck, IsLeftOut, IsFault, Says, Writes}
 use Rattle.clip_grammar.specs.Laws.{OneFault}
 use Rattle.clip_grammar.specs.declared.fault.QueryFault.{QueryFault}
-use Rattle.clip_grammar.specs.declared.fault.QueryFault.TheVariants.{TooLong, Lexical, LeftOut, Structure, NoWords, TooBig, NoMemory}
+use Rattle.clip_grammar.specs.declared.fault.QueryFault.TheVariants.{TooLong, Lexical, LeftOut, Structure, NoWords}
+use Rattle.clip_grammar.specs.declared.fault.QueryFault.TheVariants.{TooBig, NoMemory}
 use Rattle.clip_grammar.proofs.Lexing.{one_lexing}
 use Rattle.clip_grammar.proofs.Parsing.{one_written}
 
 -- ---- what a text says is one
 
 pub says_once : (text : List ℕ) (ts us : List Token) → Says text ts → Says text us → ts ≡ us
-says_once text ts us a b = a.says ∙ ap tokens_of (one_lexing (chars text) a.lexemes b.lexemes a.lexes b.lexes) ∙ sym b.says
+says_once text ts us a b = a.says ∙ ap tokens_of (one_lexing (chars text) a.lexemes b.lexemes a.lexes b.lexes)
+    ∙ sym b.says
 
 pub writes_once : (text : List ℕ) (v w : Written) → Writes text v → Writes text w → v ≡ w
 writes_once text v w a b = one_written v w (says_once text (tokens v) (tokens w) a.says b.says)
 
 -- a text that is spelled whole stops nowhere before its end
-pub stuck_unsaid : (text : List ℕ) (at : ℕ) (ts : List Token) → IsUtf8 text → at < length text → IsStuck text at → Says text ts → ⊥
+pub stuck_unsaid : (text : List ℕ) (at : ℕ) (ts : List Token) → IsUtf8 text → at < length text → IsStuck text at
+    → Says text ts → ⊥
 stuck_unsaid text at ts utf8 within stuck says =
     let reached = stuck.furthest (chars text) [] says.lexemes (append-nil (chars text)) says.lexes in
     absurd (omega (arith, ap length (encodes-chars text utf8)))
@@ -36,7 +40,8 @@ stuck_once text at by a b =
 left_unkept : (text : List ℕ) (ts us : List Token) → Says text ts → IsLeftOut ts → Says text us → ¬ (IsLeftOut us) → ⊥
 left_unkept text ts us a left b kept = kept (subst IsLeftOut (says_once text ts us a b) left)
 
-words_unlike : (text : List ℕ) (v w : Written) → Writes text v → IsTrue (lacks_words v) → Writes text w → IsTrue (not (lacks_words w)) → ⊥
+words_unlike : (text : List ℕ) (v w : Written) → Writes text v → IsTrue (lacks_words v) → Writes text w
+    → IsTrue (not (lacks_words w)) → ⊥
 words_unlike text v w a lacks b has =
     let bad : false ≡ true = sym (ap not lacks) ∙ ap (λ x. not (lacks_words x)) (writes_once text v w a b) ∙ has in cc
 

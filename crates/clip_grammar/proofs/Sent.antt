@@ -19,13 +19,31 @@ use Rattle.clip_grammar.specs.contracts.query.Query.{the_row, the_field, the_typ
 pub query_send : IsSend the_row
 query_send = recorded_send the_field.row _ _ the_type.to_one (send-Query
     (search (sendable, arc_str_sent.the_field_send, global_sent.the_send, allocator_sent.the_frees) depth 20)
-    (search (sendable, vec_sent.the_send, arc_str_sent.the_send, global_sent.the_send, allocator_sent.the_frees) depth 20)
+    (search (sendable, vec_sent.the_send, arc_str_sent.the_send, global_sent.the_send, allocator_sent.the_frees) depth
+    20)
     bound_sent.the_field_send
-    (λ h s. vec_sent.the_send (Tuple (occur.the_row ∷ h ∷ [])) global.the_row ghosts (declared_send (tuple_type (occur.the_row ∷ h ∷ [])) (occur_sent.the_send, (as_row_send (row_field h) s, tt))) global_sent.the_send allocator_sent.the_frees))
+    (λ h s. vec_sent.the_send (Tuple (occur.the_row ∷ h ∷ [])) global.the_row ghosts
+    (declared_send (tuple_type (occur.the_row ∷ h ∷ [])) (occur_sent.the_send, (as_row_send (row_field h) s, tt)))
+    global_sent.the_send allocator_sent.the_frees))
 
 pub query_sync : IsSync the_row
 query_sync = recorded_sync the_field.row _ _ the_type.to_one (sync-Query
-    (search (sendable, arc_str_sent.the_field_sync, global_sent.the_sync, global_sent.the_send, allocator_sent.the_frees) depth 20)
-    (search (sendable, vec_sent.the_sync, arc_str_sent.the_sync, global_sent.the_sync, global_sent.the_send, allocator_sent.the_frees) depth 20)
+    (search (
+      sendable,
+      arc_str_sent.the_field_sync,
+      global_sent.the_sync,
+      global_sent.the_send,
+      allocator_sent.the_frees,
+    ) depth 20)
+    (search (
+      sendable,
+      vec_sent.the_sync,
+      arc_str_sent.the_sync,
+      global_sent.the_sync,
+      global_sent.the_send,
+      allocator_sent.the_frees,
+    ) depth 20)
     bound_sent.the_field_sync
-    (λ h s. vec_sent.the_sync (Tuple (occur.the_row ∷ h ∷ [])) global.the_row ghosts (declared_sync (tuple_type (occur.the_row ∷ h ∷ [])) (occur_sent.the_sync, (as_row_sync (row_field h) s, tt))) global_sent.the_sync))
+    (λ h s. vec_sent.the_sync (Tuple (occur.the_row ∷ h ∷ [])) global.the_row ghosts
+    (declared_sync (tuple_type (occur.the_row ∷ h ∷ [])) (occur_sent.the_sync, (as_row_sync (row_field h) s, tt)))
+    global_sent.the_sync))

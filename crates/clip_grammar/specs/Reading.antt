@@ -1,5 +1,6 @@
 -- Which tree a text is read as, and why a text is refused. A text is here its bytes.
-use Rattle.std.specs.Prelude.{◌≡◌, ℕ, ◌+◌, ◌<◌, ◌≤◌, ◌⊎◌, Bool, true, false, not, List, ◌∷◌, ◌++◌, length, reverse, encode_utf8_all, Contains, IsTrue}
+use Rattle.std.specs.Prelude.{◌≡◌, ℕ, ◌+◌, ◌<◌, ◌≤◌, ◌⊎◌, Bool, true, false, not, List, ◌∷◌, ◌++◌, length, reverse}
+use Rattle.std.specs.Prelude.{encode_utf8_all, Contains, IsTrue}
 use Rattle.std.specs.Str.{chars}
 use Rattle.clip_grammar.specs.Lexemes.{Lexeme, Lexes}
 use Rattle.clip_grammar.specs.Tokens as token

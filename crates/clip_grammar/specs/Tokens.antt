@@ -1,5 +1,6 @@
 -- What a lexeme says, however it is spelled. A text is here its bytes.
-use Rattle.std.specs.Prelude.{ℕ, Bool, true, false, not, ◌&&◌, ◌||◌, ◌==◌, List, [], ◌∷◌, map, flat_map, length, take, ◌-◌, encode_utf8_all, codes, if◌then◌else◌}
+use Rattle.std.specs.Prelude.{ℕ, Bool, true, false, not, ◌&&◌, ◌||◌, ◌==◌, List, [], ◌∷◌, map, flat_map, length, take}
+use Rattle.std.specs.Prelude.{◌-◌, encode_utf8_all, codes, if◌then◌else◌}
 use Rattle.std.specs.List.{list_any}
 use Rattle.clip_grammar.specs.Lexemes as lexeme
 use Rattle.clip_grammar.specs.Lexemes.{Piece, RangeEnd, BareEnd, QuotedEnd, Lexeme, Blank, Word, Quoted, Sign, Foreign}

@@ -17,7 +17,10 @@ use Rattle.clip_listen.specs.contracts.listener.Folder as folder
 ruleset global = (sendable, global_sent.the_send, global_sent.the_sync, allocator_sent.the_frees)
 
 style_send : IsSend style.the_row
-style_send = declared_send style.the_type (search (global, arc_str_sent.the_send), (search (global, arc_str_sent.the_send), tt))
+style_send = declared_send style.the_type (
+  search (global, arc_str_sent.the_send),
+  (search (global, arc_str_sent.the_send), tt),
+)
 
 module _ (W : RattleType) (g : Ghosts W.Denot) (sent : IsSend W) where
   pub render_send : IsSend (render.the_row W g)

@@ -1,5 +1,6 @@
 -- What listeners hear of alerts, and the notes that they answer.
-use Rattle.std.specs.Prelude.{◌≡◌, ℕ, List, [], ◌∷◌, ◌++◌, map, filter, filter_map, find, Bool, true, false, Option, Some, None, option_map, bytes_eq, not, cond, ◌&&◌, String, string_bytes}
+use Rattle.std.specs.Prelude.{◌≡◌, ℕ, List, [], ◌∷◌, ◌++◌, map, filter, filter_map, find, Bool, true, false, Option}
+use Rattle.std.specs.Prelude.{Some, None, option_map, bytes_eq, not, cond, ◌&&◌, String, string_bytes}
 use Rattle.std.specs.List.{list_any}
 use Rattle.std.specs.Arc.{arc_str_bytes}
 use Rattle.std.specs.declared.alloc.Global.{Global}

@@ -1,8 +1,11 @@
 -- The positions of entries that share a key.
-use Rattle.std.proofs.Common.{◌≡◌, ℕ, ◌+◌, ◌<◌, Bool, true, false, cond, ◌&&◌, List, [], ◌∷◌, ◌++◌, map, length, get_or, filter, take, Option, Some, None, unwrap_or, option_to_list, refl, sym, ap, ◌∙◌, subst, arith}
+use Rattle.std.proofs.Common.{◌≡◌, ℕ, ◌+◌, ◌<◌, Bool, true, false, cond, ◌&&◌, List, [], ◌∷◌, ◌++◌, map, length, get_or}
+use Rattle.std.proofs.Common.{filter, take, Option, Some, None, unwrap_or, option_to_list, refl, sym, ap, ◌∙◌, subst}
+use Rattle.std.proofs.Common.{arith}
 use Rattle.std.specs.List.{enumerate_from, slice_get, All}
 use Rattle.std.proofs.lemmas.Option.{none-some}
-use Rattle.std.proofs.lemmas.List.{length-append, append_assoc, append-nil, length-map, get_or-map, take_more, map-append, flat_map_more}
+use Rattle.std.proofs.lemmas.List.{length-append, append_assoc, append-nil, length-map, get_or-map, take_more}
+use Rattle.std.proofs.lemmas.List.{map-append, flat_map_more}
 use Rattle.std.proofs.lemmas.List.Elements.{All-filter, All-cons, All-nil, filter-append}
 use Rattle.clip_model.specs.History.{Registered, History, is_live}
 use Rattle.clip_extract.specs.Keys.{KeyValue}
@@ -11,30 +14,39 @@ use Rattle.clip_match.specs.Steps.Positions.{has_one, placed_with, live_with, en
 
 -- ---- the entry at a position
 
-pub got : (front : List Registered) (e : Registered) (es : List Registered) → slice_get (front ++ e ∷ es) (length front) ≡ Some e
+pub got : (front : List Registered) (e : Registered) (es : List Registered)
+    → slice_get (front ++ e ∷ es) (length front) ≡ Some e
 got [] e es = refl
 got (x ∷ front) e es = got front e es
 
-placed : (all front es : List Registered) → all ≡ front ++ es → All (λ (p : ℕ × Registered). slice_get all p.0 ≡ Some p.1) (enumerate_from (length front) es)
+placed : (all front es : List Registered) → all ≡ front ++ es
+    → All (λ (p : ℕ × Registered). slice_get all p.0 ≡ Some p.1) (enumerate_from (length front) es)
 placed all front [] is = All-nil (λ (p : ℕ × Registered). slice_get all p.0 ≡ Some p.1)
 placed all front (e ∷ es) is =
     let on : length front + 1 ≡ length (front ++ e ∷ []) = omega (arith, length-append front (e ∷ [])) in
     let later = placed all (front ++ e ∷ []) es (is ∙ sym (append_assoc front (e ∷ []) es)) in
     let here : slice_get all (length front) ≡ Some e = ap (λ xs. slice_get xs (length front)) is ∙ got front e es in
-    All-cons (λ (p : ℕ × Registered). slice_get all p.0 ≡ Some p.1) (length front, e) (enumerate_from (length front + 1) es) here
+    All-cons (λ (p : ℕ × Registered). slice_get all p.0
+    ≡ Some p.1) (length front, e) (enumerate_from (length front + 1) es) here
     (subst (λ n. All (λ (p : ℕ × Registered). slice_get all p.0 ≡ Some p.1) (enumerate_from n es)) (sym on) later)
 
-pub entry_at_position : (ks : List KeyValue) (es : List Registered) (i : ℕ) (d : ℕ × Registered) → i < length (placed_with ks es) → slice_get es (get_or (placed_with ks es) i d).0 ≡ Some (get_or (placed_with ks es) i d).1
+pub entry_at_position : (ks : List KeyValue) (es : List Registered) (i : ℕ) (d : ℕ × Registered)
+    → i < length (placed_with ks es) → slice_get es (get_or (placed_with ks es) i d).0
+    ≡ Some (get_or (placed_with ks es) i d).1
 entry_at_position ks es i d lt =
-    All-filter (λ (e : ℕ × Registered). has_one ks e.1) (λ (p : ℕ × Registered). slice_get es p.0 ≡ Some p.1) (enumerate_from 0 es) (placed es [] es refl) i d lt
+    All-filter (λ (e : ℕ × Registered). has_one ks e.1) (λ (p : ℕ × Registered). slice_get es p.0
+    ≡ Some p.1) (enumerate_from 0 es) (placed es [] es refl) i d lt
 
 -- ---- the live ones
 
-snd_filtered : (t : Registered → Bool) (n : ℕ) (es : List Registered) → map (λ (e : ℕ × Registered). e.1) (filter (λ (e : ℕ × Registered). t e.1) (enumerate_from n es)) ≡ filter t es
+snd_filtered : (t : Registered → Bool) (n : ℕ) (es : List Registered)
+    → map (λ (e : ℕ × Registered). e.1) (filter (λ (e : ℕ × Registered). t e.1) (enumerate_from n es)) ≡ filter t es
 snd_filtered t n [] = refl
 snd_filtered t n (e ∷ es) =
     let later = snd_filtered t (n + 1) es in
-    elim (t e) as (λ b. map (λ (e : ℕ × Registered). e.1) (cond b ((n, e) ∷ filter (λ (e : ℕ × Registered). t e.1) (enumerate_from (n + 1) es)) (filter (λ (e : ℕ × Registered). t e.1) (enumerate_from (n + 1) es))) ≡ cond b (e ∷ filter t es) (filter t es)) [
+    elim (t e) as (λ b. map (λ (e : ℕ × Registered). e.1)
+    (cond b ((n, e) ∷ filter (λ (e : ℕ × Registered). t e.1) (enumerate_from (n + 1) es))
+    (filter (λ (e : ℕ × Registered). t e.1) (enumerate_from (n + 1) es))) ≡ cond b (e ∷ filter t es) (filter t es)) [
       | true ↦ ap (λ xs. e ∷ xs) later
       | false ↦ later
     ]
@@ -43,24 +55,41 @@ filter_both : (p t : Registered → Bool) (es : List Registered) → filter p (f
 filter_both p t [] = refl
 filter_both p t (e ∷ es) =
     let later = filter_both p t es in
-    elim (t e) as (λ b. filter p (cond b (e ∷ filter t es) (filter t es)) ≡ cond (p e && b) (e ∷ filter (λ r. p r && t r) es) (filter (λ r. p r && t r) es)) [
-      | true ↦ elim (p e) as (λ c. cond c (e ∷ filter p (filter t es)) (filter p (filter t es)) ≡ cond (c && true) (e ∷ filter (λ r. p r && t r) es) (filter (λ r. p r && t r) es)) [ true ↦ ap (λ xs. e ∷ xs) later | false ↦ later ]
-      | false ↦ elim (p e) as (λ c. filter p (filter t es) ≡ cond (c && false) (e ∷ filter (λ r. p r && t r) es) (filter (λ r. p r && t r) es)) [ true ↦ later | false ↦ later ]
+    elim (t e) as (λ b. filter p (cond b (e ∷ filter t es) (filter t es))
+    ≡ cond (p e && b) (e ∷ filter (λ r. p r && t r) es) (filter (λ r. p r && t r) es)) [
+      | true ↦ elim (p e) as (λ c. cond c (e ∷ filter p (filter t es)) (filter p (filter t es))
+          ≡ cond (c && true) (e ∷ filter (λ r. p r && t r) es) (filter (λ r. p r && t r) es)) [
+            | true ↦
+                ap (λ xs. e ∷ xs) later
+            | false ↦ later
+          ]
+      | false ↦ elim (p e) as (λ c. filter p (filter t es)
+          ≡ cond (c && false) (e ∷ filter (λ r. p r && t r) es) (filter (λ r. p r && t r) es)) [
+            | true ↦ later
+            | false ↦
+                later
+          ]
     ]
 
-pub live_positions : (h : History) (ks : List KeyValue) (es : List Registered) → filter (λ r. is_live h r.seq) (map (λ (e : ℕ × Registered). e.1) (placed_with ks es)) ≡ live_with h ks es
-live_positions h ks es = ap (filter (λ r. is_live h r.seq)) (snd_filtered (has_one ks) 0 es) ∙ filter_both (λ r. is_live h r.seq) (has_one ks) es
+pub live_positions : (h : History) (ks : List KeyValue) (es : List Registered)
+    → filter (λ r. is_live h r.seq) (map (λ (e : ℕ × Registered). e.1) (placed_with ks es)) ≡ live_with h ks es
+live_positions h ks es = ap (filter (λ r. is_live h r.seq)) (snd_filtered (has_one ks) 0 es)
+    ∙ filter_both (λ r. is_live h r.seq) (has_one ks) es
 
 abbrev snd : ℕ × Registered → Registered
 snd e = e.1
 
-here : (ks : List KeyValue) (es : List Registered) (i : ℕ) (d : ℕ × Registered) → i < length (positions_sharing ks es) → slice_get es (get_or (positions_sharing ks es) i 0) ≡ Some (get_or (placed_with ks es) i d).1
+here : (ks : List KeyValue) (es : List Registered) (i : ℕ) (d : ℕ × Registered) → i < length (positions_sharing ks es)
+    → slice_get es (get_or (positions_sharing ks es) i 0) ≡ Some (get_or (placed_with ks es) i d).1
 here ks es i d lt =
-    let inside : i < length (placed_with ks es) = omega (arith, length-map (placed_with ks es) (λ (e : ℕ × Registered). e.0)) in
-    ap (slice_get es) (get_or-map (λ (e : ℕ × Registered). e.0) (placed_with ks es) i d 0 inside) ∙ entry_at_position ks es i d inside
+    let inside : i < length (placed_with ks es) =
+    omega (arith, length-map (placed_with ks es) (λ (e : ℕ × Registered). e.0)) in
+    ap (slice_get es) (get_or-map (λ (e : ℕ × Registered). e.0) (placed_with ks es) i d 0 inside)
+    ∙ entry_at_position ks es i d inside
 
 -- an entry stands at each position
-pub entry_there : (ks : List KeyValue) (es : List Registered) (i : ℕ) → i < length (positions_sharing ks es) → slice_get es (get_or (positions_sharing ks es) i 0) ≡ None → ⊥
+pub entry_there : (ks : List KeyValue) (es : List Registered) (i : ℕ) → i < length (positions_sharing ks es)
+    → slice_get es (get_or (positions_sharing ks es) i 0) ≡ None → ⊥
 entry_there ks es i lt none = pick (placed_with ks es) refl
   where
     pick : (qs : List (ℕ × Registered)) → placed_with ks es ≡ qs → ⊥
@@ -68,8 +97,10 @@ entry_there ks es i lt none = pick (placed_with ks es) refl
     pick (q ∷ qs) e = none-some _ (sym none ∙ here ks es i q lt)
 
 -- one position more, at which x stands
-live_more : (p : Registered → Bool) (ks : List KeyValue) (es : List Registered) (i : ℕ) (x : Registered) → i < length (positions_sharing ks es) → Some x ≡ slice_get es (get_or (positions_sharing ks es) i 0)
-    → filter p (map snd (take (i + 1) (placed_with ks es))) ≡ filter p (map snd (take i (placed_with ks es))) ++ cond (p x) (x ∷ []) []
+live_more : (p : Registered → Bool) (ks : List KeyValue) (es : List Registered) (i : ℕ) (x : Registered)
+    → i < length (positions_sharing ks es) → Some x ≡ slice_get es (get_or (positions_sharing ks es) i 0)
+    → filter p (map snd (take (i + 1) (placed_with ks es))) ≡ filter p (map snd (take i (placed_with ks es)))
+    ++ cond (p x) (x ∷ []) []
 live_more p ks es i x lt is =
     let qs = placed_with ks es in
     let d : ℕ × Registered = (0, x) in
@@ -85,33 +116,45 @@ abbrev pub live_front : History → List KeyValue → List Registered → ℕ �
 live_front h ks es i = filter (λ r. is_live h r.seq) (map snd (take i (placed_with ks es)))
 
 module _ (h : History) (ks : List KeyValue) (es : List Registered) (ps : List ℕ) (i : ℕ) (x : Registered) where
-  one_more : ps ≡ positions_sharing ks es → i < length ps → Some x ≡ slice_get es (get_or ps i 0) → live_front h ks es (i + 1) ≡ live_front h ks es i ++ cond (is_live h x.seq) (x ∷ []) []
-  one_more same lt there = live_more (λ r. is_live h r.seq) ks es i x (omega (arith, ap length same)) (there ∙ ap (λ qs. slice_get es (get_or qs i 0)) same)
+  one_more : ps ≡ positions_sharing ks es → i < length ps → Some x ≡ slice_get es (get_or ps i 0)
+      → live_front h ks es (i + 1) ≡ live_front h ks es i ++ cond (is_live h x.seq) (x ∷ []) []
+  one_more same lt there =
+      live_more (λ r. is_live h r.seq) ks es i x (omega (arith, ap length same)) (there
+      ∙ ap (λ qs. slice_get es (get_or qs i 0)) same)
 
   -- one place more, at which a query stands that is no longer live
-  pub dead_next : ps ≡ positions_sharing ks es → i < length ps → Some x ≡ slice_get es (get_or ps i 0) → is_live h x.seq ≡ false → live_front h ks es i ≡ live_front h ks es (i + 1)
-  dead_next same lt there dead = sym (one_more same lt there ∙ ap (λ b. live_front h ks es i ++ cond b (x ∷ []) []) dead ∙ append-nil (live_front h ks es i))
+  pub dead_next : ps ≡ positions_sharing ks es → i < length ps → Some x ≡ slice_get es (get_or ps i 0)
+      → is_live h x.seq ≡ false → live_front h ks es i ≡ live_front h ks es (i + 1)
+  dead_next same lt there dead =
+      sym (one_more same lt there ∙ ap (λ b. live_front h ks es i ++ cond b (x ∷ []) []) dead
+      ∙ append-nil (live_front h ks es i))
 
   -- one place more, at which a live query stands
-  pub live_next : ps ≡ positions_sharing ks es → i < length ps → Some x ≡ slice_get es (get_or ps i 0) → is_live h x.seq ≡ true → live_front h ks es i ++ x ∷ [] ≡ live_front h ks es (i + 1)
-  live_next same lt there alive = sym (one_more same lt there ∙ ap (λ b. live_front h ks es i ++ cond b (x ∷ []) []) alive)
+  pub live_next : ps ≡ positions_sharing ks es → i < length ps → Some x ≡ slice_get es (get_or ps i 0)
+      → is_live h x.seq ≡ true → live_front h ks es i ++ x ∷ [] ≡ live_front h ks es (i + 1)
+  live_next same lt there alive =
+      sym (one_more same lt there ∙ ap (λ b. live_front h ks es i ++ cond b (x ∷ []) []) alive)
 
 -- ---- entries at positions
 
 -- one position more
-pub entries_more : (es : List Registered) (positions : List ℕ) (p : ℕ) → entries_at es (positions ++ p ∷ []) ≡ entries_at es positions ++ option_to_list (slice_get es p)
+pub entries_more : (es : List Registered) (positions : List ℕ) (p : ℕ) → entries_at es (positions ++ p ∷ [])
+    ≡ entries_at es positions ++ option_to_list (slice_get es p)
 entries_more es positions p = sym (flat_map_more (λ (n : ℕ). option_to_list (slice_get es n)) [] positions p)
 
 -- the same of those that pass a test, where `b` says whether the entry at the position does
-pub kept_more : (p : Registered → Bool) (es : List Registered) (positions kept : List ℕ) (i x : ℕ) (b : Bool) → i < length positions → x ≡ get_or positions i x
-    → ((e : Registered) → slice_get es x ≡ Some e → b ≡ p e) → entries_at es kept ≡ filter p (entries_at es (take i positions))
+pub kept_more : (p : Registered → Bool) (es : List Registered) (positions kept : List ℕ) (i x : ℕ) (b : Bool)
+    → i < length positions → x ≡ get_or positions i x
+    → ((e : Registered) → slice_get es x ≡ Some e → b ≡ p e)
+    → entries_at es kept ≡ filter p (entries_at es (take i positions))
     → entries_at es (cond b (kept ++ x ∷ []) kept) ≡ filter p (entries_at es (take (i + 1) positions))
 kept_more p es positions kept i x b lt is says before =
     by_entry (slice_get es x) b refl says
     ∙ ap (λ xs. xs ++ filter p (option_to_list (slice_get es x))) before
     ∙ sym (filter-append p (entries_at es (take i positions)) (option_to_list (slice_get es x)))
     ∙ ap (filter p) (sym (entries_more es (take i positions) x))
-    ∙ ap (λ ps. filter p (entries_at es ps)) (sym (take_more positions i x lt ∙ ap (λ q. take i positions ++ q ∷ []) (sym is)))
+    ∙ ap (λ ps. filter p (entries_at es ps)) (sym (take_more positions i x lt
+    ∙ ap (λ q. take i positions ++ q ∷ []) (sym is)))
   where
     by_entry : (o : Option Registered) (b : Bool) → slice_get es x ≡ o → ((e : Registered) → o ≡ Some e → b ≡ p e)
         → entries_at es (cond b (kept ++ x ∷ []) kept) ≡ entries_at es kept ++ filter p (option_to_list o)
@@ -125,8 +168,12 @@ kept_more p es positions kept i x b lt is says before =
 
 -- ---- one segment after another
 
-pub live_split : (h : History) (ks : List KeyValue) (segment others : List Registered) → live_with h ks segment ++ live_with h ks others ≡ live_with h ks (segment ++ others)
+pub live_split : (h : History) (ks : List KeyValue) (segment others : List Registered)
+    → live_with h ks segment ++ live_with h ks others ≡ live_with h ks (segment ++ others)
 live_split h ks segment others = sym (filter-append (λ r. is_live h r.seq && has_one ks r) segment others)
 
-pub held_split : (p : Registered → Bool) (h : History) (ks : List KeyValue) (segment others : List Registered) → filter p (live_with h ks segment) ++ filter p (live_with h ks others) ≡ filter p (live_with h ks (segment ++ others))
-held_split p h ks segment others = sym (filter-append p (live_with h ks segment) (live_with h ks others)) ∙ ap (filter p) (live_split h ks segment others)
+pub held_split : (p : Registered → Bool) (h : History) (ks : List KeyValue) (segment others : List Registered)
+    → filter p (live_with h ks segment) ++ filter p (live_with h ks others)
+    ≡ filter p (live_with h ks (segment ++ others))
+held_split p h ks segment others = sym (filter-append p (live_with h ks segment) (live_with h ks others))
+    ∙ ap (filter p) (live_split h ks segment others)

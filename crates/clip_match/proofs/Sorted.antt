@@ -1,5 +1,6 @@
 -- Entries in order, look-ups and filters.
-use Rattle.std.proofs.Common.{◌≡◌, ◌+◌, Bool, true, false, cond, List, [], ◌∷◌, map, filter, refl, sym, ap, ◌∙◌, arith, Some, is_lt}
+use Rattle.std.proofs.Common.{◌≡◌, ◌+◌, Bool, true, false, cond, List, [], ◌∷◌, map, filter, refl, sym, ap, ◌∙◌, arith}
+use Rattle.std.proofs.Common.{Some, is_lt}
 use Rattle.std.specs.Cmp.{IsTotalOrder}
 use Rattle.std.specs.List.{IsDistinct}
 use Rattle.std.specs.List.Sorted.{IsSorted, IsStrictlySortedBy}
@@ -11,10 +12,12 @@ use Rattle.std.specs.declared.cmp.Ordering.TheVariants.{Less, Equal, Greater}
 use Rattle.std.proofs.lemmas.Bool.{and_from, and_parts, false≢true}
 use Rattle.std.proofs.lemmas.Map.Keys.{apart_from_distinct, sorted_from_all_adjacent}
 
-pub map_filter : {A B : Type 0} (f : A → B) (p : B → Bool) (xs : List A) → map f (filter (λ x. p (f x)) xs) ≡ filter p (map f xs)
+pub map_filter : {A B : Type 0} (f : A → B) (p : B → Bool) (xs : List A) → map f (filter (λ x. p (f x)) xs)
+    ≡ filter p (map f xs)
 map_filter f p [] = refl
 map_filter f p (x ∷ xs) =
-    elim (p (f x)) as (λ b. map f (cond b (x ∷ filter (λ x. p (f x)) xs) (filter (λ x. p (f x)) xs)) ≡ cond b (f x ∷ filter p (map f xs)) (filter p (map f xs))) [
+    elim (p (f x)) as (λ b. map f (cond b (x ∷ filter (λ x. p (f x)) xs) (filter (λ x. p (f x)) xs))
+    ≡ cond b (f x ∷ filter p (map f xs)) (filter p (map f xs))) [
       | true ↦ ap (λ ys. f x ∷ ys) (map_filter f p xs)
       | false ↦ map_filter f p xs
     ]
@@ -34,7 +37,8 @@ module _ {K : Type 0} {R : K → K → Ordering} (o : IsTotalOrder R) where
   strict_from_distinct [] sorted distinct = tt
   strict_from_distinct (k ∷ ks) sorted distinct =
       sorted_from_all_adjacent o (k ∷ ks) k
-      (λ i inside. rises _ _ (sorted i k (omega arith) inside) (apart_from_distinct (eq_by_cmp R) (k ∷ ks) i (i + 1) k distinct (omega arith) inside))
+      (λ i inside. rises _ _ (sorted i k (omega arith) inside)
+      (apart_from_distinct (eq_by_cmp R) (k ∷ ks) i (i + 1) k distinct (omega arith) inside))
 
 module _ {K X : Type 0} (R : K → K → Ordering) where
   -- what `find` finds is what a look-up finds
@@ -44,16 +48,25 @@ module _ {K X : Type 0} (R : K → K → Ordering) where
 
   -- ---- of the entries, those that pass a test
 
-  below_filter : (p : K × X → Bool) (k : K) (es : List (K × X)) → below_all R k es ≡ true → below_all R k (filter p es) ≡ true
+  below_filter : (p : K × X → Bool) (k : K) (es : List (K × X)) → below_all R k es ≡ true
+      → below_all R k (filter p es) ≡ true
   below_filter p k [] below = refl
   below_filter p k (e ∷ es) below =
       let parts = and_parts (is_lt (R k e.0)) _ below in
       let later = below_filter p k es parts.1 in
-      elim (p e) as (λ b. below_all R k (cond b (e ∷ filter p es) (filter p es)) ≡ true) [ true ↦ and_from (is_lt (R k e.0)) _ parts.0 later | false ↦ later ]
+      elim (p e) as (λ b. below_all R k (cond b (e ∷ filter p es) (filter p es)) ≡ true) [
+        | true ↦
+            and_from (is_lt (R k e.0)) _ parts.0 later
+        | false ↦ later
+      ]
 
   pub sorted_filter : (p : K × X → Bool) (es : List (K × X)) → is_sorted R es ≡ true → is_sorted R (filter p es) ≡ true
   sorted_filter p [] sorted = refl
   sorted_filter p (e ∷ es) sorted =
       let parts = and_parts (below_all R e.0 es) _ sorted in
       let later = sorted_filter p es parts.1 in
-      elim (p e) as (λ b. is_sorted R (cond b (e ∷ filter p es) (filter p es)) ≡ true) [ true ↦ and_from (below_all R e.0 (filter p es)) _ (below_filter p e.0 es parts.0) later | false ↦ later ]
+      elim (p e) as (λ b. is_sorted R (cond b (e ∷ filter p es) (filter p es)) ≡ true) [
+        | true ↦
+            and_from (below_all R e.0 (filter p es)) _ (below_filter p e.0 es parts.0) later
+        | false ↦ later
+      ]

@@ -12,18 +12,22 @@ use Rattle.clip_extract.specs.Covering.{Covers}
 use Rattle.clip_match.specs.Candidates.{is_candidate, candidates_of, MissesNone, AreRegistered}
 
 -- no candidate is missed
-pub misses_none : Covers → (state : RegistryState) (article : ArticleValue) → IsWhole state → MissesNone state article (candidates_of state article)
+pub misses_none : Covers → (state : RegistryState) (article : ArticleValue) → IsWhole state
+    → MissesNone state article (candidates_of state article)
 misses_none covers state article whole r stands held =
     let live = (whole.live_entries r).0 stands in
     contains_filter (is_candidate state.history article.fields) r (all_entries state.segments)
     (and_from (is_live state.history r.seq) _ live.1 (covers r.standing.tree article.fields held)) live.0
 
-pub candidates_rise : (state : RegistryState) (article : ArticleValue) → IsWhole state → IsRising (candidates_of state article)
+pub candidates_rise : (state : RegistryState) (article : ArticleValue) → IsWhole state
+    → IsRising (candidates_of state article)
 candidates_rise state article whole = record {
-  rises = AllPairs-filter (λ e f. e.seq < f.seq) (is_candidate state.history article.fields) (all_entries state.segments) whole.rising.rises;
+  rises = AllPairs-filter (λ e f. e.seq < f.seq) (is_candidate state.history article.fields)
+      (all_entries state.segments) whole.rising.rises;
 }
 
-pub candidates_registered : (state : RegistryState) (article : ArticleValue) → IsWhole state → AreRegistered state (candidates_of state article)
+pub candidates_registered : (state : RegistryState) (article : ArticleValue) → IsWhole state
+    → AreRegistered state (candidates_of state article)
 candidates_registered state article whole k d inside =
     let p = is_candidate state.history article.fields in
     let entries = all_entries state.segments in

@@ -1,6 +1,7 @@
 -- A group's meaning, clause by clause.
 use Rattle.std.proofs.lemmas.List.{drop_all, drop_more}
-use Rattle.std.proofs.Common.{◌≡◌, ℕ, ◌+◌, ◌<◌, ◌≤◌, Bool, true, false, ◌&&◌, ◌||◌, List, [], ◌∷◌, map, length, drop, get_or, refl, sym, ap, ◌∙◌}
+use Rattle.std.proofs.Common.{◌≡◌, ℕ, ◌+◌, ◌<◌, ◌≤◌, Bool, true, false, ◌&&◌, ◌||◌, List, [], ◌∷◌, map, length, drop}
+use Rattle.std.proofs.Common.{get_or, refl, sym, ap, ◌∙◌}
 use Rattle.std.specs.List.{list_any, list_all}
 use Rattle.clip_grammar.specs.declared.query.Occur.{Occur}
 use Rattle.clip_grammar.specs.declared.query.Occur.TheVariants.{Must, Should, MustNot}
@@ -23,7 +24,8 @@ pub must_false : (m s : Bool) (vs : List (Occur × Bool)) → group_with m s ((M
 unfolding group_with
 must_false m s vs = refl
 
-pub must_not_false : (m s : Bool) (vs : List (Occur × Bool)) → group_with m s ((MustNot, false) ∷ vs) ≡ group_with m s vs
+pub must_not_false : (m s : Bool) (vs : List (Occur × Bool)) → group_with m s ((MustNot, false) ∷ vs)
+    ≡ group_with m s vs
 unfolding group_with
 must_not_false m s vs = refl
 
@@ -49,19 +51,25 @@ group_end false true = refl
 group_end false false = refl
 
 -- the verdicts of a group's clauses
-pub verdicts_map : (cs : List (Occur × Query)) (a : Fields) → verdicts (clauses_of (map (λ c. (c.0, tree_of c.1)) cs)) a ≡ verdicts_of a cs
+pub verdicts_map : (cs : List (Occur × Query)) (a : Fields)
+    → verdicts (clauses_of (map (λ c. (c.0, tree_of c.1)) cs)) a ≡ verdicts_of a cs
 verdicts_map [] a = refl
 verdicts_map (c ∷ cs) a = ap (λ vs. (c.0, holds (tree_of c.1) a) ∷ vs) (verdicts_map cs a)
 
-pub group_start : (cs : List (Occur × Query)) (a : Fields) → group_with false false (verdicts_of a cs) ≡ group_holds (verdicts (clauses_of (map (λ c. (c.0, tree_of c.1)) cs)) a)
+pub group_start : (cs : List (Occur × Query)) (a : Fields) → group_with false false (verdicts_of a cs)
+    ≡ group_holds (verdicts (clauses_of (map (λ c. (c.0, tree_of c.1)) cs)) a)
 unfolding group_with group_holds
 group_start cs a = ap group_holds (sym (verdicts_map cs a))
 
 -- all clauses are read
-pub all_read : (m s : Bool) (a : Fields) (cs : List (Occur × Query)) (i : ℕ) (h : Bool) → length cs ≤ i → group_with m s (verdicts_of a (drop i cs)) ≡ h → (m || s) ≡ h
-all_read m s a cs i h le e = sym (group_end m s) ∙ ap (λ x. group_with m s (verdicts_of a x)) (sym (drop_all i cs le)) ∙ e
+pub all_read : (m s : Bool) (a : Fields) (cs : List (Occur × Query)) (i : ℕ) (h : Bool) → length cs ≤ i
+    → group_with m s (verdicts_of a (drop i cs)) ≡ h → (m || s) ≡ h
+all_read m s a cs i h le e = sym (group_end m s) ∙ ap (λ x. group_with m s (verdicts_of a x)) (sym (drop_all i cs le))
+    ∙ e
 
 -- a clause is read
-pub next_verdict : (a : Fields) (cs : List (Occur × Query)) (i : ℕ) (c : Occur × Query) → i < length cs → c ≡ get_or cs i c → verdicts_of a (drop i cs) ≡ (c.0, holds (tree_of c.1) a) ∷ verdicts_of a (drop (i + 1) cs)
+pub next_verdict : (a : Fields) (cs : List (Occur × Query)) (i : ℕ) (c : Occur × Query) → i < length cs
+    → c ≡ get_or cs i c → verdicts_of a (drop i cs) ≡ (c.0, holds (tree_of c.1) a) ∷ verdicts_of a (drop (i + 1) cs)
 next_verdict a cs i c lt is =
-    ap (verdicts_of a) (drop_more cs i c lt) ∙ ap (λ (x : Occur × Query). (x.0, holds (tree_of x.1) a) ∷ verdicts_of a (drop (i + 1) cs)) (sym is)
+    ap (verdicts_of a) (drop_more cs i c lt)
+    ∙ ap (λ (x : Occur × Query). (x.0, holds (tree_of x.1) a) ∷ verdicts_of a (drop (i + 1) cs)) (sym is)

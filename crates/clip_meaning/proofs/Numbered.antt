@@ -1,5 +1,6 @@
 -- The words of a field and their postings: a test of words, and a phrase.
-use Rattle.std.proofs.Common.{◌≡◌, ℕ, ◌+◌, ◌<◌, Bool, true, false, cond, ◌&&◌, ◌||◌, List, [], ◌∷◌, length, drop, map, filter, bytes_eq, IsPermutation, refl, sym, ap, ◌∙◌, arith, get_or}
+use Rattle.std.proofs.Common.{◌≡◌, ℕ, ◌+◌, ◌<◌, Bool, true, false, cond, ◌&&◌, ◌||◌, List, [], ◌∷◌, length, drop, map}
+use Rattle.std.proofs.Common.{filter, bytes_eq, IsPermutation, refl, sym, ap, ◌∙◌, arith, get_or}
 use Rattle.std.specs.List.{list_any, starts_with}
 use Rattle.std.specs.Cmp.Lexicographic.{nat_list_eq_equiv}
 use Rattle.std.proofs.lemmas.List.Sorted.{list_any-IsPermutation}
@@ -9,7 +10,8 @@ use Rattle.clip_meaning.specs.Steps.Searches.{stands_at}
 use Rattle.clip_meaning.specs.Meaning.{has_run, is_nonempty}
 use Rattle.clip_meaning.proofs.Postings.{Place}
 
-numbered_pass : (t : List ℕ → Bool) (n : ℕ) (ws : List (List ℕ)) → list_any (λ (p : Place). t p.0) (numbered n ws) ≡ list_any t ws
+numbered_pass : (t : List ℕ → Bool) (n : ℕ) (ws : List (List ℕ)) → list_any (λ (p : Place). t p.0) (numbered n ws)
+    ≡ list_any t ws
 numbered_pass t n [] = refl
 numbered_pass t n (w ∷ ws) = ap (λ b. t w || b) (numbered_pass t (n + 1) ws)
 
@@ -18,17 +20,21 @@ pub any_filter : {A : Type 0} (q t : A → Bool) (xs : List A) → list_any t (f
 any_filter q t [] = refl
 any_filter q t (x ∷ xs) = by_test (q x) ∙ ap (λ b. (q x && t x) || b) (any_filter q t xs)
   where
-    by_test : (b : Bool) → list_any t (cond b (x ∷ filter q xs) (filter q xs)) ≡ ((b && t x) || list_any t (filter q xs))
+    by_test : (b : Bool) → list_any t (cond b (x ∷ filter q xs) (filter q xs))
+        ≡ ((b && t x) || list_any t (filter q xs))
     by_test true = refl
     by_test false = refl
 
 -- some posting's word passes where some word does
-pub words_pass : (t : List ℕ → Bool) (ws : List (List ℕ)) (ps : List Place) → IsPermutation (numbered 0 ws) ps → list_any (λ (p : Place). t p.0) ps ≡ list_any t ws
-words_pass t ws ps same = sym (list_any-IsPermutation (λ (p : Place). t p.0) (numbered 0 ws) ps same) ∙ numbered_pass t 0 ws
+pub words_pass : (t : List ℕ → Bool) (ws : List (List ℕ)) (ps : List Place) → IsPermutation (numbered 0 ws) ps
+    → list_any (λ (p : Place). t p.0) ps ≡ list_any t ws
+words_pass t ws ps same = sym (list_any-IsPermutation (λ (p : Place). t p.0) (numbered 0 ws) ps same)
+    ∙ numbered_pass t 0 ws
 
 -- ---- phrases
 
-pub rest_dropped : (n : ℕ) (all : List (List ℕ)) (w : List ℕ) (ws : List (List ℕ)) → drop n all ≡ w ∷ ws → drop (n + 1) all ≡ ws
+pub rest_dropped : (n : ℕ) (all : List (List ℕ)) (w : List ℕ) (ws : List (List ℕ)) → drop n all ≡ w ∷ ws
+    → drop (n + 1) all ≡ ws
 rest_dropped n all w ws e = sym (drop-drop 1 n all) ∙ ap (drop 1) e
 
 twice : (a b c : Bool) → a ≡ b → (a && (b && c)) ≡ (b && c)
@@ -36,19 +42,25 @@ twice a true c e = ap (λ x. x && c) e
 twice a false c e = ap (λ x. x && false) e
 
 -- a run of the phrase begins at a posting of its first word
-run_numbered : (all ws fs : List (List ℕ)) (f : List ℕ) (n : ℕ) → drop n all ≡ ws → has_run ws (f ∷ fs) ≡ list_any (λ p. bytes_eq p.0 f && stands_at all (f ∷ fs) p) (numbered n ws)
+run_numbered : (all ws fs : List (List ℕ)) (f : List ℕ) (n : ℕ) → drop n all ≡ ws
+    → has_run ws (f ∷ fs) ≡ list_any (λ p. bytes_eq p.0 f && stands_at all (f ∷ fs) p) (numbered n ws)
 run_numbered all [] fs f n e = refl
 run_numbered all (w ∷ ws) fs f n e =
-    ap (λ b. b || has_run ws (f ∷ fs)) (sym (ap (λ xs. bytes_eq w f && starts_with bytes_eq xs (f ∷ fs)) e ∙ twice (bytes_eq w f) (bytes_eq f w) _ (nat_list_eq_equiv.symm w f)))
-    ∙ ap (λ b. (bytes_eq w f && stands_at all (f ∷ fs) (w, n)) || b) (run_numbered all ws fs f (n + 1) (rest_dropped n all w ws e))
+    ap (λ b. b || has_run ws (f ∷ fs)) (sym (ap (λ xs. bytes_eq w f && starts_with bytes_eq xs (f ∷ fs)) e
+    ∙ twice (bytes_eq w f) (bytes_eq f w) _ (nat_list_eq_equiv.symm w f)))
+    ∙ ap (λ b. (bytes_eq w f && stands_at all (f ∷ fs) (w, n))
+    || b) (run_numbered all ws fs f (n + 1) (rest_dropped n all w ws e))
 
 -- the postings of its first word settle a phrase, whose words g gives
-pub run_at_posting : {X : Type 0} (g : X → List ℕ) (all : List (List ℕ)) (phrase : List X) (x : X) (ps found : List Place) → 0 < length phrase → x ≡ get_or phrase 0 x → IsPermutation (numbered 0 all) ps → found ≡ filter (λ (p : Place). bytes_eq p.0 (g x)) ps
+pub run_at_posting : {X : Type 0} (g : X
+    → List ℕ) (all : List (List ℕ)) (phrase : List X) (x : X) (ps found : List Place) → 0 < length phrase
+    → x ≡ get_or phrase 0 x → IsPermutation (numbered 0 all) ps → found ≡ filter (λ (p : Place). bytes_eq p.0 (g x)) ps
     → list_any (stands_at all (map g phrase)) found ≡ (is_nonempty (map g phrase) && has_run all (map g phrase))
 run_at_posting g all [] x ps found lt is same kept = absurd (omega arith)
 run_at_posting g all (y ∷ ys) x ps found lt is same kept =
     let f = g y in
     let fs = map g ys in
-    ap (list_any (stands_at all (f ∷ fs))) (kept ∙ ap (λ z. filter (λ (p : Place). bytes_eq p.0 (g z)) ps) is) ∙ any_filter (λ p. bytes_eq p.0 f) (stands_at all (f ∷ fs)) ps
+    ap (list_any (stands_at all (f ∷ fs))) (kept ∙ ap (λ z. filter (λ (p : Place). bytes_eq p.0 (g z)) ps) is)
+    ∙ any_filter (λ p. bytes_eq p.0 f) (stands_at all (f ∷ fs)) ps
     ∙ sym (list_any-IsPermutation (λ (p : Place). bytes_eq p.0 f && stands_at all (f ∷ fs) p) (numbered 0 all) ps same)
     ∙ sym (run_numbered all all fs f 0 refl)

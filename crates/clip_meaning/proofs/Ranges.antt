@@ -1,5 +1,7 @@
 -- The postings of a range of words: a run, from where the range begins up to the first word that is past it.
-use Rattle.std.proofs.Common.{◌≡◌, ℕ, suc, ◌+◌, ◌<◌, ◌≤◌, Bool, true, false, not, cond, ◌&&◌, List, [], ◌∷◌, length, take, drop, filter, get_or, is_lt, Ordering, Less, Equal, Greater, refl, sym, ap, subst, ◌∙◌, arith, true≢false, one-add}
+use Rattle.std.proofs.Common.{◌≡◌, ℕ, suc, ◌+◌, ◌<◌, ◌≤◌, Bool, true, false, not, cond, ◌&&◌, List, [], ◌∷◌, length}
+use Rattle.std.proofs.Common.{take, drop, filter, get_or, is_lt, Ordering, Less, Equal, Greater, refl, sym, ap, subst}
+use Rattle.std.proofs.Common.{◌∙◌, arith, true≢false, one-add}
 use Rattle.std.specs.List.{prefix_len}
 use Rattle.std.specs.List.Sorted.{IsPartitionedBy, IsPartitionPoint}
 use Rattle.std.specs.Cmp.Lexicographic.{nat_list_cmp_total}
@@ -8,7 +10,8 @@ use Rattle.std.proofs.lemmas.Cmp.{upto}
 use Rattle.clip_words.specs.Order.{bytes_cmp}
 use Rattle.clip_grammar.specs.Tokens.{End}
 use Rattle.clip_meaning.proofs.Fields.{prefix_from_point}
-use Rattle.clip_meaning.proofs.Postings.{Place, Rises, tail_rises, turned, below_upto, not_below, no_later, stays_above, none_kept}
+use Rattle.clip_meaning.proofs.Postings.{Place, Rises, tail_rises, turned, below_upto, not_below, no_later, stays_above}
+use Rattle.clip_meaning.proofs.Postings.{none_kept}
 use Rattle.clip_meaning.specs.Steps.Searches.{from_low}
 use Rattle.clip_meaning.specs.Meaning.{above, below, begins_with, is_between}
 
@@ -35,9 +38,11 @@ range_above : (low : End) (ps : List Place) → Rises ps → AllAbove low (from_
 range_above low [] r = λ k d lt. absurd (omega arith)
 range_above low (p ∷ ps) r = by_place (above low p.0) refl (range_above low ps (tail_rises p ps r))
   where
-    by_place : (b : Bool) → above low p.0 ≡ b → AllAbove low (from_low low ps) → AllAbove low (drop (cond (not b) (1 + prefix_len (λ (q : Place). not (above low q.0)) ps) 0) (p ∷ ps))
+    by_place : (b : Bool) → above low p.0 ≡ b → AllAbove low (from_low low ps)
+        → AllAbove low (drop (cond (not b) (1 + prefix_len (λ (q : Place). not (above low q.0)) ps) 0) (p ∷ ps))
     by_place true e rest = from_above low p ps r e
-    by_place false e rest = subst (λ m. AllAbove low (drop m (p ∷ ps))) (sym (one-add (prefix_len (λ (q : Place). not (above low q.0)) ps))) rest
+    by_place false e rest = subst (λ m. AllAbove low (drop m (p ∷ ps)))
+        (sym (one-add (prefix_len (λ (q : Place). not (above low q.0)) ps))) rest
 
 -- ---- runs
 
@@ -51,33 +56,41 @@ abbrev Front : (Place → Bool) → List Place → List Place
 Front u ps = take (prefix_len u ps) ps
 
 -- of words that are all above the low end
-front_kept : (low : End) (t u : Place → Bool) → IsRun low t u → (ps : List Place) → Rises ps → AllAbove low ps → Front u ps ≡ filter t ps
+front_kept : (low : End) (t u : Place → Bool) → IsRun low t u → (ps : List Place) → Rises ps → AllAbove low ps
+    → Front u ps ≡ filter t ps
 front_kept low t u run [] r over = refl
-front_kept low t u run (p ∷ ps) r over = by_test (u p) refl (front_kept low t u run ps (tail_rises p ps r) (λ k d lt. over (suc k) d (omega arith)))
+front_kept low t u run (p ∷ ps) r over =
+    by_test (u p) refl (front_kept low t u run ps (tail_rises p ps r) (λ k d lt. over (suc k) d (omega arith)))
   where
     here : above low p.0 ≡ true
     here = over 0 p (omega arith)
 
-    by_test : (b : Bool) → u p ≡ b → Front u ps ≡ filter t ps → take (cond b (1 + prefix_len u ps) 0) (p ∷ ps) ≡ cond (t p) (p ∷ filter t ps) (filter t ps)
+    by_test : (b : Bool) → u p ≡ b → Front u ps ≡ filter t ps → take (cond b (1 + prefix_len u ps) 0) (p ∷ ps)
+        ≡ cond (t p) (p ∷ filter t ps) (filter t ps)
     by_test true e rest =
         ap (λ m. take m (p ∷ ps)) (one-add (prefix_len u ps)) ∙ ap (λ qs. p ∷ qs) rest
         ∙ sym (ap (λ b. cond b (p ∷ filter t ps) (filter t ps)) (run.inside p here ∙ e))
     by_test false e rest =
         sym (ap (λ b. cond b (p ∷ filter t ps) (filter t ps)) (run.inside p here ∙ e)
-        ∙ none_kept t ps (λ k d lt. run.inside (get_or ps k d) (over (suc k) d (omega arith)) ∙ run.stops p (get_or ps k d) here (r 0 (suc k) d (omega arith) (omega arith)) e))
+        ∙ none_kept t ps (λ k d lt. run.inside (get_or ps k d) (over (suc k) d (omega arith))
+        ∙ run.stops p (get_or ps k d) here (r 0 (suc k) d (omega arith) (omega arith)) e))
 
-run_kept : (low : End) (t u : Place → Bool) → IsRun low t u → (ps : List Place) → Rises ps → Front u (from_low low ps) ≡ filter t ps
+run_kept : (low : End) (t u : Place → Bool) → IsRun low t u → (ps : List Place) → Rises ps
+    → Front u (from_low low ps) ≡ filter t ps
 run_kept low t u run [] r = refl
 run_kept low t u run (p ∷ ps) r = by_place (above low p.0) refl (run_kept low t u run ps (tail_rises p ps r))
   where
-    by_place : (b : Bool) → above low p.0 ≡ b → Front u (from_low low ps) ≡ filter t ps → Front u (drop (cond (not b) (1 + prefix_len (λ (q : Place). not (above low q.0)) ps) 0) (p ∷ ps)) ≡ cond (t p) (p ∷ filter t ps) (filter t ps)
+    by_place : (b : Bool) → above low p.0 ≡ b → Front u (from_low low ps) ≡ filter t ps
+        → Front u (drop (cond (not b) (1 + prefix_len (λ (q : Place). not (above low q.0)) ps) 0) (p ∷ ps))
+        ≡ cond (t p) (p ∷ filter t ps) (filter t ps)
     by_place true e rest = front_kept low t u run (p ∷ ps) r (from_above low p ps r e)
     by_place false e rest =
         ap (λ m. Front u (drop m (p ∷ ps))) (one-add (prefix_len (λ (q : Place). not (above low q.0)) ps))
         ∙ rest ∙ sym (ap (λ b. cond b (p ∷ filter t ps) (filter t ps)) (run.outside p e))
 
 -- words of the run come before the others
-pub run_first : (low : End) (t u : Place → Bool) → IsRun low t u → (ps xs : List Place) → Rises ps → Rises xs → xs ≡ from_low low ps → IsPartitionedBy u xs
+pub run_first : (low : End) (t u : Place → Bool) → IsRun low t u → (ps xs : List Place) → Rises ps → Rises xs
+    → xs ≡ from_low low ps → IsPartitionedBy u xs
 run_first low t u run ps xs r part same i j d le lt g = by_test (u (get_or xs i d)) refl
   where
     over : AllAbove low xs
@@ -85,12 +98,16 @@ run_first low t u run ps xs r part same i j d le lt g = by_test (u (get_or xs i 
 
     by_test : (b : Bool) → u (get_or xs i d) ≡ b → u (get_or xs i d) ≡ true
     by_test true e = e
-    by_test false e = absurd (true≢false (sym g ∙ run.stops (get_or xs i d) (get_or xs j d) (over i d (omega arith)) (part i j d le lt) e))
+    by_test false e = absurd
+        (true≢false (sym g ∙ run.stops (get_or xs i d) (get_or xs j d) (over i d (omega arith)) (part i j d le lt) e))
 
 -- the front of a range up to where a second search ends
-pub run_read : (low : End) (t u : Place → Bool) → IsRun low t u → (ps xs front : List Place) (n : ℕ) → Rises ps → xs ≡ from_low low ps → n ≤ length xs → IsPartitionPoint (λ p. u p ≡ true) (λ p. u p ≡ false) xs n → front ≡ take n xs → front ≡ filter t ps
+pub run_read : (low : End) (t u : Place → Bool) → IsRun low t u → (ps xs front : List Place) (n : ℕ) → Rises ps
+    → xs ≡ from_low low ps → n ≤ length xs → IsPartitionPoint (λ p. u p ≡ true) (λ p. u p ≡ false) xs n
+    → front ≡ take n xs → front ≡ filter t ps
 run_read low t u run ps xs front n r same bound point e =
-    e ∙ ap (λ m. take m xs) (prefix_from_point u xs n ([], 0) bound point) ∙ ap (Front u) same ∙ run_kept low t u run ps r
+    e ∙ ap (λ m. take m xs) (prefix_from_point u xs n ([], 0) bound point) ∙ ap (Front u) same
+    ∙ run_kept low t u run ps r
 
 -- ---- the two tests
 

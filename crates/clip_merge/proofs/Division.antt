@@ -19,13 +19,24 @@ pub record Divided (n level rest : ℕ) : Type 0 where
 pub undivided : (n : ℕ) → Divided n 0 n
 undivided n = record { low = omega arith; high = omega arith; some = λ h. omega arith }
 
-pub divided_more : (n level rest : ℕ) → Divided n level rest → RUN_LENGTH ≤ rest → Divided n (level + 1) (rest / RUN_LENGTH)
+pub divided_more : (n level rest : ℕ) → Divided n level rest → RUN_LENGTH ≤ rest
+    → Divided n (level + 1) (rest / RUN_LENGTH)
 divided_more n level rest is large =
     let low = is.low in
     let high = is.high in
     record {
-      low = rw (pow_more RUN_LENGTH level) (omega (arith, mul-le-mul_left (RUN_LENGTH ^ level) (let h : RUN_LENGTH * (rest / RUN_LENGTH) ≤ rest = omega arith in h)));
-      high = rw (pow_more RUN_LENGTH level) (omega (arith, mul-le-mul_left (RUN_LENGTH ^ level) (let h : rest + 1 ≤ RUN_LENGTH * (rest / RUN_LENGTH + 1) = omega arith in h)));
+      low = rw (pow_more RUN_LENGTH level)
+          (omega (
+            arith,
+            mul-le-mul_left (RUN_LENGTH ^ level) (let h : RUN_LENGTH * (rest / RUN_LENGTH) ≤ rest =
+                omega arith in h),
+          ));
+      high = rw (pow_more RUN_LENGTH level)
+          (omega (
+            arith,
+            mul-le-mul_left (RUN_LENGTH ^ level) (let h : rest + 1
+                ≤ RUN_LENGTH * (rest / RUN_LENGTH + 1) = omega arith in h),
+          ));
       some = λ h. omega arith;
     }
 
@@ -39,9 +50,12 @@ power_within n level rest is some k le =
 
 pub divided_is_level : (n level rest : ℕ) → Divided n level rest → rest < RUN_LENGTH → IsLevel n level
 divided_is_level n level rest is small = record {
-  below = let high = is.high in let all = mul-le-mul_left (RUN_LENGTH ^ level) (let h : rest + 1 ≤ RUN_LENGTH = omega arith in h) in let more = pow_more RUN_LENGTH level in omega arith;
+  below = let high = is.high in let all =
+      mul-le-mul_left (RUN_LENGTH ^ level) (let h : rest + 1 ≤ RUN_LENGTH = omega arith in h) in let more =
+      pow_more RUN_LENGTH level in omega arith;
   least = λ k below. elim (cases_lt k level) [
-    | inl more ↦ let power = power_within n level rest is (is.some (omega arith)) (k + 1) (omega arith) in absurd (omega arith)
+    | inl more ↦ let power = power_within n level rest is (is.some (omega arith)) (k + 1) (omega arith) in
+        absurd (omega arith)
     | inr enough ↦ enough
   ];
 }

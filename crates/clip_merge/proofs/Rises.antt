@@ -1,5 +1,6 @@
 -- Segments behind which one has a higher level.
-use Rattle.std.proofs.Common.{◌≡◌, ℕ, suc, zero, ◌+◌, ◌*◌, ◌<◌, ◌≤◌, ◌^◌, List, [], ◌∷◌, length, get_or, ap, subst, arith, below_more, length-append, inl, inr}
+use Rattle.std.proofs.Common.{◌≡◌, ℕ, suc, zero, ◌+◌, ◌*◌, ◌<◌, ◌≤◌, ◌^◌, List, [], ◌∷◌, length, get_or, ap, subst}
+use Rattle.std.proofs.Common.{arith, below_more, length-append, inl, inr}
 use Rattle.std.proofs.lemmas.Bool.{cases_lt}
 use Rattle.std.proofs.Math.Nat.{pow-suc}
 use Rattle.std.specs.Prelude.{Option, Some, None, IfSome}
@@ -39,7 +40,8 @@ module _ (segments : List (List Registered)) where
   }
 
   -- a segment with a level below the highest is a rise
-  pub seen_lower : (at next highest here : ℕ) (oldest : Option ℕ) → next ≡ at + 1 → HasLevel segments at here → here < highest → Seen segments next highest oldest → Seen segments at highest (Some at)
+  pub seen_lower : (at next highest here : ℕ) (oldest : Option ℕ) → next ≡ at + 1 → HasLevel segments at here
+      → here < highest → Seen segments next highest oldest → Seen segments at highest (Some at)
   seen_lower at next highest here oldest e has low seen =
       let top = seen.reached (omega arith) in
       let after = top.after in
@@ -48,17 +50,29 @@ module _ (segments : List (List Registered)) where
           | inl later ↦ seen.bound k level (omega arith) inside other
           | inr same ↦
               let is : k ≡ at = omega arith in
-              let equal = one_level (length (get_or segments at [])) level here (subst (λ i. HasLevel segments i level) is other) has in
+              let equal = one_level (length (get_or segments at [])) level here
+              (subst (λ i. HasLevel segments i level) is other) has in
               omega arith
         ];
         reached = λ _. record { at = top.at; after = omega arith; there = top.there; has = top.has };
-        rise = record { behind = top.at; after = omega arith; there = top.there; low = here; high = highest; low_level = has; high_level = top.has; rises = low };
+        rise = record {
+          behind = top.at;
+          after = omega arith;
+          there = top.there;
+          low = here;
+          high =
+              highest;
+          low_level = has;
+          high_level = top.has;
+          rises = low;
+        };
         first = λ k from before rise. absurd (omega arith);
         none = λ h. cc h;
       }
 
   -- a segment with the highest level is none
-  not_here : (at next highest here : ℕ) (oldest : Option ℕ) → next ≡ at + 1 → HasLevel segments at here → highest ≤ here → Seen segments next highest oldest → IsRise segments at → ⊥
+  not_here : (at next highest here : ℕ) (oldest : Option ℕ) → next ≡ at + 1 → HasLevel segments at here
+      → highest ≤ here → Seen segments next highest oldest → IsRise segments at → ⊥
   not_here at next highest here oldest e has high seen rise =
       let after = rise.after in
       let within = seen.bound rise.behind rise.high (omega arith) rise.there rise.high_level in
@@ -66,13 +80,15 @@ module _ (segments : List (List Registered)) where
       let rises = rise.rises in
       omega arith
 
-  pub seen_higher : (at next highest here : ℕ) (oldest : Option ℕ) → next ≡ at + 1 → at < length segments → HasLevel segments at here → highest ≤ here → Seen segments next highest oldest → Seen segments at here oldest
+  pub seen_higher : (at next highest here : ℕ) (oldest : Option ℕ) → next ≡ at + 1 → at < length segments
+      → HasLevel segments at here → highest ≤ here → Seen segments next highest oldest → Seen segments at here oldest
   seen_higher at next highest here oldest e inside has high seen = record {
     bound = λ k level from within other. elim (cases_lt at k) [
       | inl later ↦ let low = seen.bound k level (omega arith) within other in omega arith
       | inr same ↦
           let is : k ≡ at = omega arith in
-          let equal = one_level (length (get_or segments at [])) level here (subst (λ i. HasLevel segments i level) is other) has in
+          let equal = one_level (length (get_or segments at [])) level here
+          (subst (λ i. HasLevel segments i level) is other) has in
           omega arith
     ];
     reached = λ _. record { at = at; after = omega arith; there = inside; has = has };
@@ -80,20 +96,25 @@ module _ (segments : List (List Registered)) where
     first = first_of oldest seen.first;
     none = λ is k from rise. elim (cases_lt at k) [
       | inl later ↦ seen.none is k (omega arith) rise
-      | inr same ↦ let i : k ≡ at = omega arith in not_here at next highest here oldest e has high seen (subst (IsRise segments) i rise)
+      | inr same ↦ let i : k ≡ at = omega arith in
+          not_here at next highest here oldest e has high seen (subst (IsRise segments) i rise)
     ];
   } where
-    first_of : (found : Option ℕ) → IfSome found (λ first. (k : ℕ) → next ≤ k → k < first → IsRise segments k → ⊥) → IfSome found (λ first. (k : ℕ) → at ≤ k → k < first → IsRise segments k → ⊥)
+    first_of : (found : Option ℕ) → IfSome found (λ first. (k : ℕ) → next ≤ k → k < first → IsRise segments k → ⊥)
+        → IfSome found (λ first. (k : ℕ) → at ≤ k → k < first → IsRise segments k → ⊥)
     first_of None h = h
     first_of (Some first) h = λ k from before rise. elim (cases_lt at k) [
       | inl later ↦ h k (omega arith) before rise
-      | inr same ↦ let i : k ≡ at = omega arith in not_here at next highest here oldest e has high seen (subst (IsRise segments) i rise)
+      | inr same ↦ let i : k ≡ at = omega arith in
+          not_here at next highest here oldest e has high seen (subst (IsRise segments) i rise)
     ]
 
   -- at the first segment
-  pub seen_all : (at highest : ℕ) (oldest : Option ℕ) → at ≡ 0 → Seen segments at highest oldest → IfSome oldest (IsOldestRise segments)
+  pub seen_all : (at highest : ℕ) (oldest : Option ℕ) → at ≡ 0 → Seen segments at highest oldest
+      → IfSome oldest (IsOldestRise segments)
   seen_all at highest None e seen = tt
-  seen_all at highest (Some first) e seen = record { rise = seen.rise; oldest = λ k before rise. seen.first k (omega arith) before rise }
+  seen_all at highest (Some first) e seen =
+      record { rise = seen.rise; oldest = λ k before rise. seen.first k (omega arith) before rise }
 
 -- ---- few segments
 
@@ -103,12 +124,17 @@ exponent_below zero = omega arith
 exponent_below (suc k) = let before = exponent_below k in let more = pow-suc RUN_LENGTH k in omega arith
 
 -- the least level from this one on
-level_from : (n fuel level : ℕ) → n < RUN_LENGTH ^ (level + fuel + 1) → ((k : ℕ) → k < level → RUN_LENGTH ^ (k + 1) ≤ n) → (l : ℕ) × IsLevel n l
+level_from : (n fuel level : ℕ) → n < RUN_LENGTH ^ (level + fuel + 1)
+    → ((k : ℕ) → k < level → RUN_LENGTH ^ (k + 1) ≤ n) → (l : ℕ) × IsLevel n l
 level_from n zero level below above = (
   level,
   record {
     below = let e : level + 0 + 1 ≡ level + 1 = omega arith in subst (λ k. n < RUN_LENGTH ^ k) e below;
-    least = λ k lt. elim (cases_lt k level) [ inl less ↦ let high = above k less in absurd (omega arith) | inr enough ↦ enough ];
+    least = λ k lt. elim (cases_lt k level) [
+      | inl less ↦ let high = above k less in absurd (omega arith)
+      | inr enough ↦
+          enough
+    ];
   },
 )
 level_from n (suc fuel) level below above = elim (cases_lt n (RUN_LENGTH ^ (level + 1))) [
@@ -116,12 +142,17 @@ level_from n (suc fuel) level below above = elim (cases_lt n (RUN_LENGTH ^ (leve
     level,
     record {
       below = here;
-      least = λ k lt. elim (cases_lt k level) [ inl less ↦ let high = above k less in absurd (omega arith) | inr enough ↦ enough ];
+      least = λ k lt. elim (cases_lt k level) [
+        | inl less ↦ let high = above k less in
+            absurd (omega arith)
+        | inr enough ↦ enough
+      ];
     },
   )
   | inr higher ↦
       let e : level + suc fuel + 1 ≡ level + 1 + fuel + 1 = omega arith in
-      level_from n fuel (level + 1) (subst (λ k. n < RUN_LENGTH ^ k) e below) (below_more (λ k. RUN_LENGTH ^ (k + 1) ≤ n) level above higher)
+      level_from n fuel (level + 1) (subst (λ k. n < RUN_LENGTH ^ k) e below)
+      (below_more (λ k. RUN_LENGTH ^ (k + 1) ≤ n) level above higher)
 ]
 
 -- each length has a level
@@ -133,7 +164,9 @@ pub higher_of : (m n low high : ℕ) → m ≤ n → IsLevel m low → IsLevel n
 higher_of m n low high le short long = short.least high (let below = long.below in omega arith)
 
 -- levels that fall at least once within three steps end soon
-falls : (level : ℕ → ℕ) (len : ℕ) → ((i j : ℕ) → i ≤ j → j < len → level j ≤ level i) → ((i j : ℕ) → j ≡ i + 3 → j < len → level i ≡ level j → ⊥) → (k at : ℕ) → at ≡ 3 * k → at < len → level at + k ≤ level 0
+falls : (level : ℕ → ℕ) (len : ℕ) → ((i j : ℕ) → i ≤ j → j < len → level j ≤ level i)
+    → ((i j : ℕ) → j ≡ i + 3 → j < len → level i ≡ level j → ⊥) → (k at : ℕ) → at ≡ 3 * k → at < len
+    → level at + k ≤ level 0
 falls level len down four zero at e inside = let same : level at ≡ level 0 = ap level e in omega arith
 falls level len down four (suc k) at e inside =
     let before = falls level len down four k (3 * k) (omega arith) (omega arith) in
@@ -144,7 +177,8 @@ falls level len down four (suc k) at e inside =
     ]
 
 -- a segment has at most the entries of all
-pub part_fewer : (segments : List (List Registered)) (at : ℕ) → length (get_or segments at []) ≤ length (all_entries segments)
+pub part_fewer : (segments : List (List Registered)) (at : ℕ) → length (get_or segments at [])
+    ≤ length (all_entries segments)
 part_fewer [] at = omega arith
 part_fewer (s ∷ segments) zero = omega (arith, length-append s (all_entries segments))
 part_fewer (s ∷ segments) (suc at) = omega (arith, part_fewer segments at, length-append s (all_entries segments))
@@ -159,13 +193,24 @@ module _ (segments : List (List Registered)) where
   down : ((k : ℕ) → IsRise segments k → ⊥) → (i j : ℕ) → i ≤ j → j < length segments → height j ≤ height i
   down flat i j le inside = elim (cases_lt i j) [
     | inl before ↦ elim (cases_lt (height i) (height j)) [
-      | inl rises ↦ absurd (flat i (record { behind = j; after = before; there = inside; low = height i; high = height j; low_level = has_level i; high_level = has_level j; rises = rises }))
+      | inl rises ↦ absurd (flat i (record {
+        behind = j;
+        after = before;
+        there = inside;
+        low = height i;
+        high =
+            height j;
+        low_level = has_level i;
+        high_level = has_level j;
+        rises = rises;
+      }))
       | inr falls ↦ falls
     ]
     | inr same ↦ let e : i ≡ j = omega arith in let equal = ap height e in omega arith
   ]
 
-  no_four : ((k : ℕ) → IsRise segments k → ⊥) → ((k : ℕ) → IsRun segments k → ⊥) → (i j : ℕ) → j ≡ i + 3 → j < length segments → height i ≡ height j → ⊥
+  no_four : ((k : ℕ) → IsRise segments k → ⊥) → ((k : ℕ) → IsRun segments k → ⊥) → (i j : ℕ) → j ≡ i + 3
+      → j < length segments → height i ≡ height j → ⊥
   no_four flat none i j e inside same = none i (run_of segments i (height i) (omega arith) (λ k lt.
       let low = down flat i (i + k) (omega arith) (omega arith) in
       let high = down flat (i + k) j (omega arith) inside in
@@ -175,13 +220,15 @@ module _ (segments : List (List Registered)) where
   pub few : ((k : ℕ) → IsRise segments k → ⊥) → ((k : ℕ) → IsRun segments k → ⊥) → AreFew segments
   few flat none =
       let all = level_of (length (all_entries segments)) in
-      let first = higher_of (length (get_or segments 0 [])) (length (all_entries segments)) (height 0) all.0 (part_fewer segments 0) (has_level 0) all.1 in
+      let first = higher_of (length (get_or segments 0 [])) (length (all_entries segments)) (height 0) all.0
+      (part_fewer segments 0) (has_level 0) all.1 in
       record {
         level = all.0;
         of_all = all.1;
         few = elim (cases_lt (3 * (all.0 + 1)) (length segments)) [
           | inl many ↦
-              let past = falls height (length segments) (down flat) (no_four flat none) (height 0 + 1) (3 * (height 0 + 1)) (omega arith) (omega arith) in
+              let past = falls height (length segments) (down flat) (no_four flat none) (height 0 + 1)
+              (3 * (height 0 + 1)) (omega arith) (omega arith) in
               absurd (omega arith)
           | inr enough ↦ omega arith
         ];

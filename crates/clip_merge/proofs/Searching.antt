@@ -26,13 +26,16 @@ higher_fails : (a b : ℕ) → b < a → nat_eq a b ≡ false
 higher_fails a b h = grind (arith, nat_tests)
 
 -- the search finds a place where the seq is one of them, and none where it isn't
-pub found_is_named : (seqs : List ℕ) (seq : ℕ) (r : Result ℕ ℕ) → AreRising seqs → IsBinarySearchResult (λ s. nat_cmp s seq) seqs r → is_ok r ≡ names seqs seq
+pub found_is_named : (seqs : List ℕ) (seq : ℕ) (r : Result ℕ ℕ) → AreRising seqs
+    → IsBinarySearchResult (λ s. nat_cmp s seq) seqs r → is_ok r ≡ names seqs seq
 found_is_named seqs seq (Ok i) are found =
     let at = searched seqs seq (Ok i) found (in_order seqs are) in
     sym (list_any_at (λ s. nat_eq s seq) seqs i 0 at.0 (same_passes (get_or seqs i 0) seq at.1))
 found_is_named seqs seq (Err i) are found =
     let around = searched seqs seq (Err i) found (in_order seqs are) in
     sym (list_any_none (λ s. nat_eq s seq) seqs (λ k d inside. elim (cases_lt k i) [
-      | inl before ↦ lower_fails (get_or seqs k d) seq (let low = around.1 k before in rw (get_or_default seqs k d 0 inside) low)
-      | inr after ↦ higher_fails (get_or seqs k d) seq (let high = around.2 k after inside in rw (get_or_default seqs k d 0 inside) high)
+      | inl before ↦ lower_fails (get_or seqs k d) seq (let low = around.1 k before in
+          rw (get_or_default seqs k d 0 inside) low)
+      | inr after ↦ higher_fails (get_or seqs k d) seq (let high = around.2 k after inside in
+          rw (get_or_default seqs k d 0 inside) high)
     ]))

@@ -28,14 +28,16 @@ module _ {K X : Type 0} {R : K → K → Ordering} (o : IsTotalOrder R) where
       let same : R k f.0 ≡ Less = o.congr k x f.0 tied ∙ less _ (first _ _ h) in
       ap (λ r. cond (is_eq r) (Some f.1) (find R k es)) same ∙ none_below k x es tied (second _ _ h)
 
-  found_behind : (p : K × X → Bool) (e : K × X) (es : List (K × X)) → T (below_all R e.0 es) → Finds R p es → Finds R p (e ∷ es)
+  found_behind : (p : K × X → Bool) (e : K × X) (es : List (K × X)) → T (below_all R e.0 es) → Finds R p es
+      → Finds R p (e ∷ es)
   found_behind p e es h at = record {
     key = at.key;
     value = at.value;
-    found = elim (eq_by_cmp R at.key e.0) as (λ b. eq_by_cmp R at.key e.0 ≡ b → cond b (Some e.1) (find R at.key es) ≡ Some at.value) [
-      | true ↦ λ b. let none = none_below at.key e.0 es (equal _ b) h in let is = at.found in cc
-      | false ↦ λ b. at.found
-    ] refl;
+    found = elim (eq_by_cmp R at.key e.0) as (λ b. eq_by_cmp R at.key e.0 ≡ b → cond b (Some e.1) (find R at.key es)
+        ≡ Some at.value) [
+          | true ↦ λ b. let none = none_below at.key e.0 es (equal _ b) h in let is = at.found in cc
+          | false ↦ λ b. at.found
+        ] refl;
     passes = at.passes;
   }
 
@@ -53,7 +55,8 @@ module _ {K X : Type 0} {R : K → K → Ordering} (o : IsTotalOrder R) where
       ] refl h
 
   -- an entry that passes a test is what its key gives
-  pub entry_given : (p : K × X → Bool) (m : finite.FinMap R X) → list_any p (finite.entries m) ≡ true → (k : K) × (v : X) × (finite.get m k ≡ Some v) × (p (k, v) ≡ true)
+  pub entry_given : (p : K × X → Bool) (m : finite.FinMap R X) → list_any p (finite.entries m) ≡ true
+      → (k : K) × (v : X) × (finite.get m k ≡ Some v) × (p (k, v) ≡ true)
   entry_given p m h =
       let at = finds_member p (finite.entries m) (entries_sorted m) h in
       (at.key, at.value, get-entries m at.key ∙ at.found, at.passes)

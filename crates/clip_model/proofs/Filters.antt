@@ -1,11 +1,17 @@
 -- What tests keep of lists.
-use Rattle.std.proofs.Common.{◌≡◌, ℕ, suc, ◌+◌, ◌≤◌, ◌||◌, Bool, true, false, cond, List, [], ◌∷◌, ◌++◌, length, map, refl, ap, ◌∙◌, arith, IsTrue, ◌&&◌}
+use Rattle.std.proofs.Common.{◌≡◌, ℕ, suc, ◌+◌, ◌≤◌, ◌||◌, Bool, true, false, cond, List, [], ◌∷◌, ◌++◌, length, map}
+use Rattle.std.proofs.Common.{refl, ap, ◌∙◌, arith, IsTrue, ◌&&◌}
 use Rattle.std.specs.List.{filter, list_all}
 
 module _ {A : Type 0} where
   pub filter_few : (p : A → Bool) (xs : List A) → length (filter p xs) ≤ length xs
   filter_few p [] = omega arith
-  filter_few p (x ∷ xs) = let rest = filter_few p xs in elim (p x) as (λ b. length (cond b (x ∷ filter p xs) (filter p xs)) ≤ suc (length xs)) [ true ↦ omega arith | false ↦ omega arith ]
+  filter_few p (x ∷ xs) = let rest = filter_few p xs in
+      elim (p x) as (λ b. length (cond b (x ∷ filter p xs) (filter p xs)) ≤ suc (length xs)) [
+        | true ↦
+            omega arith
+        | false ↦ omega arith
+      ]
 
   pub filter_none : (p : A → Bool) → ((x : A) → p x ≡ false) → (xs : List A) → filter p xs ≡ []
   filter_none p none [] = refl
@@ -13,31 +19,46 @@ module _ {A : Type 0} where
 
   pub filter_all : (p : A → Bool) → ((x : A) → p x ≡ true) → (xs : List A) → filter p xs ≡ xs
   filter_all p all [] = refl
-  filter_all p all (x ∷ xs) = ap (λ b. cond b (x ∷ filter p xs) (filter p xs)) (all x) ∙ ap (λ ys. x ∷ ys) (filter_all p all xs)
+  filter_all p all (x ∷ xs) = ap (λ b. cond b (x ∷ filter p xs) (filter p xs)) (all x)
+      ∙ ap (λ ys. x ∷ ys) (filter_all p all xs)
 
   -- two tests, one after the other, in either order
   pub filter_swap : (p q : A → Bool) (xs : List A) → filter p (filter q xs) ≡ filter q (filter p xs)
   filter_swap p q [] = refl
   filter_swap p q (x ∷ xs) =
-      elim (p x) as (λ b. p x ≡ b → filter p (cond (q x) (x ∷ filter q xs) (filter q xs)) ≡ filter q (cond b (x ∷ filter p xs) (filter p xs))) [
-        | true ↦ λ is. elim (q x) as (λ c. filter p (cond c (x ∷ filter q xs) (filter q xs)) ≡ cond c (x ∷ filter q (filter p xs)) (filter q (filter p xs))) [
-          | true ↦ ap (λ b. cond b (x ∷ filter p (filter q xs)) (filter p (filter q xs))) is ∙ ap (λ ys. x ∷ ys) (filter_swap p q xs)
-          | false ↦ filter_swap p q xs
-        ]
-        | false ↦ λ is. elim (q x) as (λ c. filter p (cond c (x ∷ filter q xs) (filter q xs)) ≡ filter q (filter p xs)) [
-          | true ↦ ap (λ b. cond b (x ∷ filter p (filter q xs)) (filter p (filter q xs))) is ∙ filter_swap p q xs
-          | false ↦ filter_swap p q xs
-        ]
+      elim (p x) as (λ b. p x ≡ b → filter p (cond (q x) (x ∷ filter q xs) (filter q xs))
+      ≡ filter q (cond b (x ∷ filter p xs) (filter p xs))) [
+        | true ↦ λ is. elim (q x)
+            as (λ c. filter p (cond c (x ∷ filter q xs) (filter q xs))
+            ≡ cond c (x ∷ filter q (filter p xs)) (filter q (filter p xs))) [
+              | true ↦ ap (λ b. cond b (x ∷ filter p (filter q xs)) (filter p (filter q xs))) is
+                  ∙ ap (λ ys. x ∷ ys) (filter_swap p q xs)
+              | false ↦ filter_swap p q xs
+            ]
+        | false ↦ λ is. elim (q x)
+            as (λ c. filter p (cond c (x ∷ filter q xs) (filter q xs)) ≡ filter q (filter p xs)) [
+              | true ↦ ap (λ b. cond b (x ∷ filter p (filter q xs)) (filter p (filter q xs))) is ∙ filter_swap p q xs
+              | false ↦ filter_swap p q xs
+            ]
       ] refl
 
   -- of two tests of which no member passes both, each keeps its own of what either keeps
-  pub filter_either : (p q : A → Bool) → ((x : A) → p x ≡ true → q x ≡ false) → (xs : List A) → length (filter p xs) + length (filter q xs) ≡ length (filter (λ x. p x || q x) xs)
+  pub filter_either : (p q : A → Bool) → ((x : A) → p x ≡ true → q x ≡ false) → (xs : List A)
+      → length (filter p xs) + length (filter q xs) ≡ length (filter (λ x. p x || q x) xs)
   filter_either p q apart [] = refl
   filter_either p q apart (x ∷ xs) =
       let rest = filter_either p q apart xs in
-      elim (p x) as (λ b. p x ≡ b → length (cond b (x ∷ filter p xs) (filter p xs)) + length (cond (q x) (x ∷ filter q xs) (filter q xs)) ≡ length (cond (b || q x) (x ∷ filter (λ x. p x || q x) xs) (filter (λ x. p x || q x) xs))) [
-        | true ↦ λ is. ap (λ c. suc (length (filter p xs)) + length (cond c (x ∷ filter q xs) (filter q xs))) (apart x is) ∙ more _ _ _ rest
-        | false ↦ λ is. elim (q x) as (λ c. length (filter p xs) + length (cond c (x ∷ filter q xs) (filter q xs)) ≡ length (cond c (x ∷ filter (λ x. p x || q x) xs) (filter (λ x. p x || q x) xs))) [ true ↦ omega arith | false ↦ rest ]
+      elim (p x) as (λ b. p x ≡ b
+      → length (cond b (x ∷ filter p xs) (filter p xs)) + length (cond (q x) (x ∷ filter q xs) (filter q xs))
+      ≡ length (cond (b || q x) (x ∷ filter (λ x. p x || q x) xs) (filter (λ x. p x || q x) xs))) [
+        | true ↦ λ is. ap (λ c. suc (length (filter p xs)) + length (cond c (x ∷ filter q xs) (filter q xs)))
+            (apart x is) ∙ more _ _ _ rest
+        | false ↦ λ is. elim (q x) as (λ c. length (filter p xs) + length (cond c (x ∷ filter q xs) (filter q xs))
+            ≡ length (cond c (x ∷ filter (λ x. p x || q x) xs) (filter (λ x. p x || q x) xs))) [
+              | true ↦
+                  omega arith
+              | false ↦ rest
+            ]
       ] refl
     where
       more : (a b c : ℕ) → a + b ≡ c → suc a + b ≡ suc c

@@ -4,7 +4,8 @@ use Rattle.std.specs.FinMap as finite
 use Rattle.std.specs.FinMap.{get-empty}
 use Rattle.clip_words.specs.Order.{bytes_cmp}
 use Rattle.clip_model.specs.Standing.{Standing}
-use Rattle.clip_model.specs.History.{History, Command, Register, Delete, Clear, Registered, Registry, register_all, remove_all, after_command, replay, replay_onto, listed, lists}
+use Rattle.clip_model.specs.History.{History, Command, Register, Delete, Clear, Registered, Registry, register_all}
+use Rattle.clip_model.specs.History.{remove_all, after_command, replay, replay_onto, listed, lists}
 use Rattle.clip_model.specs.Steps.Numbered.{IsNumbered}
 use Rattle.clip_model.proofs.Live.{new, old, after_insert, after_remove}
 use Rattle.std.proofs.lemmas.Option.{none-some}
@@ -23,7 +24,8 @@ numbered_more n k m le is = record {
   distinct = is.distinct;
 }
 
-pub numbered_insert : (n : ℕ) (m : Registry) (r : Registered) → r.seq ≡ suc n → IsNumbered n m → IsNumbered (suc n) (finite.insert m r.standing.id r)
+pub numbered_insert : (n : ℕ) (m : Registry) (r : Registered) → r.seq ≡ suc n → IsNumbered n m
+    → IsNumbered (suc n) (finite.insert m r.standing.id r)
 numbered_insert n m r seq is = record {
   keyed = λ id s h. elim (after_insert m r.standing.id r id s h) as (λ _. s.standing.id ≡ id) [
     | new a e ↦ ap (λ (q : Registered). q.standing.id) e ∙ sym a
@@ -36,10 +38,12 @@ numbered_insert n m r seq is = record {
   distinct = λ a b s t h k e. elim (after_insert m r.standing.id r a s h) as (λ _. a ≡ b) [
     | new p same ↦ elim (after_insert m r.standing.id r b t k) as (λ _. a ≡ b) [
       | new q other ↦ p ∙ sym q
-      | old q other ↦ let high = (is.within b t other).1 in let seqs : s.seq ≡ r.seq = ap (λ (q : Registered). q.seq) same in absurd (omega arith)
+      | old q other ↦ let high = (is.within b t other).1 in let seqs : s.seq ≡ r.seq =
+          ap (λ (q : Registered). q.seq) same in absurd (omega arith)
     ]
     | old p same ↦ elim (after_insert m r.standing.id r b t k) as (λ _. a ≡ b) [
-      | new q other ↦ let high = (is.within a s same).1 in let seqs : t.seq ≡ r.seq = ap (λ (q : Registered). q.seq) other in absurd (omega arith)
+      | new q other ↦ let high = (is.within a s same).1 in let seqs : t.seq ≡ r.seq =
+          ap (λ (q : Registered). q.seq) other in absurd (omega arith)
       | old q other ↦ is.distinct a b s t same other e
     ]
   ];
@@ -54,7 +58,8 @@ numbered_remove n m gone is = record {
 
 -- ---- commands and histories
 
-pub numbered_register : (n : ℕ) (ss : List Standing) (m : Registry) → IsNumbered n m → IsNumbered (n + length ss) (register_all n ss m)
+pub numbered_register : (n : ℕ) (ss : List Standing) (m : Registry) → IsNumbered n m
+    → IsNumbered (n + length ss) (register_all n ss m)
 numbered_register n [] m is = numbered_more n (n + 0) m (omega arith) is
 numbered_register n (s ∷ ss) m is =
     numbered_more (suc n + length ss) (n + suc (length ss)) _ (omega arith)
@@ -64,7 +69,8 @@ pub numbered_removed : (n : ℕ) (ids : List (List ℕ)) (m : Registry) → IsNu
 numbered_removed n [] m is = is
 numbered_removed n (id ∷ ids) m is = numbered_removed n ids _ (numbered_remove n m id is)
 
-pub numbered_after : (n : ℕ) (m : Registry) (command : Command) → IsNumbered n m → IsNumbered (n + lists command) (after_command n command m)
+pub numbered_after : (n : ℕ) (m : Registry) (command : Command) → IsNumbered n m
+    → IsNumbered (n + lists command) (after_command n command m)
 numbered_after n m (Register ss) is = numbered_register n ss m is
 numbered_after n m (Delete ids) is = numbered_more n (n + 0) _ (omega arith) (numbered_removed n ids m is)
 numbered_after n m Clear is = numbered_empty (n + 0)
@@ -72,8 +78,10 @@ numbered_after n m Clear is = numbered_empty (n + 0)
 numbered_onto : (n : ℕ) (h : History) (m : Registry) → IsNumbered n m → IsNumbered (n + listed h) (replay_onto n h m)
 numbered_onto n [] m is = numbered_more n (n + 0) m (omega arith) is
 numbered_onto n (e ∷ h) m is =
-    numbered_more ((n + lists e.command) + listed h) (n + (lists e.command + listed h)) _ (omega arith) (numbered_onto (n + lists e.command) h _ (numbered_after n m e.command is))
+    numbered_more ((n + lists e.command) + listed h) (n + (lists e.command + listed h)) _ (omega arith)
+    (numbered_onto (n + lists e.command) h _ (numbered_after n m e.command is))
 
 -- what a history replays to is numbered
 pub replay_numbered : (h : History) → IsNumbered (listed h) (replay h)
-replay_numbered h = numbered_more (0 + listed h) (listed h) (replay h) (omega arith) (numbered_onto 0 h finite.empty (numbered_empty 0))
+replay_numbered h = numbered_more (0 + listed h) (listed h) (replay h) (omega arith)
+    (numbered_onto 0 h finite.empty (numbered_empty 0))

@@ -1,5 +1,6 @@
 -- A part of a legal history.
-use Rattle.std.proofs.Common.{◌≡◌, ℕ, suc, ◌<◌, ◌≤◌, ◌==◌, ◌&&◌, nat_le, Bool, true, false, cond, List, [], ◌∷◌, ◌++◌, length, map, refl, sym, ap, subst, ◌∙◌, arith, IsTrue}
+use Rattle.std.proofs.Common.{◌≡◌, ℕ, suc, ◌<◌, ◌≤◌, ◌==◌, ◌&&◌, nat_le, Bool, true, false, cond, List, [], ◌∷◌, ◌++◌}
+use Rattle.std.proofs.Common.{length, map, refl, sym, ap, subst, ◌∙◌, arith, IsTrue}
 use Rattle.std.proofs.lemmas.Bool.Decides.{nat_tests}
 use Rattle.std.proofs.lemmas.List.{length-map, map-append}
 use Rattle.std.specs.List.{filter}
@@ -17,8 +18,12 @@ module _ (keeps : List ℕ → Bool) where
   kept_own : (h : History) (caller : ℕ) → length (own (kept keeps h) caller) ≡ length (own h caller)
   kept_own [] caller = refl
   kept_own (e ∷ h) caller =
-      elim (e.caller == caller) as (λ b. length (map (λ (e : HistoryEntry). e.command) (cond b (kept_entry keeps e ∷ filter (λ e. e.caller == caller) (kept keeps h)) (filter (λ e. e.caller == caller) (kept keeps h))))
-      ≡ length (map (λ (e : HistoryEntry). e.command) (cond b (e ∷ filter (λ e. e.caller == caller) h) (filter (λ e. e.caller == caller) h)))) [
+      elim (e.caller == caller)
+      as (λ b. length (map (λ (e : HistoryEntry). e.command)
+      (cond b (kept_entry keeps e ∷ filter (λ e. e.caller == caller) (kept keeps h))
+      (filter (λ e. e.caller == caller) (kept keeps h))))
+      ≡ length (map (λ (e : HistoryEntry). e.command)
+      (cond b (e ∷ filter (λ e. e.caller == caller) h) (filter (λ e. e.caller == caller) h)))) [
         | true ↦ ap suc (kept_own h caller)
         | false ↦ kept_own h caller
       ]
@@ -28,7 +33,8 @@ module _ (keeps : List ℕ → Bool) where
 
   kept_fits : (c : Command) → IsTrue (fits c) → IsTrue (fits (kept_command keeps c))
   kept_fits (Register ss) h = fewer _ _ (filter_few (λ s. keeps s.id) ss) h
-  kept_fits (Delete ids) h = both _ _ (fewer _ _ (filter_few keeps ids) (first _ _ h)) (all_kept is_id keeps ids (second _ _ h))
+  kept_fits (Delete ids) h =
+      both _ _ (fewer _ _ (filter_few keeps ids) (first _ _ h)) (all_kept is_id keeps ids (second _ _ h))
     where
       both : (a b : Bool) → a ≡ true → b ≡ true → (a && b) ≡ true
       both true b h k = k
@@ -57,19 +63,24 @@ module _ (keeps : List ℕ → Bool) where
       let at = map_front (kept_entry keeps) h before (e ∷ after) is in
       last h before after e at.0 at.1 at.2 at.3 at.4
     where
-      last : (h before after : History) (e : HistoryEntry) (front back : History) → h ≡ front ++ back → before ≡ kept keeps front → e ∷ after ≡ kept keeps back → Comes h before e
+      last : (h before after : History) (e : HistoryEntry) (front back : History) → h ≡ front ++ back
+          → before ≡ kept keeps front → e ∷ after ≡ kept keeps back → Comes h before e
       last h before after e front [] whole fronts rest = cc
-      last h before after e front (f ∷ back) whole fronts rest = record { front = front; back = back; entry = f; whole = whole; fronts = fronts; same = cc }
+      last h before after e front (f ∷ back) whole fronts rest =
+          record { front = front; back = back; entry = f; whole = whole; fronts = fronts; same = cc }
 
 pub parts_are_legal : PartsAreLegal
 parts_are_legal keeps h legal = record {
   callers = λ before after e is. let at = comes keeps h before after e is in
-      subst (λ (f : HistoryEntry). (0 < f.caller) × (f.caller ≤ MOST_CALLERS)) (sym at.same) (legal.callers at.front at.back at.entry at.whole);
+      subst (λ (f : HistoryEntry). (0 < f.caller) × (f.caller ≤ MOST_CALLERS)) (sym at.same)
+      (legal.callers at.front at.back at.entry at.whole);
   numbers = λ before after e is. let at = comes keeps h before after e is in
       subst (λ (f : HistoryEntry). f.number ≡ suc (length (own before f.caller))) (sym at.same)
-      (legal.numbers at.front at.back at.entry at.whole ∙ ap suc (sym (kept_own keeps at.front at.entry.caller)) ∙ ap (λ g. suc (length (own g at.entry.caller))) (sym at.fronts));
+      (legal.numbers at.front at.back at.entry at.whole ∙ ap suc (sym (kept_own keeps at.front at.entry.caller))
+      ∙ ap (λ g. suc (length (own g at.entry.caller))) (sym at.fronts));
   commands = λ before after e is. let at = comes keeps h before after e is in
-      subst (λ (f : HistoryEntry). IsTrue (fits f.command)) (sym at.same) (kept_fits keeps at.entry.command (legal.commands at.front at.back at.entry at.whole));
+      subst (λ (f : HistoryEntry). IsTrue (fits f.command)) (sym at.same)
+      (kept_fits keeps at.entry.command (legal.commands at.front at.back at.entry at.whole));
   small = λ before after is.
       let at = map_front (kept_entry keeps) h before after is in
       let less = part_less keeps (replay at.0) (replay (kept keeps at.0)) (part_replayed keeps at.0) in
@@ -81,12 +92,15 @@ parts_are_legal keeps h legal = record {
 pub parts_go_on : PartsGoOn
 parts_go_on keeps h caller command =
     map-append (kept_entry keeps) h _
-    ∙ ap (λ n. kept keeps h ++ record { caller = caller; number = suc n; command = kept_command keeps command } ∷ []) (sym (kept_own keeps h caller))
+    ∙ ap (λ n. kept keeps h ++ record { caller = caller; number = suc n; command = kept_command keeps command } ∷ [])
+    (sym (kept_own keeps h caller))
 
 pub parts_have_room : PartsHaveRoom
 parts_have_room keeps h command room =
     let small = room_small h command room in
     let short = room_short h command room in
     let same = length-map h (kept_entry keeps) in
-    let less = part_less keeps _ _ (part_after keeps (listed h) (listed (kept keeps h)) command (replay h) (replay (kept keeps h)) (part_replayed keeps h)) in
+    let less = part_less keeps _ _
+    (part_after keeps (listed h) (listed (kept keeps h)) command (replay h) (replay (kept keeps h))
+    (part_replayed keeps h)) in
     room_from (kept keeps h) (kept_command keeps command) (omega arith) (omega arith)

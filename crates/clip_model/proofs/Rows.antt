@@ -12,7 +12,13 @@ abbrev tea : Standing
 tea = record { id = codes "q1"; text = codes "tea"; tree = Tree.Term (codes "text") (codes "tea"); listener = None }
 
 abbrev coffee : Standing
-coffee = record { id = codes "q1"; text = codes "coffee"; tree = Tree.Term (codes "text") (codes "coffee"); listener = None }
+coffee = record {
+  id = codes "q1";
+  text = codes "coffee";
+  tree = Tree.Term (codes "text") (codes "coffee");
+  listener =
+      None;
+}
 
 abbrev first : Registry
 first = finite.insert finite.empty (codes "q1") (record { standing = tea; seq = 1 })
@@ -24,7 +30,8 @@ given_first : finite.get first (codes "q1") ≡ Some (record { standing = tea; s
 given_first = get-insert nat_list_cmp_total finite.empty (codes "q1") (record { standing = tea; seq = 1 }) (codes "q1")
 
 -- of a repeated id the last query stands, with its seq
-pub last_stands : finite.get (register_all 0 (tea ∷ coffee ∷ []) finite.empty) (codes "q1") ≡ Some (record { standing = coffee; seq = 2 })
+pub last_stands : finite.get (register_all 0 (tea ∷ coffee ∷ []) finite.empty) (codes "q1")
+    ≡ Some (record { standing = coffee; seq = 2 })
 last_stands = get-insert nat_list_cmp_total first (codes "q1") (record { standing = coffee; seq = 2 }) (codes "q1")
 
 one_first : finite.len first ≡ 1

@@ -2,7 +2,8 @@
 use Rattle.std.specs.Prelude.{◌≡◌, ℕ, ◌-◌, ◌≤◌, ◌<◌, List, [], ◌∷◌, ◌++◌, length, slice_get, Some, true, false, IsTrue}
 use Rattle.std.specs.FinMap as finite
 use Rattle.clip_model.specs.declared.limits.TheConstants.{MOST_CALLERS}
-use Rattle.clip_model.specs.History.{History, HistoryEntry, Command, Registered, IsLegal, replay, listed, listed_queries, after_command, is_live, with_command, has_room, fits}
+use Rattle.clip_model.specs.History.{History, HistoryEntry, Command, Registered, IsLegal, replay, listed}
+use Rattle.clip_model.specs.History.{listed_queries, after_command, is_live, with_command, has_room, fits}
 
 -- the registry after one entry more is that after the entry's command
 abbrev pub ReplaysOn : Type 0

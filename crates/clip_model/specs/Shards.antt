@@ -1,11 +1,13 @@
 -- A registry divided by ids.
-use Rattle.std.specs.Prelude.{◌≡◌, ℕ, zero, suc, ◌+◌, ◌<◌, ◌==◌, Bool, false, cond, List, [], ◌∷◌, map, filter, Option, None, Some, option_map, bytes_eq, IsTrue}
+use Rattle.std.specs.Prelude.{◌≡◌, ℕ, zero, suc, ◌+◌, ◌<◌, ◌==◌, Bool, false, cond, List, [], ◌∷◌, map, filter, Option}
+use Rattle.std.specs.Prelude.{None, Some, option_map, bytes_eq, IsTrue}
 use Rattle.std.specs.FinMap as finite
 use Rattle.std.specs.FinMap.Entries.{by_order}
 use Rattle.clip_words.specs.Order.{bytes_cmp}
 use Rattle.clip_meaning.specs.Article.{ArticleValue}
 use Rattle.clip_model.specs.Standing.{Standing}
-use Rattle.clip_model.specs.History.{History, HistoryEntry, Command, Register, Delete, Clear, IsLegal, replay, applied, with_command, has_room}
+use Rattle.clip_model.specs.History.{History, HistoryEntry, Command, Register, Delete, Clear, IsLegal, replay, applied}
+use Rattle.clip_model.specs.History.{with_command, has_room}
 use Rattle.clip_model.specs.Alerts.{Alert, alerts}
 
 -- ---- a part of a history

@@ -1,5 +1,7 @@
 -- The marks and the words of a group, clause by clause.
-use Rattle.std.proofs.Common.{◌≡◌, ◌⊎◌, inl, inr, ℕ, zero, suc, ◌+◌, ◌-◌, ◌<◌, ◌≤◌, List, [], ◌∷◌, ◌++◌, map, length, take, get_or, Vec, Global, Result, OnOk, refl, sym, ap, ◌∙◌, subst, arith, append_assoc, IsTrue}
+use Rattle.std.proofs.Common.{◌≡◌, ◌⊎◌, inl, inr, ℕ, zero, suc, ◌+◌, ◌-◌, ◌<◌, ◌≤◌, List, [], ◌∷◌, ◌++◌, map, length}
+use Rattle.std.proofs.Common.{take, get_or, Vec, Global, Result, OnOk, refl, sym, ap, ◌∙◌, subst, arith, append_assoc}
+use Rattle.std.proofs.Common.{IsTrue}
 use Rattle.std.proofs.lemmas.List.{append-nil, length-append, length_push, take_all, take_more}
 use Rattle.std.proofs.lemmas.Result.{on_ok_weaker}
 use Rattle.std.proofs.Math.ListN.{set}
@@ -11,7 +13,8 @@ use Rattle.clip_grammar.specs.declared.query.Query.{Query}
 use Rattle.clip_grammar.specs.declared.query.Query.TheViews.{Group}
 use Rattle.clip_grammar.proofs.Trees.{tree_of_group}
 use Rattle.clip_extract.specs.Keys.{KeyValue}
-use Rattle.clip_plan.specs.Plan.{Mark, Open, Close, clause_marks, group_marks, plan_of, word_keys, clause_word_keys, are_terms}
+use Rattle.clip_plan.specs.Plan.{Mark, Open, Close, clause_marks, group_marks, plan_of, word_keys, clause_word_keys}
+use Rattle.clip_plan.specs.Plan.{are_terms}
 use Rattle.clip_plan.specs.declared.step.Step.{Step}
 use Rattle.clip_plan.specs.declared.step.Step.TheVariants as step
 use Rattle.clip_plan.specs.Steps.Plans.{Adds, bare}

@@ -1,5 +1,6 @@
 -- A group's copy, clause by clause.
-use Rattle.std.proofs.Common.{◌≡◌, ℕ, ◌+◌, ◌<◌, ◌≤◌, List, [], ◌∷◌, ◌++◌, map, length, take, get_or, Vec, Global, sym, ap, ◌∙◌}
+use Rattle.std.proofs.Common.{◌≡◌, ℕ, ◌+◌, ◌<◌, ◌≤◌, List, [], ◌∷◌, ◌++◌, map, length, take, get_or, Vec, Global, sym}
+use Rattle.std.proofs.Common.{ap, ◌∙◌}
 use Rattle.std.proofs.lemmas.List.{map_push, map_more, take_all}
 use Rattle.clip_grammar.specs.Tree.{Tree, tree_of, clauses_of}
 use Rattle.clip_grammar.specs.declared.query.Occur.{Occur}
@@ -12,8 +13,10 @@ abbrev pub seen : Occur × Query → Occur × Tree
 seen c = (c.0, tree_of c.1)
 
 -- one clause more
-pub copy_added : (items copies new : List (Occur × Query)) (i : ℕ) (item : Occur × Query) (copy : Query) → i < length items → item ≡ get_or items i item
-    → map seen copies ≡ map seen (take i items) → tree_of copy ≡ tree_of item.1 → new ≡ copies ++ (item.0, copy) ∷ [] → map seen new ≡ map seen (take (i + 1) items)
+pub copy_added : (items copies new : List (Occur × Query)) (i : ℕ) (item : Occur × Query) (copy : Query)
+    → i < length items → item ≡ get_or items i item
+    → map seen copies ≡ map seen (take i items) → tree_of copy ≡ tree_of item.1 → new ≡ copies ++ (item.0, copy) ∷ []
+    → map seen new ≡ map seen (take (i + 1) items)
 copy_added items copies new i item copy lt is before same e =
     ap (map seen) e ∙ map_push seen copies (item.0, copy)
     ∙ ap (λ l. l ++ (item.0, tree_of copy) ∷ []) before
@@ -22,7 +25,8 @@ copy_added items copies new i item copy lt is before same e =
     ∙ sym (map_more seen items i item lt)
 
 -- all clauses of a group
-pub group_copied : (query : Query) (v copies : Vec (Occur × Query) Global) (items : List (Occur × Query)) (i : ℕ) → query ≡ Group v → items ≡ v.items → length items ≤ i
+pub group_copied : (query : Query) (v copies : Vec (Occur × Query) Global) (items : List (Occur × Query)) (i : ℕ)
+    → query ≡ Group v → items ≡ v.items → length items ≤ i
     → map seen copies.items ≡ map seen (take i items) → tree_of (Group copies) ≡ tree_of query
 group_copied query v copies items i group same le all =
     tree_of_group copies

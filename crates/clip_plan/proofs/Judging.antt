@@ -1,5 +1,7 @@
 -- A plan is judged as its query holds.
-use Rattle.std.proofs.Common.{◌≡◌, ℕ, zero, suc, ◌+◌, ◌<◌, ◌≤◌, max, arith, Bool, true, false, not, cond, ◌&&◌, ◌||◌, List, [], ◌∷◌, ◌++◌, map, length, drop, get_or, reverse, unwrap_or, refl, sym, ap, ◌∙◌, subst, append_assoc, append-nil}
+use Rattle.std.proofs.Common.{◌≡◌, ℕ, zero, suc, ◌+◌, ◌<◌, ◌≤◌, max, arith, Bool, true, false, not, cond, ◌&&◌, ◌||◌}
+use Rattle.std.proofs.Common.{List, [], ◌∷◌, ◌++◌, map, length, drop, get_or, reverse, unwrap_or, refl, sym, ap, ◌∙◌}
+use Rattle.std.proofs.Common.{subst, append_assoc, append-nil}
 use Rattle.std.specs.Prelude.{slice_get, Result, Ok, Err, IfOk}
 use Rattle.std.specs.List.{list_all, list_any}
 use Rattle.std.proofs.lemmas.Bool.{false≢true}
@@ -11,13 +13,15 @@ use Rattle.clip_grammar.specs.declared.query.Occur.TheVariants.{Must, Should, Mu
 use Rattle.clip_meaning.specs.Article.{Fields}
 use Rattle.clip_meaning.specs.Meaning.{holds, verdicts, group_holds, meets_must, meets_must_not, meets_should, is_must}
 use Rattle.clip_extract.specs.Keys.{KeyValue, Word}
-use Rattle.clip_plan.specs.Plan.{Asks, Has, Run, Is, Mark, Leaf, Open, Close, clause_marks, group_marks, plan_of, decoded}
+use Rattle.clip_plan.specs.Plan.{Asks, Has, Run, Is, Mark, Leaf, Open, Close, clause_marks, group_marks, plan_of}
+use Rattle.clip_plan.specs.Plan.{decoded}
 use Rattle.clip_plan.specs.Steps.Plans.{mark_of, first_words}
 use Rattle.clip_plan.specs.declared.first_words.FirstWords.{FirstWords}
 use Rattle.clip_plan.specs.declared.first_words.TheConstants.{NO_TERM}
 use Rattle.clip_plan.specs.declared.step.Step.{Step}
 use Rattle.clip_plan.specs.declared.step.Step.TheVariants as step
-use Rattle.clip_plan.specs.Steps.Judging.{no_clauses, counted, counted_all, tally_holds, is_needless, leaf_holds, mark_holds, meant, Groups, marked, passed, onward, Left, Ends, LeadTo}
+use Rattle.clip_plan.specs.Steps.Judging.{no_clauses, counted, counted_all, tally_holds, is_needless, leaf_holds}
+use Rattle.clip_plan.specs.Steps.Judging.{mark_holds, meant, Groups, marked, passed, onward, Left, Ends, LeadTo}
 use Rattle.clip_plan.specs.declared.judge.Tally.{Tally}
 use Rattle.clip_terms.specs.Terms.{term_at}
 use Rattle.clip_terms.specs.Reading.{has_key, has_run}

@@ -14,7 +14,21 @@ use Rattle.clip_plan.specs.contracts.plans.Plans.TheInside as plans_inside
 ruleset global = (sendable, global_sent.the_send, global_sent.the_sync, allocator_sent.the_frees)
 
 pub plans_send : IsSend plans.the_row
-plans_send = view_send plans_inside.the_row _ _ _ _ (declared_send plans_inside.the_type (search (global, lists_sent.the_send, step_sent.the_send), (search (global, lists_sent.the_send), (search (global, vec_sent.the_send, query_send), (search (global, vec_sent.the_send, words_sent.the_send), tt)))))
+plans_send = view_send plans_inside.the_row _ _ _ _
+    (declared_send plans_inside.the_type (
+      search (global, lists_sent.the_send, step_sent.the_send),
+      (
+        search (global, lists_sent.the_send),
+        (search (global, vec_sent.the_send, query_send), (search (global, vec_sent.the_send, words_sent.the_send), tt)),
+      ),
+    ))
 
 pub plans_sync : IsSync plans.the_row
-plans_sync = view_sync plans_inside.the_row _ _ _ _ (declared_sync plans_inside.the_type (search (global, lists_sent.the_sync, step_sent.the_sync), (search (global, lists_sent.the_sync), (search (global, vec_sent.the_sync, query_sync), (search (global, vec_sent.the_sync, words_sent.the_sync), tt)))))
+plans_sync = view_sync plans_inside.the_row _ _ _ _
+    (declared_sync plans_inside.the_type (
+      search (global, lists_sent.the_sync, step_sent.the_sync),
+      (
+        search (global, lists_sent.the_sync),
+        (search (global, vec_sent.the_sync, query_sync), (search (global, vec_sent.the_sync, words_sent.the_sync), tt)),
+      ),
+    ))

@@ -13,7 +13,10 @@ use Rattle.clip_protocol.specs.contracts.shown.Shown as shown
 ruleset global = (sendable, global_sent.the_send, global_sent.the_sync, allocator_sent.the_frees)
 
 shown_send : IsSend shown.the_row
-shown_send = declared_send shown.the_type (search sendable, (search (global, vec_sent.the_send), (snapshot_send alerts.the_row, tt)))
+shown_send = declared_send shown.the_type (
+  search sendable,
+  (search (global, vec_sent.the_send), (snapshot_send alerts.the_row, tt)),
+)
 
 pub found_send : IsSend found.the_row
 found_send = variants_send found.enum ((alerts_send, tt), ((shown_send, tt), tt))

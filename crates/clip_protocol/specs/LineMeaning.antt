@@ -1,5 +1,6 @@
 -- What a line means after a history.
-use Rattle.std.specs.Prelude.{◌≡◌, ◌⊎◌, ℕ, zero, suc, List, [], ◌∷◌, map, length, Bool, true, false, nat_lt, if◌then◌else◌, ◌==◌, ⊤, Option, Some, None, bytes_eq}
+use Rattle.std.specs.Prelude.{◌≡◌, ◌⊎◌, ℕ, zero, suc, List, [], ◌∷◌, map, length, Bool, true, false, nat_lt}
+use Rattle.std.specs.Prelude.{if◌then◌else◌, ◌==◌, ⊤, Option, Some, None, bytes_eq}
 use Rattle.std.specs.List.{list_all, list_any}
 use Rattle.std.specs.Str.{is_utf8}
 use Rattle.serde_json.specs.Data.{Data}

@@ -87,7 +87,8 @@ ids_data ids = array_of (map string ids)
 
 -- an article's id and the ids of the queries, and with hits where each of the alerts holds
 abbrev pub article_data : Form → List ℕ → List (List ℕ) → List Alert → Data
-article_data Plain id queries alerts = object_of ((codes "article", string id) ∷ (codes "queries", ids_data queries) ∷ [])
+article_data Plain id queries alerts =
+    object_of ((codes "article", string id) ∷ (codes "queries", ids_data queries) ∷ [])
 article_data WithHits id queries alerts = object_of
     ((codes "article", string id) ∷ (codes "hits", hits_data alerts) ∷ (codes "queries", ids_data queries) ∷ [])
 

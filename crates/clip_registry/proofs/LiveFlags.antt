@@ -1,5 +1,7 @@
 -- Live flags beside segments.
-use Rattle.std.proofs.Common.{◌≡◌, ℕ, zero, suc, ◌<◌, ◌≤◌, Bool, true, false, cond, ◌==◌, List, [], ◌∷◌, ◌++◌, length, map, get_or, set, Option, Some, None, slice_get, option_map, refl, sym, ap, ap₂, ◌∙◌, inl, inr, arith}
+use Rattle.std.proofs.Common.{◌≡◌, ℕ, zero, suc, ◌<◌, ◌≤◌, Bool, true, false, cond, ◌==◌, List, [], ◌∷◌, ◌++◌, length}
+use Rattle.std.proofs.Common.{map, get_or, set, Option, Some, None, slice_get, option_map, refl, sym, ap, ap₂, ◌∙◌, inl}
+use Rattle.std.proofs.Common.{inr, arith}
 use Rattle.std.proofs.lemmas.Bool.{cases_order}
 use Rattle.std.proofs.lemmas.List.{ext_get_or, length-map, get_or-map, get_or_default}
 use Rattle.std.proofs.lemmas.List.Elements.{All-head, All-tail, Contains-append_left, Contains-append_right}
@@ -20,35 +22,48 @@ use Rattle.clip_registry.proofs.Rising.{rising_head, rising_tail}
 
 -- ---- tests that agree
 
-pub alike_of : (is so : ℕ → Bool) (es : List Registered) → All (λ r. is r.seq ≡ so r.seq) es → flags_of is es ≡ flags_of so es
+pub alike_of : (is so : ℕ → Bool) (es : List Registered) → All (λ r. is r.seq ≡ so r.seq) es
+    → flags_of is es ≡ flags_of so es
 alike_of is so [] all = refl
 alike_of is so (e ∷ es) all =
-    ap₂ (λ b bs. b ∷ bs) (All-head (λ (r : Registered). is r.seq ≡ so r.seq) e es all) (alike_of is so es (All-tail (λ (r : Registered). is r.seq ≡ so r.seq) e es all))
+    ap₂ (λ b bs. b ∷ bs) (All-head (λ (r : Registered). is r.seq ≡ so r.seq) e es all)
+    (alike_of is so es (All-tail (λ (r : Registered). is r.seq ≡ so r.seq) e es all))
 
-pub alike_by : (is so : ℕ → Bool) (segments : List (List Registered)) → All (λ r. is r.seq ≡ so r.seq) (all_entries segments) → flags_by is segments ≡ flags_by so segments
+pub alike_by : (is so : ℕ → Bool) (segments : List (List Registered))
+    → All (λ r. is r.seq ≡ so r.seq) (all_entries segments) → flags_by is segments ≡ flags_by so segments
 alike_by is so [] all = refl
 alike_by is so (s ∷ segments) all =
     let P : Registered → Type 0 = λ r. is r.seq ≡ so r.seq in
-    ap₂ (λ b bs. b ∷ bs) (alike_of is so s (all_of_some P (s ++ all_entries segments) s all (λ r h. Contains-append_left s (all_entries segments) r h)))
-    (alike_by is so segments (all_of_some P (s ++ all_entries segments) (all_entries segments) all (λ r h. Contains-append_right s (all_entries segments) r h)))
+    ap₂ (λ b bs. b ∷ bs) (alike_of is so s
+    (all_of_some P (s ++ all_entries segments) s all (λ r h. Contains-append_left s (all_entries segments) r h)))
+    (alike_by is so segments
+    (all_of_some P (s ++ all_entries segments) (all_entries segments) all
+    (λ r h. Contains-append_right s (all_entries segments) r h)))
 
 -- ---- a flag is cleared
 
-later_differs : (r : Registered) (es : List Registered) → IsRising (r ∷ es) → (is : ℕ → Bool) → flags_of is es ≡ flags_of (without (Some r.seq) is) es
+later_differs : (r : Registered) (es : List Registered) → IsRising (r ∷ es) → (is : ℕ → Bool)
+    → flags_of is es ≡ flags_of (without (Some r.seq) is) es
 later_differs r es is test =
     alike_of test (without (Some r.seq) test) es
-    (λ k d lt. let above = rising_head r es is k d lt in sym (ap (λ b. cond b false (test (get_or es k d).seq)) (number_less r.seq (get_or es k d).seq above)))
+    (λ k d lt. let above = rising_head r es is k d lt in
+    sym (ap (λ b. cond b false (test (get_or es k d).seq)) (number_less r.seq (get_or es k d).seq above)))
 
-pub cleared_here : (is : ℕ → Bool) (es : List Registered) (seq position : ℕ) → IsRising es → slice_get (seqs_of es) position ≡ Some seq → set (flags_of is es) position false ≡ flags_of (without (Some seq) is) es
+pub cleared_here : (is : ℕ → Bool) (es : List Registered) (seq position : ℕ) → IsRising es
+    → slice_get (seqs_of es) position ≡ Some seq → set (flags_of is es) position false
+    ≡ flags_of (without (Some seq) is) es
 cleared_here is [] seq position rises there = refl
 cleared_here is (e ∷ es) seq zero rises there =
     let same : e.seq ≡ seq = cc in
-    ap₂ (λ b bs. b ∷ bs) (sym (ap (λ b. cond b false (is e.seq)) (numbers_same seq e.seq (sym same)))) (later_differs e es rises is ∙ ap (λ s. flags_of (without (Some s) is) es) same)
+    ap₂ (λ b bs. b ∷ bs) (sym (ap (λ b. cond b false (is e.seq)) (numbers_same seq e.seq (sym same))))
+    (later_differs e es rises is ∙ ap (λ s. flags_of (without (Some s) is) es) same)
 cleared_here is (e ∷ es) seq (suc position) rises there =
     let before : e.seq < seq = below e es seq position rises there in
-    ap₂ (λ b bs. b ∷ bs) (sym (ap (λ b. cond b false (is e.seq)) (number_more seq e.seq before))) (cleared_here is es seq position (rising_tail e es rises) there)
+    ap₂ (λ b bs. b ∷ bs) (sym (ap (λ b. cond b false (is e.seq)) (number_more seq e.seq before)))
+    (cleared_here is es seq position (rising_tail e es rises) there)
   where
-    below : (r : Registered) (rs : List Registered) (s k : ℕ) → IsRising (r ∷ rs) → slice_get (seqs_of rs) k ≡ Some s → r.seq < s
+    below : (r : Registered) (rs : List Registered) (s k : ℕ) → IsRising (r ∷ rs) → slice_get (seqs_of rs) k ≡ Some s
+        → r.seq < s
     below r rs s k up at =
         let within = slice_get_within (seqs_of rs) k s at in
         let long = length-map rs (λ (x : Registered). x.seq) in
@@ -58,10 +73,13 @@ cleared_here is (e ∷ es) seq (suc position) rises there =
         let above = rising_head r rs up k r inside in
         omega arith
 
-pub cleared_nowhere : (is : ℕ → Bool) (es : List Registered) (seq : ℕ) → ((position : ℕ) → slice_get (seqs_of es) position ≡ Some seq → ⊥) → flags_of is es ≡ flags_of (without (Some seq) is) es
+pub cleared_nowhere : (is : ℕ → Bool) (es : List Registered) (seq : ℕ)
+    → ((position : ℕ) → slice_get (seqs_of es) position ≡ Some seq → ⊥)
+    → flags_of is es ≡ flags_of (without (Some seq) is) es
 cleared_nowhere is [] seq none = refl
 cleared_nowhere is (e ∷ es) seq none =
-    ap₂ (λ b bs. b ∷ bs) (sym (ap (λ b. cond b false (is e.seq)) other)) (cleared_nowhere is es seq (λ position. none (suc position)))
+    ap₂ (λ b bs. b ∷ bs) (sym (ap (λ b. cond b false (is e.seq)) other))
+    (cleared_nowhere is es seq (λ position. none (suc position)))
   where
     other : (seq == e.seq) ≡ false
     other = elim (cases_order seq e.seq) [
@@ -75,18 +93,25 @@ cleared_nowhere is (e ∷ es) seq none =
 pub length-flags_of : (is : ℕ → Bool) (es : List Registered) → length (flags_of is es) ≡ length es
 length-flags_of is es = length-map es (λ (r : Registered). is r.seq)
 
-pub shape_of : (is : ℕ → Bool) (segments : List (List Registered)) → map length (flags_by is segments) ≡ map length segments
+pub shape_of : (is : ℕ → Bool) (segments : List (List Registered)) → map length (flags_by is segments)
+    ≡ map length segments
 shape_of is [] = refl
 shape_of is (s ∷ segments) = ap₂ (λ n ns. n ∷ ns) (length-flags_of is s) (shape_of is segments)
 
 -- where each list of flags is that of its segment all are
-pub flags_from : (is : ℕ → Bool) (segments : List (List Registered)) (live : List (List Bool)) → length live ≡ length segments → ((k : ℕ) → k < length segments → get_or live k [] ≡ flags_of is (get_or segments k [])) → live ≡ flags_by is segments
+pub flags_from : (is : ℕ → Bool) (segments : List (List Registered)) (live : List (List Bool))
+    → length live ≡ length segments
+    → ((k : ℕ) → k < length segments → get_or live k [] ≡ flags_of is (get_or segments k []))
+    → live ≡ flags_by is segments
 flags_from is segments live long each =
     ext_get_or [] live (flags_by is segments) (long ∙ sym (length-map segments (flags_of is)))
-    (λ k lt. let inside : k < length segments = omega arith in each k inside ∙ sym (get_or-map (flags_of is) segments k [] [] inside))
+    (λ k lt. let inside : k < length segments = omega arith in
+    each k inside ∙ sym (get_or-map (flags_of is) segments k [] [] inside))
 
-pub flags_at : (is : ℕ → Bool) (segments : List (List Registered)) (live : List (List Bool)) (k : ℕ) → live ≡ flags_by is segments → k < length segments → get_or live k [] ≡ flags_of is (get_or segments k [])
-flags_at is segments live k are inside = ap (λ ls. get_or ls k []) are ∙ get_or-map (flags_of is) segments k [] [] inside
+pub flags_at : (is : ℕ → Bool) (segments : List (List Registered)) (live : List (List Bool)) (k : ℕ)
+    → live ≡ flags_by is segments → k < length segments → get_or live k [] ≡ flags_of is (get_or segments k [])
+flags_at is segments live k are inside =
+    ap (λ ls. get_or ls k []) are ∙ get_or-map (flags_of is) segments k [] [] inside
 
 -- as many lists of flags as segments
 pub as_long : (is : ℕ → Bool) (segments : List (List Registered)) (live : List (List Bool))
@@ -103,37 +128,52 @@ flags_here is segments live k flags are at low =
     ∙ flags_at is segments live k are (omega (arith, low, as_long is segments live are))
 
 -- as many flags as entries
-pub shape_at : (live : List (List Bool)) (segments : List (List Registered)) (k : ℕ) → map length live ≡ map length segments → k < length live → k < length segments → length (get_or live k []) ≡ length (get_or segments k [])
-shape_at live segments k shape low lower = sym (get_or-map length live k [] 0 low) ∙ ap (λ ns. get_or ns k 0) shape ∙ get_or-map length segments k [] 0 lower
+pub shape_at : (live : List (List Bool)) (segments : List (List Registered)) (k : ℕ)
+    → map length live ≡ map length segments → k < length live → k < length segments
+    → length (get_or live k []) ≡ length (get_or segments k [])
+shape_at live segments k shape low lower = sym (get_or-map length live k [] 0 low) ∙ ap (λ ns. get_or ns k 0) shape
+    ∙ get_or-map length segments k [] 0 lower
 
-pub as_many : (live : List (List Bool)) (segments : List (Arc (List Registered) Global)) → map length live ≡ map length (map arc_value segments) → length live ≡ length segments
-as_many live segments shape = sym (length-map live length) ∙ ap length shape ∙ length-map (map arc_value segments) length ∙ length-map segments arc_value
+pub as_many : (live : List (List Bool)) (segments : List (Arc (List Registered) Global))
+    → map length live ≡ map length (map arc_value segments) → length live ≡ length segments
+as_many live segments shape = sym (length-map live length) ∙ ap length shape
+    ∙ length-map (map arc_value segments) length ∙ length-map segments arc_value
 
-pub segment_at : (segments : List (Arc (List Registered) Global)) (k : ℕ) (segment : Arc (List Registered) Global) → k < length segments → segment ≡ get_or segments k segment → get_or (map arc_value segments) k [] ≡ arc_value segment
+pub segment_at : (segments : List (Arc (List Registered) Global)) (k : ℕ) (segment : Arc (List Registered) Global)
+    → k < length segments → segment ≡ get_or segments k segment → get_or (map arc_value segments) k []
+    ≡ arc_value segment
 segment_at segments k segment low is = get_or-map arc_value segments k segment [] low ∙ ap arc_value (sym is)
 
 -- ---- what changes of a registry leave
 
-found_without : (found : Option Registered) (is : ℕ → Bool) (seq : ℕ) → without (option_map (λ r. r.seq) found) is seq ≡ cond (has_seq found seq) false (is seq)
+found_without : (found : Option Registered) (is : ℕ → Bool) (seq : ℕ) → without (option_map (λ r. r.seq) found) is seq
+    ≡ cond (has_seq found seq) false (is seq)
 found_without None is seq = refl
 found_without (Some r) is seq = refl
 
 pub live_before : (n : ℕ) (m : Registry) (r : Registered) (seq : ℕ) → r.seq ≡ suc n → IsNumbered n m → seq ≤ n
-    → without (option_map (λ r. r.seq) (finite.get m r.standing.id)) (is_live_in m) seq ≡ is_live_in (finite.insert m r.standing.id r) seq
+    → without (option_map (λ r. r.seq) (finite.get m r.standing.id)) (is_live_in m) seq
+    ≡ is_live_in (finite.insert m r.standing.id r) seq
 live_before n m r seq next is low =
     found_without (finite.get m r.standing.id) (is_live_in m) seq
-    ∙ sym (live_insert n m r seq next is ∙ ap (λ b. cond b true (cond (has_seq (finite.get m r.standing.id) seq) false (is_live_in m seq))) (number_more (suc n) seq (omega arith)))
+    ∙ sym (live_insert n m r seq next is
+    ∙ ap (λ b. cond b true (cond (has_seq (finite.get m r.standing.id) seq) false (is_live_in m seq)))
+    (number_more (suc n) seq (omega arith)))
 
-pub live_left : (n : ℕ) (m : Registry) (id : List ℕ) (seq : ℕ) → IsNumbered n m → without (option_map (λ r. r.seq) (finite.get m id)) (is_live_in m) seq ≡ is_live_in (finite.remove m id) seq
+pub live_left : (n : ℕ) (m : Registry) (id : List ℕ) (seq : ℕ) → IsNumbered n m
+    → without (option_map (λ r. r.seq) (finite.get m id)) (is_live_in m) seq ≡ is_live_in (finite.remove m id) seq
 live_left n m id seq is = found_without (finite.get m id) (is_live_in m) seq ∙ sym (live_remove n m id seq is)
 
 -- ---- the seq of an entry that is gone
 
-pub gone_seq : (entry : Option (Arc Registered Global)) (found : Option Registered) (seq : Option ℕ) → seq ≡ option_map (λ r. r.value.seq) entry → option_map arc_value entry ≡ found → seq ≡ option_map (λ r. r.seq) found
+pub gone_seq : (entry : Option (Arc Registered Global)) (found : Option Registered) (seq : Option ℕ)
+    → seq ≡ option_map (λ r. r.value.seq) entry → option_map arc_value entry ≡ found
+    → seq ≡ option_map (λ r. r.seq) found
 gone_seq None found seq is same = is ∙ ap (option_map (λ (r : Registered). r.seq)) same
 gone_seq (Some entry) found seq is same = is ∙ ap (option_map (λ (r : Registered). r.seq)) same
 
-pub seq_given : (found : Option Registered) (seq : ℕ) → Some seq ≡ option_map (λ r. r.seq) found → (r : Registered) × ((found ≡ Some r) × (r.seq ≡ seq))
+pub seq_given : (found : Option Registered) (seq : ℕ) → Some seq ≡ option_map (λ r. r.seq) found
+    → (r : Registered) × ((found ≡ Some r) × (r.seq ≡ seq))
 seq_given None seq is = absurd (none-some _ (sym is))
 seq_given (Some r) seq is = (r, (refl, same_Some _ _ (sym is)))
 

@@ -1,5 +1,6 @@
 -- Whether a merge misses live entries.
-use Rattle.std.proofs.Common.{◌≡◌, ℕ, Bool, true, false, ◌&&◌, ◌||◌, not, List, [], ◌∷◌, length, refl, sym, ap, subst, ◌∙◌}
+use Rattle.std.proofs.Common.{◌≡◌, ℕ, Bool, true, false, ◌&&◌, ◌||◌, not, List, [], ◌∷◌, length, refl, sym, ap, subst}
+use Rattle.std.proofs.Common.{◌∙◌}
 use Rattle.std.proofs.lemmas.Bool.{false≢true}
 use Rattle.std.proofs.lemmas.List.Elements.{All-contains}
 use Rattle.std.proofs.lemmas.List.Folds.{list_all-append}
@@ -15,9 +16,11 @@ use Rattle.clip_registry.proofs.Kept.{contains_of_filter, kept_replaced}
 use Rattle.clip_registry.proofs.Rising.{contains_head, contains_later, contains_filter}
 
 -- a test of all entries is one of the entries of each segment
-pub list_all-all_entries : (p : Registered → Bool) (segments : List (List Registered)) → list_all p (all_entries segments) ≡ list_all (list_all p) segments
+pub list_all-all_entries : (p : Registered → Bool) (segments : List (List Registered))
+    → list_all p (all_entries segments) ≡ list_all (list_all p) segments
 list_all-all_entries p [] = refl
-list_all-all_entries p (s ∷ segments) = list_all-append p s (all_entries segments) ∙ ap (λ b. list_all p s && b) (list_all-all_entries p segments)
+list_all-all_entries p (s ∷ segments) = list_all-append p s (all_entries segments)
+    ∙ ap (λ b. list_all p s && b) (list_all-all_entries p segments)
 
 was_if_live : (is was : ℕ → Bool) (es : List Registered) → list_all (stays is was) es ≡ true
     → (r : Registered) → Contains es r → is r.seq ≡ true → was r.seq ≡ true
@@ -36,7 +39,8 @@ first_failing : (p : Registered → Bool) (es : List Registered) → list_all p 
 first_failing p [] h = absurd (false≢true (sym h))
 first_failing p (e ∷ es) h =
     elim (p e) as (λ b. p e ≡ b → (b && list_all p es) ≡ false → Fails p (e ∷ es)) [
-      | true ↦ λ _ later. let rest = first_failing p es later in record { entry = rest.entry; among = contains_later e rest.entry es rest.among; fails = rest.fails }
+      | true ↦ λ _ later. let rest = first_failing p es later in
+          record { entry = rest.entry; among = contains_later e rest.entry es rest.among; fails = rest.fails }
       | false ↦ λ here _. record { entry = e; among = contains_head e es; fails = here }
     ] refl h
 

@@ -1,5 +1,6 @@
 -- Sets of live seqs.
-use Rattle.std.proofs.Common.{◌≡◌, ℕ, suc, ◌<◌, Bool, true, false, cond, ◌||◌, List, [], ◌∷◌, length, get_or, map, refl, sym, ap, ◌∙◌, inl, inr, arith, ◌==◌}
+use Rattle.std.proofs.Common.{◌≡◌, ℕ, suc, ◌<◌, Bool, true, false, cond, ◌||◌, List, [], ◌∷◌, length, get_or, map, refl}
+use Rattle.std.proofs.Common.{sym, ap, ◌∙◌, inl, inr, arith, ◌==◌}
 use Rattle.std.proofs.lemmas.Bool.{false≢true}
 use Rattle.std.proofs.lemmas.List.{length-map, get_or-map}
 use Rattle.std.specs.List.{Contains, filter}
@@ -29,8 +30,13 @@ pub names_member : (rs : List Registered) (r : Registered) → Contains rs r →
 names_member [] r (k, lt, at) = absurd (omega arith)
 names_member (q ∷ rs) r h =
     elim (contains_cases q r rs h) [
-      | inl same ↦ ap (λ b. b || names (map (λ r. r.seq) rs) r.seq) (numbers_same q.seq r.seq (ap (λ (x : Registered). x.seq) same))
-      | inr later ↦ elim (q.seq == r.seq) as (λ b. (b || names (map (λ r. r.seq) rs) r.seq) ≡ true) [ true ↦ refl | false ↦ names_member rs r later ]
+      | inl same ↦ ap (λ b. b || names (map (λ r. r.seq) rs) r.seq)
+          (numbers_same q.seq r.seq (ap (λ (x : Registered). x.seq) same))
+      | inr later ↦ elim (q.seq == r.seq) as (λ b. (b || names (map (λ r. r.seq) rs) r.seq) ≡ true) [
+        | true ↦
+            refl
+        | false ↦ names_member rs r later
+      ]
     ]
 
 -- the member that has a named seq
@@ -42,15 +48,19 @@ record HasNamed (rs : List Registered) (seq : ℕ) : Type 0 where
 named_member : (rs : List Registered) (seq : ℕ) → names (map (λ r. r.seq) rs) seq ≡ true → HasNamed rs seq
 named_member [] seq h = absurd (false≢true h)
 named_member (r ∷ rs) seq h =
-    elim (r.seq == seq) as (λ b. (r.seq == seq) ≡ b → (b || names (map (λ r. r.seq) rs) seq) ≡ true → HasNamed (r ∷ rs) seq) [
+    elim (r.seq == seq) as (λ b. (r.seq == seq) ≡ b → (b || names (map (λ r. r.seq) rs) seq) ≡ true
+    → HasNamed (r ∷ rs) seq) [
       | true ↦ λ e _. record { entry = r; among = contains_head r rs; is = same_numbers r.seq seq e }
-      | false ↦ λ _ later. let rest = named_member rs seq later in record { entry = rest.entry; among = contains_later r rest.entry rs rest.among; is = rest.is }
+      | false ↦ λ _ later. let rest = named_member rs seq later in
+          record { entry = rest.entry; among = contains_later r rest.entry rs rest.among; is = rest.is }
     ] refl h
 
-filter_same : (p q : Registered → Bool) (rs : List Registered) → ((r : Registered) → Contains rs r → p r ≡ q r) → filter p rs ≡ filter q rs
+filter_same : (p q : Registered → Bool) (rs : List Registered) → ((r : Registered) → Contains rs r → p r ≡ q r)
+    → filter p rs ≡ filter q rs
 filter_same p q [] same = refl
 filter_same p q (r ∷ rs) same =
-    ap (λ b. cond b (r ∷ filter p rs) (filter p rs)) (same r (contains_head r rs)) ∙ ap (λ x. cond (q r) (r ∷ x) x) (filter_same p q rs (λ s h. same s (contains_later r s rs h)))
+    ap (λ b. cond b (r ∷ filter p rs) (filter p rs)) (same r (contains_head r rs))
+    ∙ ap (λ x. cond (q r) (r ∷ x) x) (filter_same p q rs (λ s h. same s (contains_later r s rs h)))
 
 -- of entries that a test of seqs picks, the seqs name an entry where it passes
 pub name_picked : (p : ℕ → Bool) (rs : List Registered) (r : Registered) → Contains rs r
@@ -63,7 +73,8 @@ name_picked p rs r h =
     (λ is. names_member (filter test rs) r (contains_filter test r rs is h))
 
 -- and they name just these
-pub named_picked : (p : ℕ → Bool) (rs : List Registered) → named (map (λ r. r.seq) (filter (λ r. p r.seq) rs)) rs ≡ filter (λ r. p r.seq) rs
+pub named_picked : (p : ℕ → Bool) (rs : List Registered) → named (map (λ r. r.seq) (filter (λ r. p r.seq) rs)) rs
+    ≡ filter (λ r. p r.seq) rs
 named_picked p rs =
     let test = λ (r : Registered). p r.seq in
     filter_same (λ r. names (map (λ r. r.seq) (filter test rs)) r.seq) test rs (name_picked p rs)
@@ -73,7 +84,8 @@ pub filter_all : (p : Registered → Bool) (rs : List Registered) → length (fi
 filter_all p [] e = refl
 filter_all p (r ∷ rs) e =
     let few = filter_fewer p rs in
-    elim (p r) as (λ b. length (cond b (r ∷ filter p rs) (filter p rs)) ≡ suc (length rs) → cond b (r ∷ filter p rs) (filter p rs) ≡ r ∷ rs) [
+    elim (p r) as (λ b. length (cond b (r ∷ filter p rs) (filter p rs)) ≡ suc (length rs)
+    → cond b (r ∷ filter p rs) (filter p rs) ≡ r ∷ rs) [
       | true ↦ λ k. ap (λ x. r ∷ x) (filter_all p rs (omega arith))
       | false ↦ λ k. absurd (omega arith)
     ] e

@@ -1,5 +1,6 @@
 -- Lists of entries whose seqs rise.
-use Rattle.std.proofs.Common.{◌≡◌, ℕ, zero, suc, ◌+◌, ◌<◌, ◌≤◌, ◌⊎◌, Bool, true, false, cond, List, [], ◌∷◌, ◌++◌, length, get_or, refl, sym, ap, subst, ◌∙◌, inl, inr, arith}
+use Rattle.std.proofs.Common.{◌≡◌, ℕ, zero, suc, ◌+◌, ◌<◌, ◌≤◌, ◌⊎◌, Bool, true, false, cond, List, [], ◌∷◌, ◌++◌}
+use Rattle.std.proofs.Common.{length, get_or, refl, sym, ap, subst, ◌∙◌, inl, inr, arith}
 use Rattle.std.proofs.lemmas.Bool.{cases_order}
 use Rattle.std.proofs.lemmas.List.{get_or_default}
 use Rattle.std.proofs.lemmas.List.Elements.{All-nil, All-cons, All-head, All-tail, All-append, All-weaker}
@@ -28,16 +29,19 @@ rising_tail r rs is = record { rises = λ i j d lt h. is.rises (suc i) (suc j) d
 pub rising_filter : (p : Registered → Bool) (rs : List Registered) → IsRising rs → IsRising (filter p rs)
 rising_filter p rs is = record { rises = AllPairs-filter Below p rs is.rises }
 
-pub rising_append : (n : ℕ) (xs ys : List Registered) → IsRising xs → IsRising ys → All (λ r. r.seq ≤ n) xs → All (λ r. n < r.seq) ys → IsRising (xs ++ ys)
+pub rising_append : (n : ℕ) (xs ys : List Registered) → IsRising xs → IsRising ys → All (λ r. r.seq ≤ n) xs
+    → All (λ r. n < r.seq) ys → IsRising (xs ++ ys)
 rising_append n [] ys is js low high = js
 rising_append n (x ∷ xs) ys is js low high =
     let small : x.seq ≤ n = All-head (λ r. r.seq ≤ n) x xs low in
     rising_cons x (xs ++ ys)
-    (All-append (Below x) xs ys (rising_head x xs is) (All-weaker (λ r. n < r.seq) (Below x) (λ r h. omega arith) ys high))
+    (All-append (Below x) xs ys (rising_head x xs is)
+    (All-weaker (λ r. n < r.seq) (Below x) (λ r h. omega arith) ys high))
     (rising_append n xs ys (rising_tail x xs is) js (All-tail (λ r. r.seq ≤ n) x xs low) high)
 
 -- two members of one seq are one
-pub same_seq : (rs : List Registered) (r t : Registered) → IsRising rs → Contains rs r → Contains rs t → r.seq ≡ t.seq → r ≡ t
+pub same_seq : (rs : List Registered) (r t : Registered) → IsRising rs → Contains rs r → Contains rs t → r.seq ≡ t.seq
+    → r ≡ t
 same_seq rs r t is (i, first, at) (j, within, there) e =
     let here : get_or rs i r ≡ r = at in
     let that : get_or rs j r ≡ t = get_or_default rs j r t within ∙ there in
@@ -57,13 +61,16 @@ same_seq rs r t is (i, first, at) (j, within, there) e =
 
 pub numbered_high : (n : ℕ) (ss : List Standing) → All (λ r. n < r.seq) (numbered n ss)
 numbered_high n [] = All-nil (λ r. n < r.seq)
-numbered_high n (s ∷ ss) = All-cons (λ r. n < r.seq) _ (numbered (suc n) ss) (omega arith) (All-weaker (λ r. suc n < r.seq) (λ r. n < r.seq) (λ r h. omega arith) _ (numbered_high (suc n) ss))
+numbered_high n (s ∷ ss) =
+    All-cons (λ r. n < r.seq) _ (numbered (suc n) ss) (omega arith)
+    (All-weaker (λ r. suc n < r.seq) (λ r. n < r.seq) (λ r h. omega arith) _ (numbered_high (suc n) ss))
 
 pub numbered_low : (n : ℕ) (ss : List Standing) → All (λ r. r.seq ≤ n + length ss) (numbered n ss)
 numbered_low n [] = All-nil (λ r. r.seq ≤ n + 0)
 numbered_low n (s ∷ ss) =
     All-cons (λ r. r.seq ≤ n + suc (length ss)) _ (numbered (suc n) ss) (omega arith)
-    (All-weaker (λ r. r.seq ≤ suc n + length ss) (λ r. r.seq ≤ n + suc (length ss)) (λ r h. omega arith) _ (numbered_low (suc n) ss))
+    (All-weaker (λ r. r.seq ≤ suc n + length ss) (λ r. r.seq ≤ n + suc (length ss)) (λ r h. omega arith) _
+    (numbered_low (suc n) ss))
 
 pub numbered_rising : (n : ℕ) (ss : List Standing) → IsRising (numbered n ss)
 numbered_rising n [] = rising_nil
@@ -81,15 +88,22 @@ pub contains_cases : (q r : Registered) (rs : List Registered) → Contains (q �
 contains_cases q r rs (zero, lt, at) = inl at
 contains_cases q r rs (suc k, lt, at) = inr (k, omega arith, at)
 
-pub contains_filter : (p : Registered → Bool) (r : Registered) (rs : List Registered) → p r ≡ true → Contains rs r → Contains (filter p rs) r
+pub contains_filter : (p : Registered → Bool) (r : Registered) (rs : List Registered) → p r ≡ true → Contains rs r
+    → Contains (filter p rs) r
 contains_filter p r [] is (k, lt, at) = absurd (omega arith)
 contains_filter p r (q ∷ rs) is h =
     elim (contains_cases q r rs h) [
       | inl same ↦
           let passes : p q ≡ true = ap p same ∙ is in
-          let all : cond (p q) (q ∷ filter p rs) (filter p rs) ≡ q ∷ filter p rs = ap (λ b. cond b (q ∷ filter p rs) (filter p rs)) passes in
-          subst (λ xs. Contains xs r) (sym all) (subst (λ x. Contains (x ∷ filter p rs) r) (sym same) (contains_head r (filter p rs)))
+          let all : cond (p q) (q ∷ filter p rs) (filter p rs) ≡ q ∷ filter p rs =
+          ap (λ b. cond b (q ∷ filter p rs) (filter p rs)) passes in
+          subst (λ xs. Contains xs r) (sym all)
+          (subst (λ x. Contains (x ∷ filter p rs) r) (sym same) (contains_head r (filter p rs)))
       | inr later ↦
           let rest = contains_filter p r rs is later in
-          elim (p q) as (λ b. Contains (cond b (q ∷ filter p rs) (filter p rs)) r) [ true ↦ contains_later q r _ rest | false ↦ rest ]
+          elim (p q) as (λ b. Contains (cond b (q ∷ filter p rs) (filter p rs)) r) [
+            | true ↦
+                contains_later q r _ rest
+            | false ↦ rest
+          ]
     ]

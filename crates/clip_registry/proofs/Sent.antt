@@ -30,48 +30,102 @@ use Rattle.clip_registry.specs.contracts.view.View.TheInside as view_inside
 
 ruleset global = (sendable, global_sent.the_send, global_sent.the_sync, allocator_sent.the_frees)
 
-ruleset parts = (global, vec_sent.the_send, vec_sent.the_sync, arc_sent.the_send, arc_sent.the_sync, string_sent.the_send, string_sent.the_sync, option_sent.the_send, option_sent.the_sync)
+ruleset parts = (
+  global,
+  vec_sent.the_send,
+  vec_sent.the_sync,
+  arc_sent.the_send,
+  arc_sent.the_sync,
+  string_sent.the_send,
+  string_sent.the_sync,
+  option_sent.the_send,
+  option_sent.the_sync,
+)
 
 ruleset lists = (parts, list_sent.the_send, list_sent.the_sync, shared_sent.the_send, shared_sent.the_sync)
 
 piece_send : IsSend piece.the_row
-piece_send = view_send piece_inside.the_row _ _ _ _ (declared_send piece_inside.the_type (search (parts, entry_send, entry_sync), tt))
+piece_send = view_send piece_inside.the_row _ _ _ _
+    (declared_send piece_inside.the_type (search (parts, entry_send, entry_sync), tt))
 
 piece_sync : IsSync piece.the_row
-piece_sync = view_sync piece_inside.the_row _ _ _ _ (declared_sync piece_inside.the_type (search (parts, entry_send, entry_sync), tt))
+piece_sync = view_sync piece_inside.the_row _ _ _ _
+    (declared_sync piece_inside.the_type (search (parts, entry_send, entry_sync), tt))
 
 by_id_send : IsSend by_id.the_row
-by_id_send = view_send by_id_inside.the_row _ _ _ _ (declared_send by_id_inside.the_type (search (parts, piece_send, piece_sync), (search global, tt)))
+by_id_send = view_send by_id_inside.the_row _ _ _ _
+    (declared_send by_id_inside.the_type (search (parts, piece_send, piece_sync), (search global, tt)))
 
 by_id_sync : IsSync by_id.the_row
-by_id_sync = view_sync by_id_inside.the_row _ _ _ _ (declared_sync by_id_inside.the_type (search (parts, piece_send, piece_sync), (search global, tt)))
+by_id_sync = view_sync by_id_inside.the_row _ _ _ _
+    (declared_sync by_id_inside.the_type (search (parts, piece_send, piece_sync), (search global, tt)))
 
 roster_send : IsSend roster.the_row
-roster_send = view_send roster_inside.the_row _ _ _ _ (declared_send roster_inside.the_type (by_id_send, (search global, (search (global, flags_sent.the_send), tt))))
+roster_send = view_send roster_inside.the_row _ _ _ _
+    (declared_send roster_inside.the_type (by_id_send, (search global, (search (global, flags_sent.the_send), tt))))
 
 roster_sync : IsSync roster.the_row
-roster_sync = view_sync roster_inside.the_row _ _ _ _ (declared_sync roster_inside.the_type (by_id_sync, (search global, (search (global, flags_sent.the_sync), tt))))
+roster_sync = view_sync roster_inside.the_row _ _ _ _
+    (declared_sync roster_inside.the_type (by_id_sync, (search global, (search (global, flags_sent.the_sync), tt))))
 
 log_send : IsSend log.the_row
-log_send = view_send log_inside.the_row _ _ _ _ (declared_send log_inside.the_type (trail_sent.the_send, (search global, (search (lists, history_entry_send, history_entry_sync), (search (lists, history_entry_send, history_entry_sync), tt)))))
+log_send = view_send log_inside.the_row _ _ _ _
+    (declared_send log_inside.the_type (
+      trail_sent.the_send,
+      (
+        search global,
+        (
+          search (lists, history_entry_send, history_entry_sync),
+          (search (lists, history_entry_send, history_entry_sync), tt),
+        ),
+      ),
+    ))
 
 log_sync : IsSync log.the_row
-log_sync = view_sync log_inside.the_row _ _ _ _ (declared_sync log_inside.the_type (trail_sent.the_sync, (search global, (search (lists, history_entry_send, history_entry_sync), (search (lists, history_entry_send, history_entry_sync), tt)))))
+log_sync = view_sync log_inside.the_row _ _ _ _
+    (declared_sync log_inside.the_type (
+      trail_sent.the_sync,
+      (
+        search global,
+        (
+          search (lists, history_entry_send, history_entry_sync),
+          (search (lists, history_entry_send, history_entry_sync), tt),
+        ),
+      ),
+    ))
 
 state_send : IsSend state.the_row
-state_send = view_send state_inside.the_row _ _ _ _ (declared_send state_inside.the_type (search (parts, segment_send, segment_sync), (log_send, (roster_send, (search parts, (search (lists, flags_sent.the_send, flags_sent.the_sync), tt))))))
+state_send = view_send state_inside.the_row _ _ _ _
+    (declared_send state_inside.the_type (
+      search (parts, segment_send, segment_sync),
+      (log_send, (roster_send, (search parts, (search (lists, flags_sent.the_send, flags_sent.the_sync), tt)))),
+    ))
 
 state_sync : IsSync state.the_row
-state_sync = view_sync state_inside.the_row _ _ _ _ (declared_sync state_inside.the_type (search (parts, segment_send, segment_sync), (log_sync, (roster_sync, (search parts, (search (lists, flags_sent.the_send, flags_sent.the_sync), tt))))))
+state_sync = view_sync state_inside.the_row _ _ _ _
+    (declared_sync state_inside.the_type (
+      search (parts, segment_send, segment_sync),
+      (log_sync, (roster_sync, (search parts, (search (lists, flags_sent.the_send, flags_sent.the_sync), tt)))),
+    ))
 
 pub registrar_send : IsSend registrar.the_row
-registrar_send = view_send registrar_inside.the_row _ _ _ _ (declared_send registrar_inside.the_type (search global, (search global, (search (parts, state_send, state_sync), tt))))
+registrar_send = view_send registrar_inside.the_row _ _ _ _
+    (declared_send registrar_inside.the_type (
+      search global,
+      (search global, (search (parts, state_send, state_sync), tt)),
+    ))
 
 pub registrar_sync : IsSync registrar.the_row
-registrar_sync = view_sync registrar_inside.the_row _ _ _ _ (declared_sync registrar_inside.the_type (search global, (search global, (search (parts, state_send, state_sync), tt))))
+registrar_sync = view_sync registrar_inside.the_row _ _ _ _
+    (declared_sync registrar_inside.the_type (
+      search global,
+      (search global, (search (parts, state_send, state_sync), tt)),
+    ))
 
 pub view_is_send : IsSend view.the_row
-view_is_send = view_send view_inside.the_row _ _ _ _ (declared_send view_inside.the_type (search global, (search (parts, state_send, state_sync), tt)))
+view_is_send = view_send view_inside.the_row _ _ _ _
+    (declared_send view_inside.the_type (search global, (search (parts, state_send, state_sync), tt)))
 
 pub view_is_sync : IsSync view.the_row
-view_is_sync = view_sync view_inside.the_row _ _ _ _ (declared_sync view_inside.the_type (search global, (search (parts, state_send, state_sync), tt)))
+view_is_sync = view_sync view_inside.the_row _ _ _ _
+    (declared_sync view_inside.the_type (search global, (search (parts, state_send, state_sync), tt)))

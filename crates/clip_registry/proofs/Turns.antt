@@ -1,5 +1,6 @@
 -- Merge turns end, since each leaves fewer segments.
-use Rattle.std.proofs.Common.{◌≡◌, ℕ, suc, ◌+◌, ◌<◌, ◌≤◌, List, [], ◌∷◌, ◌++◌, take, drop, length, length-append, length-take, length-drop, ap, arith}
+use Rattle.std.proofs.Common.{◌≡◌, ℕ, suc, ◌+◌, ◌<◌, ◌≤◌, List, [], ◌∷◌, ◌++◌, take, drop, length, length-append}
+use Rattle.std.proofs.Common.{length-take, length-drop, ap, arith}
 use Rattle.clip_model.specs.History.{Registered}
 use Rattle.clip_merge.specs.Plan.{IsTurn}
 use Rattle.clip_merge.specs.Plan.IsTurn.{rise, run}
@@ -9,9 +10,11 @@ use Rattle.clip_registry.specs.Steps.Turns.{HasMerged, TakesTurns}
 use Rattle.clip_registry.proofs.Kept.{neighbours_there}
 
 -- a turn merges two segments at least, which are there
-pub turn_there : (segments : List (List Registered)) (first past : ℕ) → IsTurn segments first past → (first + 2 ≤ past) × (past ≤ length segments)
+pub turn_there : (segments : List (List Registered)) (first past : ℕ) → IsTurn segments first past
+    → (first + 2 ≤ past) × (past ≤ length segments)
 turn_there segments first past (run oldest ends) = let there = oldest.run.there in (omega arith, omega arith)
-turn_there segments first past (rise none oldest ends) = let after = oldest.rise.after in let there = oldest.rise.there in (omega arith, omega arith)
+turn_there segments first past (rise none oldest ends) = let after = oldest.rise.after in let there =
+    oldest.rise.there in (omega arith, omega arith)
 
 shelf_short : (es : List Registered) → length (shelf es) ≤ 1
 shelf_short [] = omega arith
@@ -24,7 +27,8 @@ fewer old new merged =
     let is = merged.installed in
     let ends = merged.begun.over.ends in
     let there = turn_there old.segments merged.begun.first merged.begun.past merged.begun.turn in
-    let within : is.first + length job.sources ≤ length old.segments = neighbours_there old.segments job.sources is.first (omega arith) is.stood in
+    let within : is.first + length job.sources ≤ length old.segments =
+    neighbours_there old.segments job.sources is.first (omega arith) is.stood in
     let es = (merge_of job).entries in
     let before = take is.first old.segments in
     let after = drop (is.first + length job.sources) old.segments in

@@ -1,5 +1,6 @@
 -- Merges: what a job and a merge hold, and what installing and purging do.
-use Rattle.std.specs.Prelude.{◌≡◌, ◌⊎◌, ℕ, ◌+◌, Bool, true, false, List, [], ◌∷◌, ◌++◌, map, filter, length, take, drop, Contains, IsTrue, refl}
+use Rattle.std.specs.Prelude.{◌≡◌, ◌⊎◌, ℕ, ◌+◌, Bool, true, false, List, [], ◌∷◌, ◌++◌, map, filter, length, take, drop}
+use Rattle.std.specs.Prelude.{Contains, IsTrue, refl}
 use Rattle.std.specs.Coded.{Coded, code_by, coded×, coded_ℕ, coded_list}
 use Rattle.clip_model.specs.History.{History, Registered, registered_code, is_live}
 use Rattle.clip_segment.specs.Segment.{all_entries}

@@ -1,9 +1,11 @@
 -- A registry as contracts see it: its segments and its history.
-use Rattle.std.specs.Prelude.{◌≡◌, ◌↔◌, ℕ, suc, ◌≤◌, Bool, cond, List, [], ◌∷◌, ◌++◌, filter, Some, IsTrue, All, Contains, refl}
+use Rattle.std.specs.Prelude.{◌≡◌, ◌↔◌, ℕ, suc, ◌≤◌, Bool, cond, List, [], ◌∷◌, ◌++◌, filter, Some, IsTrue, All}
+use Rattle.std.specs.Prelude.{Contains, refl}
 use Rattle.std.specs.FinMap as finite
 use Rattle.std.specs.Coded.{Coded, code_by, coded×, coded_list, coded_bool}
 use Rattle.clip_model.specs.Standing.{Standing}
-use Rattle.clip_model.specs.History.{History, Command, Register, Delete, Clear, Registered, Registry, replay, listed, is_live, is_live_in, after_command, with_command, history_code, registered_code}
+use Rattle.clip_model.specs.History.{History, Command, Register, Delete, Clear, Registered, Registry, replay, listed}
+use Rattle.clip_model.specs.History.{is_live, is_live_in, after_command, with_command, history_code, registered_code}
 use Rattle.clip_segment.specs.Segment.{IsRising, all_entries}
 
 -- segments, each as its list of entries, the history of accepted commands, and whether it is kept to be read

@@ -15,15 +15,26 @@ use Rattle.clip_run.specs.declared.alone.RunServer.{RunServer}
 answers_held : {A : Type 0} (hearers : A → List Hearer) → AreAmong (AnswersAlone hearers) (AnswersIn (held_at hearers))
 answers_held hearers s t n line text a = a.answers
 
-pub alone_gives : {A : Type 0} (hearers : A → List Hearer) (s t : RunServer × A) (settings : Settings) (left taken_old taken : Option (List ℕ)) (count : ℕ) → (held_at hearers s).history ≡ [] → (held_at hearers s).rows ≡ [] → (held_at hearers s).settings ≡ settings
-    → OfInput left (ServesAll (AnswersAlone hearers) s t taken_old taken count) → OfInput left (GivesAll (hearers s.1) (hearers t.1) settings taken_old taken count (held_at hearers t).rows)
+pub alone_gives : {A : Type 0} (hearers : A → List Hearer) (s t : RunServer
+    × A) (settings : Settings) (left taken_old taken : Option (List ℕ)) (count : ℕ) → (held_at hearers s).history ≡ []
+    → (held_at hearers s).rows ≡ [] → (held_at hearers s).settings ≡ settings
+    → OfInput left (ServesAll (AnswersAlone hearers) s t taken_old taken count)
+    → OfInput left (GivesAll (hearers s.1) (hearers t.1) settings taken_old taken count (held_at hearers t).rows)
 alone_gives hearers s t settings left taken_old taken count start none same p =
-    run_gives (held_at hearers) s t settings left taken_old taken count start none same (serves_all_weaker (AnswersAlone hearers) (AnswersIn (held_at hearers)) (answers_held hearers) s t left taken_old taken count p)
+    run_gives (held_at hearers) s t settings left taken_old taken count start none same
+    (serves_all_weaker (AnswersAlone hearers) (AnswersIn (held_at hearers)) (answers_held hearers) s t left
+    taken_old taken count p)
 
-pub alone_gives_front : {A : Type 0} (hearers : A → List Hearer) (s t : RunServer × A) (settings : Settings) (left left_new : Option (List ℕ)) (met_end : Bool) (taken_old taken : Option (List ℕ)) → (held_at hearers s).history ≡ [] → (held_at hearers s).settings ≡ settings
-    → OfLinesRead left left_new met_end (ServesFront (AnswersAlone hearers) (BreaksIn (held_at hearers)) s t taken_old taken) → OfLinesRead left left_new met_end (GivesFront (hearers s.1) (hearers t.1) settings.form taken_old taken)
+pub alone_gives_front : {A : Type 0} (hearers : A → List Hearer) (s t : RunServer
+    × A) (settings : Settings) (left left_new : Option (List ℕ)) (met_end : Bool) (taken_old taken : Option (List ℕ))
+    → (held_at hearers s).history ≡ [] → (held_at hearers s).settings ≡ settings
+    → OfLinesRead left left_new met_end
+    (ServesFront (AnswersAlone hearers) (BreaksIn (held_at hearers)) s t taken_old taken)
+    → OfLinesRead left left_new met_end (GivesFront (hearers s.1) (hearers t.1) settings.form taken_old taken)
 alone_gives_front hearers s t settings left left_new met_end taken_old taken start same p =
-    run_gives_front (held_at hearers) s t settings left left_new met_end taken_old taken start same (serves_front_weaker (AnswersAlone hearers) (AnswersIn (held_at hearers)) (BreaksIn (held_at hearers)) (answers_held hearers) s t left left_new met_end taken_old taken p)
+    run_gives_front (held_at hearers) s t settings left left_new met_end taken_old taken start same
+    (serves_front_weaker (AnswersAlone hearers) (AnswersIn (held_at hearers)) (BreaksIn (held_at hearers))
+    (answers_held hearers) s t left left_new met_end taken_old taken p)
 
 -- ---- what two facts of a result say together
 

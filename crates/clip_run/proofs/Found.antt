@@ -22,54 +22,92 @@ use Rattle.clip_front.specs.Steps.Found.{told_in, rows_in, found_text, found_out
 use Rattle.clip_front.proofs.Flowing.{begun_text, data_of, text_whole}
 use Rattle.clip_front.proofs.Responses.{held_by}
 
-shown-alerts_due : (s : RegistryState) (articles : List ArticleValue) → map alerts_by_id (map (alerts_due s) articles) ≡ map (alerts_shown s.history) articles
+shown-alerts_due : (s : RegistryState) (articles : List ArticleValue) → map alerts_by_id (map (alerts_due s) articles)
+    ≡ map (alerts_shown s.history) articles
 shown-alerts_due s [] = refl
 shown-alerts_due s (a ∷ articles) = ap (λ rest. alerts_shown s.history a ∷ rest) (shown-alerts_due s articles)
 
-pub told-alerts_due : (s : RegistryState) (articles : List ArticleValue) → told_in (map (alerts_due s) articles) ≡ alerts_of_all s.history articles
+pub told-alerts_due : (s : RegistryState) (articles : List ArticleValue) → told_in (map (alerts_due s) articles)
+    ≡ alerts_of_all s.history articles
 told-alerts_due s [] = refl
 told-alerts_due s (a ∷ articles) = ap (λ rest. alerts s.history a ++ rest) (told-alerts_due s articles)
 
-rows-alerts_due : (hearers : List Hearer) (n : ℕ) (s : RegistryState) (articles : List ArticleValue) → rows_in hearers n (map (alerts_due s) articles) ≡ flat_map (λ a. rows_of_article hearers n (alerts s.history a)) articles
+rows-alerts_due : (hearers : List Hearer) (n : ℕ) (s : RegistryState) (articles : List ArticleValue)
+    → rows_in hearers n (map (alerts_due s) articles)
+    ≡ flat_map (λ a. rows_of_article hearers n (alerts s.history a)) articles
 rows-alerts_due hearers n s [] = refl
-rows-alerts_due hearers n s (a ∷ articles) = ap (λ rest. rows_of_article hearers n (alerts s.history a) ++ rest) (rows-alerts_due hearers n s articles)
+rows-alerts_due hearers n s (a ∷ articles) =
+    ap (λ rest. rows_of_article hearers n (alerts s.history a) ++ rest) (rows-alerts_due hearers n s articles)
 
 -- the text of what is due, with the texts of the notes
-pub text-alerts_due : (form : Form) (hearers : List Hearer) (n : ℕ) (s : RegistryState) (articles : List ArticleValue) → found_text form hearers n (map (alerts_due s) articles) ≡ (given hearers n s.history (matching articles)).text form
-text-alerts_due form hearers n s articles = ap₂ (λ ids told. reply_text n (matched form ids (texts_said hearers told))) (shown-alerts_due s articles) (told-alerts_due s articles)
+pub text-alerts_due : (form : Form) (hearers : List Hearer) (n : ℕ) (s : RegistryState) (articles : List ArticleValue)
+    → found_text form hearers n (map (alerts_due s) articles)
+    ≡ (given hearers n s.history (matching articles)).text form
+text-alerts_due form hearers n s articles =
+    ap₂ (λ ids told. reply_text n (matched form ids (texts_said hearers told))) (shown-alerts_due s articles)
+    (told-alerts_due s articles)
 
 -- a line that matches articles gives just what is found of them at a view with its history
-pub found_given : (view : RegistryState) (hearers : List Hearer) (n : ℕ) (articles : List ArticleValue) (found : List AlertsValue) → found ≡ map (alerts_due view) articles → found_outcome hearers n found ≡ given hearers n view.history (matching articles)
+pub found_given : (view : RegistryState) (hearers : List Hearer) (n : ℕ) (articles : List ArticleValue)
+    (found : List AlertsValue) → found ≡ map (alerts_due view) articles → found_outcome hearers n found
+    ≡ given hearers n view.history (matching articles)
 found_given view hearers n articles found is =
     ap (found_outcome hearers n) is
-    ∙ ap₂ (λ text rows. record { text = text; alerts = told_in (map (alerts_due view) articles); rows = rows }) (λ i form. text-alerts_due form hearers n view articles i) (rows-alerts_due hearers n view articles)
-    ∙ ap (λ told. record { text = (given hearers n view.history (matching articles)).text; alerts = told; rows = (given hearers n view.history (matching articles)).rows }) (told-alerts_due view articles)
+    ∙ ap₂ (λ text rows. record { text = text; alerts = told_in (map (alerts_due view) articles); rows = rows })
+    (λ i form. text-alerts_due form hearers n view articles i) (rows-alerts_due hearers n view articles)
+    ∙ ap (λ told. record {
+      text = (given hearers n view.history (matching articles)).text;
+      alerts = told;
+      rows =
+          (given hearers n view.history (matching articles)).rows;
+    }) (told-alerts_due view articles)
 
-pub goes_on_matched : (view : RegistryState) (hearers heard : List Hearer) (books new_books : Books) (n : ℕ) (articles : List ArticleValue) (found : List AlertsValue) (text : List ℕ) → found ≡ map (alerts_due view) articles → text ≡ found_text books.settings.form hearers n found
-    → heard ≡ told_all (told_in found) hearers → new_books.ledger ≡ books.ledger ++ kept_rows books.settings.keeps_rows (rows_in hearers n found) → new_books.settings ≡ books.settings
+pub goes_on_matched : (view : RegistryState) (hearers heard : List Hearer) (books new_books : Books) (n : ℕ)
+    (articles : List ArticleValue) (found : List AlertsValue) (text : List ℕ) → found ≡ map (alerts_due view) articles
+    → text ≡ found_text books.settings.form hearers n found
+    → heard ≡ told_all (told_in found) hearers
+    → new_books.ledger ≡ books.ledger ++ kept_rows books.settings.keeps_rows (rows_in hearers n found)
+    → new_books.settings ≡ books.settings
     → GoesOn (held view.history hearers books) (held view.history heard new_books) n (matching articles) text
 goes_on_matched view hearers heard books new_books n articles found text is printed told rows settings =
-    let gives : found_outcome hearers n found ≡ given hearers n view.history (matching articles) = found_given view hearers n articles found is in
+    let gives : found_outcome hearers n found ≡ given hearers n view.history (matching articles) =
+    found_given view hearers n articles found is in
     record {
       leaves =
           ap (λ k. held_by k view.history heard new_books.ledger) settings
-          ∙ ap₂ (held_by books.settings view.history) (told ∙ ap (λ o. told_all o.alerts hearers) gives) (rows ∙ ap (λ o. books.ledger ++ kept_rows books.settings.keeps_rows o.rows) gives);
+          ∙ ap₂ (held_by books.settings view.history) (told ∙ ap (λ o. told_all o.alerts hearers) gives) (rows
+          ∙ ap (λ o. books.ledger ++ kept_rows books.settings.keeps_rows o.rows) gives);
       replies = printed ∙ ap (λ o. o.text books.settings.form) gives;
     }
 
 -- ---- article by article
 
 -- all articles are among the first that were matched
-pub all_matched : (view : RegistryState) (articles : List ArticleValue) (i : ℕ) → length articles ≤ i → take i (map (alerts_due view) articles) ≡ map (alerts_due view) articles
-all_matched view articles i all = take_all i (map (alerts_due view) articles) (omega (arith, all, length-map articles (alerts_due view)))
+pub all_matched : (view : RegistryState) (articles : List ArticleValue) (i : ℕ) → length articles ≤ i
+    → take i (map (alerts_due view) articles) ≡ map (alerts_due view) articles
+all_matched view articles i all =
+    take_all i (map (alerts_due view) articles) (omega (arith, all, length-map articles (alerts_due view)))
 
 -- what is put after all articles is the reply
-pub whole_reply : (view : RegistryState) (articles : List ArticleValue) (form : Form) (hearers : List Hearer) (n k i : ℕ) (notes : List Note) → length articles ≤ i → k ≡ n → map note_value notes ≡ notes_of hearers (told_in (take i (map (alerts_due view) articles)))
-    → begun_text (data_of form (map (alerts_due view) articles)) i ++ closing k (map (λ x. arc_str_bytes x.text) notes) ≡ reply form hearers n view.history (matching articles)
+pub whole_reply : (view : RegistryState) (articles : List ArticleValue) (form : Form) (hearers : List Hearer)
+    (n k i : ℕ) (notes : List Note) → length articles ≤ i → k ≡ n
+    → map note_value notes ≡ notes_of hearers (told_in (take i (map (alerts_due view) articles)))
+    → begun_text (data_of form (map (alerts_due view) articles)) i ++ closing k (map (λ x. arc_str_bytes x.text) notes)
+    ≡ reply form hearers n view.history (matching articles)
 whole_reply view articles form hearers n k i notes all number said =
     let vs = map (alerts_due view) articles in
     let ds = data_of form vs in
     let texts = map (λ x. arc_str_bytes x.text) notes in
-    let within : length ds ≤ i = omega (arith, all, length-map articles (alerts_due view), length-map vs alerts_by_id, length-map (map alerts_by_id vs) (alerts_data form)) in
-    ap (λ xs. (opening ++ items_begun false xs) ++ closing k texts) (take_all i ds within) ∙ ap (λ j. (opening ++ items_begun false ds) ++ closing j texts) number
-    ∙ text_whole form hearers n vs notes (said ∙ ap (λ ws. notes_of hearers (told_in ws)) (all_matched view articles i all)) ∙ text-alerts_due form hearers n view articles
+    let within : length ds ≤ i =
+    omega (
+      arith,
+      all,
+      length-map articles (alerts_due view),
+      length-map vs alerts_by_id,
+      length-map (map alerts_by_id vs) (alerts_data form),
+    ) in
+    ap (λ xs. (opening ++ items_begun false xs) ++ closing k texts) (take_all i ds within)
+    ∙ ap (λ j. (opening ++ items_begun false ds) ++ closing j texts) number
+    ∙ text_whole form hearers n vs notes (said
+    ∙ ap (λ ws. notes_of hearers (told_in ws)) (all_matched view articles i all))
+    ∙ text-alerts_due form hearers n view articles

@@ -1,5 +1,6 @@
 -- What a run gives that may owe answers meanwhile: just what its lines give.
-use Rattle.std.proofs.Common.{◌≡◌, ℕ, suc, ◌+◌, arith, List, [], ◌∷◌, ◌++◌, length, Bool, Option, refl, sym, ap, ap₂, ◌∙◌, subst, append_assoc, append-nil, inl, inr, if◌then◌else◌}
+use Rattle.std.proofs.Common.{◌≡◌, ℕ, suc, ◌+◌, arith, List, [], ◌∷◌, ◌++◌, length, Bool, Option, refl, sym, ap, ap₂}
+use Rattle.std.proofs.Common.{◌∙◌, subst, append_assoc, append-nil, inl, inr, if◌then◌else◌}
 use Rattle.std.specs.Io.KnownBytes.{Appends}
 use Rattle.clip_stream.specs.Device.{AppendsFront}
 use Rattle.clip_stream.specs.Lines.{lines_of, OfInput, OfLinesRead}
@@ -11,7 +12,8 @@ use Rattle.clip_model.specs.History.{History}
 use Rattle.clip_listen.specs.Heard.{Hearer, told_all, HearsFront}
 use Rattle.clip_listen.proofs.Hearing.{no_front, front_after, front_of_more, names_told}
 use Rattle.clip_protocol.specs.LineMeaning.{Meaning, Means, after, is_blank, json_of}
-use Rattle.clip_front.specs.Outcome.{Outcome, nothing_given, followed_by, given, names_in, kept_rows, Gives, GivesAll, GivesFront}
+use Rattle.clip_front.specs.Outcome.{Outcome, nothing_given, followed_by, given, names_in, kept_rows, Gives, GivesAll}
+use Rattle.clip_front.specs.Outcome.{GivesFront}
 use Rattle.clip_protocol.specs.Steps.Outline.{outline, blank, outline_of_value, MeansOutline}
 use Rattle.clip_front.specs.Steps.Serving.{Serves, StopsAt, ServesAll, ServesFront}
 use Rattle.clip_protocol.proofs.Meanings.{means_from, means_to}
@@ -26,35 +28,55 @@ use Rattle.clip_run.proofs.Owing.{owes_told, gave_nothing, gave_more}
 
 outline_cut : (line : List ℕ) → outline (cut line) ≡ outline line
 unfolding outline
-outline_cut line = choose _ _ _ _ _ (cut_is_long line) (λ e. ap (λ l. if is_blank l then blank else outline_of_value (json_of l)) (cut_is_whole line e))
+outline_cut line = choose _ _ _ _ _ (cut_is_long line)
+    (λ e. ap (λ l. if is_blank l then blank else outline_of_value (json_of l)) (cut_is_whole line e))
 
-means_whole : (names : List (List ℕ)) (h : History) (line : List ℕ) (m : Meaning) → Means names h (cut line) m → Means names h line m
-means_whole names h line m means = means_from names h line m (subst (λ o. MeansOutline names h o m) (outline_cut line) (means_to names h (cut line) m means))
+means_whole : (names : List (List ℕ)) (h : History) (line : List ℕ) (m : Meaning) → Means names h (cut line) m
+    → Means names h line m
+means_whole names h line m means =
+    means_from names h line m
+    (subst (λ o. MeansOutline names h o m) (outline_cut line) (means_to names h (cut line) m means))
 
 -- what was heard before changes nothing that is given
-gives_kept : (front : List Alert) (hearers : List Hearer) (n : ℕ) (h : History) (lines : List (List ℕ)) (o : Outcome) → Gives (told_all front hearers) n h lines o → Gives hearers n h lines o
+gives_kept : (front : List Alert) (hearers : List Hearer) (n : ℕ) (h : History) (lines : List (List ℕ)) (o : Outcome)
+    → Gives (told_all front hearers) n h lines o → Gives hearers n h lines o
 gives_kept front hearers n h [] o g = g
-gives_kept front hearers n h (line ∷ lines) o g =
-    (g.0, g.1, subst (λ ns. Means ns h line g.0) (names_told front hearers) g.2, g.3 ∙ ap (λ x. followed_by x g.1) (given_kept front hearers n h g.0), gives_kept front hearers (suc n) (after h g.0) lines g.1 g.4)
+gives_kept front hearers n h (line ∷ lines) o g = (
+  g.0,
+  g.1,
+  subst (λ ns. Means ns h line g.0) (names_told front hearers) g.2,
+  g.3
+      ∙ ap (λ x. followed_by x g.1) (given_kept front hearers n h g.0),
+  gives_kept front hearers (suc n) (after h g.0) lines g.1 g.4,
+)
 
 -- ---- one line and those after it
 
-gives_first : (s t : Course) (n : ℕ) (line text : List ℕ) (lines : List (List ℕ)) (rest : Outcome) (a : Turns s t n (cut line) text) → Gives t.hearers (suc n) t.history lines rest
+gives_first : (s t : Course) (n : ℕ) (line text : List ℕ) (lines : List (List ℕ)) (rest : Outcome)
+    (a : Turns s t n (cut line) text) → Gives t.hearers (suc n) t.history lines rest
     → Gives s.hearers n s.history (line ∷ lines) (followed_by (given s.hearers n s.history a.meaning) rest)
 gives_first s t n line text lines rest a gives =
     let m = a.meaning in
     let later : Gives (told_all a.out.alerts s.hearers) (suc n) (after s.history m) lines rest =
-    subst (λ h. Gives (told_all a.out.alerts s.hearers) (suc n) h lines rest) a.history (subst (λ hs. Gives hs (suc n) t.history lines rest) a.gave.heard gives) in
-    (m, rest, means_whole (names_in s.hearers) s.history line m a.means, refl, gives_kept a.out.alerts s.hearers (suc n) (after s.history m) lines rest later)
+    subst (λ h. Gives (told_all a.out.alerts s.hearers) (suc n) h lines rest) a.history
+    (subst (λ hs. Gives hs (suc n) t.history lines rest) a.gave.heard gives) in (
+      m,
+      rest,
+      means_whole (names_in s.hearers) s.history line m a.means,
+      refl,
+      gives_kept a.out.alerts s.hearers (suc n) (after s.history m) lines rest later,
+    )
 
 -- what was owed and what all lines give, by what the line gave and what is owed then
 rest_first : (s t : Course) (n : ℕ) (line text : List ℕ) (a : Turns s t n line text) (rest : Outcome)
-    → followed_by (owes s.hearers s.owed) (followed_by (given s.hearers n s.history a.meaning) rest) ≡ followed_by a.out (followed_by (owes t.hearers t.owed) rest)
+    → followed_by (owes s.hearers s.owed) (followed_by (given s.hearers n s.history a.meaning) rest)
+    ≡ followed_by a.out (followed_by (owes t.hearers t.owed) rest)
 rest_first s t n line text a rest =
     sym (followed_assoc (owes s.hearers s.owed) (given s.hearers n s.history a.meaning) rest)
     ∙ ap (λ x. followed_by x rest) a.rest
     ∙ followed_assoc a.out (owes s.hearers t.owed) rest
-    ∙ ap (λ x. followed_by a.out (followed_by x rest)) (sym (owes_told a.out.alerts s.hearers t.hearers t.owed a.gave.heard))
+    ∙ ap (λ x. followed_by a.out (followed_by x rest))
+    (sym (owes_told a.out.alerts s.hearers t.hearers t.owed a.gave.heard))
 
 -- ---- all lines were taken
 
@@ -67,17 +89,22 @@ record TakenBy (s t : Course) (n : ℕ) (lines : List (List ℕ)) (text : List �
   printed : out.text s.settings.form ≡ text
   rest : followed_by (owes s.hearers s.owed) outcome ≡ followed_by out (owes t.hearers t.owed)
 
-taken_first : (s t u : Course) (n : ℕ) (line first more text : List ℕ) (lines : List (List ℕ)) → Turns s t n (cut line) first → text ≡ first ++ more → TakenBy t u (suc n) lines more → TakenBy s u n (line ∷ lines) text
+taken_first : (s t u : Course) (n : ℕ) (line first more text : List ℕ) (lines : List (List ℕ))
+    → Turns s t n (cut line) first → text ≡ first ++ more → TakenBy t u (suc n) lines more
+    → TakenBy s u n (line ∷ lines) text
 taken_first s t u n line first more text lines a e later = record {
   outcome = followed_by (given s.hearers n s.history a.meaning) later.outcome;
   gives = gives_first s t n line first lines later.outcome a later.gives;
   out = followed_by a.out later.out;
   gave = gave_more s t u a.out later.out a.gave later.gave;
-  printed = ap₂ (λ x y. x ++ y) a.printed (ap (λ k. later.out.text k.form) (sym a.gave.settings) ∙ later.printed) ∙ sym e;
-  rest = rest_first s t n (cut line) first a later.outcome ∙ ap (followed_by a.out) later.rest ∙ sym (followed_assoc a.out later.out (owes u.hearers u.owed));
+  printed = ap₂ (λ x y. x ++ y) a.printed (ap (λ k. later.out.text k.form) (sym a.gave.settings) ∙ later.printed)
+      ∙ sym e;
+  rest = rest_first s t n (cut line) first a later.outcome ∙ ap (followed_by a.out) later.rest
+      ∙ sym (followed_assoc a.out later.out (owes u.hearers u.owed));
 }
 
-taken_by : {S : Type 0} (view : S → Course) (s t : S) (n : ℕ) (lines : List (List ℕ)) (text : List ℕ) → Serves (TurnsIn view) s t n lines text → TakenBy (view s) (view t) n lines text
+taken_by : {S : Type 0} (view : S → Course) (s t : S) (n : ℕ) (lines : List (List ℕ)) (text : List ℕ)
+    → Serves (TurnsIn view) s t n lines text → TakenBy (view s) (view t) n lines text
 taken_by view s t n [] text p =
     let same : view s ≡ view t = sym (ap view p.0) in
     record {
@@ -88,31 +115,46 @@ taken_by view s t n [] text p =
       printed = sym p.1;
       rest = followed_nothing (owes (view s).hearers (view s).owed) ∙ ap (λ x. owes x.hearers x.owed) same;
     }
-taken_by view s t n (line ∷ lines) text p = taken_first (view s) (view p.0) (view t) n line p.1 p.2 text lines p.3 p.4 (taken_by view p.0 t (suc n) lines p.2 p.5)
+taken_by view s t n (line ∷ lines) text p =
+    taken_first (view s) (view p.0) (view t) n line p.1 p.2 text lines p.3 p.4
+    (taken_by view p.0 t (suc n) lines p.2 p.5)
 
 -- where nothing was owed, and nothing is, what was given is what the lines give
-settled : (s t : Course) (out outcome : Outcome) → s.owed ≡ [] → t.owed ≡ [] → followed_by (owes s.hearers s.owed) outcome ≡ followed_by out (owes t.hearers t.owed) → out ≡ outcome
+settled : (s t : Course) (out outcome : Outcome) → s.owed ≡ [] → t.owed ≡ []
+    → followed_by (owes s.hearers s.owed) outcome ≡ followed_by out (owes t.hearers t.owed) → out ≡ outcome
 settled s t out outcome none_before none e =
-    sym (followed_nothing out) ∙ ap (λ os. followed_by out (owes t.hearers os)) (sym none) ∙ sym e ∙ ap (λ os. followed_by (owes s.hearers os) outcome) none_before
+    sym (followed_nothing out) ∙ ap (λ os. followed_by out (owes t.hearers os)) (sym none) ∙ sym e
+    ∙ ap (λ os. followed_by (owes s.hearers os) outcome) none_before
 
-gives_all : {S : Type 0} (view : S → Course) (s t : S) (settings : Settings) (taken_old taken : Option (List ℕ)) (count : ℕ) (input : List ℕ) → (view s).history ≡ [] → (view s).rows ≡ [] → (view s).settings ≡ settings → (view s).owed ≡ [] → (view t).owed ≡ []
-    → ServesAll (TurnsIn view) s t taken_old taken count input → GivesAll (view s).hearers (view t).hearers settings taken_old taken count (view t).rows input
+gives_all : {S : Type 0} (view : S → Course) (s t : S) (settings : Settings) (taken_old taken : Option (List ℕ))
+    (count : ℕ) (input : List ℕ) → (view s).history ≡ [] → (view s).rows ≡ [] → (view s).settings ≡ settings
+    → (view s).owed ≡ [] → (view t).owed ≡ []
+    → ServesAll (TurnsIn view) s t taken_old taken count input
+    → GivesAll (view s).hearers (view t).hearers settings taken_old taken count (view t).rows input
 gives_all view s t settings taken_old taken count input start no_rows same none_before none p =
     let g = taken_by view s t 1 (lines_of input) p.text p.served in
     let whole = settled (view s) (view t) g.out g.outcome none_before none g.rest in
     record {
       outcome = g.outcome;
       is = subst (λ h. Gives (view s).hearers 1 h (lines_of input) g.outcome) start g.gives;
-      replies = subst (Appends taken_old taken) (sym g.printed ∙ ap (λ k. g.out.text k.form) same ∙ ap (λ o. o.text settings.form) whole) p.written;
+      replies = subst (Appends taken_old taken) (sym g.printed ∙ ap (λ k. g.out.text k.form) same
+          ∙ ap (λ o. o.text settings.form) whole) p.written;
       told = g.gave.heard ∙ ap (λ o. told_all o.alerts (view s).hearers) whole;
-      rows = g.gave.rows ∙ ap₂ (λ xs k. xs ++ kept_rows k.keeps_rows g.out.rows) no_rows same ∙ ap (λ o. kept_rows settings.keeps_rows o.rows) whole;
+      rows = g.gave.rows ∙ ap₂ (λ xs k. xs ++ kept_rows k.keeps_rows g.out.rows) no_rows same
+          ∙ ap (λ o. kept_rows settings.keeps_rows o.rows) whole;
       counted = p.counted;
     }
 
-pub run_gives : {S : Type 0} (view : S → Course) (s t : S) (settings : Settings) (left taken_old taken : Option (List ℕ)) (count : ℕ) → (view s).history ≡ [] → (view s).rows ≡ [] → (view s).settings ≡ settings → (view s).owed ≡ [] → (view t).owed ≡ []
-    → OfInput left (ServesAll (TurnsIn view) s t taken_old taken count) → OfInput left (GivesAll (view s).hearers (view t).hearers settings taken_old taken count (view t).rows)
+pub run_gives : {S : Type 0} (view : S
+    → Course) (s t : S) (settings : Settings) (left taken_old taken : Option (List ℕ)) (count : ℕ)
+    → (view s).history ≡ [] → (view s).rows ≡ [] → (view s).settings ≡ settings → (view s).owed ≡ []
+    → (view t).owed ≡ []
+    → OfInput left (ServesAll (TurnsIn view) s t taken_old taken count)
+    → OfInput left (GivesAll (view s).hearers (view t).hearers settings taken_old taken count (view t).rows)
 run_gives view s t settings left taken_old taken count start no_rows same none_before none p =
-    of_input_weaker left _ _ (λ input served. gives_all view s t settings taken_old taken count input start no_rows same none_before none served) p
+    of_input_weaker left _ _
+    (λ input served. gives_all view s t settings taken_old taken count input start no_rows same none_before none
+    served) p
 
 -- ---- some first lines were taken, and the next was begun at most
 
@@ -133,18 +175,27 @@ begun_none s n = record {
   heard = no_front (followed_by (owes s.hearers s.owed) nothing_given).alerts s.hearers;
 }
 
-begun_here : (s t : Course) (n : ℕ) (line text : List ℕ) → BreaksOff s t n (cut line) text → BegunBy s t n (line ∷ []) text
+begun_here : (s t : Course) (n : ℕ) (line text : List ℕ) → BreaksOff s t n (cut line) text
+    → BegunBy s t n (line ∷ []) text
 begun_here s t n line text b =
     let now = given s.hearers n s.history b.meaning in
     record {
       outcome = now;
-      gives = (b.meaning, nothing_given, means_whole (names_in s.hearers) s.history line b.meaning b.means, sym (followed_nothing now), refl);
+      gives = (
+        b.meaning,
+        nothing_given,
+        means_whole (names_in s.hearers) s.history line b.meaning b.means,
+        sym (followed_nothing now),
+        refl,
+      );
       more = b.more;
       printed = b.printed;
       heard = b.heard;
     }
 
-begun_first : (s t u : Course) (n : ℕ) (line first rest text : List ℕ) (lines : List (List ℕ)) → Turns s t n (cut line) first → text ≡ first ++ rest → BegunBy t u (suc n) lines rest → BegunBy s u n (line ∷ lines) text
+begun_first : (s t u : Course) (n : ℕ) (line first rest text : List ℕ) (lines : List (List ℕ))
+    → Turns s t n (cut line) first → text ≡ first ++ rest → BegunBy t u (suc n) lines rest
+    → BegunBy s u n (line ∷ lines) text
 begun_first s t u n line first rest text lines a e later =
     let now = given s.hearers n s.history a.meaning in
     let all = rest_first s t n (cut line) first a later.outcome in
@@ -152,67 +203,107 @@ begun_first s t u n line first rest text lines a e later =
       outcome = followed_by now later.outcome;
       gives = gives_first s t n line first lines later.outcome a later.gives;
       more = later.more;
-      printed = ap (λ o. o.text s.settings.form) all ∙ ap₂ (λ x y. x ++ y) a.printed (ap (λ k. (followed_by (owes t.hearers t.owed) later.outcome).text k.form) (sym a.gave.settings) ∙ later.printed) ∙ sym (append_assoc first rest later.more) ∙ ap (λ x. x ++ later.more) (sym e);
+      printed = ap (λ o. o.text s.settings.form) all
+          ∙ ap₂ (λ x y. x ++ y) a.printed
+          (ap (λ k. (followed_by (owes t.hearers t.owed) later.outcome).text k.form) (sym a.gave.settings)
+          ∙ later.printed) ∙ sym (append_assoc first rest later.more) ∙ ap (λ x. x ++ later.more) (sym e);
       heard = subst (λ o. HearsFront o.alerts s.hearers u.hearers) (sym all)
-          (front_after a.out.alerts (followed_by (owes t.hearers t.owed) later.outcome).alerts s.hearers t.hearers u.hearers a.gave.heard later.heard);
+          (front_after a.out.alerts (followed_by (owes t.hearers t.owed) later.outcome).alerts s.hearers t.hearers
+          u.hearers a.gave.heard later.heard);
     }
 
-begun_by : {S : Type 0} (view : S → Course) (s t u : S) (n k : ℕ) (lines : List (List ℕ)) (line text begun : List ℕ) → Serves (TurnsIn view) s t n lines text → k ≡ n + length lines → BreaksIn view t u k (cut line) begun → BegunBy (view s) (view u) n (lines ++ line ∷ []) (text ++ begun)
+begun_by : {S : Type 0} (view : S → Course) (s t u : S) (n k : ℕ) (lines : List (List ℕ)) (line text begun : List ℕ)
+    → Serves (TurnsIn view) s t n lines text → k ≡ n + length lines → BreaksIn view t u k (cut line) begun
+    → BegunBy (view s) (view u) n (lines ++ line ∷ []) (text ++ begun)
 begun_by view s t u n k [] line text begun p e broken =
     let here : k ≡ n = omega (arith, e) in
     let whole : text ++ begun ≡ begun = ap (λ x. x ++ begun) p.1 in
-    subst (BegunBy (view s) (view u) n (line ∷ [])) (sym whole) (begun_here (view s) (view u) n line begun (subst (λ x. BreaksIn view x u n (cut line) begun) p.0 (subst (λ j. BreaksIn view t u j (cut line) begun) here broken)))
+    subst (BegunBy (view s) (view u) n (line ∷ [])) (sym whole)
+    (begun_here (view s) (view u) n line begun
+    (subst (λ x. BreaksIn view x u n (cut line) begun) p.0
+    (subst (λ j. BreaksIn view t u j (cut line) begun) here broken)))
 begun_by view s t u n k (l ∷ lines) line text begun p e broken =
-    begun_first (view s) (view p.0) (view u) n l p.1 (p.2 ++ begun) (text ++ begun) (lines ++ line ∷ []) p.3 (ap (λ x. x ++ begun) p.4 ∙ append_assoc p.1 p.2 begun) (begun_by view p.0 t u (suc n) k lines line p.2 begun p.5 (omega (arith, e)) broken)
+    begun_first (view s) (view p.0) (view u) n l p.1 (p.2 ++ begun) (text ++ begun) (lines ++ line ∷ []) p.3
+    (ap (λ x. x ++ begun) p.4
+    ∙ append_assoc p.1 p.2 begun)
+    (begun_by view p.0 t u (suc n) k lines line p.2 begun p.5 (omega (arith, e)) broken)
 
-ended_by : {S : Type 0} (view : S → Course) (s t : S) (n : ℕ) (lines : List (List ℕ)) (text : List ℕ) → Serves (TurnsIn view) s t n lines text → BegunBy (view s) (view t) n lines text
-ended_by view s t n [] text p = subst (BegunBy (view s) (view t) n []) (sym p.1) (subst (λ x. BegunBy (view s) (view x) n [] []) (sym p.0) (begun_none (view s) n))
-ended_by view s t n (line ∷ lines) text p = begun_first (view s) (view p.0) (view t) n line p.1 p.2 text lines p.3 p.4 (ended_by view p.0 t (suc n) lines p.2 p.5)
+ended_by : {S : Type 0} (view : S → Course) (s t : S) (n : ℕ) (lines : List (List ℕ)) (text : List ℕ)
+    → Serves (TurnsIn view) s t n lines text → BegunBy (view s) (view t) n lines text
+ended_by view s t n [] text p =
+    subst (BegunBy (view s) (view t) n []) (sym p.1)
+    (subst (λ x. BegunBy (view s) (view x) n [] []) (sym p.0) (begun_none (view s) n))
+ended_by view s t n (line ∷ lines) text p =
+    begun_first (view s) (view p.0) (view t) n line p.1 p.2 text lines p.3 p.4
+    (ended_by view p.0 t (suc n) lines p.2 p.5)
 
 -- lines that were not begun
-begun_more : (s t : Course) (n : ℕ) (lines later : List (List ℕ)) (text : List ℕ) → BegunBy s t n lines text → BegunBy s t n (lines ++ later) text
+begun_more : (s t : Course) (n : ℕ) (lines later : List (List ℕ)) (text : List ℕ) → BegunBy s t n lines text
+    → BegunBy s t n (lines ++ later) text
 begun_more s t n lines later text b =
     let on = gives_on s.hearers n s.history lines later b.outcome b.gives in
     let owed = owes s.hearers s.owed in
-    let all : followed_by owed (followed_by b.outcome on.0) ≡ followed_by (followed_by owed b.outcome) on.0 = sym (followed_assoc owed b.outcome on.0) in
+    let all : followed_by owed (followed_by b.outcome on.0) ≡ followed_by (followed_by owed b.outcome) on.0 =
+    sym (followed_assoc owed b.outcome on.0) in
     record {
       outcome = followed_by b.outcome on.0;
       gives = on.1;
       more = b.more ++ on.0.text s.settings.form;
-      printed = ap (λ o. o.text s.settings.form) all ∙ ap (λ x. x ++ on.0.text s.settings.form) b.printed ∙ append_assoc text b.more (on.0.text s.settings.form);
-      heard = subst (λ o. HearsFront o.alerts s.hearers t.hearers) (sym all) (front_of_more (followed_by owed b.outcome).alerts on.0.alerts s.hearers t.hearers b.heard);
+      printed = ap (λ o. o.text s.settings.form) all ∙ ap (λ x. x ++ on.0.text s.settings.form) b.printed
+          ∙ append_assoc text b.more (on.0.text s.settings.form);
+      heard = subst (λ o. HearsFront o.alerts s.hearers t.hearers) (sym all)
+          (front_of_more (followed_by owed b.outcome).alerts on.0.alerts s.hearers t.hearers b.heard);
     }
 
-front_given : (s t : Course) (taken_old taken : Option (List ℕ)) (text : List ℕ) (lines : List (List ℕ)) → s.history ≡ [] → s.owed ≡ [] → BegunBy s t 1 lines text → AppendsFront taken_old taken text → GivesFront s.hearers t.hearers s.settings.form taken_old taken lines
+front_given : (s t : Course) (taken_old taken : Option (List ℕ)) (text : List ℕ) (lines : List (List ℕ))
+    → s.history ≡ [] → s.owed ≡ [] → BegunBy s t 1 lines text → AppendsFront taken_old taken text
+    → GivesFront s.hearers t.hearers s.settings.form taken_old taken lines
 front_given s t taken_old taken text lines start none b written =
-    let whole : followed_by (owes s.hearers s.owed) b.outcome ≡ b.outcome = ap (λ os. followed_by (owes s.hearers os) b.outcome) none in
+    let whole : followed_by (owes s.hearers s.owed) b.outcome ≡ b.outcome =
+    ap (λ os. followed_by (owes s.hearers os) b.outcome) none in
     record {
       outcome = b.outcome;
       gives = subst (λ h. Gives s.hearers 1 h lines b.outcome) start b.gives;
-      replies = subst (AppendsFront taken_old taken) (sym b.printed ∙ ap (λ o. o.text s.settings.form) whole) (front_longer taken_old taken text b.more written);
+      replies = subst (AppendsFront taken_old taken) (sym b.printed
+          ∙ ap (λ o. o.text s.settings.form) whole) (front_longer taken_old taken text b.more written);
       told = subst (λ o. HearsFront o.alerts s.hearers t.hearers) whole b.heard;
     }
 
 -- nothing more was begun
-stopped : {S : Type 0} (view : S → Course) (s t u : S) (text begun : List ℕ) (lines later : List (List ℕ)) → Serves (TurnsIn view) s t 1 lines text → u ≡ t → begun ≡ [] → BegunBy (view s) (view u) 1 (lines ++ later) (text ++ begun)
+stopped : {S : Type 0} (view : S → Course) (s t u : S) (text begun : List ℕ) (lines later : List (List ℕ))
+    → Serves (TurnsIn view) s t 1 lines text → u ≡ t → begun ≡ []
+    → BegunBy (view s) (view u) 1 (lines ++ later) (text ++ begun)
 stopped view s t u text begun lines later p same none =
     subst (BegunBy (view s) (view u) 1 (lines ++ later)) (sym (ap (λ x. text ++ x) none ∙ append-nil text))
-    (begun_more (view s) (view u) 1 lines later text (ended_by view s u 1 lines text (subst (λ x. Serves (TurnsIn view) s x 1 lines text) (sym same) p)))
+    (begun_more (view s) (view u) 1 lines later text
+    (ended_by view s u 1 lines text (subst (λ x. Serves (TurnsIn view) s x 1 lines text) (sym same) p)))
 
-begun_at : {S : Type 0} (view : S → Course) (s t u : S) (text begun : List ℕ) (lines later : List (List ℕ)) → Serves (TurnsIn view) s t 1 lines text → StopsAt (BreaksIn view) t u (suc (length lines)) later begun → BegunBy (view s) (view u) 1 (lines ++ later) (text ++ begun)
+begun_at : {S : Type 0} (view : S → Course) (s t u : S) (text begun : List ℕ) (lines later : List (List ℕ))
+    → Serves (TurnsIn view) s t 1 lines text → StopsAt (BreaksIn view) t u (suc (length lines)) later begun
+    → BegunBy (view s) (view u) 1 (lines ++ later) (text ++ begun)
 begun_at view s t u text begun lines [] p same = stopped view s t u text begun lines [] p same.0 same.1
-begun_at view s t u text begun lines (line ∷ later) p (inl same) = stopped view s t u text begun lines (line ∷ later) p same.0 same.1
+begun_at view s t u text begun lines (line ∷ later) p (inl same) =
+    stopped view s t u text begun lines (line ∷ later) p same.0 same.1
 begun_at view s t u text begun lines (line ∷ later) p (inr broken) =
     subst (λ ls. BegunBy (view s) (view u) 1 ls (text ++ begun)) (append_assoc lines (line ∷ []) later)
-    (begun_more (view s) (view u) 1 (lines ++ line ∷ []) later (text ++ begun) (begun_by view s t u 1 (suc (length lines)) lines line text begun p (omega arith) broken))
+    (begun_more (view s) (view u) 1 (lines ++ line ∷ []) later (text ++ begun)
+    (begun_by view s t u 1 (suc (length lines)) lines line text begun p (omega arith) broken))
 
-gives_front : {S : Type 0} (view : S → Course) (s t : S) (settings : Settings) (taken_old taken : Option (List ℕ)) (lines : List (List ℕ)) → (view s).history ≡ [] → (view s).settings ≡ settings → (view s).owed ≡ [] → ServesFront (TurnsIn view) (BreaksIn view) s t taken_old taken lines
+gives_front : {S : Type 0} (view : S → Course) (s t : S) (settings : Settings) (taken_old taken : Option (List ℕ))
+    (lines : List (List ℕ)) → (view s).history ≡ [] → (view s).settings ≡ settings → (view s).owed ≡ []
+    → ServesFront (TurnsIn view) (BreaksIn view) s t taken_old taken lines
     → GivesFront (view s).hearers (view t).hearers settings.form taken_old taken lines
 gives_front view s t settings taken_old taken lines start same none p =
-    let begun = subst (λ ls. BegunBy (view s) (view t) 1 ls (p.text ++ p.begun)) (sym p.parts) (begun_at view s p.between t p.text p.begun p.front p.later p.served p.stops) in
-    subst (λ k. GivesFront (view s).hearers (view t).hearers k.form taken_old taken lines) same (front_given (view s) (view t) taken_old taken (p.text ++ p.begun) lines start none begun p.written)
+    let begun = subst (λ ls. BegunBy (view s) (view t) 1 ls (p.text ++ p.begun)) (sym p.parts)
+    (begun_at view s p.between t p.text p.begun p.front p.later p.served p.stops) in
+    subst (λ k. GivesFront (view s).hearers (view t).hearers k.form taken_old taken lines) same
+    (front_given (view s) (view t) taken_old taken (p.text ++ p.begun) lines start none begun p.written)
 
-pub run_gives_front : {S : Type 0} (view : S → Course) (s t : S) (settings : Settings) (left left_new : Option (List ℕ)) (met_end : Bool) (taken_old taken : Option (List ℕ)) → (view s).history ≡ [] → (view s).settings ≡ settings → (view s).owed ≡ []
-    → OfLinesRead left left_new met_end (ServesFront (TurnsIn view) (BreaksIn view) s t taken_old taken) → OfLinesRead left left_new met_end (GivesFront (view s).hearers (view t).hearers settings.form taken_old taken)
+pub run_gives_front : {S : Type 0} (view : S
+    → Course) (s t : S) (settings : Settings) (left left_new : Option (List ℕ)) (met_end : Bool)
+    (taken_old taken : Option (List ℕ)) → (view s).history ≡ [] → (view s).settings ≡ settings → (view s).owed ≡ []
+    → OfLinesRead left left_new met_end (ServesFront (TurnsIn view) (BreaksIn view) s t taken_old taken)
+    → OfLinesRead left left_new met_end (GivesFront (view s).hearers (view t).hearers settings.form taken_old taken)
 run_gives_front view s t settings left left_new met_end taken_old taken start same none p =
-    of_lines_read_weaker left left_new met_end _ _ (λ lines served. gives_front view s t settings taken_old taken lines start same none served) p
+    of_lines_read_weaker left left_new met_end _ _
+    (λ lines served. gives_front view s t settings taken_old taken lines start same none served) p

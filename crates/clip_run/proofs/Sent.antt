@@ -28,7 +28,15 @@ use Rattle.clip_run.specs.contracts.own_registrar.OwnRegistrar as own_registrar
 
 ruleset global = (sendable, global_sent.the_send, global_sent.the_sync, allocator_sent.the_frees)
 
-ruleset parts = (global, vec_sent.the_send, vec_sent.the_sync, judged_sent.the_send, judged_sent.the_sync, place_sent.the_send, place_sent.the_sync)
+ruleset parts = (
+  global,
+  vec_sent.the_send,
+  vec_sent.the_sync,
+  judged_sent.the_send,
+  judged_sent.the_sync,
+  place_sent.the_send,
+  place_sent.the_sync,
+)
 
 batch_send : IsSend batch.the_row
 batch_send = declared_send batch.the_type (search sendable, (search sendable, (view_is_send, (search parts, tt))))
@@ -44,10 +52,28 @@ pending_sync = variants_sync pending.enum ((search parts, tt), ((batch_sync, tt)
 
 module _ (G : RattleType) (sent : IsSend G) (shared : IsSync G) where
   pub group_send : IsSend (group.the_row G)
-  group_send = declared_send (group.the_type G) (search (parts, pending_send, pending_sync), (settings_sent.the_send, (as_row_send (row_field G) sent, (search parts, (search (sendable, counter_sent.the_send), (search (sendable, counter_sent.the_send), tt))))))
+  group_send = declared_send (group.the_type G) (
+    search (parts, pending_send, pending_sync),
+    (
+      settings_sent.the_send,
+      (
+        as_row_send (row_field G) sent,
+        (search parts, (search (sendable, counter_sent.the_send), (search (sendable, counter_sent.the_send), tt))),
+      ),
+    ),
+  )
 
   pub group_sync : IsSync (group.the_row G)
-  group_sync = declared_sync (group.the_type G) (search (parts, pending_send, pending_sync), (settings_sent.the_sync, (as_row_sync (row_field G) shared, (search parts, (search (sendable, counter_sent.the_sync), (search (sendable, counter_sent.the_sync), tt))))))
+  group_sync = declared_sync (group.the_type G) (
+    search (parts, pending_send, pending_sync),
+    (
+      settings_sent.the_sync,
+      (
+        as_row_sync (row_field G) shared,
+        (search parts, (search (sendable, counter_sent.the_sync), (search (sendable, counter_sent.the_sync), tt))),
+      ),
+    ),
+  )
 
   -- lines that threads share
   pub lines_send : IsSend (arc.the_row (group.the_row G) global_type.the_row global_allocator.ghosts)
@@ -60,4 +86,7 @@ pub helped_send : IsSend helped.the_row
 helped_send = declared_send helped.the_type (search (parts, answer_send), (pool_sent.the_send, tt))
 
 pub own_registrar_send : IsSend own_registrar.the_row
-own_registrar_send = declared_send own_registrar.the_type (registrar_send, (search (sendable, result_sent.the_send, no_memory_sent.the_send), tt))
+own_registrar_send = declared_send own_registrar.the_type (
+  registrar_send,
+  (search (sendable, result_sent.the_send, no_memory_sent.the_send), tt),
+)

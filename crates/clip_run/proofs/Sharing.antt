@@ -1,5 +1,6 @@
 -- What is due to articles that are shared out.
-use Rattle.std.proofs.Common.{◌≡◌, ℕ, zero, suc, ◌+◌, ◌<◌, List, [], ◌∷◌, ◌++◌, length, take, map, All, get_or, refl, sym, ap, subst, ◌∙◌, arith, add-one, Bool, true, false, if◌then◌else◌}
+use Rattle.std.proofs.Common.{◌≡◌, ℕ, zero, suc, ◌+◌, ◌<◌, List, [], ◌∷◌, ◌++◌, length, take, map, All, get_or, refl}
+use Rattle.std.proofs.Common.{sym, ap, subst, ◌∙◌, arith, add-one, Bool, true, false, if◌then◌else◌}
 use Rattle.std.specs.Prelude.{Option, Some, None, Result, Ok, Err, IfOk}
 use Rattle.std.specs.List.{slice_get}
 use Rattle.clip_meaning.specs.Article.{ArticleValue}
@@ -18,7 +19,8 @@ use Rattle.clip_run.specs.declared.helpers.Helper.{Helper}
 use Rattle.clip_run.specs.Due.{IsDue, IsDueAt, AreDue, IsAskedFor, due_by, due_to}
 
 -- an element of a mapped list
-pub get_mapped : {X Y : Type 0} (f : X → Y) (xs : List X) (k : ℕ) (d : X) → k < length xs → slice_get (map f xs) k ≡ Some (f (get_or xs k d))
+pub get_mapped : {X Y : Type 0} (f : X → Y) (xs : List X) (k : ℕ) (d : X) → k < length xs
+    → slice_get (map f xs) k ≡ Some (f (get_or xs k d))
 get_mapped f [] k d l = absurd (omega arith)
 get_mapped f (x ∷ xs) zero d l = refl
 get_mapped f (x ∷ xs) (suc k) d l = get_mapped f xs k d (omega arith)
@@ -29,7 +31,8 @@ take_suc [] k y e = absurd (cc e)
 take_suc (x ∷ xs) zero y e = ap (λ z. z ∷ []) (cc e)
 take_suc (x ∷ xs) (suc k) y e = ap (λ zs. x ∷ zs) (take_suc xs k y e)
 
-pub take_got : {Y : Type 0} (xs : List Y) (k : ℕ) (y : Y) → slice_get xs k ≡ Some y → take (k + 1) xs ≡ take k xs ++ y ∷ []
+pub take_got : {Y : Type 0} (xs : List Y) (k : ℕ) (y : Y) → slice_get xs k ≡ Some y
+    → take (k + 1) xs ≡ take k xs ++ y ∷ []
 take_got xs k y e = ap (λ n. take n xs) (add-one k) ∙ take_suc xs k y e
 
 -- an element that was read
@@ -39,30 +42,47 @@ got (y ∷ xs) zero x l e = ap Some (sym e)
 got (y ∷ xs) (suc k) x l e = got xs k x (omega (arith, l)) e
 
 -- what is found of an article of a batch
-pub due_in : (settings : Settings) (batch : Batch) (article : ℕ) (draft : ArticleValue) (found : Found) → article < length batch.drafts.items → draft ≡ get_or batch.drafts.items article draft → found_value found ≡ alerts_due batch.view draft → IsFor settings found
+pub due_in : (settings : Settings) (batch : Batch) (article : ℕ) (draft : ArticleValue) (found : Found)
+    → article < length batch.drafts.items → draft ≡ get_or batch.drafts.items article draft
+    → found_value found ≡ alerts_due batch.view draft → IsFor settings found
     → IsDue settings (due_to batch) article found
 due_in settings batch article draft found within is due fit = record {
-  alerts = get_mapped (alerts_due batch.view) batch.drafts.items article draft within ∙ ap (λ d. Some (alerts_due batch.view d)) (sym is) ∙ ap Some (sym due);
+  alerts = get_mapped (alerts_due batch.view) batch.drafts.items article draft within
+      ∙ ap (λ d. Some (alerts_due batch.view d)) (sym is) ∙ ap Some (sym due);
   fit = fit;
 }
 
 -- it is due at the place of its line
-pub due_at : (settings : Settings) (items : List Pending) (line : ℕ) (batch : Batch) (article : ℕ) (found : Found) → slice_get items line ≡ Some (pending.Waiting batch) → IsDue settings (due_to batch) article found → IsDue settings (due_by (slice_get items line)) article found
-due_at settings items line batch article found is due = subst (λ item. IsDue settings (due_by item) article found) (sym is) due
+pub due_at : (settings : Settings) (items : List Pending) (line : ℕ) (batch : Batch) (article : ℕ) (found : Found)
+    → slice_get items line ≡ Some (pending.Waiting batch) → IsDue settings (due_to batch) article found
+    → IsDue settings (due_by (slice_get items line)) article found
+due_at settings items line batch article found is due =
+    subst (λ item. IsDue settings (due_by item) article found) (sym is) due
 
-pub due_there : (settings : Settings) (items : List Pending) (line : ℕ) (batch : Batch) (article : ℕ) (found : Found) → slice_get items line ≡ Some (pending.Waiting batch) → IsDue settings (due_by (slice_get items line)) article found → IsDue settings (due_to batch) article found
-due_there settings items line batch article found is due = subst (λ item. IsDue settings (due_by item) article found) is due
+pub due_there : (settings : Settings) (items : List Pending) (line : ℕ) (batch : Batch) (article : ℕ) (found : Found)
+    → slice_get items line ≡ Some (pending.Waiting batch)
+    → IsDue settings (due_by (slice_get items line)) article found → IsDue settings (due_to batch) article found
+due_there settings items line batch article found is due =
+    subst (λ item. IsDue settings (due_by item) article found) is due
 
 -- what holds of a value by two facts
-pub if_ok_both : {A E : Type 0} (r : Result A E) (P Q R : A → Type 0) → IfOk r P → IfOk r Q → ((a : A) → P a → Q a → R a) → IfOk r R
+pub if_ok_both : {A E : Type 0} (r : Result A E) (P Q R : A → Type 0) → IfOk r P → IfOk r Q
+    → ((a : A) → P a → Q a → R a) → IfOk r R
 if_ok_both (Ok a) P Q R p q f = f a p q
 if_ok_both (Err e) P Q R p q f = tt
 
 -- what was added, where there was room for it
-pub adds_due : (settings : Settings) (items : List Pending) (old new more : List Answer) (ok : Bool) → new ≡ (if ok then old ++ more else old) → AreDue settings items old → AreDue settings items more → AreDue settings items new
-adds_due settings items old new more true is due added = subst (AreDue settings items) (sym is) (All-append (IsDueAt settings items) old more due added)
+pub adds_due : (settings : Settings) (items : List Pending) (old new more : List Answer) (ok : Bool)
+    → new ≡ (if ok then old ++ more else old) → AreDue settings items old → AreDue settings items more
+    → AreDue settings items new
+adds_due settings items old new more true is due added =
+    subst (AreDue settings items) (sym is) (All-append (IsDueAt settings items) old more due added)
 adds_due settings items old new more false is due added = subst (AreDue settings items) (sym is) due
 
 -- what a helper keeps is due to what it was asked for
-pub asked_due : (helper : Helper) (settings : Settings) (items : List Pending) (more : List Answer) → IsAskedFor settings items helper → AreDue helper.thread.promise.settings helper.thread.promise.items.value.items more → AreDue settings items more
-asked_due helper settings items more asked kept = subst (λ s. AreDue s items more) asked.0 (subst (λ lines. AreDue helper.thread.promise.settings lines more) asked.1 kept)
+pub asked_due : (helper : Helper) (settings : Settings) (items : List Pending) (more : List Answer)
+    → IsAskedFor settings items helper
+    → AreDue helper.thread.promise.settings helper.thread.promise.items.value.items more → AreDue settings items more
+asked_due helper settings items more asked kept =
+    subst (λ s. AreDue s items more) asked.0
+    (subst (λ lines. AreDue helper.thread.promise.settings lines more) asked.1 kept)

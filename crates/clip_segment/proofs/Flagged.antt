@@ -1,5 +1,9 @@
 -- Items whose flags are set.
-use Rattle.std.proofs.Common.{◌≡◌, ℕ, zero, suc, ◌+◌, ◌<◌, ◌≤◌, Bool, true, false, cond, ◌||◌, ◌&&◌, nat_eq, ltb, List, [], ◌∷◌, ◌++◌, length, map, flat_map, filter, take, drop, set, replicate, get_or, unwrap_or, slice_get, Option, Some, None, refl, sym, ap, ap₂, ◌∙◌, arith, add-one, append-nil, append_assoc, length-append, eq-eqb, ne_eqb, get_or-set_same, get_or-set_other, inl, inr}
+use Rattle.std.proofs.Common.{◌≡◌, ℕ, zero, suc, ◌+◌, ◌<◌, ◌≤◌, Bool, true, false, cond, ◌||◌, ◌&&◌, nat_eq, ltb, List}
+use Rattle.std.proofs.Common.{[], ◌∷◌, ◌++◌, length, map, flat_map, filter, take, drop, set, replicate, get_or}
+use Rattle.std.proofs.Common.{unwrap_or, slice_get, Option, Some, None, refl, sym, ap, ap₂, ◌∙◌, arith, add-one}
+use Rattle.std.proofs.Common.{append-nil, append_assoc, length-append, eq-eqb, ne_eqb, get_or-set_same}
+use Rattle.std.proofs.Common.{get_or-set_other, inl, inr}
 use Rattle.std.specs.Prelude.{option_to_list}
 use Rattle.std.specs.List.{AllByRecursion, list_any, enumerate_from, count_by}
 use Rattle.std.specs.List.Sorted.{IsStrictlySortedBy}
@@ -27,7 +31,8 @@ flagged_none (flag ∷ flags) = refl
 
 -- what is kept from a place on
 pub flagged_from : {A : Type 0} (flags : List Bool) (xs : List A) (i : ℕ) (d : A) → i < length xs
-    → flagged (drop i flags) (drop i xs) ≡ cond (flag_at flags i) (get_or xs i d ∷ []) [] ++ flagged (drop (suc i) flags) (drop (suc i) xs)
+    → flagged (drop i flags) (drop i xs) ≡ cond (flag_at flags i) (get_or xs i d ∷ []) []
+    ++ flagged (drop (suc i) flags) (drop (suc i) xs)
 flagged_from flags [] i d lt = absurd (omega arith)
 flagged_from [] (x ∷ xs) zero d lt = refl
 flagged_from (true ∷ flags) (x ∷ xs) zero d lt = refl
@@ -35,10 +40,13 @@ flagged_from (false ∷ flags) (x ∷ xs) zero d lt = refl
 flagged_from [] (x ∷ xs) (suc i) d lt = refl
 flagged_from (flag ∷ flags) (x ∷ xs) (suc i) d lt = flagged_from flags xs i d (omega arith)
 
-module _ {A B : Type 0} (G : List A → List B) (g : A → List B) (step : (x : A) (xs : List A) → G (x ∷ xs) ≡ g x ++ G xs) (flags : List Bool) (xs : List A) (i : ℕ) where
+module _ {A B : Type 0} (G : List A → List B) (g : A → List B) (step : (x : A) (xs : List A)
+    → G (x ∷ xs) ≡ g x ++ G xs) (flags : List Bool) (xs : List A) (i : ℕ) where
   -- what is made of the kept items so far, with what is to come: one that is kept, and one that is not
-  pub kept_next : (d : A) (before after whole : List B) → i < length xs → flag_at flags i ≡ true → after ≡ before ++ g (unwrap_or (slice_get xs i) d)
-      → before ++ G (flagged (drop i flags) (drop i xs)) ≡ whole → after ++ G (flagged (drop (i + 1) flags) (drop (i + 1) xs)) ≡ whole
+  pub kept_next : (d : A) (before after whole : List B) → i < length xs → flag_at flags i ≡ true
+      → after ≡ before ++ g (unwrap_or (slice_get xs i) d)
+      → before ++ G (flagged (drop i flags) (drop i xs)) ≡ whole
+      → after ++ G (flagged (drop (i + 1) flags) (drop (i + 1) xs)) ≡ whole
   kept_next d before after whole lt set e so =
       let rest = flagged (drop (suc i) flags) (drop (suc i) xs) in
       rw add-one (
@@ -50,7 +58,8 @@ module _ {A B : Type 0} (G : List A → List B) (g : A → List B) (step : (x : 
       ∙ so)
 
   pub left_next : (d : A) (before after whole : List B) → i < length xs → flag_at flags i ≡ false → after ≡ before
-      → before ++ G (flagged (drop i flags) (drop i xs)) ≡ whole → after ++ G (flagged (drop (i + 1) flags) (drop (i + 1) xs)) ≡ whole
+      → before ++ G (flagged (drop i flags) (drop i xs)) ≡ whole
+      → after ++ G (flagged (drop (i + 1) flags) (drop (i + 1) xs)) ≡ whole
   left_next d before after whole lt unset e so =
       let rest = flagged (drop (suc i) flags) (drop (suc i) xs) in
       rw add-one (
@@ -60,30 +69,36 @@ module _ {A B : Type 0} (G : List A → List B) (g : A → List B) (step : (x : 
       ∙ so)
 
   -- none is to come
-  pub none_next : (before whole : List B) → G [] ≡ [] → length xs ≤ i → before ++ G (flagged (drop i flags) (drop i xs)) ≡ whole → before ≡ whole
+  pub none_next : (before whole : List B) → G [] ≡ [] → length xs ≤ i
+      → before ++ G (flagged (drop i flags) (drop i xs)) ≡ whole → before ≡ whole
   none_next before whole none far so =
       sym (append-nil before)
-      ∙ ap (λ l. before ++ l) (sym none ∙ ap G (sym (flagged_none (drop i flags))) ∙ ap (λ l. G (flagged (drop i flags) l)) (sym (drop_all i xs far)))
+      ∙ ap (λ l. before ++ l) (sym none ∙ ap G (sym (flagged_none (drop i flags)))
+      ∙ ap (λ l. G (flagged (drop i flags) l)) (sym (drop_all i xs far)))
       ∙ so
 
-pub flagged_map : {A B : Type 0} (f : A → B) (flags : List Bool) (xs : List A) → flagged flags (map f xs) ≡ map f (flagged flags xs)
+pub flagged_map : {A B : Type 0} (f : A → B) (flags : List Bool) (xs : List A)
+    → flagged flags (map f xs) ≡ map f (flagged flags xs)
 flagged_map f [] xs = refl
 flagged_map f (flag ∷ flags) [] = refl
 flagged_map f (true ∷ flags) (x ∷ xs) = ap (λ l. f x ∷ l) (flagged_map f flags xs)
 flagged_map f (false ∷ flags) (x ∷ xs) = flagged_map f flags xs
 
 -- what is kept of keys in order is in order
-all_flagged : (P : KeyValue → Type 0) (flags : List Bool) (ks : List KeyValue) → AllByRecursion P ks → AllByRecursion P (flagged flags ks)
+all_flagged : (P : KeyValue → Type 0) (flags : List Bool) (ks : List KeyValue) → AllByRecursion P ks
+    → AllByRecursion P (flagged flags ks)
 all_flagged P [] ks all = tt
 all_flagged P (flag ∷ flags) [] all = tt
 all_flagged P (true ∷ flags) (k ∷ ks) all = (all.0, all_flagged P flags ks all.1)
 all_flagged P (false ∷ flags) (k ∷ ks) all = all_flagged P flags ks all.1
 
-pub flagged_rises : (flags : List Bool) (ks : List KeyValue) → IsStrictlySortedBy key_cmp ks → IsStrictlySortedBy key_cmp (flagged flags ks)
+pub flagged_rises : (flags : List Bool) (ks : List KeyValue) → IsStrictlySortedBy key_cmp ks
+    → IsStrictlySortedBy key_cmp (flagged flags ks)
 unfolding IsStrictlySortedBy
 flagged_rises [] ks rising = tt
 flagged_rises (flag ∷ flags) [] rising = tt
-flagged_rises (true ∷ flags) (k ∷ ks) rising = (all_flagged (λ l. key_cmp k l ≡ Less) flags ks rising.0, flagged_rises flags ks rising.1)
+flagged_rises (true ∷ flags) (k ∷ ks) rising =
+    (all_flagged (λ l. key_cmp k l ≡ Less) flags ks rising.0, flagged_rises flags ks rising.1)
 flagged_rises (false ∷ flags) (k ∷ ks) rising = flagged_rises flags ks rising.1
 
 pub none_rise : IsStrictlySortedBy key_cmp []
@@ -91,11 +106,13 @@ unfolding IsStrictlySortedBy
 none_rise = tt
 
 -- how many flags are set, the first and those behind it
-pub count_first : (flag : Bool) (flags : List Bool) → count_by (λ flag. flag) (flag ∷ flags) ≡ cond flag 1 0 + count_by (λ flag. flag) flags
+pub count_first : (flag : Bool) (flags : List Bool) → count_by (λ flag. flag) (flag ∷ flags)
+    ≡ cond flag 1 0 + count_by (λ flag. flag) flags
 count_first flag flags = sum_by-cons (λ (x : Bool). cond x 1 0) flag flags
 
 -- at most as many are kept as flags are set
-pub flagged_few : {A : Type 0} (flags : List Bool) (xs : List A) → length (flagged flags xs) ≤ count_by (λ flag. flag) flags
+pub flagged_few : {A : Type 0} (flags : List Bool) (xs : List A)
+    → length (flagged flags xs) ≤ count_by (λ flag. flag) flags
 flagged_few [] xs = omega arith
 flagged_few (flag ∷ flags) [] = omega arith
 flagged_few (true ∷ flags) (x ∷ xs) = omega (arith, flagged_few flags xs, count_first true flags)
@@ -107,7 +124,8 @@ flagged_few (false ∷ flags) (x ∷ xs) = omega (arith, flagged_few flags xs, c
 abbrev pub KeptAt : {A : Type 0} → (A → Bool) → List Bool → List A → A → Type 0
 KeptAt p flags xs d = (n : ℕ) × (n < length xs) × (flag_at flags n ≡ true) × (p (unwrap_or (slice_get xs n) d) ≡ true)
 
-pub kept_at : {A : Type 0} (p : A → Bool) (flags : List Bool) (xs : List A) (d : A) → list_any p (flagged flags xs) ≡ true → KeptAt p flags xs d
+pub kept_at : {A : Type 0} (p : A → Bool) (flags : List Bool) (xs : List A) (d : A) → list_any p (flagged flags xs)
+    ≡ true → KeptAt p flags xs d
 kept_at p [] xs d h = absurd (false≢true h)
 kept_at p (flag ∷ flags) [] d h = absurd (false≢true h)
 kept_at p (true ∷ flags) (x ∷ xs) d h =
@@ -116,12 +134,14 @@ kept_at p (true ∷ flags) (x ∷ xs) d h =
     (λ later. let at = kept_at p flags xs d later in (suc at.0, omega (arith, at.1), at.2, at.3))
 kept_at p (false ∷ flags) (x ∷ xs) d h = let at = kept_at p flags xs d h in (suc at.0, omega (arith, at.1), at.2, at.3)
 
-pub at_kept : {A : Type 0} (p : A → Bool) (flags : List Bool) (xs : List A) (n : ℕ) (d : A) → n < length xs → flag_at flags n ≡ true → p (unwrap_or (slice_get xs n) d) ≡ true → list_any p (flagged flags xs) ≡ true
+pub at_kept : {A : Type 0} (p : A → Bool) (flags : List Bool) (xs : List A) (n : ℕ) (d : A) → n < length xs
+    → flag_at flags n ≡ true → p (unwrap_or (slice_get xs n) d) ≡ true → list_any p (flagged flags xs) ≡ true
 at_kept p flags [] n d lt set h = absurd (omega arith)
 at_kept p [] (x ∷ xs) n d lt set h = absurd (false≢true set)
 at_kept p (true ∷ flags) (x ∷ xs) zero d lt set h = ap (λ b. b || list_any p (flagged flags xs)) h
 at_kept p (false ∷ flags) (x ∷ xs) zero d lt set h = absurd (false≢true set)
-at_kept p (true ∷ flags) (x ∷ xs) (suc n) d lt set h = ap (λ b. p x || b) (at_kept p flags xs n d (omega arith) set h) ∙ or-true (p x)
+at_kept p (true ∷ flags) (x ∷ xs) (suc n) d lt set h = ap (λ b. p x || b) (at_kept p flags xs n d (omega arith) set h)
+    ∙ or-true (p x)
 at_kept p (false ∷ flags) (x ∷ xs) (suc n) d lt set h = at_kept p flags xs n d (omega arith) set h
 
 -- ---- positions
@@ -137,21 +157,26 @@ positions_from test m trees = map (λ (e : ℕ × Tree). e.0) (entries test m tr
 abbrev position_before : ℕ → Tree → Bool → List (ℕ × Tree) → List ℕ
 position_before m x t es = map (λ (e : ℕ × Tree). e.0) (cond t ((m, x) ∷ es) es)
 
-pub positions_append : (test : Tree → Bool) (m : ℕ) (xs ys : List Tree) → positions_from test m (xs ++ ys) ≡ positions_from test m xs ++ positions_from test (m + length xs) ys
+pub positions_append : (test : Tree → Bool) (m : ℕ) (xs ys : List Tree) → positions_from test m (xs ++ ys)
+    ≡ positions_from test m xs ++ positions_from test (m + length xs) ys
 positions_append test m [] ys = ap (λ n. positions_from test n ys) (omega arith)
 positions_append test m (x ∷ xs) ys =
-    by_test (test x) (positions_append test (m + 1) xs ys ∙ ap (λ n. positions_from test (m + 1) xs ++ positions_from test n ys) far)
+    by_test (test x) (positions_append test (m + 1) xs ys
+    ∙ ap (λ n. positions_from test (m + 1) xs ++ positions_from test n ys) far)
   where
     far : m + 1 + length xs ≡ m + length (x ∷ xs)
     far = omega arith
 
-    by_test : (t : Bool) → positions_from test (m + 1) (xs ++ ys) ≡ positions_from test (m + 1) xs ++ positions_from test (m + length (x ∷ xs)) ys
-        → position_before m x t (entries test (m + 1) (xs ++ ys)) ≡ position_before m x t (entries test (m + 1) xs) ++ positions_from test (m + length (x ∷ xs)) ys
+    by_test : (t : Bool) → positions_from test (m + 1) (xs ++ ys) ≡ positions_from test (m + 1) xs
+        ++ positions_from test (m + length (x ∷ xs)) ys
+        → position_before m x t (entries test (m + 1) (xs ++ ys)) ≡ position_before m x t (entries test (m + 1) xs)
+        ++ positions_from test (m + length (x ∷ xs)) ys
     by_test true later = ap (λ l. m ∷ l) later
     by_test false later = later
 
 -- a test of the first position, and of those behind it
-any_before : (h : ℕ → Bool) (m : ℕ) (x : Tree) (es : List (ℕ × Tree)) (rest : Bool) (t : Bool) (flag : Bool) → h m ≡ flag → list_any h (map (λ (e : ℕ × Tree). e.0) es) ≡ rest
+any_before : (h : ℕ → Bool) (m : ℕ) (x : Tree) (es : List (ℕ × Tree)) (rest : Bool) (t : Bool) (flag : Bool)
+    → h m ≡ flag → list_any h (map (λ (e : ℕ × Tree). e.0) es) ≡ rest
     → list_any h (position_before m x t es) ≡ (cond flag t false || rest)
 any_before h m x es rest true true here later = ap (λ b. b || list_any h (map (λ (e : ℕ × Tree). e.0) es)) here
 any_before h m x es rest false true here later = later
@@ -159,45 +184,69 @@ any_before h m x es rest true false here later = ap (λ b. b || list_any h (map 
 any_before h m x es rest false false here later = later
 
 -- one of the positions has its flag set where one of the kept queries passes
-kept_from : (test : Tree → Bool) (h : ℕ → Bool) (m : ℕ) (flags : List Bool) (xs : List Tree) → ((k : ℕ) → h (m + k) ≡ flag_at flags k) → list_any h (positions_from test m xs) ≡ list_any test (flagged flags xs)
+kept_from : (test : Tree → Bool) (h : ℕ → Bool) (m : ℕ) (flags : List Bool) (xs : List Tree)
+    → ((k : ℕ) → h (m + k) ≡ flag_at flags k) → list_any h (positions_from test m xs) ≡ list_any test (flagged flags xs)
 kept_from test h m flags [] agree = ap (list_any test) (sym (flagged_none flags))
 kept_from test h m [] (x ∷ xs) agree =
-    any_before h m x (entries test (m + 1) xs) false (test x) false (ap h (omega arith) ∙ agree 0) (kept_from test h (m + 1) [] xs (λ k. ap h (omega arith) ∙ agree (suc k)))
+    any_before h m x (entries test (m + 1) xs) false (test x) false (ap h (omega arith)
+    ∙ agree 0) (kept_from test h (m + 1) [] xs (λ k. ap h (omega arith) ∙ agree (suc k)))
 kept_from test h m (true ∷ flags) (x ∷ xs) agree =
-    any_before h m x (entries test (m + 1) xs) (list_any test (flagged flags xs)) (test x) true (ap h (omega arith) ∙ agree 0) (kept_from test h (m + 1) flags xs (λ k. ap h (omega arith) ∙ agree (suc k)))
+    any_before h m x (entries test (m + 1) xs) (list_any test (flagged flags xs)) (test x) true (ap h (omega arith)
+    ∙ agree 0) (kept_from test h (m + 1) flags xs (λ k. ap h (omega arith) ∙ agree (suc k)))
 kept_from test h m (false ∷ flags) (x ∷ xs) agree =
-    any_before h m x (entries test (m + 1) xs) (list_any test (flagged flags xs)) (test x) false (ap h (omega arith) ∙ agree 0) (kept_from test h (m + 1) flags xs (λ k. ap h (omega arith) ∙ agree (suc k)))
+    any_before h m x (entries test (m + 1) xs) (list_any test (flagged flags xs)) (test x) false (ap h (omega arith)
+    ∙ agree 0) (kept_from test h (m + 1) flags xs (λ k. ap h (omega arith) ∙ agree (suc k)))
 
-pub kept_position : (test : Tree → Bool) (flags : List Bool) (trees : List Tree) → list_any (flag_at flags) (query_positions test trees) ≡ list_any test (flagged flags trees)
+pub kept_position : (test : Tree → Bool) (flags : List Bool) (trees : List Tree)
+    → list_any (flag_at flags) (query_positions test trees) ≡ list_any test (flagged flags trees)
 kept_position test flags trees = kept_from test (flag_at flags) 0 flags trees (λ k. ap (flag_at flags) (omega arith))
 
 -- the new positions are those among the kept queries
-moved_from : (test : Tree → Bool) (h : ℕ → Option ℕ) (m first : ℕ) (flags : List Bool) (xs : List Tree) → length flags ≡ length xs → ((k : ℕ) → h (m + k) ≡ new_position (new_positions first flags) k)
-    → flat_map (λ position. option_to_list (h position)) (positions_from test m xs) ≡ positions_from test first (flagged flags xs)
+moved_from : (test : Tree → Bool) (h : ℕ → Option ℕ) (m first : ℕ) (flags : List Bool) (xs : List Tree)
+    → length flags ≡ length xs → ((k : ℕ) → h (m + k) ≡ new_position (new_positions first flags) k)
+    → flat_map (λ position. option_to_list (h position)) (positions_from test m xs)
+    ≡ positions_from test first (flagged flags xs)
 moved_from test h m first [] [] long agree = refl
 moved_from test h m first [] (x ∷ xs) long agree = absurd (omega arith)
 moved_from test h m first (flag ∷ flags) [] long agree = absurd (omega arith)
 moved_from test h m first (true ∷ flags) (x ∷ xs) long agree =
-    both (test x) (ap h (omega arith) ∙ agree 0) (moved_from test h (m + 1) (first + 1) flags xs (omega arith) (λ k. ap h (omega arith) ∙ agree (suc k)))
+    both (test x) (ap h (omega arith)
+    ∙ agree 0) (moved_from test h (m + 1) (first + 1) flags xs (omega arith) (λ k. ap h (omega arith)
+    ∙ agree (suc k)))
   where
-    both : (t : Bool) → h m ≡ Some first → flat_map (λ position. option_to_list (h position)) (positions_from test (m + 1) xs) ≡ positions_from test (first + 1) (flagged flags xs)
-        → flat_map (λ position. option_to_list (h position)) (position_before m x t (entries test (m + 1) xs)) ≡ position_before first x t (entries test (first + 1) (flagged flags xs))
-    both true here later = ap (λ o. option_to_list o ++ flat_map (λ position. option_to_list (h position)) (positions_from test (m + 1) xs)) here ∙ ap (λ l. first ∷ l) later
+    both : (t : Bool) → h m ≡ Some first
+        → flat_map (λ position. option_to_list (h position)) (positions_from test (m + 1) xs)
+        ≡ positions_from test (first + 1) (flagged flags xs)
+        → flat_map (λ position. option_to_list (h position)) (position_before m x t (entries test (m + 1) xs))
+        ≡ position_before first x t (entries test (first + 1) (flagged flags xs))
+    both true here later = ap (λ o. option_to_list o
+        ++ flat_map (λ position. option_to_list (h position)) (positions_from test (m + 1) xs)) here
+        ∙ ap (λ l. first ∷ l) later
     both false here later = later
 moved_from test h m first (false ∷ flags) (x ∷ xs) long agree =
-    none (test x) (ap h (omega arith) ∙ agree 0) (moved_from test h (m + 1) first flags xs (omega arith) (λ k. ap h (omega arith) ∙ agree (suc k)))
+    none (test x) (ap h (omega arith)
+    ∙ agree 0) (moved_from test h (m + 1) first flags xs (omega arith) (λ k. ap h (omega arith) ∙ agree (suc k)))
   where
-    none : (t : Bool) → h m ≡ None → flat_map (λ position. option_to_list (h position)) (positions_from test (m + 1) xs) ≡ positions_from test first (flagged flags xs)
-        → flat_map (λ position. option_to_list (h position)) (position_before m x t (entries test (m + 1) xs)) ≡ positions_from test first (flagged flags xs)
-    none true here later = ap (λ o. option_to_list o ++ flat_map (λ position. option_to_list (h position)) (positions_from test (m + 1) xs)) here ∙ later
+    none : (t : Bool) → h m ≡ None
+        → flat_map (λ position. option_to_list (h position)) (positions_from test (m + 1) xs)
+        ≡ positions_from test first (flagged flags xs)
+        → flat_map (λ position. option_to_list (h position)) (position_before m x t (entries test (m + 1) xs))
+        ≡ positions_from test first (flagged flags xs)
+    none true here later = ap (λ o. option_to_list o
+        ++ flat_map (λ position. option_to_list (h position)) (positions_from test (m + 1) xs)) here ∙ later
     none false here later = later
 
 -- behind those of other queries
-pub positions_moved : (test : Tree → Bool) (before : List Tree) (flags : List Bool) (trees : List Tree) (first : ℕ) → first ≡ length before → length flags ≡ length trees
-    → query_positions test before ++ moved (new_positions first flags) (query_positions test trees) ≡ query_positions test (before ++ flagged flags trees)
+pub positions_moved : (test : Tree → Bool) (before : List Tree) (flags : List Bool) (trees : List Tree) (first : ℕ)
+    → first ≡ length before → length flags ≡ length trees
+    → query_positions test before ++ moved (new_positions first flags) (query_positions test trees)
+    ≡ query_positions test (before ++ flagged flags trees)
 positions_moved test before flags trees first at long =
-    ap (λ l. query_positions test before ++ l) (moved_from test (new_position (new_positions first flags)) 0 first flags trees long (λ k. ap (new_position (new_positions first flags)) (omega arith)))
-    ∙ ap (λ n. query_positions test before ++ positions_from test n (flagged flags trees)) (at ∙ zero_first (length before))
+    ap (λ l. query_positions test before ++ l)
+    (moved_from test (new_position (new_positions first flags)) 0 first flags trees long
+    (λ k. ap (new_position (new_positions first flags)) (omega arith)))
+    ∙ ap (λ n. query_positions test before ++ positions_from test n (flagged flags trees)) (at
+    ∙ zero_first (length before))
     ∙ sym (positions_append test 0 before (flagged flags trees))
   where
     zero_first : (n : ℕ) → n ≡ 0 + n
@@ -205,58 +254,83 @@ positions_moved test before flags trees first at long =
 
 -- ---- several lists
 
-pub kept_more : {A : Type 0} (lists : List (List A)) (flags : List (List Bool)) (i : ℕ) → i < length lists → i < length flags
-    → kept_of (take (suc i) lists) (take (suc i) flags) ≡ kept_of (take i lists) (take i flags) ++ flagged (unwrap_or (slice_get flags i) []) (unwrap_or (slice_get lists i) [])
+pub kept_more : {A : Type 0} (lists : List (List A)) (flags : List (List Bool)) (i : ℕ) → i < length lists
+    → i < length flags
+    → kept_of (take (suc i) lists) (take (suc i) flags) ≡ kept_of (take i lists) (take i flags)
+    ++ flagged (unwrap_or (slice_get flags i) []) (unwrap_or (slice_get lists i) [])
 kept_more [] flags i lt there = absurd (omega arith)
 kept_more (xs ∷ lists) [] i lt there = absurd (omega arith)
 kept_more (xs ∷ lists) (fs ∷ flags) zero lt there = append-nil (flagged fs xs)
 kept_more (xs ∷ lists) (fs ∷ flags) (suc i) lt there =
-    ap (λ l. flagged fs xs ++ l) (kept_more lists flags i (omega arith) (omega arith)) ∙ sym (append_assoc (flagged fs xs) (kept_of (take i lists) (take i flags)) _)
+    ap (λ l. flagged fs xs ++ l) (kept_more lists flags i (omega arith) (omega arith))
+    ∙ sym (append_assoc (flagged fs xs) (kept_of (take i lists) (take i flags)) _)
 
 -- the flags of one list, and of those behind it
-pub count_from : (flags : List (List Bool)) (i : ℕ) → count_set (drop i flags) ≡ count_by (λ flag. flag) (unwrap_or (slice_get flags i) []) + count_set (drop (suc i) flags)
+pub count_from : (flags : List (List Bool)) (i : ℕ)
+    → count_set (drop i flags) ≡ count_by (λ flag. flag) (unwrap_or (slice_get flags i) [])
+    + count_set (drop (suc i) flags)
 count_from [] zero = refl
 count_from [] (suc i) = refl
 count_from (fs ∷ flags) zero = sum_by-cons (count_by (λ (flag : Bool). flag)) fs flags
 count_from (fs ∷ flags) (suc i) = count_from flags i
 
 -- what one list takes of the flags that may still be set
-pub few_next : (flags : List (List Bool)) (i place n bound : ℕ) (now : List Bool) → now ≡ unwrap_or (slice_get flags place) [] → place ≡ i → n + count_set (drop i flags) ≤ bound
+pub few_next : (flags : List (List Bool)) (i place n bound : ℕ) (now : List Bool)
+    → now ≡ unwrap_or (slice_get flags place) [] → place ≡ i → n + count_set (drop i flags) ≤ bound
     → n + count_by (λ flag. flag) now + count_set (drop (i + 1) flags) ≤ bound
 few_next flags i place n bound now is at few =
-    let same : count_by (λ (flag : Bool). flag) now ≡ count_by (λ flag. flag) (unwrap_or (slice_get flags i) []) = ap (count_by (λ flag. flag)) (is ∙ ap (λ k. unwrap_or (slice_get flags k) []) at) in
+    let same : count_by (λ (flag : Bool). flag) now ≡ count_by (λ flag. flag) (unwrap_or (slice_get flags i) []) =
+    ap (count_by (λ flag. flag)) (is ∙ ap (λ k. unwrap_or (slice_get flags k) []) at) in
     rw add-one (omega (arith, count_from flags i, same, few))
 
-pub kept_few : {A : Type 0} (lists : List (List A)) (flags : List (List Bool)) → length (kept_of lists flags) ≤ count_set flags
+pub kept_few : {A : Type 0} (lists : List (List A)) (flags : List (List Bool)) → length (kept_of lists flags)
+    ≤ count_set flags
 kept_few [] flags = omega arith
 kept_few (xs ∷ lists) [] = omega arith
-kept_few (xs ∷ lists) (fs ∷ flags) = omega (arith, length-append (flagged fs xs) (kept_of lists flags), flagged_few fs xs, kept_few lists flags, count_from (fs ∷ flags) 0)
+kept_few (xs ∷ lists) (fs ∷ flags) =
+    omega (
+      arith,
+      length-append (flagged fs xs) (kept_of lists flags),
+      flagged_few fs xs,
+      kept_few lists flags,
+      count_from (fs ∷ flags) 0,
+    )
 
 -- with a flag for each item just as many are kept as flags are set
-flagged_many : {A : Type 0} (flags : List Bool) (xs : List A) → length flags ≡ length xs → length (flagged flags xs) ≡ count_by (λ flag. flag) flags
+flagged_many : {A : Type 0} (flags : List Bool) (xs : List A) → length flags ≡ length xs
+    → length (flagged flags xs) ≡ count_by (λ flag. flag) flags
 flagged_many [] [] long = refl
 flagged_many [] (x ∷ xs) long = absurd (omega arith)
 flagged_many (flag ∷ flags) [] long = absurd (omega arith)
 flagged_many (true ∷ flags) (x ∷ xs) long = omega (arith, flagged_many flags xs (omega arith), count_first true flags)
 flagged_many (false ∷ flags) (x ∷ xs) long = omega (arith, flagged_many flags xs (omega arith), count_first false flags)
 
-pub kept_many : {A : Type 0} (lists : List (List A)) (flags : List (List Bool)) → AreFlagsOf lists flags → length (kept_of lists flags) ≡ count_set flags
+pub kept_many : {A : Type 0} (lists : List (List A)) (flags : List (List Bool)) → AreFlagsOf lists flags
+    → length (kept_of lists flags) ≡ count_set flags
 kept_many [] [] are = refl
 kept_many [] (fs ∷ flags) are = cc
 kept_many (xs ∷ lists) [] are = cc
 kept_many (xs ∷ lists) (fs ∷ flags) are =
     let here : length fs ≡ length xs = cc in
     let others : AreFlagsOf lists flags = cc in
-    omega (arith, length-append (flagged fs xs) (kept_of lists flags), flagged_many fs xs here, kept_many lists flags others, count_from (fs ∷ flags) 0)
+    omega (
+      arith,
+      length-append (flagged fs xs) (kept_of lists flags),
+      flagged_many fs xs here,
+      kept_many lists flags others,
+      count_from (fs ∷ flags) 0,
+    )
 
 -- ---- flags that are set
 
-pub flag_set : (flags : List Bool) (m n : ℕ) → n < length flags → flag_at (set flags m true) n ≡ (flag_at flags n || nat_eq n m)
+pub flag_set : (flags : List Bool) (m n : ℕ) → n < length flags → flag_at (set flags m true) n
+    ≡ (flag_at flags n || nat_eq n m)
 flag_set flags m n lt =
     let read = unwrap_or-slice_get (set flags m true) n false in
     elim (cases_eq n m) [
       | inl e ↦
-          read ∙ ap (λ k. get_or (set flags m true) k false) e ∙ get_or-set_same flags m true false (omega (arith, e, lt))
+          read ∙ ap (λ k. get_or (set flags m true) k false) e
+          ∙ get_or-set_same flags m true false (omega (arith, e, lt))
           ∙ sym (ap (λ b. flag_at flags n || b) (eq-eqb n m e) ∙ or-true (flag_at flags n))
       | inr ne ↦
           read ∙ get_or-set_other flags m n true false ne ∙ sym (unwrap_or-slice_get flags n false)
@@ -264,11 +338,15 @@ flag_set flags m n lt =
     ]
 
 -- a number past the last flag sets none
-pub flag_unset : (flags : List Bool) (m n : ℕ) → n < length flags → length flags ≤ m → flag_at flags n ≡ (flag_at flags n || nat_eq n m)
-flag_unset flags m n lt far = sym (ap (λ b. flag_at flags n || b) (ne_eqb n m (λ e. absurd (omega (arith, e, lt, far)))) ∙ or-false (flag_at flags n))
+pub flag_unset : (flags : List Bool) (m n : ℕ) → n < length flags → length flags ≤ m
+    → flag_at flags n ≡ (flag_at flags n || nat_eq n m)
+flag_unset flags m n lt far =
+    sym (ap (λ b. flag_at flags n || b) (ne_eqb n m (λ e. absurd (omega (arith, e, lt, far))))
+    ∙ or-false (flag_at flags n))
 
 -- one number more
-pub flags_more : (n : ℕ) (numbers : List ℕ) (i d : ℕ) (old before new : Bool) → i < length numbers → before ≡ (old || list_any (nat_eq n) (take i numbers))
+pub flags_more : (n : ℕ) (numbers : List ℕ) (i d : ℕ) (old before new : Bool) → i < length numbers
+    → before ≡ (old || list_any (nat_eq n) (take i numbers))
     → new ≡ (before || nat_eq n (get_or numbers i d)) → new ≡ (old || list_any (nat_eq n) (take (i + 1) numbers))
 flags_more n numbers i d old before new lt so e =
     e ∙ ap (λ b. b || nat_eq n (get_or numbers i d)) so
@@ -280,7 +358,8 @@ flags_more n numbers i d old before new lt so e =
     or_assoc false b c = refl
 
 -- a test of one number more
-pub set_more : (n i : ℕ) (old before new here there : Bool) → before ≡ (old || (ltb n i && there)) → (n ≡ i → here ≡ there) → new ≡ (before || (nat_eq n i && here)) → new ≡ (old || (ltb n (i + 1) && there))
+pub set_more : (n i : ℕ) (old before new here there : Bool) → before ≡ (old || (ltb n i && there))
+    → (n ≡ i → here ≡ there) → new ≡ (before || (nat_eq n i && here)) → new ≡ (old || (ltb n (i + 1) && there))
 set_more n i old before new here there so at e =
     e ∙ ap (λ b. b || (nat_eq n i && here)) so
     ∙ elim (cases_eq n i) [
@@ -306,8 +385,10 @@ none_set (suc count) (suc n) = none_set count n
 
 -- ---- lists, one after another
 
-pub next_tested : {A B : Type 0} (f : List A → B) (lists : List (List A)) (i : ℕ) (before new : List B) (here : List A) (b : B) → i < length lists
-    → before ≡ map f (take i lists) → here ≡ unwrap_or (slice_get lists i) [] → b ≡ f here → new ≡ before ++ b ∷ [] → new ≡ map f (take (i + 1) lists)
+pub next_tested : {A B : Type 0} (f : List A → B) (lists : List (List A)) (i : ℕ) (before new : List B) (here : List A)
+    (b : B) → i < length lists
+    → before ≡ map f (take i lists) → here ≡ unwrap_or (slice_get lists i) [] → b ≡ f here → new ≡ before ++ b ∷ []
+    → new ≡ map f (take (i + 1) lists)
 next_tested f lists i before new here b lt so at is e =
     e ∙ ap (λ l. l ++ b ∷ []) so
     ∙ ap (λ y. map f (take i lists) ++ y ∷ []) (is ∙ ap f (at ∙ unwrap_or-slice_get lists i []))

@@ -14,7 +14,8 @@ flagged_trees (flag ∷ flags) [] = refl
 flagged_trees (true ∷ flags) (e ∷ es) = ap (λ ts. e.standing.tree ∷ ts) (flagged_trees flags es)
 flagged_trees (false ∷ flags) (e ∷ es) = flagged_trees flags es
 
-pub kept_trees : (segments : List (List Registered)) (flags : List (List Bool)) → kept_of (map trees_of segments) flags ≡ trees_of (kept_of segments flags)
+pub kept_trees : (segments : List (List Registered)) (flags : List (List Bool)) → kept_of (map trees_of segments) flags
+    ≡ trees_of (kept_of segments flags)
 kept_trees [] flags = refl
 kept_trees (segment ∷ segments) [] = refl
 kept_trees (segment ∷ segments) (flags ∷ more) =
@@ -27,11 +28,13 @@ lengths [] = refl
 lengths (segment ∷ segments) = λ i. length-map segment (λ (e : Registered). e.standing.tree) i ∷ lengths segments i
 
 -- flags of entries are flags of their queries
-pub flags_of_trees : (segments : List (List Registered)) (flags : List (List Bool)) → AreFlagsOf segments flags → AreFlagsOf (map trees_of segments) flags
+pub flags_of_trees : (segments : List (List Registered)) (flags : List (List Bool)) → AreFlagsOf segments flags
+    → AreFlagsOf (map trees_of segments) flags
 flags_of_trees segments flags are = are ∙ sym (lengths segments)
 
 -- one index more
-pub one_more : (trees : List (List Tree)) (indexes : List IndexValue) (next : List Tree) (index : IndexValue) → AreIndexesOf trees indexes → IsIndexOf next index → AreIndexesOf (trees ++ next ∷ []) (indexes ++ index ∷ [])
+pub one_more : (trees : List (List Tree)) (indexes : List IndexValue) (next : List Tree) (index : IndexValue)
+    → AreIndexesOf trees indexes → IsIndexOf next index → AreIndexesOf (trees ++ next ∷ []) (indexes ++ index ∷ [])
 one_more [] [] next index are is = (is, tt)
 one_more [] (i ∷ indexes) next index are is = absurd are
 one_more (t ∷ trees) [] next index are is = absurd are

@@ -18,13 +18,35 @@ use Rattle.clip_segment.specs.contracts.segment.Segment.TheInside as segment_ins
 ruleset global = (sendable, global_sent.the_send, global_sent.the_sync, allocator_sent.the_frees)
 
 index_send : IsSend index.the_row
-index_send = view_send index_inside.the_row _ _ _ _ (declared_send index_inside.the_type (search (global, terms_sent.the_send), (search (global, lists_sent.the_send), (search (global, lists_sent.the_send), (search (global, marks_sent.the_send), (plans_send, tt))))))
+index_send = view_send index_inside.the_row _ _ _ _
+    (declared_send index_inside.the_type (
+      search (global, terms_sent.the_send),
+      (
+        search (global, lists_sent.the_send),
+        (search (global, lists_sent.the_send), (search (global, marks_sent.the_send), (plans_send, tt))),
+      ),
+    ))
 
 index_sync : IsSync index.the_row
-index_sync = view_sync index_inside.the_row _ _ _ _ (declared_sync index_inside.the_type (search (global, terms_sent.the_sync), (search (global, lists_sent.the_sync), (search (global, lists_sent.the_sync), (search (global, marks_sent.the_sync), (plans_sync, tt))))))
+index_sync = view_sync index_inside.the_row _ _ _ _
+    (declared_sync index_inside.the_type (
+      search (global, terms_sent.the_sync),
+      (
+        search (global, lists_sent.the_sync),
+        (search (global, lists_sent.the_sync), (search (global, marks_sent.the_sync), (plans_sync, tt))),
+      ),
+    ))
 
 pub segment_send : IsSend segment.the_row
-segment_send = view_send segment_inside.the_row _ _ _ _ (declared_send segment_inside.the_type (search (global, vec_sent.the_send, arc_sent.the_send, entry_send, entry_sync), (search (global, vec_sent.the_send), (index_send, tt))))
+segment_send = view_send segment_inside.the_row _ _ _ _
+    (declared_send segment_inside.the_type (
+      search (global, vec_sent.the_send, arc_sent.the_send, entry_send, entry_sync),
+      (search (global, vec_sent.the_send), (index_send, tt)),
+    ))
 
 pub segment_sync : IsSync segment.the_row
-segment_sync = view_sync segment_inside.the_row _ _ _ _ (declared_sync segment_inside.the_type (search (global, vec_sent.the_sync, arc_sent.the_sync, entry_send, entry_sync), (search (global, vec_sent.the_sync), (index_sync, tt))))
+segment_sync = view_sync segment_inside.the_row _ _ _ _
+    (declared_sync segment_inside.the_type (
+      search (global, vec_sent.the_sync, arc_sent.the_sync, entry_send, entry_sync),
+      (search (global, vec_sent.the_sync), (index_sync, tt)),
+    ))

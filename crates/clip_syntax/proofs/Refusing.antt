@@ -1,5 +1,6 @@
 -- What a text says, or why it is refused, from what the passes over it tell.
-use Rattle.std.proofs.Common.{◌≡◌, ℕ, zero, ◌+◌, ◌<◌, ◌≤◌, ◌↔◌, Bool, true, false, not, List, length, map, encode_utf8_all, IsTrue, sym, ap, subst, ◌∙◌}
+use Rattle.std.proofs.Common.{◌≡◌, ℕ, zero, ◌+◌, ◌<◌, ◌≤◌, ◌↔◌, Bool, true, false, not, List, length, map}
+use Rattle.std.proofs.Common.{encode_utf8_all, IsTrue, sym, ap, subst, ◌∙◌}
 use Rattle.std.specs.Str.{chars, IsUtf8}
 use Rattle.std.proofs.lemmas.Bool.{false≢true, not-true, not-false}
 use Rattle.clip_grammar.specs.Reading.{HasNoFault, IsFault, IsTooBig, Says, Writes}
@@ -16,17 +17,21 @@ use Rattle.clip_syntax.specs.Steps.TokenOf.{token_of}
 use Rattle.clip_syntax.specs.declared.token.Token as code
 
 -- the bytes of the rest are among those of the text
-pub rest_fits : (text cs : List ℕ) (ts : List Token) (rest : List ℕ) → IsUtf8 text → cs ≡ chars text → IsLexed cs ts rest → length (encode_utf8_all rest) ≤ length text
+pub rest_fits : (text cs : List ℕ) (ts : List Token) (rest : List ℕ) → IsUtf8 text → cs ≡ chars text
+    → IsLexed cs ts rest → length (encode_utf8_all rest) ≤ length text
 rest_fits text cs ts rest utf8 e lexed =
     let all = subst (λ x. IsLexed x ts rest) e lexed in
     refusals.rest_fits text all.0.lexemes rest utf8 all.0.finds
 
-pub lexical_fault : (text cs : List ℕ) (ts : List Token) (rest : List ℕ) (at : ℕ) → IsUtf8 text → length text ≤ MOST_TEXT_BYTES → cs ≡ chars text → IsLexed cs ts rest → 0 < length rest → at + length (encode_utf8_all rest) ≡ length text → IsFault text (Lexical at)
+pub lexical_fault : (text cs : List ℕ) (ts : List Token) (rest : List ℕ) (at : ℕ) → IsUtf8 text
+    → length text ≤ MOST_TEXT_BYTES → cs ≡ chars text → IsLexed cs ts rest → 0 < length rest
+    → at + length (encode_utf8_all rest) ≡ length text → IsFault text (Lexical at)
 lexical_fault text cs ts rest at utf8 short e lexed some place =
     let all = subst (λ x. IsLexed x ts rest) e lexed in
     refusals.lexical_fault text all.0.lexemes rest at utf8 short all.0.finds all.1 some place
 
-pub says_lexed : (text cs : List ℕ) (ts : List Token) (rest : List ℕ) → length text ≤ MOST_TEXT_BYTES → cs ≡ chars text → IsLexed cs ts rest → length rest ≡ 0 → Says text ts
+pub says_lexed : (text cs : List ℕ) (ts : List Token) (rest : List ℕ) → length text ≤ MOST_TEXT_BYTES → cs ≡ chars text
+    → IsLexed cs ts rest → length rest ≡ 0 → Says text ts
 says_lexed text cs ts rest short e lexed none =
     let all = subst (λ x. IsLexed x ts rest) e lexed in
     subst (Says text) (sym all.0.says) (refusals.says_found text all.0.lexemes rest short all.0.finds none)
@@ -39,13 +44,15 @@ pub record AreClauses (text : List ℕ) (ts : List Token) : Type 0 where
   pub spelled : tokens written ≡ ts
   pub writes : Writes text written
 
-pub says_slice : (text : List ℕ) (items slice : List code.Token) → slice ≡ items → Says text (map token_of items) → Says text (map token_of slice)
+pub says_slice : (text : List ℕ) (items slice : List code.Token) → slice ≡ items → Says text (map token_of items)
+    → Says text (map token_of slice)
 says_slice text items slice e says = subst (λ x. Says text (map token_of x)) (sym e) says
 
 -- no form is left out, and the tokens are clauses
 pub clauses_found : (text : List ℕ) (items slice : List code.Token) → slice ≡ items → Says text (map token_of items)
     → (left : Bool) → left ≡ leaves_out false false (map token_of slice) → left ≡ false
-    → (clauses : Bool) → clauses ≡ accepts (map token_of slice) zero false Fresh → clauses ≡ true → AreClauses text (map token_of slice)
+    → (clauses : Bool) → clauses ≡ accepts (map token_of slice) zero false Fresh → clauses ≡ true
+    → AreClauses text (map token_of slice)
 clauses_found text items slice e says left is_left none clauses are_clauses all =
     let found = refusals.written_found (map token_of slice) (sym are_clauses ∙ all) in record {
       written = found.0;
@@ -54,16 +61,23 @@ clauses_found text items slice e says left is_left none clauses are_clauses all 
     }
 
 -- some item has no words, as the answer tells, or each has some
-pub no_words : {text : List ℕ} {ts : List Token} (c : AreClauses text ts) (answer : Bool) → ((w : Written) → tokens w ≡ ts → answer ≡ not (lacks_words w)) → answer ≡ false → IsFault text NoWords
+pub no_words : {text : List ℕ} {ts : List Token} (c : AreClauses text ts) (answer : Bool)
+    → ((w : Written) → tokens w ≡ ts → answer ≡ not (lacks_words w)) → answer ≡ false → IsFault text NoWords
 no_words c answer tells none = (c.written, c.writes, not-false _ (sym (tells c.written c.spelled) ∙ none))
 
-pub has_words : {text : List ℕ} {ts : List Token} (c : AreClauses text ts) (answer : Bool) → ((w : Written) → tokens w ≡ ts → answer ≡ not (lacks_words w)) → answer ≡ true → lacks_words c.written ≡ false
+pub has_words : {text : List ℕ} {ts : List Token} (c : AreClauses text ts) (answer : Bool)
+    → ((w : Written) → tokens w ≡ ts → answer ≡ not (lacks_words w)) → answer ≡ true → lacks_words c.written ≡ false
 has_words c answer tells some = not-true _ (sym (tells c.written c.spelled) ∙ some)
 
 -- the tree is too big, as the answer tells, or the text has no fault
-pub too_big : {text : List ℕ} {ts : List Token} (c : AreClauses text ts) → lacks_words c.written ≡ false → (answer : Bool) → ((w : Written) → tokens w ≡ ts → (IsTrue answer ↔ IsTooBig (written_tree w))) → answer ≡ true → IsFault text TooBig
+pub too_big : {text : List ℕ} {ts : List Token} (c : AreClauses text ts) → lacks_words c.written ≡ false
+    → (answer : Bool) → ((w : Written) → tokens w ≡ ts → (IsTrue answer ↔ IsTooBig (written_tree w))) → answer ≡ true
+    → IsFault text TooBig
 too_big c worded answer tells big = (c.written, c.writes, ap not worded, (tells c.written c.spelled).0 big)
 
-pub no_fault : {text : List ℕ} {ts : List Token} (c : AreClauses text ts) → IsUtf8 text → lacks_words c.written ≡ false → (answer : Bool) → ((w : Written) → tokens w ≡ ts → (IsTrue answer ↔ IsTooBig (written_tree w))) → answer ≡ false → HasNoFault text
+pub no_fault : {text : List ℕ} {ts : List Token} (c : AreClauses text ts) → IsUtf8 text → lacks_words c.written ≡ false
+    → (answer : Bool) → ((w : Written) → tokens w ≡ ts → (IsTrue answer ↔ IsTooBig (written_tree w))) → answer ≡ false
+    → HasNoFault text
 no_fault {text = text} c utf8 worded answer tells small =
-    refusals.no_fault text c.written utf8 c.writes worded (λ big. false≢true (sym small ∙ (tells c.written c.spelled).1 big))
+    refusals.no_fault text c.written utf8 c.writes worded
+    (λ big. false≢true (sym small ∙ (tells c.written c.spelled).1 big))

@@ -1,5 +1,6 @@
 -- The words of a query's items, and the items that have none.
-use Rattle.std.proofs.Common.{◌≡◌, ℕ, Bool, true, false, ◌||◌, List, [], ◌∷◌, ◌++◌, map, Option, Some, None, refl, sym, ap, ◌∙◌, append_assoc, append-nil, length, arith}
+use Rattle.std.proofs.Common.{◌≡◌, ℕ, Bool, true, false, ◌||◌, List, [], ◌∷◌, ◌++◌, map, Option, Some, None, refl, sym}
+use Rattle.std.proofs.Common.{ap, ◌∙◌, append_assoc, append-nil, length, arith}
 use Rattle.std.proofs.Math.Bool.{or_assoc, or-false}
 use Rattle.std.specs.Option.{option_to_list}
 use Rattle.std.specs.List.{list_any}
@@ -8,7 +9,9 @@ use Rattle.clip_grammar.specs.Tokens as token
 use Rattle.clip_grammar.specs.Tokens.{Token}
 use Rattle.clip_grammar.specs.Steps.Parser.{begins_colon}
 use Rattle.clip_grammar.specs.Shape as shape
-use Rattle.clip_grammar.specs.Shape.{Sign, Joint, Beside, joint_tokens, Written, one, more, WrittenClause, item, everything, Item, tokens, clause_tokens, item_tokens, sign_tokens, field_tokens, is_empty, lacks_words, clause_lacks_words, item_lacks_words}
+use Rattle.clip_grammar.specs.Shape.{Sign, Joint, Beside, joint_tokens, Written, one, more, WrittenClause, item}
+use Rattle.clip_grammar.specs.Shape.{everything, Item, tokens, clause_tokens, item_tokens, sign_tokens, field_tokens}
+use Rattle.clip_grammar.specs.Shape.{is_empty, lacks_words, clause_lacks_words, item_lacks_words}
 use Rattle.clip_grammar.proofs.Parsing.{joined, joined_parts, joined_no_colon}
 use Rattle.clip_syntax.specs.Steps.TokenOf.{token_of}
 use Rattle.clip_syntax.specs.declared.token.Token as code
@@ -35,7 +38,8 @@ lacks_field None ts = refl
 lacks_field (Some field) ts = refl
 
 mutual
-  lacks_from : (w : Written) (ts : List Token) → begins_colon ts ≡ false → lacks (tokens w ++ ts) ≡ (lacks_words w || lacks ts)
+  lacks_from : (w : Written) (ts : List Token) → begins_colon ts ≡ false
+      → lacks (tokens w ++ ts) ≡ (lacks_words w || lacks ts)
   lacks_from (one c) ts h = lacks_clause c ts h
   lacks_from (more c joint cs) ts h =
       ap lacks (joined_parts c joint cs ts)
@@ -43,9 +47,11 @@ mutual
       ∙ ap (λ b. clause_lacks_words c || b) (lacks_joint joint (tokens cs ++ ts) ∙ lacks_from cs ts h)
       ∙ sym (or_assoc (clause_lacks_words c) (lacks_words cs) (lacks ts))
 
-  lacks_clause : (c : WrittenClause) (ts : List Token) → begins_colon ts ≡ false → lacks (clause_tokens c ++ ts) ≡ (clause_lacks_words c || lacks ts)
+  lacks_clause : (c : WrittenClause) (ts : List Token) → begins_colon ts ≡ false → lacks (clause_tokens c ++ ts)
+      ≡ (clause_lacks_words c || lacks ts)
   lacks_clause (item sign field i) ts h =
-      ap lacks (append_assoc (sign_tokens sign ++ field_tokens field) (item_tokens i) ts ∙ append_assoc (sign_tokens sign) (field_tokens field) (item_tokens i ++ ts))
+      ap lacks (append_assoc (sign_tokens sign ++ field_tokens field) (item_tokens i) ts
+      ∙ append_assoc (sign_tokens sign) (field_tokens field) (item_tokens i ++ ts))
       ∙ lacks_sign sign (field_tokens field ++ (item_tokens i ++ ts))
       ∙ lacks_field field (item_tokens i ++ ts)
       ∙ lacks_item i ts h
@@ -53,8 +59,10 @@ mutual
       ap lacks (append_assoc (sign_tokens sign) (token.Star ∷ token.Colon ∷ token.Star ∷ []) ts)
       ∙ lacks_sign sign (token.Star ∷ token.Colon ∷ token.Star ∷ ts)
 
-  lacks_item : (i : Item) (ts : List Token) → begins_colon ts ≡ false → lacks (item_tokens i ++ ts) ≡ (item_lacks_words i || lacks ts)
-  lacks_item (shape.Plain text) ts h = ap (λ b. list_any is_empty (map words_of (option_to_list (item_text (token.Plain text) b) ++ item_texts ts))) h
+  lacks_item : (i : Item) (ts : List Token) → begins_colon ts ≡ false → lacks (item_tokens i ++ ts)
+      ≡ (item_lacks_words i || lacks ts)
+  lacks_item (shape.Plain text) ts h =
+      ap (λ b. list_any is_empty (map words_of (option_to_list (item_text (token.Plain text) b) ++ item_texts ts))) h
   lacks_item (shape.Front text) ts h = refl
   lacks_item (shape.Phrase text) ts h = refl
   lacks_item (shape.Range low high) ts h = refl
@@ -72,7 +80,9 @@ lacks_none [] e = refl
 lacks_none (t ∷ ts) e = absurd (omega arith)
 
 -- the first token is an item with no words
-pub lacks_here : {A : Type 0} (ts us : List Token) (t : Token) (text : List ℕ) (f : A → List ℕ) (words : List A) → ts ≡ t ∷ us → item_text t (begins_colon us) ≡ Some text → map f words ≡ words_of text → length words ≡ 0 → lacks ts ≡ true
+pub lacks_here : {A : Type 0} (ts us : List Token) (t : Token) (text : List ℕ) (f : A → List ℕ) (words : List A)
+    → ts ≡ t ∷ us → item_text t (begins_colon us) ≡ Some text → map f words ≡ words_of text → length words ≡ 0
+    → lacks ts ≡ true
 lacks_here ts us t text f [] parts found cut none =
     ap lacks parts
     ∙ ap (λ x. list_any is_empty (map words_of (option_to_list x ++ item_texts us))) found

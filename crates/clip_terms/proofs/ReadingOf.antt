@@ -1,5 +1,8 @@
 -- What a reading is made of: numbers and flags of keys, and numbers at places.
-use Rattle.std.proofs.Common.{◌≡◌, ℕ, suc, ◌+◌, ◌<◌, Bool, true, false, ◌||◌, cond, nat_eq, List, [], ◌∷◌, ◌++◌, All, filter, map, flat_map, length, take, set, get_or, Option, Some, None, is_some, unwrap_or, option_map, option_to_list, slice_get, refl, sym, ap, ◌∙◌, arith, eq-eqb, ne_eqb, get_or-set_same, get_or-set_other, inl, inr}
+use Rattle.std.proofs.Common.{◌≡◌, ℕ, suc, ◌+◌, ◌<◌, Bool, true, false, ◌||◌, cond, nat_eq, List, [], ◌∷◌, ◌++◌, All}
+use Rattle.std.proofs.Common.{filter, map, flat_map, length, take, set, get_or, Option, Some, None, is_some, unwrap_or}
+use Rattle.std.proofs.Common.{option_map, option_to_list, slice_get, refl, sym, ap, ◌∙◌, arith, eq-eqb, ne_eqb}
+use Rattle.std.proofs.Common.{get_or-set_same, get_or-set_other, inl, inr}
 use Rattle.std.specs.FinMap as finite
 use Rattle.std.specs.Cmp.{eq_by_cmp_equiv}
 use Rattle.std.specs.List.{list_any}
@@ -29,7 +32,8 @@ or_none false = refl
 -- ---- flags
 
 -- one number more
-pub flag_more : (flags : List Bool) (bound : ℕ) (numbers : List ℕ) (i : ℕ) → i < length numbers → length flags ≡ bound → AreFlags flags bound (take i numbers)
+pub flag_more : (flags : List Bool) (bound : ℕ) (numbers : List ℕ) (i : ℕ) → i < length numbers → length flags ≡ bound
+    → AreFlags flags bound (take i numbers)
     → AreFlags (set flags (get_or numbers i 0) true) bound (take (i + 1) numbers)
 flag_more flags bound numbers i inside long so n lt =
     let m = get_or numbers i 0 in
@@ -37,11 +41,13 @@ flag_more flags bound numbers i inside long so n lt =
     let read = unwrap_or-slice_get (set flags m true) n true in
     elim (cases_eq n m) [
       | inl e ↦
-          read ∙ ap (λ k. get_or (set flags m true) k true) e ∙ get_or-set_same flags m true true (omega (arith, e, lt, long))
+          read ∙ ap (λ k. get_or (set flags m true) k true) e
+          ∙ get_or-set_same flags m true true (omega (arith, e, lt, long))
           ∙ sym (more ∙ or_right (list_any (nat_eq n) (take i numbers)) (nat_eq n m) (eq-eqb n m e))
       | inr ne ↦
           read ∙ get_or-set_other flags m n true true ne ∙ sym (unwrap_or-slice_get flags n true) ∙ so n lt
-          ∙ sym (more ∙ ap (λ b. list_any (nat_eq n) (take i numbers) || b) (ne_eqb n m ne) ∙ or_none (list_any (nat_eq n) (take i numbers)))
+          ∙ sym (more ∙ ap (λ b. list_any (nat_eq n) (take i numbers) || b) (ne_eqb n m ne)
+          ∙ or_none (list_any (nat_eq n) (take i numbers)))
     ]
 
 -- ---- the numbers of keys
@@ -49,15 +55,18 @@ flag_more flags bound numbers i inside long so n lt =
 module _ (terms : List KeyValue) where
   within_one : (k : KeyValue) (o : Option ℕ) → number_of terms k ≡ o → All (λ n. n < length terms) (option_to_list o)
   within_one k None is = All-nil (λ n. n < length terms)
-  within_one k (Some n) is = All-cons (λ n. n < length terms) n [] (term_of_number terms k n is).1 (All-nil (λ n. n < length terms))
+  within_one k (Some n) is =
+      All-cons (λ n. n < length terms) n [] (term_of_number terms k n is).1 (All-nil (λ n. n < length terms))
 
   pub known_within : (keys : List KeyValue) → All (λ n. n < length terms) (known (map (number_of terms) keys))
   known_within [] = All-nil (λ n. n < length terms)
   known_within (k ∷ keys) =
-      All-append (λ n. n < length terms) (option_to_list (number_of terms k)) (known (map (number_of terms) keys)) (within_one k (number_of terms k) refl) (known_within keys)
+      All-append (λ n. n < length terms) (option_to_list (number_of terms k)) (known (map (number_of terms) keys))
+      (within_one k (number_of terms k) refl) (known_within keys)
 
   -- the terms of the numbers are the keys that are terms
-  known_one : (k : KeyValue) (rest : List KeyValue) (o : Option ℕ) → number_of terms k ≡ o → map (term_at terms) (option_to_list o) ++ rest ≡ cond (is_some o) (k ∷ rest) rest
+  known_one : (k : KeyValue) (rest : List KeyValue) (o : Option ℕ) → number_of terms k ≡ o
+      → map (term_at terms) (option_to_list o) ++ rest ≡ cond (is_some o) (k ∷ rest) rest
   known_one k rest None is = refl
   known_one k rest (Some n) is = ap (λ t. t ∷ rest) (term_of_number terms k n is).0
 
@@ -68,12 +77,14 @@ same_some (Some n) = refl
 pub has_number : (terms : List KeyValue) (k : KeyValue) → is_some (number_of terms k) ≡ list_any (is_same k) terms
 has_number [] k = refl
 has_number (t ∷ terms) k =
-    elim (is_same k t) as (λ b. is_some (cond b (Some 0) (option_map suc (number_of terms k))) ≡ (b || list_any (is_same k) terms)) [
+    elim (is_same k t) as (λ b. is_some (cond b (Some 0) (option_map suc (number_of terms k)))
+    ≡ (b || list_any (is_same k) terms)) [
       | true ↦ refl
       | false ↦ same_some (number_of terms k) ∙ has_number terms k
     ]
 
-pub known_terms : (terms keys : List KeyValue) → map (term_at terms) (known (map (number_of terms) keys)) ≡ filter (λ k. list_any (is_same k) terms) keys
+pub known_terms : (terms keys : List KeyValue) → map (term_at terms) (known (map (number_of terms) keys))
+    ≡ filter (λ k. list_any (is_same k) terms) keys
 known_terms terms [] = refl
 known_terms terms (k ∷ keys) =
     let rest = filter (λ q. list_any (is_same q) terms) keys in
@@ -87,28 +98,35 @@ in_option None n = refl
 in_option (Some m) n = or_none (nat_eq n m) ∙ nat_eq_equiv.symm n m
 
 -- a number is among those of the keys where its term is among the keys
-pub known_is : (terms : List KeyValue) (n : ℕ) → IsStrictlySortedBy key_cmp terms → n < length terms → (keys : List KeyValue) → list_any (nat_eq n) (known (map (number_of terms) keys)) ≡ list_any (is_same (term_at terms n)) keys
+pub known_is : (terms : List KeyValue) (n : ℕ) → IsStrictlySortedBy key_cmp terms → n < length terms
+    → (keys : List KeyValue) → list_any (nat_eq n) (known (map (number_of terms) keys))
+    ≡ list_any (is_same (term_at terms n)) keys
 known_is terms n strict lt [] = refl
 known_is terms n strict lt (k ∷ keys) =
-    let head = in_option (number_of terms k) n ∙ key_numbered terms k n strict lt ∙ (eq_by_cmp_equiv key_cmp_total).symm k (term_at terms n) in
+    let head = in_option (number_of terms k) n ∙ key_numbered terms k n strict lt
+    ∙ (eq_by_cmp_equiv key_cmp_total).symm k (term_at terms n) in
     list_any-append (nat_eq n) (option_to_list (number_of terms k)) (known (map (number_of terms) keys))
     ∙ (λ i. head i || known_is terms n strict lt keys i)
 
 -- ---- the numbers at places
 
 module _ (terms keys : List KeyValue) where
-  found_at : (k : KeyValue) (o : Option KeyValue) → (k ≡ Any → ⊥) → unwrap_or o Any ≡ k → unwrap_or (option_map (number_of terms) o) None ≡ number_of terms k
+  found_at : (k : KeyValue) (o : Option KeyValue) → (k ≡ Any → ⊥) → unwrap_or o Any ≡ k
+      → unwrap_or (option_map (number_of terms) o) None ≡ number_of terms k
   found_at k None word is = absurd (word (sym is))
   found_at k (Some l) word is = ap (number_of terms) is
 
   no_word : (name word : List ℕ) → Word name word ≡ Any → ⊥
   no_word name word e = cc
 
-  placed_at : (name word : List ℕ) (p : ℕ) → term_at keys p ≡ Word name word → number_at (map (number_of terms) keys) p ≡ number_of terms (Word name word)
+  placed_at : (name word : List ℕ) (p : ℕ) → term_at keys p ≡ Word name word → number_at (map (number_of terms) keys) p
+      ≡ number_of terms (Word name word)
   placed_at name word p is =
-      ap (λ (o : Option (Option ℕ)). unwrap_or o None) (slice_get-map (number_of terms) keys p) ∙ found_at (Word name word) (slice_get keys p) (no_word name word) is
+      ap (λ (o : Option (Option ℕ)). unwrap_or o None) (slice_get-map (number_of terms) keys p)
+      ∙ found_at (Word name word) (slice_get keys p) (no_word name word) is
 
-  places_numbered : (name : List ℕ) (ps : List ℕ) (ws : List (List ℕ)) → map (term_at keys) ps ≡ map (Word name) ws → map (number_at (map (number_of terms) keys)) ps ≡ map (number_of terms) (map (Word name) ws)
+  places_numbered : (name : List ℕ) (ps : List ℕ) (ws : List (List ℕ)) → map (term_at keys) ps ≡ map (Word name) ws
+      → map (number_at (map (number_of terms) keys)) ps ≡ map (number_of terms) (map (Word name) ws)
   places_numbered name [] [] e = refl
   places_numbered name [] (w ∷ ws) e = cc
   places_numbered name (p ∷ ps) [] e = cc
@@ -117,8 +135,10 @@ module _ (terms keys : List KeyValue) where
       let later : map (term_at keys) ps ≡ map (Word name) ws = cc in
       λ i. placed_at name w p here i ∷ places_numbered name ps ws later i
 
-  pub fields_numbered : {V : Type 0} (items : V → List ℕ) (all : List V) (fields : List (List ℕ × List (List ℕ))) → map (λ v. map (term_at keys) (items v)) all ≡ map field_keys fields
-      → map (λ v. map (number_at (map (number_of terms) keys)) (items v)) all ≡ map (λ field. map (number_of terms) (field_keys field)) fields
+  pub fields_numbered : {V : Type 0} (items : V → List ℕ) (all : List V) (fields : List (List ℕ × List (List ℕ)))
+      → map (λ v. map (term_at keys) (items v)) all ≡ map field_keys fields
+      → map (λ v. map (number_at (map (number_of terms) keys)) (items v)) all
+      ≡ map (λ field. map (number_of terms) (field_keys field)) fields
   fields_numbered items [] [] e = refl
   fields_numbered items [] (f ∷ fields) e = cc
   fields_numbered items (v ∷ all) [] e = cc
@@ -129,17 +149,20 @@ module _ (terms keys : List KeyValue) where
 
 -- ---- the numbers of all keys of an article
 
-module _ (terms : List KeyValue) (fields : Fields) (keys : List KeyValue) (old new : List ℕ) (of_words : keys ≡ word_part_keys fields) (first : old ≡ known (map (number_of terms) keys))
+module _ (terms : List KeyValue) (fields : Fields) (keys : List KeyValue) (old new : List ℕ) (of_words : keys
+    ≡ word_part_keys fields) (first : old ≡ known (map (number_of terms) keys))
     (fronts : AddsNumbersOf terms (flat_map front_keys (finite.entries fields)) old new) where
   pub numbers_within : All (λ n. n < length terms) new
   numbers_within = fronts.within (All-same (λ n. n < length terms) _ _ first (known_within terms keys))
 
-  pub numbers_had : IsStrictlySortedBy key_cmp terms → (n : ℕ) → n < length terms → list_any (nat_eq n) new ≡ has_key fields (term_at terms n)
+  pub numbers_had : IsStrictlySortedBy key_cmp terms → (n : ℕ) → n < length terms
+      → list_any (nat_eq n) new ≡ has_key fields (term_at terms n)
   numbers_had strict n lt =
       let is : KeyValue → Bool = is_same (term_at terms n) in
       let words : List KeyValue = Any ∷ flat_map field_keys (finite.entries fields) in
       let others : Bool = list_any is (flat_map front_keys (finite.entries fields)) in
       fronts.among n lt
-      ∙ ap (λ b. b || others) (ap (list_any (nat_eq n)) first ∙ known_is terms n strict lt keys ∙ ap (list_any is) of_words ∙ among_in_order words (term_at terms n))
+      ∙ ap (λ b. b || others) (ap (list_any (nat_eq n)) first ∙ known_is terms n strict lt keys
+      ∙ ap (list_any is) of_words ∙ among_in_order words (term_at terms n))
       ∙ sym (list_any-append is words (flat_map front_keys (finite.entries fields)))
       ∙ sym (among_in_order (all_keys fields) (term_at terms n))

@@ -1,7 +1,10 @@
 -- Where a run of numbers stands: at a spot of each of its numbers.
-use Rattle.std.proofs.Common.{◌≡◌, ℕ, zero, suc, ◌+◌, ◌-◌, ◌<◌, ◌≤◌, Bool, true, false, ◌&&◌, ◌||◌, nat_le, List, [], ◌∷◌, length, drop, get_or, Option, Some, None, MatchOption, is_some, unwrap_or, slice_get, refl, sym, ap, ◌∙◌, subst, arith, eqb-true, eq-eqb, nat_eq, inl, inr}
+use Rattle.std.proofs.Common.{◌≡◌, ℕ, zero, suc, ◌+◌, ◌-◌, ◌<◌, ◌≤◌, Bool, true, false, ◌&&◌, ◌||◌, nat_le, List, []}
+use Rattle.std.proofs.Common.{◌∷◌, length, drop, get_or, Option, Some, None, MatchOption, is_some, unwrap_or, slice_get}
+use Rattle.std.proofs.Common.{refl, sym, ap, ◌∙◌, subst, arith, eqb-true, eq-eqb, nat_eq, inl, inr}
 use Rattle.std.specs.List.{list_any}
-use Rattle.std.proofs.lemmas.Bool.{or_cases, or_left, or_right, and_parts, and_from, le-leb, leb-true, false_from_ne_true, false≢true, true≢false}
+use Rattle.std.proofs.lemmas.Bool.{or_cases, or_left, or_right, and_parts, and_from, le-leb, leb-true}
+use Rattle.std.proofs.lemmas.Bool.{false_from_ne_true, false≢true, true≢false}
 use Rattle.std.proofs.lemmas.Option.{unwrap_or-slice_get}
 use Rattle.clip_grammar.proofs.Booleans.{same_answer}
 use Rattle.clip_meaning.specs.Hits.{is_within}
@@ -16,7 +19,8 @@ use Rattle.clip_terms.specs.Steps.Repeats.{IsNext}
 
 -- ---- where a run stands
 
-pub stands_at : (run : List ℕ) (numbers : List (Option ℕ)) (p : ℕ) → 0 < length run → begins_with run (drop p numbers) ≡ true → stands_among run numbers ≡ true
+pub stands_at : (run : List ℕ) (numbers : List (Option ℕ)) (p : ℕ) → 0 < length run → begins_with run (drop p numbers)
+    ≡ true → stands_among run numbers ≡ true
 stands_at run [] p some b = absurd (false≢true (sym (past_end run [] p some (omega arith)) ∙ b))
 stands_at run (m ∷ numbers) zero some b = or_left (begins_with run (m ∷ numbers)) _ b
 stands_at run (m ∷ numbers) (suc p) some b = or_right (begins_with run (m ∷ numbers)) _ (stands_at run numbers p some b)
@@ -32,19 +36,25 @@ stands_where run (m ∷ numbers) s =
       | inr later ↦ let there = stands_where run numbers later in (suc there.0, there.1)
     ]
 
-pub covered_at : (run : List ℕ) (k start p : ℕ) (numbers : List (Option ℕ)) → 0 < length run → begins_with run (drop p numbers) ≡ true → is_within (start + p) (length run) k ≡ true → is_covered_from run k start numbers ≡ true
+pub covered_at : (run : List ℕ) (k start p : ℕ) (numbers : List (Option ℕ)) → 0 < length run
+    → begins_with run (drop p numbers) ≡ true → is_within (start + p) (length run) k ≡ true
+    → is_covered_from run k start numbers ≡ true
 covered_at run k start p [] some b within = absurd (false≢true (sym (past_end run [] p some (omega arith)) ∙ b))
 covered_at run k start zero (m ∷ numbers) some b within =
     let same : start + 0 ≡ start = omega arith in
-    or_left (begins_with run (m ∷ numbers) && is_within start (length run) k) _ (and_from (begins_with run (m ∷ numbers)) _ b (ap (λ s. is_within s (length run) k) (sym same) ∙ within))
+    or_left (begins_with run (m ∷ numbers) && is_within start (length run) k) _
+    (and_from (begins_with run (m ∷ numbers)) _ b (ap (λ s. is_within s (length run) k) (sym same) ∙ within))
 covered_at run k start (suc p) (m ∷ numbers) some b within =
     let same : (start + 1) + p ≡ start + suc p = omega arith in
-    or_right (begins_with run (m ∷ numbers) && is_within start (length run) k) _ (covered_at run k (start + 1) p numbers some b (ap (λ s. is_within s (length run) k) same ∙ within))
+    or_right (begins_with run (m ∷ numbers) && is_within start (length run) k) _
+    (covered_at run k (start + 1) p numbers some b (ap (λ s. is_within s (length run) k) same ∙ within))
 
 abbrev Covers : List ℕ → (k start : ℕ) → List (Option ℕ) → Type 0
-Covers run k start numbers = (p : ℕ) × (begins_with run (drop p numbers) ≡ true) × (is_within (start + p) (length run) k ≡ true)
+Covers run k start numbers =
+    (p : ℕ) × (begins_with run (drop p numbers) ≡ true) × (is_within (start + p) (length run) k ≡ true)
 
-pub covered_where : (run : List ℕ) (k start : ℕ) (numbers : List (Option ℕ)) → is_covered_from run k start numbers ≡ true → Covers run k start numbers
+pub covered_where : (run : List ℕ) (k start : ℕ) (numbers : List (Option ℕ)) → is_covered_from run k start numbers
+    ≡ true → Covers run k start numbers
 covered_where run k start [] c = absurd (false≢true c)
 covered_where run k start (m ∷ numbers) c =
     elim (or_cases (begins_with run (m ∷ numbers) && is_within start (length run) k) _ c) [
@@ -83,38 +93,61 @@ module _ (run : List ℕ) (numbers : List (Option ℕ)) (anchor : Anchor) (is : 
   back p = omega arith
 
   -- where the run stands the spot of its number at the place is among the anchor's
-  at_spot : (test : Spot → Bool) (p : ℕ) → begins_with run (drop p numbers) ≡ true → test (record { number = get_or run anchor.place 0; position = p + anchor.place }) ≡ true → list_any test anchor.spots.now ≡ true
-  at_spot test p b = is.spots.each (p + anchor.place) (unwrap_or-slice_get numbers (p + anchor.place) None ∙ numbered (get_or numbers (p + anchor.place) None) (get_or run anchor.place 0) (begins_there run numbers p anchor.place b is.within)) test
+  at_spot : (test : Spot → Bool) (p : ℕ) → begins_with run (drop p numbers) ≡ true
+      → test (record { number = get_or run anchor.place 0; position = p + anchor.place }) ≡ true
+      → list_any test anchor.spots.now ≡ true
+  at_spot test p b = is.spots.each (p + anchor.place) (unwrap_or-slice_get numbers (p + anchor.place) None
+      ∙ numbered (get_or numbers (p + anchor.place) None) (get_or run anchor.place 0)
+      (begins_there run numbers p anchor.place b is.within)) test
 
-  before : (p : ℕ) → begins_with run (drop p numbers) ≡ true → begins_before run numbers anchor.place (record { number = get_or run anchor.place 0; position = p + anchor.place }) ≡ true
-  before p b = and_from (nat_le anchor.place (p + anchor.place)) _ (le-leb anchor.place (p + anchor.place) (omega arith)) (ap (λ q. begins_with run (drop q numbers)) (back p) ∙ b)
+  before : (p : ℕ) → begins_with run (drop p numbers) ≡ true
+      → begins_before run numbers anchor.place (record {
+        number = get_or run anchor.place 0;
+        position =
+            p + anchor.place;
+      }) ≡ true
+  before p b = and_from (nat_le anchor.place (p + anchor.place)) _
+      (le-leb anchor.place (p + anchor.place) (omega arith)) (ap (λ q. begins_with run (drop q numbers)) (back p) ∙ b)
 
   pub anchored_stands : list_any (begins_before run numbers anchor.place) anchor.spots.now ≡ stands_among run numbers
   anchored_stands =
       same_answer _ _
       (λ t.
       let found = some_passes (begins_before run numbers anchor.place) anchor.spots.now t in
-      stands_at run numbers (found.0.position - anchor.place) some (and_parts (nat_le anchor.place found.0.position) _ found.1).1)
-      (λ t. let there = stands_where run numbers t in at_spot (begins_before run numbers anchor.place) there.0 there.1 (before there.0 there.1))
+      stands_at run numbers (found.0.position - anchor.place) some
+      (and_parts (nat_le anchor.place found.0.position) _ found.1).1)
+      (λ t. let there = stands_where run numbers t in
+      at_spot (begins_before run numbers anchor.place) there.0 there.1 (before there.0 there.1))
 
-  pub anchored_covers : (k : ℕ) → list_any (covers_before run numbers anchor.place k) anchor.spots.now ≡ is_covered_from run k 0 numbers
+  pub anchored_covers : (k : ℕ) → list_any (covers_before run numbers anchor.place k) anchor.spots.now
+      ≡ is_covered_from run k 0 numbers
   anchored_covers k =
       same_answer _ _
       (λ t.
       let found = some_passes (covers_before run numbers anchor.place k) anchor.spots.now t in
       let parts = and_parts (begins_before run numbers anchor.place found.0) _ found.1 in
       let from : 0 + (found.0.position - anchor.place) ≡ found.0.position - anchor.place = omega arith in
-      covered_at run k 0 (found.0.position - anchor.place) numbers some (and_parts (nat_le anchor.place found.0.position) _ parts.0).1 (ap (λ s. is_within s (length run) k) from ∙ parts.1))
+      covered_at run k 0 (found.0.position - anchor.place) numbers some
+      (and_parts (nat_le anchor.place found.0.position) _ parts.0).1 (ap (λ s. is_within s (length run) k) from
+      ∙ parts.1))
       (λ t.
       let there = covered_where run k 0 numbers t in
       let from : (there.0 + anchor.place) - anchor.place ≡ 0 + there.0 = omega arith in
       at_spot (covers_before run numbers anchor.place k) there.0 there.1
-      (and_from (begins_before run numbers anchor.place (record { number = get_or run anchor.place 0; position = there.0 + anchor.place })) _ (before there.0 there.1) (ap (λ s. is_within s (length run) k) from ∙ there.2)))
+      (and_from (begins_before run numbers anchor.place (record {
+        number = get_or run anchor.place 0;
+        position =
+            there.0 + anchor.place;
+      })) _ (before there.0 there.1) (ap (λ s. is_within s (length run) k) from ∙ there.2)))
 
 -- ---- by a search from the start on
 
-pub next_stands : (run : List ℕ) (numbers : List (Option ℕ)) (at : Aligned) (found : Option Aligned) → at.start ≡ 0 → 0 < length run
-    → MatchOption found ((p : ℕ) → at.start ≤ p → begins_with run (drop p numbers) ≡ false) (IsNext run numbers at) → is_some found ≡ stands_among run numbers
+pub next_stands : (run : List ℕ) (numbers : List (Option ℕ)) (at : Aligned) (found : Option Aligned) → at.start ≡ 0
+    → 0 < length run
+    → MatchOption found ((p : ℕ) → at.start ≤ p → begins_with run (drop p numbers) ≡ false) (IsNext run numbers at)
+    → is_some found ≡ stands_among run numbers
 next_stands run numbers at None first some nowhere =
-    sym (false_from_ne_true _ (λ s. let there = stands_where run numbers s in true≢false (sym there.1 ∙ nowhere there.0 (omega (arith, first)))))
-next_stands run numbers at (Some found) first some next = sym (stands_at run numbers found.start some (whole_stands run numbers found next.agree next.whole))
+    sym (false_from_ne_true _ (λ s. let there = stands_where run numbers s in
+    true≢false (sym there.1 ∙ nowhere there.0 (omega (arith, first)))))
+next_stands run numbers at (Some found) first some next =
+    sym (stands_at run numbers found.start some (whole_stands run numbers found next.agree next.whole))

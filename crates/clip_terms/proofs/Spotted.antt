@@ -1,10 +1,13 @@
 -- Spots: where the term of a number stands in a field, and which positions a run of numbers covers.
-use Rattle.std.proofs.Common.{◌≡◌, ℕ, zero, suc, ◌+◌, ◌<◌, ◌≤◌, Bool, true, false, ◌&&◌, ◌||◌, nat_eq, nat_lt, nat_le, List, [], ◌∷◌, map, length, drop, get_or, bytes_eq, Option, unwrap_or, refl, sym, ap, subst, ◌∙◌, arith, eq-eqb, eqb-true}
+use Rattle.std.proofs.Common.{◌≡◌, ℕ, zero, suc, ◌+◌, ◌<◌, ◌≤◌, Bool, true, false, ◌&&◌, ◌||◌, nat_eq, nat_lt, nat_le}
+use Rattle.std.proofs.Common.{List, [], ◌∷◌, map, length, drop, get_or, bytes_eq, Option, unwrap_or, refl, sym, ap}
+use Rattle.std.proofs.Common.{subst, ◌∙◌, arith, eq-eqb, eqb-true}
 use Rattle.std.specs.List.{list_any, starts_with}
 use Rattle.std.specs.List.Sorted.{IsStrictlySortedBy}
 use Rattle.std.specs.Cmp.{eq_by_cmp_equiv}
 use Rattle.std.specs.FinMap as finite
-use Rattle.std.proofs.lemmas.Bool.{leb-true, ltb-true, ltb-false, le-leb, lt-ltb, and_parts, and_from, false_from_ne_true, false≢true, true≢false}
+use Rattle.std.proofs.lemmas.Bool.{leb-true, ltb-true, ltb-false, le-leb, lt-ltb, and_parts, and_from}
+use Rattle.std.proofs.lemmas.Bool.{false_from_ne_true, false≢true, true≢false}
 use Rattle.std.proofs.lemmas.List.{length-map, get_or-map, drop-map}
 use Rattle.std.proofs.lemmas.List.Folds.{list_any_at}
 use Rattle.std.proofs.lemmas.Option.{slice_get_past, unwrap_or-slice_get}
@@ -46,7 +49,8 @@ at_word g w f v =
     (λ i. is_same (Word g w) (Word (field i) (sym word i))) ∙ same_itself (Word g w))
 
 -- no word is the key's
-pub none_near : (field : FieldValue) (key : KeyValue) → list_any (λ w. is_same (Word field.0 w) key) field.1 ≡ false → AreNear field key []
+pub none_near : (field : FieldValue) (key : KeyValue) → list_any (λ w. is_same (Word field.0 w) key) field.1 ≡ false
+    → AreNear field key []
 none_near field key out = record {
   passes = λ p. is_same (Word field.0 p.0) key;
   of_key = λ word position same. same;
@@ -57,23 +61,29 @@ none_near field key out = record {
     both false t b c e rest = rest e
     both true t b c e rest = absurd (true≢false e)
 
-    none : (test : List ℕ × ℕ → Bool) (ws : List (List ℕ)) (n : ℕ) → list_any (λ w. is_same (Word field.0 w) key) ws ≡ false → list_any (λ p. is_same (Word field.0 p.0) key && test p) (numbered n ws) ≡ false
+    none : (test : List ℕ × ℕ → Bool) (ws : List (List ℕ)) (n : ℕ) → list_any (λ w. is_same (Word field.0 w) key) ws
+        ≡ false → list_any (λ p. is_same (Word field.0 p.0) key && test p) (numbered n ws) ≡ false
     none test [] n e = refl
     none test (w ∷ ws) n e = both (is_same (Word field.0 w) key) (test (w, n)) _ _ e (none test ws (n + 1))
 
 -- the key past the last term is no word's
-pub none_past : (field : FieldValue) (terms : List KeyValue) (n : ℕ) → length terms ≤ n → AreNear field (term_at terms n) []
-none_past field terms n past = subst (λ key. AreNear field key []) (sym (ap (λ o. unwrap_or o Any) (slice_get_past terms n past))) (none_near field Any (no_word field.1))
+pub none_past : (field : FieldValue) (terms : List KeyValue) (n : ℕ) → length terms ≤ n
+    → AreNear field (term_at terms n) []
+none_past field terms n past =
+    subst (λ key. AreNear field key []) (sym (ap (λ o. unwrap_or o Any) (slice_get_past terms n past)))
+    (none_near field Any (no_word field.1))
   where
     no_word : (ws : List (List ℕ)) → list_any (λ w. is_same (Word field.0 w) Any) ws ≡ false
     no_word [] = refl
     no_word (w ∷ ws) = no_word ws
 
 -- a key that is of no word in fields of this name is that of none of their words
-pub not_its_word : (name : List ℕ) (key : KeyValue) → is_word_of name key ≡ false → (w : List ℕ) → is_same (Word name w) key ≡ false
+pub not_its_word : (name : List ℕ) (key : KeyValue) → is_word_of name key ≡ false → (w : List ℕ)
+    → is_same (Word name w) key ≡ false
 not_its_word name key other w =
     false_from_ne_true (is_same (Word name w) key) (λ same.
-    false≢true (sym other ∙ ap (is_word_of name) (sym (same_key (Word name w) key same)) ∙ (bytes_eq-Decides name name).1 refl))
+    false≢true (sym other ∙ ap (is_word_of name) (sym (same_key (Word name w) key same))
+    ∙ (bytes_eq-Decides name name).1 refl))
 
 pub other_near : (field : FieldValue) (key : KeyValue) → is_word_of field.0 key ≡ false → AreNear field key []
 other_near field key other = none_near field key (no_word field.1)
@@ -94,28 +104,36 @@ heading_of name (Word field word) e = ap (λ f. (1, f)) ((bytes_eq-Decides field
 heading_of name (Front field front) e = absurd (false≢true e)
 
 -- the terms of a part under the heading of a field's words are those that are of one
-pub in_part : (terms : List KeyValue) (name : List ℕ) (start end n : ℕ) → IsPart terms (heading (Word name [])) start end → (nat_le start n && nat_lt n end) ≡ is_word_of name (term_at terms n)
+pub in_part : (terms : List KeyValue) (name : List ℕ) (start end n : ℕ)
+    → IsPart terms (heading (Word name [])) start end → (nat_le start n && nat_lt n end)
+    ≡ is_word_of name (term_at terms n)
 in_part terms name start end n part =
     same_answer _ _
     (λ t.
     let there = and_parts (nat_le start n) (nat_lt n end) t in
     under_heading name (term_at terms n)
-    (ap heading (unwrap_or-slice_get terms n Any) ∙ part.just n Any (leb-true start n there.0) (ltb-true n end there.1)))
+    (ap heading (unwrap_or-slice_get terms n Any)
+    ∙ part.just n Any (leb-true start n there.0) (ltb-true n end there.1)))
     (λ t.
-    let there = part.all n Any (inside t (nat_lt n (length terms)) refl) (ap heading (sym (unwrap_or-slice_get terms n Any)) ∙ heading_of name (term_at terms n) t) in
+    let there = part.all n Any (inside t (nat_lt n (length terms)) refl)
+    (ap heading (sym (unwrap_or-slice_get terms n Any)) ∙ heading_of name (term_at terms n) t) in
     and_from (nat_le start n) (nat_lt n end) (le-leb start n there.0) (lt-ltb n end there.1))
   where
     inside : is_word_of name (term_at terms n) ≡ true → (b : Bool) → nat_lt n (length terms) ≡ b → n < length terms
     inside t true e = ltb-true n (length terms) e
     inside t false e =
-        absurd (false≢true (sym (ap (λ o. is_word_of name (unwrap_or o Any)) (slice_get_past terms n (ltb-false n (length terms) e))) ∙ t))
+        absurd (false≢true (sym (ap (λ o. is_word_of name (unwrap_or o Any))
+        (slice_get_past terms n (ltb-false n (length terms) e))) ∙ t))
 
 -- the postings of the lead of its text are near a key
 pub lead_near : (field : FieldValue) (key : KeyValue) (lead : ℕ) (found : List (List ℕ × ℕ)) → IsLead (text_of key) lead
-    → ((test : List ℕ × ℕ → Bool) → list_any test found ≡ list_any (λ p. has_lead lead p && test p) (numbered 0 field.1)) → AreNear field key found
+    → ((test : List ℕ × ℕ → Bool)
+    → list_any test found ≡ list_any (λ p. has_lead lead p && test p) (numbered 0 field.1))
+    → AreNear field key found
 lead_near field key lead found is just = record {
   passes = has_lead lead;
-  of_key = λ word position same. eq-eqb _ _ (ap (λ k. lead_of (text_of k)) (same_key (Word field.0 word) key same) ∙ sym is.number);
+  of_key = λ word position same. eq-eqb _ _ (ap (λ k. lead_of (text_of k)) (same_key (Word field.0 word) key same)
+      ∙ sym is.number);
   just = just;
 }
 
@@ -124,18 +142,24 @@ single true = refl
 single false = refl
 
 -- a run of one key stands where a word is the key's
-one_stands : (name : List ℕ) (key : KeyValue) (ws : List (List ℕ)) → stands_in (key ∷ []) (map (Word name) ws) ≡ list_any (λ w. is_same (Word name w) key) ws
+one_stands : (name : List ℕ) (key : KeyValue) (ws : List (List ℕ)) → stands_in (key ∷ []) (map (Word name) ws)
+    ≡ list_any (λ w. is_same (Word name w) key) ws
 one_stands name key [] = refl
-one_stands name key (w ∷ ws) = λ i. (single (is_same key (Word name w)) ∙ (eq_by_cmp_equiv key_cmp_total).symm key (Word name w)) i || one_stands name key ws i
+one_stands name key (w ∷ ws) =
+    λ i. (single (is_same key (Word name w)) ∙ (eq_by_cmp_equiv key_cmp_total).symm key (Word name w)) i
+    || one_stands name key ws i
 
 -- a key that the article lacks is that of no word of a field of it
-pub of_article : (fields : Fields) (place : ℕ) → place < length (finite.entries fields) → IsOfArticle fields (get_or (finite.entries fields) place ([], []))
+pub of_article : (fields : Fields) (place : ℕ) → place < length (finite.entries fields)
+    → IsOfArticle fields (get_or (finite.entries fields) place ([], []))
 of_article fields place lt key lacking =
     let field : FieldValue = get_or (finite.entries fields) place ([], []) in
     let stands : FieldValue → Bool = λ f. stands_in (key ∷ []) (field_keys f) in
-    let nowhere : list_any stands (finite.entries fields) ≡ false = lacks fields (key ∷ []) (ap (λ b. b && true) lacking) in
+    let nowhere : list_any stands (finite.entries fields) ≡ false =
+    lacks fields (key ∷ []) (ap (λ b. b && true) lacking) in
     sym (one_stands field.0 key field.1)
-    ∙ false_from_ne_true (stands field) (λ here. false≢true (sym nowhere ∙ list_any_at stands (finite.entries fields) place ([], []) lt here))
+    ∙ false_from_ne_true (stands field) (λ here. false≢true (sym nowhere
+    ∙ list_any_at stands (finite.entries fields) place ([], []) lt here))
 
 -- ---- a run
 
@@ -145,24 +169,35 @@ guarded true false c d pass = refl
 guarded false false c d pass = refl
 
 -- what covers from a word on, where the keys of the words from there on are these
-from_word : (field : FieldValue) (keys : List KeyValue) (k start : ℕ) (w : List ℕ) (words : List (List ℕ)) → drop start field.1 ≡ w ∷ words → covers_from field keys k start ≡ (starts_with is_same (map (Word field.0) (w ∷ words)) keys && is_within start (length keys) k)
-from_word field keys k start w words e = ap (λ xs. starts_with is_same xs keys && is_within start (length keys) k) (drop-map (Word field.0) start field.1 ∙ ap (map (Word field.0)) e)
+from_word : (field : FieldValue) (keys : List KeyValue) (k start : ℕ) (w : List ℕ) (words : List (List ℕ))
+    → drop start field.1 ≡ w ∷ words → covers_from field keys k start
+    ≡ (starts_with is_same (map (Word field.0) (w ∷ words)) keys && is_within start (length keys) k)
+from_word field keys k start w words e =
+    ap (λ xs. starts_with is_same xs keys && is_within start (length keys) k) (drop-map (Word field.0) start field.1
+    ∙ ap (map (Word field.0)) e)
 
 -- where a run of keys stands there stands the first of them
-run_of_near : (field : FieldValue) (key : KeyValue) (run : List KeyValue) (found : List (List ℕ × ℕ)) (near : AreNear field key found) (k start : ℕ) (words : List (List ℕ)) → drop start field.1 ≡ words
-    → list_any (λ (p : List ℕ × ℕ). near.passes p && covers_from field (key ∷ run) k p.1) (numbered start words) ≡ list_any (λ (p : List ℕ × ℕ). covers_from field (key ∷ run) k p.1) (numbered start words)
+run_of_near : (field : FieldValue) (key : KeyValue) (run : List KeyValue) (found : List (List ℕ × ℕ))
+    (near : AreNear field key found) (k start : ℕ) (words : List (List ℕ)) → drop start field.1 ≡ words
+    → list_any (λ (p : List ℕ × ℕ). near.passes p && covers_from field (key ∷ run) k p.1) (numbered start words)
+    ≡ list_any (λ (p : List ℕ × ℕ). covers_from field (key ∷ run) k p.1) (numbered start words)
 run_of_near field key run found near k start [] e = refl
 run_of_near field key run found near k start (w ∷ words) e =
     let from = from_word field (key ∷ run) k start w words e in
-    let head : (near.passes (w, start) && covers_from field (key ∷ run) k start) ≡ covers_from field (key ∷ run) k start =
+    let head : (near.passes (w, start) && covers_from field (key ∷ run) k start)
+    ≡ covers_from field (key ∷ run) k start =
     ap (λ b. near.passes (w, start) && b) from
-    ∙ guarded (near.passes (w, start)) (is_same key (Word field.0 w)) _ _ (λ same. near.of_key w start ((eq_by_cmp_equiv key_cmp_total).symm (Word field.0 w) key ∙ same))
+    ∙ guarded (near.passes (w, start)) (is_same key (Word field.0 w)) _ _
+    (λ same. near.of_key w start ((eq_by_cmp_equiv key_cmp_total).symm (Word field.0 w) key ∙ same))
     ∙ sym from in
-    ap (λ b. b || list_any (λ (p : List ℕ × ℕ). near.passes p && covers_from field (key ∷ run) k p.1) (numbered (start + 1) words)) head
-    ∙ ap (λ b. covers_from field (key ∷ run) k start || b) (run_of_near field key run found near k (start + 1) words (rest_dropped start field.1 w words e))
+    ap (λ b. b || list_any (λ (p : List ℕ × ℕ). near.passes p && covers_from field (key ∷ run) k p.1)
+    (numbered (start + 1) words)) head
+    ∙ ap (λ b. covers_from field (key ∷ run) k start
+    || b) (run_of_near field key run found near k (start + 1) words (rest_dropped start field.1 w words e))
 
 -- a run whose first key is of no word in fields of this name covers no position
-pub other_covered : (field : FieldValue) (key : KeyValue) (run : List KeyValue) (k : ℕ) → is_word_of field.0 key ≡ false → is_covered field (key ∷ run) k ≡ false
+pub other_covered : (field : FieldValue) (key : KeyValue) (run : List KeyValue) (k : ℕ)
+    → is_word_of field.0 key ≡ false → is_covered field (key ∷ run) k ≡ false
 other_covered field key run k other =
     let near : AreNear field key [] = other_near field key other in
     sym (near.just (λ p. covers_from field (key ∷ run) k p.1) ∙ run_of_near field key run [] near k 0 field.1 refl)
@@ -171,35 +206,52 @@ other_covered field key run k other =
 one_within : (start k : ℕ) → is_within start 1 k ≡ nat_eq k start
 one_within start k =
     same_answer _ _
-    (λ t. let parts = and_parts (nat_le start k) (nat_lt k (start + 1)) t in eq-eqb k start (omega (arith, leb-true start k parts.0, ltb-true k (start + 1) parts.1)))
-    (λ t. let same : k ≡ start = eqb-true k start t in and_from (nat_le start k) (nat_lt k (start + 1)) (le-leb start k (omega (arith, same))) (lt-ltb k (start + 1) (omega (arith, same))))
+    (λ t. let parts = and_parts (nat_le start k) (nat_lt k (start + 1)) t in
+    eq-eqb k start (omega (arith, leb-true start k parts.0, ltb-true k (start + 1) parts.1)))
+    (λ t. let same : k ≡ start = eqb-true k start t in
+    and_from (nat_le start k) (nat_lt k (start + 1)) (le-leb start k (omega (arith, same)))
+    (lt-ltb k (start + 1) (omega (arith, same))))
 
 -- a run of one key covers the positions where it stands
 one_covered : (field : FieldValue) (key : KeyValue) (k start : ℕ) (words : List (List ℕ)) → drop start field.1 ≡ words
-    → list_any (λ (p : List ℕ × ℕ). covers_from field (key ∷ []) k p.1) (numbered start words) ≡ list_any (λ (p : List ℕ × ℕ). is_same (Word field.0 p.0) key && nat_eq k p.1) (numbered start words)
+    → list_any (λ (p : List ℕ × ℕ). covers_from field (key ∷ []) k p.1) (numbered start words)
+    ≡ list_any (λ (p : List ℕ × ℕ). is_same (Word field.0 p.0) key && nat_eq k p.1) (numbered start words)
 one_covered field key k start [] e = refl
 one_covered field key k start (w ∷ words) e =
     ap (λ b. b || list_any (λ (p : List ℕ × ℕ). covers_from field (key ∷ []) k p.1) (numbered (start + 1) words))
-    (from_word field (key ∷ []) k start w words e ∙ (λ i. (single (is_same key (Word field.0 w)) ∙ (eq_by_cmp_equiv key_cmp_total).symm key (Word field.0 w)) i && one_within start k i))
-    ∙ ap (λ b. (is_same (Word field.0 w) key && nat_eq k start) || b) (one_covered field key k (start + 1) words (rest_dropped start field.1 w words e))
+    (from_word field (key ∷ []) k start w words e
+    ∙ (λ i. (single (is_same key (Word field.0 w)) ∙ (eq_by_cmp_equiv key_cmp_total).symm key (Word field.0 w)) i
+    && one_within start k i))
+    ∙ ap (λ b. (is_same (Word field.0 w) key && nat_eq k start)
+    || b) (one_covered field key k (start + 1) words (rest_dropped start field.1 w words e))
 
-pub one_at : (field : FieldValue) (key : KeyValue) (k : ℕ) → k < length field.1 → is_covered field (key ∷ []) k ≡ is_at field k key
-one_at field key k lt = one_covered field key k 0 field.1 refl ∙ at_numbered (λ w. is_same (Word field.0 w) key) field.1 k 0 k (omega arith) lt
+pub one_at : (field : FieldValue) (key : KeyValue) (k : ℕ) → k < length field.1 → is_covered field (key ∷ []) k
+    ≡ is_at field k key
+one_at field key k lt = one_covered field key k 0 field.1 refl
+    ∙ at_numbered (λ w. is_same (Word field.0 w) key) field.1 k 0 k (omega arith) lt
 
 module _ (terms : List KeyValue) (strict : IsStrictlySortedBy key_cmp terms) where
   abbrev numbers_of : List ℕ → List (List ℕ) → List (Option ℕ)
   numbers_of name words = map (number_of terms) (map (Word name) words)
 
-  run_at : (field : FieldValue) (run : List ℕ) (k start : ℕ) → (begins_with run (drop start (numbers_of field.0 field.1)) && is_within start (length run) k) ≡ covers_from field (map (term_at terms) run) k start
+  run_at : (field : FieldValue) (run : List ℕ) (k start : ℕ)
+      → (begins_with run (drop start (numbers_of field.0 field.1)) && is_within start (length run) k)
+      ≡ covers_from field (map (term_at terms) run) k start
   run_at field run k start =
-      ap (λ xs. begins_with run xs && is_within start (length run) k) (drop-map (number_of terms) start (map (Word field.0) field.1) ∙ ap (map (number_of terms)) (drop-map (Word field.0) start field.1))
+      ap (λ xs. begins_with run xs && is_within start (length run) k)
+      (drop-map (number_of terms) start (map (Word field.0) field.1)
+      ∙ ap (map (number_of terms)) (drop-map (Word field.0) start field.1))
       ∙ ap (λ b. b && is_within start (length run) k) (begins terms strict field.0 run (drop start field.1))
-      ∙ ap (λ xs. starts_with is_same xs (map (term_at terms) run) && is_within start (length run) k) (sym (drop-map (Word field.0) start field.1))
-      ∙ ap (λ m. starts_with is_same (drop start (field_keys field)) (map (term_at terms) run) && is_within start m k) (sym (length-map run (term_at terms)))
+      ∙ ap (λ xs. starts_with is_same xs (map (term_at terms) run) && is_within start (length run) k)
+      (sym (drop-map (Word field.0) start field.1))
+      ∙ ap (λ m. starts_with is_same (drop start (field_keys field)) (map (term_at terms) run)
+      && is_within start m k) (sym (length-map run (term_at terms)))
 
   -- postings near the term of its first number settle which positions a run covers
-  pub run_postings : (field : FieldValue) (numbers : List (Option ℕ)) (found : List (List ℕ × ℕ)) (run : List ℕ) (x k : ℕ) → 0 < length run → x ≡ get_or run 0 x → numbers ≡ map (number_of terms) (field_keys field)
-      → AreNear field (term_at terms x) found → list_any (covers_at run numbers k) found ≡ is_covered field (map (term_at terms) run) k
+  pub run_postings : (field : FieldValue) (numbers : List (Option ℕ)) (found : List (List ℕ × ℕ)) (run : List ℕ)
+      (x k : ℕ) → 0 < length run → x ≡ get_or run 0 x → numbers ≡ map (number_of terms) (field_keys field)
+      → AreNear field (term_at terms x) found → list_any (covers_at run numbers k) found
+      ≡ is_covered field (map (term_at terms) run) k
   run_postings field numbers found [] x k some is are near = absurd (omega arith)
   run_postings field numbers found (n ∷ run) x k some is are near =
       let first : AreNear field (term_at terms n) found = subst (λ m. AreNear field (term_at terms m) found) is near in
@@ -210,25 +262,32 @@ module _ (terms : List KeyValue) (strict : IsStrictlySortedBy key_cmp terms) whe
 
   -- a run covers by its numbers the positions that it covers by its keys
   covered_words : (field : FieldValue) (run : List ℕ) (k start : ℕ) (words : List (List ℕ)) → drop start field.1 ≡ words
-      → is_covered_from run k start (numbers_of field.0 words) ≡ list_any (λ (p : List ℕ × ℕ). covers_from field (map (term_at terms) run) k p.1) (numbered start words)
+      → is_covered_from run k start (numbers_of field.0 words)
+      ≡ list_any (λ (p : List ℕ × ℕ). covers_from field (map (term_at terms) run) k p.1) (numbered start words)
   covered_words field run k start [] e = refl
   covered_words field run k start (w ∷ words) e =
-      let head : (begins_with run (numbers_of field.0 (w ∷ words)) && is_within start (length run) k) ≡ covers_from field (map (term_at terms) run) k start =
+      let head : (begins_with run (numbers_of field.0 (w ∷ words)) && is_within start (length run) k)
+      ≡ covers_from field (map (term_at terms) run) k start =
       ap (λ b. b && is_within start (length run) k) (begins terms strict field.0 run (w ∷ words))
-      ∙ ap (λ m. starts_with is_same (map (Word field.0) (w ∷ words)) (map (term_at terms) run) && is_within start m k) (sym (length-map run (term_at terms)))
+      ∙ ap (λ m. starts_with is_same (map (Word field.0) (w ∷ words)) (map (term_at terms) run)
+      && is_within start m k) (sym (length-map run (term_at terms)))
       ∙ sym (from_word field (map (term_at terms) run) k start w words e) in
       let later = covered_words field run k (start + 1) words (rest_dropped start field.1 w words e) in
       (λ i. head i || later i)
 
-  pub run_covers : (field : FieldValue) (numbers : List (Option ℕ)) (run : List ℕ) (k : ℕ) → numbers ≡ map (number_of terms) (field_keys field) → is_covered_from run k 0 numbers ≡ is_covered field (map (term_at terms) run) k
+  pub run_covers : (field : FieldValue) (numbers : List (Option ℕ)) (run : List ℕ) (k : ℕ)
+      → numbers ≡ map (number_of terms) (field_keys field) → is_covered_from run k 0 numbers
+      ≡ is_covered field (map (term_at terms) run) k
   run_covers field numbers run k are = ap (is_covered_from run k 0) are ∙ covered_words field run k 0 field.1 refl
 
 -- ---- no keys cover no position
 
-none_covered_in : (field : FieldValue) (k : ℕ) (ps : List (List ℕ × ℕ)) → list_any (λ (p : List ℕ × ℕ). covers_from field [] k p.1) ps ≡ false
+none_covered_in : (field : FieldValue) (k : ℕ) (ps : List (List ℕ × ℕ))
+    → list_any (λ (p : List ℕ × ℕ). covers_from field [] k p.1) ps ≡ false
 none_covered_in field k [] = refl
 none_covered_in field k (p ∷ ps) =
-    (λ i. (starts_with is_same (drop p.1 (field_keys field)) [] && within_none p.1 k i) || none_covered_in field k ps i) ∙ none (starts_with is_same (drop p.1 (field_keys field)) [])
+    (λ i. (starts_with is_same (drop p.1 (field_keys field)) [] && within_none p.1 k i)
+    || none_covered_in field k ps i) ∙ none (starts_with is_same (drop p.1 (field_keys field)) [])
   where
     none : (a : Bool) → ((a && false) || false) ≡ false
     none true = refl
@@ -243,14 +302,17 @@ or_false false = refl
 
 -- ---- the numbers of one field among those of all
 
-pub field_at : {E : Type 0} (g : E → List (Option ℕ)) (all : List (List (Option ℕ))) (fields : List E) (i : ℕ) (d : List (Option ℕ)) (e : E) → all ≡ map g fields → i < length fields → get_or all i d ≡ g (get_or fields i e)
+pub field_at : {E : Type 0} (g : E → List (Option ℕ)) (all : List (List (Option ℕ))) (fields : List E) (i : ℕ)
+    (d : List (Option ℕ)) (e : E) → all ≡ map g fields → i < length fields → get_or all i d ≡ g (get_or fields i e)
 field_at g all fields i d e same lt = ap (λ xs. get_or xs i d) same ∙ get_or-map g fields i e d lt
 
 -- what is read at one place of two lists that are mapped to one
-pub both_at : {V E X : Type 0} (h : V → X) (g : E → X) (all : List V) (fields : List E) (i : ℕ) (v : V) (f : E) → map h all ≡ map g fields → i < length fields → v ≡ get_or all i v → f ≡ get_or fields i f → h v ≡ g f
+pub both_at : {V E X : Type 0} (h : V → X) (g : E → X) (all : List V) (fields : List E) (i : ℕ) (v : V) (f : E)
+    → map h all ≡ map g fields → i < length fields → v ≡ get_or all i v → f ≡ get_or fields i f → h v ≡ g f
 both_at h g all fields i v f same lt is_v is_f =
     let long : length all ≡ length fields = sym (length-map all h) ∙ ap length same ∙ length-map fields g in
-    ap h is_v ∙ sym (get_or-map h all i v (h v) (omega (arith, long, lt))) ∙ ap (λ xs. get_or xs i (h v)) same ∙ get_or-map g fields i f (h v) lt ∙ ap g (sym is_f)
+    ap h is_v ∙ sym (get_or-map h all i v (h v) (omega (arith, long, lt))) ∙ ap (λ xs. get_or xs i (h v)) same
+    ∙ get_or-map g fields i f (h v) lt ∙ ap g (sym is_f)
 
 pub some_number : (n : ℕ) → nat_eq n 0 ≡ false → 0 < n
 some_number zero e = absurd (true≢false e)

@@ -1,5 +1,6 @@
 -- Terms: keys that some queries ask for, in order and each once, by their numbers.
-use Rattle.std.specs.Prelude.{ℕ, suc, List, [], ◌∷◌, Option, Some, None, unwrap_or, option_map, slice_get, if◌then◌else◌}
+use Rattle.std.specs.Prelude.{ℕ, suc, List, [], ◌∷◌, Option, Some, None, unwrap_or, option_map, slice_get}
+use Rattle.std.specs.Prelude.{if◌then◌else◌}
 use Rattle.clip_extract.specs.Keys.{KeyValue, Any, is_same}
 
 -- the term of a number, from 0; past the last one the key that every article has

@@ -1,5 +1,6 @@
 -- Schedules: which answer is due to each event.
-use Rattle.std.specs.Prelude.{◌≡◌, ℕ, ◌+◌, ◌==◌, ◌&&◌, ◌||◌, ◌⊎◌, nat_lt, nat_le, Bool, false, not, if◌then◌else◌, List, [], ◌∷◌, ◌++◌, map, filter, length, Option, Some, None, is_some, refl}
+use Rattle.std.specs.Prelude.{◌≡◌, ℕ, ◌+◌, ◌==◌, ◌&&◌, ◌||◌, ◌⊎◌, nat_lt, nat_le, Bool, false, not, if◌then◌else◌, List}
+use Rattle.std.specs.Prelude.{[], ◌∷◌, ◌++◌, map, filter, length, Option, Some, None, is_some, refl}
 use Rattle.std.specs.List.{list_any}
 use Rattle.std.specs.Map.{lookup}
 use Rattle.std.specs.Coded.{Coded, code_by, coded×, coded_ℕ, coded_list}
@@ -7,7 +8,9 @@ use Rattle.clip_meaning.specs.Article.{ArticleValue, article_code}
 use Rattle.clip_model.specs.History.{History, fits, has_room, applied, with_command, history_code}
 use Rattle.clip_model.specs.declared.limits.TheConstants.{MOST_ARTICLES, MOST_CALLERS}
 use Rattle.clip_standing.specs.Command as command
-use Rattle.clip_trace.specs.Event.{Event, Accept, Begin, Install, Purge, Look, Piece, Finish, Answer, Unknown, Used, TooMany, Full, Accepted, Begun, Nothing, Installed, Stale, Purged, Looked, Matched, Finished, found_after}
+use Rattle.clip_trace.specs.Event.{Event, Accept, Begin, Install, Purge, Look, Piece, Finish, Answer, Unknown, Used}
+use Rattle.clip_trace.specs.Event.{TooMany, Full, Accepted, Begun, Nothing, Installed, Stale, Purged, Looked, Matched}
+use Rattle.clip_trace.specs.Event.{Finished, found_after}
 use Rattle.clip_trace.specs.declared.limits.TheConstants.{MOST_MERGES, MOST_BATCHES}
 
 -- ---- how things stand between two events

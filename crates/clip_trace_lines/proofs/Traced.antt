@@ -1,5 +1,6 @@
 -- What a trace gives, by the answers to its lines.
-use Rattle.std.proofs.Common.{◌≡◌, ℕ, suc, List, [], ◌∷◌, ◌++◌, map, Bool, true, false, cond, Option, Some, None, refl, sym, ap, ◌∙◌, subst, append_assoc, append-nil, length, inl, inr, if◌then◌else◌}
+use Rattle.std.proofs.Common.{◌≡◌, ℕ, suc, List, [], ◌∷◌, ◌++◌, map, Bool, true, false, cond, Option, Some, None, refl}
+use Rattle.std.proofs.Common.{sym, ap, ◌∙◌, subst, append_assoc, append-nil, length, inl, inr, if◌then◌else◌}
 use Rattle.serde_json.specs.Data.{Data}
 use Rattle.clip_standing.specs.Alerts.{alerts_value}
 use Rattle.clip_standing.specs.declared.alert.Alerts.{Alerts}
@@ -15,7 +16,8 @@ use Rattle.clip_trace_lines.specs.TraceLine.{Said, SaysLine, SaysTrace}
 use Rattle.clip_trace_lines.specs.TraceOutcome.{found_shown, Traces, IsTrace, TracesAll, TracesFront}
 use Rattle.clip_trace_lines.specs.TraceRequest.{TraceRequest, trace_value, trace_within}
 use Rattle.clip_front.specs.Steps.Serving.{Serves, StopsAt, ServesAll, ServesFront}
-use Rattle.clip_trace_lines.specs.Steps.TraceOutline.{trace_request_of, trace_line, asked_line, value_line, AnswersTraced, AnswersIn, BreaksIn}
+use Rattle.clip_trace_lines.specs.Steps.TraceOutline.{trace_request_of, trace_line, asked_line, value_line}
+use Rattle.clip_trace_lines.specs.Steps.TraceOutline.{AnswersTraced, AnswersIn, BreaksIn}
 use Rattle.clip_protocol.specs.Steps.Views.{alerts_by_id}
 use Rattle.clip_protocol.proofs.RequestLaw.{none_is_some}
 use Rattle.clip_front.proofs.Served.{choose, cut_is_long, cut_is_whole}
@@ -23,29 +25,38 @@ use Rattle.clip_trace_lines.proofs.TraceRequestLaw.{trace_request_of-trace_value
 
 -- ---- replies
 
-pub shown_found : (found : List Alerts) → map alerts_by_id (map alerts_value found) ≡ map found_shown (map (λ a. found_of (alerts_value a)) found)
+pub shown_found : (found : List Alerts) → map alerts_by_id (map alerts_value found)
+    ≡ map found_shown (map (λ a. found_of (alerts_value a)) found)
 shown_found [] = refl
 shown_found (a ∷ found) = ap (λ rest. alerts_by_id (alerts_value a) ∷ rest) (shown_found found)
 
 -- ---- what a line says
 
-says_limited : (line : List ℕ) (r : TraceRequest) (b : Bool) → IsFilled line → json_of line ≡ Some (trace_value r) → trace_within r ≡ b → SaysBy trace_value trace_within line (cond b (asks r) (refused Limit))
+says_limited : (line : List ℕ) (r : TraceRequest) (b : Bool) → IsFilled line → json_of line ≡ Some (trace_value r)
+    → trace_within r ≡ b → SaysBy trace_value trace_within line (cond b (asks r) (refused Limit))
 says_limited line r true filled value e = (filled, value, e)
 says_limited line r false filled value e = (filled, r, value, e)
 
-says_asked : (line : List ℕ) (d : Data) (o : Option TraceRequest) → IsFilled line → json_of line ≡ Some d → trace_request_of d ≡ o → SaysBy trace_value trace_within line (asked_line o)
-says_asked line d None filled value e = (filled, d, value, λ r is. none_is_some r (sym e ∙ ap trace_request_of is ∙ trace_request_of-trace_value r))
-says_asked line d (Some r) filled value e = says_limited line r (trace_within r) filled (value ∙ ap Some (trace_value-trace_request_of d r e)) refl
+says_asked : (line : List ℕ) (d : Data) (o : Option TraceRequest) → IsFilled line → json_of line ≡ Some d
+    → trace_request_of d ≡ o → SaysBy trace_value trace_within line (asked_line o)
+says_asked line d None filled value e =
+    (filled, d, value, λ r is. none_is_some r (sym e ∙ ap trace_request_of is ∙ trace_request_of-trace_value r))
+says_asked line d (Some r) filled value e =
+    says_limited line r (trace_within r) filled (value ∙ ap Some (trace_value-trace_request_of d r e)) refl
 
-says_value : (line : List ℕ) (o : Option Data) → IsFilled line → json_of line ≡ o → SaysBy trace_value trace_within line (value_line o)
+says_value : (line : List ℕ) (o : Option Data) → IsFilled line → json_of line ≡ o
+    → SaysBy trace_value trace_within line (value_line o)
 says_value line None filled e = (filled, e)
 says_value line (Some d) filled e = says_asked line d (trace_request_of d) filled e refl
 
-says_short : (line : List ℕ) (b : Bool) → is_long line ≡ false → is_blank line ≡ b → SaysBy trace_value trace_within line (cond b blank (value_line (json_of line)))
+says_short : (line : List ℕ) (b : Bool) → is_long line ≡ false → is_blank line ≡ b
+    → SaysBy trace_value trace_within line (cond b blank (value_line (json_of line)))
 says_short line true short e = (short, e)
 says_short line false short e = says_value line (json_of line) (record { short = short; some = e }) refl
 
-says_any : (line : List ℕ) (b : Bool) → is_long line ≡ b → SaysBy trace_value trace_within line (cond b (refused Long) (cond (is_blank line) blank (value_line (json_of line))))
+says_any : (line : List ℕ) (b : Bool) → is_long line ≡ b
+    → SaysBy trace_value trace_within line
+    (cond b (refused Long) (cond (is_blank line) blank (value_line (json_of line))))
 says_any line true e = e
 says_any line false e = says_short line (is_blank line) e refl
 
@@ -55,10 +66,17 @@ says_trace_line line = says_any line (is_long line) refl
 
 trace_line-cut : (line : List ℕ) → trace_line (cut line) ≡ trace_line line
 unfolding trace_line
-trace_line-cut line = choose _ _ _ _ _ (cut_is_long line) (λ e. ap (λ l. if is_blank l then blank else value_line (json_of l)) (cut_is_whole line e))
+trace_line-cut line = choose _ _ _ _ _ (cut_is_long line)
+    (λ e. ap (λ l. if is_blank l then blank else value_line (json_of l)) (cut_is_whole line e))
 
 says_whole : (line : List ℕ) (s : Said) → SaysLine (trace_line (cut line)) s → SaysTrace line s
-says_whole line s says = record { line = trace_line line; is = says_trace_line line; says = subst (λ l. SaysLine l s) (trace_line-cut line) says }
+says_whole line s says =
+    record {
+      line = trace_line line;
+      is = says_trace_line line;
+      says =
+          subst (λ l. SaysLine l s) (trace_line-cut line) says;
+    }
 
 -- ---- lines one after the other
 
@@ -66,27 +84,49 @@ says_whole line s says = record { line = trace_line line; is = says_trace_line l
 record TracedBy (s t : Stand) (n : ℕ) (lines : List (List ℕ)) (text : List ℕ) : Type 0 where
   steps : List Step
   traces : Traces n lines steps text
-  played : (before : List Step) → IsDue before → stand before ≡ s → IsDue (before ++ steps) × (stand (before ++ steps) ≡ t)
+  played : (before : List Step) → IsDue before → stand before ≡ s
+      → IsDue (before ++ steps) × (stand (before ++ steps) ≡ t)
 
-traced_first : (s t u : Stand) (n : ℕ) (line first rest text : List ℕ) (lines : List (List ℕ)) → AnswersTraced s t n (cut line) first → text ≡ first ++ rest → TracedBy t u (suc n) lines rest → TracedBy s u n (line ∷ lines) text
+traced_first : (s t u : Stand) (n : ℕ) (line first rest text : List ℕ) (lines : List (List ℕ))
+    → AnswersTraced s t n (cut line) first → text ≡ first ++ rest → TracedBy t u (suc n) lines rest
+    → TracedBy s u n (line ∷ lines) text
 traced_first s t u n line first rest text lines a e later =
     let now = a.responds.steps in
     record {
       steps = now ++ later.steps;
-      traces = (a.said, now, a.answered, later.steps, rest, says_whole line a.said a.says, a.responds.replies, refl, e ∙ ap (λ x. x ++ rest) a.printed, later.traces);
+      traces = (
+        a.said,
+        now,
+        a.answered,
+        later.steps,
+        rest,
+        says_whole line a.said a.says,
+        a.responds.replies,
+        refl,
+        e
+            ∙ ap (λ x. x ++ rest) a.printed,
+        later.traces,
+      );
       played = λ before due there.
           let so = a.responds.played before due there in
           let all = later.played (before ++ now) so.0 so.1 in
           subst (λ xs. IsDue xs × (stand xs ≡ u)) (append_assoc before now later.steps) all;
     }
 
-traced_by : {S : Type 0} (view : S → Stand) (s t : S) (n : ℕ) (lines : List (List ℕ)) (text : List ℕ) → Serves (AnswersIn view) s t n lines text → TracedBy (view s) (view t) n lines text
+traced_by : {S : Type 0} (view : S → Stand) (s t : S) (n : ℕ) (lines : List (List ℕ)) (text : List ℕ)
+    → Serves (AnswersIn view) s t n lines text → TracedBy (view s) (view t) n lines text
 traced_by view s t n [] text p = record {
   steps = [];
   traces = (refl, p.1);
-  played = λ before due there. subst (λ xs. IsDue xs × (stand xs ≡ view t)) (sym (append-nil before)) (due, there ∙ sym (ap view p.0));
+  played = λ before due there. subst (λ xs. IsDue xs × (stand xs ≡ view t)) (sym (append-nil before)) (
+    due,
+    there
+        ∙ sym (ap view p.0),
+  );
 }
-traced_by view s t n (line ∷ lines) text p = traced_first (view s) (view p.0) (view t) n line p.1 p.2 text lines p.3 p.4 (traced_by view p.0 t (suc n) lines p.2 p.5)
+traced_by view s t n (line ∷ lines) text p =
+    traced_first (view s) (view p.0) (view t) n line p.1 p.2 text lines p.3 p.4
+    (traced_by view p.0 t (suc n) lines p.2 p.5)
 
 -- ---- from the beginning
 
@@ -100,24 +140,55 @@ none_before (x ∷ before) later step e = cons_is_none x (before ++ step ∷ lat
 none_due : IsDue []
 none_due = record { each = λ before later step e. absurd (none_before before later step e) }
 
-is_trace : {S : Type 0} (view : S → Stand) (s t : S) (lines : List (List ℕ)) (text : List ℕ) → view s ≡ nothing_open → Serves (AnswersIn view) s t 1 lines text → IsTrace lines text
+is_trace : {S : Type 0} (view : S → Stand) (s t : S) (lines : List (List ℕ)) (text : List ℕ) → view s ≡ nothing_open
+    → Serves (AnswersIn view) s t 1 lines text → IsTrace lines text
 is_trace view s t lines text start p =
     let by = traced_by view s t 1 lines text p in
     record { steps = by.steps; due = (by.played [] none_due (sym start)).0; traces = by.traces }
 
-pub trace_gives : {S : Type 0} (view : S → Stand) (s t : S) (left taken_first taken : Option (List ℕ)) (count : ℕ) → view s ≡ nothing_open → OfInput left (ServesAll (AnswersIn view) s t taken_first taken count) → OfInput left (TracesAll taken_first taken count)
+pub trace_gives : {S : Type 0} (view : S → Stand) (s t : S) (left taken_first taken : Option (List ℕ)) (count : ℕ)
+    → view s ≡ nothing_open → OfInput left (ServesAll (AnswersIn view) s t taken_first taken count)
+    → OfInput left (TracesAll taken_first taken count)
 trace_gives view s t left taken_first taken count start p =
-    of_input_weaker left (ServesAll (AnswersIn view) s t taken_first taken count) (TracesAll taken_first taken count) (λ input served. record { text = served.text; is = is_trace view s t (lines_of input) served.text start served.served; replies = served.written; counted = served.counted }) p
+    of_input_weaker left (ServesAll (AnswersIn view) s t taken_first taken count) (TracesAll taken_first taken count)
+    (λ input served. record {
+      text = served.text;
+      is =
+          is_trace view s t (lines_of input) served.text start served.served;
+      replies = served.written;
+      counted =
+          served.counted;
+    }) p
 
 -- nothing of the line that was begun was on its way
-none_begun : {S : Type 0} (s t : S) (n : ℕ) (later : List (List ℕ)) (begun : List ℕ) → StopsAt BreaksIn s t n later begun → begun ≡ []
+none_begun : {S : Type 0} (s t : S) (n : ℕ) (later : List (List ℕ)) (begun : List ℕ)
+    → StopsAt BreaksIn s t n later begun → begun ≡ []
 none_begun s t n [] begun stopped = stopped.1
 none_begun s t n (line ∷ later) begun (inl stopped) = stopped.1
 none_begun s t n (line ∷ later) begun (inr broken) = broken
 
-written_of : {S : Type 0} (s t : S) (n : ℕ) (later : List (List ℕ)) (text begun : List ℕ) (taken_first taken : Option (List ℕ)) → StopsAt BreaksIn s t n later begun → AppendsFront taken_first taken (text ++ begun) → AppendsFront taken_first taken text
-written_of s t n later text begun taken_first taken stops written = subst (AppendsFront taken_first taken) (ap (λ x. text ++ x) (none_begun s t n later begun stops) ∙ append-nil text) written
+written_of : {S : Type 0} (s t : S) (n : ℕ) (later : List (List ℕ)) (text begun : List ℕ)
+    (taken_first taken : Option (List ℕ)) → StopsAt BreaksIn s t n later begun
+    → AppendsFront taken_first taken (text ++ begun) → AppendsFront taken_first taken text
+written_of s t n later text begun taken_first taken stops written =
+    subst (AppendsFront taken_first taken) (ap (λ x. text ++ x) (none_begun s t n later begun stops)
+    ∙ append-nil text) written
 
-pub trace_gives_front : {S : Type 0} (view : S → Stand) (s t : S) (left left_new : Option (List ℕ)) (met_end : Bool) (taken_first taken : Option (List ℕ)) → view s ≡ nothing_open → OfLinesRead left left_new met_end (ServesFront (AnswersIn view) BreaksIn s t taken_first taken) → OfLinesRead left left_new met_end (TracesFront taken_first taken)
+pub trace_gives_front : {S : Type 0} (view : S → Stand) (s t : S) (left left_new : Option (List ℕ)) (met_end : Bool)
+    (taken_first taken : Option (List ℕ)) → view s ≡ nothing_open
+    → OfLinesRead left left_new met_end (ServesFront (AnswersIn view) BreaksIn s t taken_first taken)
+    → OfLinesRead left left_new met_end (TracesFront taken_first taken)
 trace_gives_front view s t left left_new met_end taken_first taken start p =
-    of_lines_read_weaker left left_new met_end (ServesFront (AnswersIn view) BreaksIn s t taken_first taken) (TracesFront taken_first taken) (λ lines served. record { front = served.front; later = served.later; text = served.text; cut = served.parts; is = is_trace view s served.between served.front served.text start served.served; replies = written_of served.between t (suc (length served.front)) served.later served.text served.begun taken_first taken served.stops served.written }) p
+    of_lines_read_weaker left left_new met_end (ServesFront (AnswersIn view) BreaksIn s t taken_first taken)
+    (TracesFront taken_first taken) (λ lines served. record {
+      front = served.front;
+      later = served.later;
+      text =
+          served.text;
+      cut = served.parts;
+      is =
+          is_trace view s served.between served.front served.text start served.served;
+      replies =
+          written_of served.between t (suc (length served.front)) served.later served.text served.begun
+          taken_first taken served.stops served.written;
+    }) p

@@ -13,6 +13,8 @@ pub fold_of_ascii : (text : List ℕ) → IsAscii text → fold_of text ≡ map 
 unfolding fold_of
 fold_of_ascii text ascii =
     let lower : IsAscii (map to_ascii_lowercase text) =
-    IsAscii-from_all _ (All-map (λ b. b < 128) to_ascii_lowercase text (λ k d lt. lowercase_ascii _ (All-from_ascii text ascii k d lt))) in
-    ap encode_utf8_all (default_case_fold-ascii _ (All-chars text ascii) ∙ ap (map to_ascii_lowercase) (chars-IsAscii text ascii))
+    IsAscii-from_all _ (All-map (λ b. b < 128) to_ascii_lowercase text
+    (λ k d lt. lowercase_ascii _ (All-from_ascii text ascii k d lt))) in
+    ap encode_utf8_all (default_case_fold-ascii _ (All-chars text ascii)
+    ∙ ap (map to_ascii_lowercase) (chars-IsAscii text ascii))
     ∙ encodes-IsAscii (map to_ascii_lowercase text) lower

@@ -1,5 +1,6 @@
 -- What is extracted of a group while its clauses are read.
-use Rattle.std.specs.Prelude.{ℕ, Bool, true, false, min, max, nat_lt, List, ◌++◌, fold, take, drop, Option, Some, None, unwrap_or, if◌then◌else◌}
+use Rattle.std.specs.Prelude.{ℕ, Bool, true, false, min, max, nat_lt, List, ◌++◌, fold, take, drop, Option, Some, None}
+use Rattle.std.specs.Prelude.{unwrap_or, if◌then◌else◌}
 use Rattle.clip_grammar.specs.declared.query.Occur.{Occur}
 use Rattle.clip_grammar.specs.declared.query.Occur.TheVariants.{Must, Should, MustNot}
 use Rattle.clip_extract.specs.Keys.{KeyValue}

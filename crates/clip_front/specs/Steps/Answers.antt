@@ -92,7 +92,8 @@ pub record Answers (old new : Held) (n : ℕ) (line text : List ℕ) : Type 0 wh
   pub means : Means (names_in old.hearers) old.history line meaning
   pub goes_on : GoesOn old new n meaning text
 
--- Where the answering of line n was broken off, the listeners have heard a front of the line's alerts, and the text that
+-- Where the answering of line n was broken off, the listeners have heard a front of the line's alerts, and the text
+-- that
 -- was on its way is a front of the reply.
 pub record Breaks (old new : Held) (n : ℕ) (line text : List ℕ) : Type 0 where
   pub meaning : Meaning

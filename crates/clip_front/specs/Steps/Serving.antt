@@ -51,7 +51,8 @@ pub record ServesAll {S : Type 0} (answers : Answering S) (old new : S) (taken_o
   pub written : Appends taken_old taken_new text
   pub counted : count ≡ length (lines_of input)
 
--- Some first ones of the lines were answered, the next was begun at most, and a front of the answers, and of what was on
+-- Some first ones of the lines were answered, the next was begun at most, and a front of the answers, and of what was
+-- on
 -- its way of the next one, was written.
 pub record ServesFront {S : Type 0} (answers : Answering S) (breaks : Breaking S) (old new : S)
     (taken_old taken_new : Option (List ℕ)) (lines : List (List ℕ)) : Type 0 where

@@ -2,7 +2,8 @@
 use Rattle.std.specs.Prelude.{◌≡◌, ◌⊎◌, ℕ, List, ⊤}
 use Rattle.clip_model.specs.History.{History}
 use Rattle.clip_listen.specs.Heard.{Hearer}
-use Rattle.clip_protocol.specs.LineMeaning.{Meaning, Means, after, nothing, refusal, refusal_at, command, purging, counting, showing, matching}
+use Rattle.clip_protocol.specs.LineMeaning.{Meaning, Means, after, nothing, refusal, refusal_at, command, purging}
+use Rattle.clip_protocol.specs.LineMeaning.{counting, showing, matching}
 use Rattle.clip_protocol.specs.Reply.{reply}
 use Rattle.clip_protocol.specs.declared.form.Form.{Form}
 use Rattle.clip_front.specs.declared.answer.Taken.{Taken}

@@ -1,6 +1,8 @@
 -- The beginning of a text, cut as the lexer cuts it: what is found there, and what is left.
-use Rattle.std.specs.Prelude.{◌≡◌, ℕ, zero, suc, Bool, ◌&&◌, ◌==◌, List, [], ◌∷◌, length, Option, Some, None, if◌then◌else◌}
-use Rattle.clip_grammar.specs.Lexemes.{Piece, Bare, Escape, Code, RangeEnd, BareEnd, QuotedEnd, Lexeme, Blank, Word, Quoted, Range, Sign, Foreign, is_gap, is_end}
+use Rattle.std.specs.Prelude.{◌≡◌, ℕ, zero, suc, Bool, ◌&&◌, ◌==◌, List, [], ◌∷◌, length, Option, Some, None}
+use Rattle.std.specs.Prelude.{if◌then◌else◌}
+use Rattle.clip_grammar.specs.Lexemes.{Piece, Bare, Escape, Code, RangeEnd, BareEnd, QuotedEnd, Lexeme, Blank, Word}
+use Rattle.clip_grammar.specs.Lexemes.{Quoted, Range, Sign, Foreign, is_gap, is_end}
 use Rattle.clip_grammar.specs.Characters.{is_white, is_one_of, is_code, first_char, word_char, quotable_char, end_char}
 
 -- the first piece of a text, and what is left

@@ -1,5 +1,6 @@
 -- Flags that lie in words of 64 bits.
-use Rattle.std.specs.Prelude.{◌≡◌, ℕ, zero, suc, ◌+◌, ◌-◌, ◌*◌, ◌/◌, ◌%◌, ◌<◌, ◌≤◌, ◌==◌, nat_eq, Bool, false, List, [], ◌∷◌, map, length, drop, replicate}
+use Rattle.std.specs.Prelude.{◌≡◌, ℕ, zero, suc, ◌+◌, ◌-◌, ◌*◌, ◌/◌, ◌%◌, ◌<◌, ◌≤◌, ◌==◌, nat_eq, Bool, false, List, []}
+use Rattle.std.specs.Prelude.{◌∷◌, map, length, drop, replicate}
 use Rattle.std.specs.Int.{bit_at}
 use Rattle.clip_pieces.specs.Pieces.{joined}
 use Rattle.clip_pieces.specs.declared.marks.TheConstants.{MOST_NUMBERS}

@@ -1,5 +1,6 @@
 -- For each seq above a base, whether it is live.
-use Rattle.std.specs.Prelude.{◌≡◌, ℕ, suc, ◌+◌, ◌-◌, Bool, false, ◌&&◌, nat_lt, List, length, slice_index_or, slice_set, cond}
+use Rattle.std.specs.Prelude.{◌≡◌, ℕ, suc, ◌+◌, ◌-◌, Bool, false, ◌&&◌, nat_lt, List, length, slice_index_or, slice_set}
+use Rattle.std.specs.Prelude.{cond}
 use Rattle.clip_model.specs.History.{Registry, is_live_in}
 use Rattle.clip_model.specs.Steps.Numbered.{IsNumbered}
 

@@ -1,5 +1,6 @@
 -- Live flags beside segments: for each segment a flag for each of its entries, by position.
-use Rattle.std.specs.Prelude.{ℕ, Bool, false, ◌==◌, ◌&&◌, ◌||◌, not, cond, List, [], ◌∷◌, map, filter, Option, None, Some}
+use Rattle.std.specs.Prelude.{ℕ, Bool, false, ◌==◌, ◌&&◌, ◌||◌, not, cond, List, [], ◌∷◌, map, filter, Option, None}
+use Rattle.std.specs.Prelude.{Some}
 use Rattle.clip_model.specs.History.{Registered, Registry, is_live_in}
 
 -- the flags of entries by a test of their seqs

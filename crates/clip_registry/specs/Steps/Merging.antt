@@ -1,5 +1,6 @@
 -- Jobs and merges as their fields hold them.
-use Rattle.std.specs.Prelude.{◌≡◌, ℕ, ◌+◌, ◌<◌, ◌≤◌, Bool, List, ◌++◌, map, filter, length, take, drop, Contains, IsTrue}
+use Rattle.std.specs.Prelude.{◌≡◌, ℕ, ◌+◌, ◌<◌, ◌≤◌, Bool, List, ◌++◌, map, filter, length, take, drop, Contains}
+use Rattle.std.specs.Prelude.{IsTrue}
 use Rattle.std.specs.Arc.{arc_value}
 use Rattle.clip_segment.specs.Segment.{IsRising, all_entries}
 use Rattle.clip_segment.specs.declared.segment.TheConstants.{MOST_POSITIONS}

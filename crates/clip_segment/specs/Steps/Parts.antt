@@ -1,5 +1,6 @@
 -- How the index of kept queries is made, one index after another.
-use Rattle.std.specs.Prelude.{◌≡◌, ℕ, ◌+◌, ◌<◌, Bool, true, false, List, [], ◌∷◌, map, flat_map, Option, Some, None, option_to_list, unwrap_or, slice_get, length, vec_items, if◌then◌else◌}
+use Rattle.std.specs.Prelude.{◌≡◌, ℕ, ◌+◌, ◌<◌, Bool, true, false, List, [], ◌∷◌, map, flat_map, Option, Some, None}
+use Rattle.std.specs.Prelude.{option_to_list, unwrap_or, slice_get, length, vec_items, if◌then◌else◌}
 use Rattle.clip_grammar.specs.Tree.{Tree}
 use Rattle.clip_extract.specs.Extraction.{query_keys, second_keys}
 use Rattle.clip_extract.specs.Keys.{KeyValue}

@@ -1,5 +1,6 @@
 -- How a reader takes one line after another.
-use Rattle.std.specs.Prelude.{◌≡◌, ◌⊎◌, ℕ, suc, ◌+◌, ◌*◌, ◌<◌, ◌==◌, ◌||◌, List, [], ◌∷◌, ◌++◌, length, take, drop, Bool, true, false, if◌then◌else◌, Option, MatchOption}
+use Rattle.std.specs.Prelude.{◌≡◌, ◌⊎◌, ℕ, suc, ◌+◌, ◌*◌, ◌<◌, ◌==◌, ◌||◌, List, [], ◌∷◌, ◌++◌, length, take, drop}
+use Rattle.std.specs.Prelude.{Bool, true, false, if◌then◌else◌, Option, MatchOption}
 use Rattle.std.specs.Io.KnownBytes.{Consumes}
 use Rattle.clip_stream.specs.declared.limits.TheConstants.{MOST_LINE_BYTES}
 

@@ -17,4 +17,5 @@ pub record IsAsking (asking : Inside) : Type 0 where
   pub lengths : AreShortLengths (map key_of asking.keys.items) asking.lengths.items
   pub places : map (λ places. map (term_at (map key_of asking.keys.items)) places.items) asking.places.items
       ≡ map field_keys (finite.entries asking.article.now.fields)
-  pub counts : asking.counts.items ≡ map (λ field. length (ordered_keys field)) (finite.entries asking.article.now.fields)
+  pub counts : asking.counts.items
+      ≡ map (λ field. length (ordered_keys field)) (finite.entries asking.article.now.fields)

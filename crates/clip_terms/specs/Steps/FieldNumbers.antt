@@ -1,5 +1,6 @@
 -- The numbers of a field's words, where each is, and the runs among them.
-use Rattle.std.specs.Prelude.{◌≡◌, ℕ, ◌+◌, ◌-◌, ◌<◌, ◌≤◌, nat_le, Bool, true, false, ◌&&◌, ◌||◌, List, [], ◌∷◌, ◌++◌, length, drop, get_or, slice_index, Option, Some, None}
+use Rattle.std.specs.Prelude.{◌≡◌, ℕ, ◌+◌, ◌-◌, ◌<◌, ◌≤◌, nat_le, Bool, true, false, ◌&&◌, ◌||◌, List, [], ◌∷◌, ◌++◌}
+use Rattle.std.specs.Prelude.{length, drop, get_or, slice_index, Option, Some, None}
 use Rattle.std.specs.List.{list_any}
 use Rattle.clip_meaning.specs.Hits.{is_within}
 use Rattle.clip_terms.specs.Steps.Numbers.{number_at}
@@ -20,7 +21,8 @@ spots_of numbers (p ∷ postings) = spot_of (number_at numbers p.1) p.1 ++ spots
 -- Each position of the number is among the spots.
 pub record HasEach (numbers : List (Option ℕ)) (number : ℕ) (spots : List Spot) : Type 0 where
   pub each : (position : ℕ) → number_at numbers position ≡ Some number
-      → (test : Spot → Bool) → test (record { number = number; position = position }) ≡ true → list_any test spots ≡ true
+      → (test : Spot → Bool) → test (record { number = number; position = position }) ≡ true
+      → list_any test spots ≡ true
 
 -- No number is below one before it.
 pub record NumbersRise (spots : List Spot) : Type 0 where
@@ -38,7 +40,8 @@ pub record IsAnchor (numbers : List (Option ℕ)) (run : List ℕ) (anchor : Anc
 
 -- the run occurs so that its number of this place is at the spot
 abbrev pub begins_before : (run : List ℕ) (numbers : List (Option ℕ)) (place : ℕ) → Spot → Bool
-begins_before run numbers place spot = nat_le place spot.position && begins_with run (drop (spot.position - place) numbers)
+begins_before run numbers place spot =
+    nat_le place spot.position && begins_with run (drop (spot.position - place) numbers)
 
 -- the run occurs so that its number of this place is at the spot, and the position is one of the run's
 abbrev pub covers_before : (run : List ℕ) (numbers : List (Option ℕ)) (place position : ℕ) → Spot → Bool
@@ -49,4 +52,5 @@ covers_before run numbers place position spot =
 abbrev pub is_covered_from : (run : List ℕ) (position start : ℕ) → List (Option ℕ) → Bool
 is_covered_from run position start [] = false
 is_covered_from run position start (m ∷ numbers) =
-    (begins_with run (m ∷ numbers) && is_within start (length run) position) || is_covered_from run position (start + 1) numbers
+    (begins_with run (m ∷ numbers) && is_within start (length run) position)
+    || is_covered_from run position (start + 1) numbers

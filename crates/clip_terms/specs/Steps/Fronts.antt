@@ -36,4 +36,5 @@ pub record AddsNumbersBelow (terms keys : List KeyValue) (upto : ℕ) (old new :
 -- All leads before a place are below those of the terms from a number on that are fronts of the field.
 abbrev pub AreBelowFronts : (terms : List KeyValue) (field : List ℕ) (leads : List ℕ) (place number : ℕ) → Type 0
 AreBelowFronts terms field leads place number = (n m lead : ℕ) → n < place → number ≤ m → m < length terms
-    → heading (term_at terms m) ≡ heading (Front field []) → IsLead (text_of (term_at terms m)) lead → slice_index leads n < lead
+    → heading (term_at terms m) ≡ heading (Front field []) → IsLead (text_of (term_at terms m)) lead
+    → slice_index leads n < lead

@@ -1,5 +1,6 @@
 -- Keys by rank, field and text, and the first bytes of the texts of terms.
-use Rattle.std.specs.Prelude.{◌≡◌, ℕ, ◌+◌, ◌-◌, ◌*◌, ◌^◌, ◌<◌, ◌≤◌, List, [], ◌∷◌, Option, length, slice_index, slice_index_or, MatchOption}
+use Rattle.std.specs.Prelude.{◌≡◌, ℕ, ◌+◌, ◌-◌, ◌*◌, ◌^◌, ◌<◌, ◌≤◌, List, [], ◌∷◌, Option, length, slice_index}
+use Rattle.std.specs.Prelude.{slice_index_or, MatchOption}
 use Rattle.std.specs.Ordering.{nat_cmp, then_cmp, on}
 use Rattle.std.specs.declared.cmp.Ordering.{Ordering}
 use Rattle.std.specs.declared.cmp.Ordering.TheVariants.{Less}
@@ -57,7 +58,8 @@ IsPlaceOf terms start end text place =
     ((n : ℕ) (d : KeyValue) → start ≤ n → n < end → text_of (slice_index_or terms n d) ≡ text → ⊥)
     (λ n. (start ≤ n) × (n < end) × ((d : KeyValue) → text_of (slice_index_or terms n d) ≡ text))
 
--- A word that begins with a text of the lead and the short length has no lead from the place on, where leads never fall.
+-- A word that begins with a text of the lead and the short length has no lead from the place on, where leads never
+-- fall.
 pub record IsPast (leads : List ℕ) (place lead short : ℕ) : Type 0 where
   pub some : 0 < short
   pub few : short ≤ 8

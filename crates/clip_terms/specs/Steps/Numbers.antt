@@ -1,5 +1,6 @@
 -- The numbers of an article's keys, as a reading is made of them.
-use Rattle.std.specs.Prelude.{◌≡◌, ℕ, ◌<◌, Bool, true, nat_eq, List, [], ◌∷◌, ◌++◌, Option, None, option_to_list, unwrap_or, slice_get}
+use Rattle.std.specs.Prelude.{◌≡◌, ℕ, ◌<◌, Bool, true, nat_eq, List, [], ◌∷◌, ◌++◌, Option, None, option_to_list}
+use Rattle.std.specs.Prelude.{unwrap_or, slice_get}
 use Rattle.std.specs.List.{list_any}
 
 -- the numbers of a list in which some are missing

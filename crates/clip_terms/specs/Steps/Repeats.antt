@@ -1,5 +1,6 @@
 -- How the beginnings of a run repeat, by which a search moves it on.
-use Rattle.std.specs.Prelude.{◌≡◌, ℕ, ◌+◌, ◌-◌, ◌<◌, ◌≤◌, true, false, ◌||◌, List, get_or, length, slice_index, Option, None, drop}
+use Rattle.std.specs.Prelude.{◌≡◌, ℕ, ◌+◌, ◌-◌, ◌<◌, ◌≤◌, true, false, ◌||◌, List, get_or, length, slice_index, Option}
+use Rattle.std.specs.Prelude.{None, drop}
 use Rattle.clip_meaning.specs.Hits.{is_within}
 use Rattle.clip_meaning.specs.Steps.Marks.{is_up}
 use Rattle.clip_terms.specs.Steps.FieldNumbers.{is_covered_from}
@@ -68,8 +69,10 @@ pub record IsNext (run : List ℕ) (numbers : List (Option ℕ)) (at found : Ali
 pub record AreMarked (run : List ℕ) (numbers : List (Option ℕ)) (old new : List ℕ) (start end : ℕ) : Type 0 where
   pub long : length new ≡ length old
   pub kept : (k : ℕ) → k < length old → is_up (get_or old k 0) ≡ true → is_up (get_or new k 0) ≡ true
-  pub just : (k : ℕ) → k < length old → is_up (get_or new k 0) ≡ true → (is_up (get_or old k 0) || is_covered_from run k 0 numbers) ≡ true
-  pub done : (k p : ℕ) → k < length old → p < start → begins_with run (drop p numbers) ≡ true → is_within p (length run) k ≡ true
+  pub just : (k : ℕ) → k < length old → is_up (get_or new k 0) ≡ true
+      → (is_up (get_or old k 0) || is_covered_from run k 0 numbers) ≡ true
+  pub done : (k p : ℕ) → k < length old → p < start → begins_with run (drop p numbers) ≡ true
+      → is_within p (length run) k ≡ true
       → is_up (get_or new k 0) ≡ true
   pub beyond : (k : ℕ) → k < length old → start ≤ k → k < end → is_up (get_or new k 0) ≡ true
   pub bound : end ≤ start + length run

@@ -1,5 +1,6 @@
 -- What a line of a trace says, found step by step, and how it is answered: the stepping stones to the whole input.
-use Rattle.std.specs.Prelude.{[], ◌≡◌, ℕ, ◌==◌, List, map, if◌then◌else◌, ◌++◌, Option, Some, None, option_map, option_and_then, codes, bytes_eq, Result, Ok, Err, ⊤, string_bytes}
+use Rattle.std.specs.Prelude.{[], ◌≡◌, ℕ, ◌==◌, List, map, if◌then◌else◌, ◌++◌, Option, Some, None, option_map}
+use Rattle.std.specs.Prelude.{option_and_then, codes, bytes_eq, Result, Ok, Err, ⊤, string_bytes}
 use Rattle.std.specs.Arc.{arc_value}
 use Rattle.std.specs.declared.alloc.Global.{Global}
 use Rattle.std.specs.declared.sync.Arc.{Arc}
@@ -29,7 +30,8 @@ use Rattle.clip_trace_lines.specs.TraceLine.{Said, SaysLine, AreReadAs, FirstUnr
 use Rattle.clip_trace_lines.specs.TraceOutcome.{Replies}
 use Rattle.clip_trace_lines.specs.TraceRequest as request
 use Rattle.clip_trace_lines.specs.TraceRequest.{TraceRequest, trace_within}
-use Rattle.clip_protocol.specs.Steps.Outline.{take_member, two_of, two_members, three_members, has_members, all_of, listing_of, draft_of}
+use Rattle.clip_protocol.specs.Steps.Outline.{take_member, two_of, two_members, three_members, has_members, all_of}
+use Rattle.clip_protocol.specs.Steps.Outline.{listing_of, draft_of}
 use Rattle.clip_front.specs.Steps.Serving.{Answering, Breaking}
 use Rattle.clip_protocol.specs.Steps.Views.{listing_view, draft_view}
 

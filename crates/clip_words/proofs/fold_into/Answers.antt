@@ -7,4 +7,5 @@ use Rattle.clip_words.proofs.fold_into.Goals as goal
 pub returns : goal.returns
 returns c =
     let pushed : string_bytes c.push_str.new.self ≡ c.args.text.now = search rules in
-    c.make_ascii_lowercase.ensures.bytes ∙ ap (map to_ascii_lowercase) pushed ∙ sym (fold_of_ascii c.args.text.now (search rules))
+    c.make_ascii_lowercase.ensures.bytes ∙ ap (map to_ascii_lowercase) pushed
+    ∙ sym (fold_of_ascii c.args.text.now (search rules))

@@ -12,5 +12,7 @@ join-seat-requires-send-F g c κs within =
     let rt = (shr_ref_field (record { mir = named 6; lft = κs.1.1.1.1.1.1.0 }) (param 1 g.row.R) tt).row in
     let N = param 0 g.row.N in
     let synced : IsSync (room.the_row N g.N.DeskName) = room_sync N g.N.DeskName in
-    let shared = (shr_ref_field (record { mir = named 7; lft = κs.1.1.1.1.1.1.1.0 }) (room.the_row N g.N.DeskName) tt).row in
-    param_send 1 _ (arg_send _ no _ (two_send _ rt shared (search (sendable, c.type_bounds.sync-R)) (search (sendable, synced))))
+    let shared = (shr_ref_field (record { mir = named 7; lft = κs.1.1.1.1.1.1.1.0 }) (room.the_row N g.N.DeskName)
+    tt).row in
+    param_send 1 _ (arg_send _ no _
+    (two_send _ rt shared (search (sendable, c.type_bounds.sync-R)) (search (sendable, synced))))

@@ -10,5 +10,7 @@ use Rattle.clip_cause.proofs.explaining.explain_line.Goals as goal
 pub returns-clause-meaning : goal.returns-clause-meaning
 returns-clause-meaning c =
     let line = c.args.line.now in
-    let Agrees : Option LineCause → Type 0 = λ found. (names : List (List ℕ)) (history : History) (m : Meaning) → Means names history line m → told_by m ≡ option_map (λ cause. cause.refusal) found in
-    if_ok c.cause_of_line.result (λ found. TellsOfLine line found) Agrees (λ found told names history m means. meaning_told names history line m means ∙ sym (refusal_told line found told)) c.cause_of_line.ensures.told
+    let Agrees : Option LineCause → Type 0 = λ found. (names : List (List ℕ)) (history : History) (m : Meaning)
+    → Means names history line m → told_by m ≡ option_map (λ cause. cause.refusal) found in
+    if_ok c.cause_of_line.result (λ found. TellsOfLine line found) Agrees (λ found told names history m means.
+    meaning_told names history line m means ∙ sym (refusal_told line found told)) c.cause_of_line.ensures.told

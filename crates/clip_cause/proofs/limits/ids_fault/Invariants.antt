@@ -4,4 +4,5 @@ use Rattle.clip_cause.specs.Limits.{each_fault, id_fault}
 use Rattle.clip_cause.proofs.limits.ids_fault.Given as goal
 
 abbrev pub invariant-loop-place : goal.invariant-loop-place
-invariant-loop-place l = each_fault ids id_fault l.place (map string_bytes (drop l.place l.listed)) ≡ each_fault ids id_fault 0 (map string_bytes l.listed)
+invariant-loop-place l = each_fault ids id_fault l.place (map string_bytes (drop l.place l.listed))
+    ≡ each_fault ids id_fault 0 (map string_bytes l.listed)

@@ -6,4 +6,6 @@ use Rattle.clip_cause.specs.Shapes.{items_fault, list_by, article_fault}
 use Rattle.clip_cause.proofs.shape.articles_fault.Given as goal
 
 abbrev pub invariant-loop-place : goal.invariant-loop-place
-invariant-loop-place l = list_by articles article_fault (as_array (view l.list)) ≡ items_fault articles article_fault l.place (items_view (drop l.place l.item-items))
+invariant-loop-place l =
+    list_by articles article_fault (as_array (view l.list))
+    ≡ items_fault articles article_fault l.place (items_view (drop l.place l.item-items))

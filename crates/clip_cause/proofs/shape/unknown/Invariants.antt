@@ -4,4 +4,5 @@ use Rattle.clip_cause.specs.Shapes.{unknown}
 use Rattle.clip_cause.proofs.shape.unknown.Given as goal
 
 abbrev pub invariant-loop-key : goal.invariant-loop-key
-invariant-loop-key l = unknown (map (λ s. s.now) l.names) (members_view l.key-iterator) ≡ unknown (map (λ s. s.now) l.names) (members_view l.members.entries)
+invariant-loop-key l = unknown (map (λ s. s.now) l.names) (members_view l.key-iterator)
+    ≡ unknown (map (λ s. s.now) l.names) (members_view l.members.entries)

@@ -4,4 +4,5 @@ use Rattle.clip_chronicle.specs.Ends.{Continues}
 use Rattle.clip_chronicle.proofs.ends.publish_copy.Goals as goal
 
 pub publish-requires : goal.publish-requires
-publish-requires g c = subst (λ (p : Published). Continues c.args.writer.desk.shown.value p) (sym c.in-Ok.ensures) c.requires
+publish-requires g c = subst (λ (p : Published). Continues c.args.writer.desk.shown.value p) (sym c.in-Ok.ensures)
+    c.requires

@@ -14,9 +14,14 @@ loop-number-preserved c =
     let caller = c.give.ensures.right.1 ∙ next in
     let keeps = seen_keeps (view c.args.writer.now.desk.place) in
     record {
-      seated = subst (λ (l : List SeatIs). AreSeated c.args.tag c.args.callers keeps c.args.seen_history.now.seen.book l) (sym c.in_ok-push.ensures.items)
-          (seated_more c.args.tag c.args.callers keeps c.args.seen_history.now.seen.book c.loop-number.seats.items c.in_ok-seat.seat c.loop-number.number i.seated (grind (arith, common_steps))
-          (c.in_ok-seat.ensures.seat ∙ (ap (λ v. new_seat c.args.tag c.args.callers (seen_keeps v) c.args.seen_history.now.seen.book c.give.result.caller) i.view_same ∙ ap (new_seat c.args.tag c.args.callers keeps c.args.seen_history.now.seen.book) caller)));
+      seated = subst (λ (l : List SeatIs). AreSeated c.args.tag c.args.callers keeps c.args.seen_history.now.seen.book
+          l) (sym c.in_ok-push.ensures.items)
+          (seated_more c.args.tag c.args.callers keeps c.args.seen_history.now.seen.book c.loop-number.seats.items
+          c.in_ok-seat.seat c.loop-number.number i.seated (grind (arith, common_steps))
+          (c.in_ok-seat.ensures.seat
+          ∙ (ap (λ v. new_seat c.args.tag c.args.callers (seen_keeps v) c.args.seen_history.now.seen.book
+          c.give.result.caller) i.view_same
+          ∙ ap (new_seat c.args.tag c.args.callers keeps c.args.seen_history.now.seen.book) caller)));
       count = grind (arith, common_steps);
       left_given = ap (λ r. r.given) c.give.ensures.given ∙ next;
       left_book = ap (λ r. r.book) c.give.ensures.given ∙ i.left_book;

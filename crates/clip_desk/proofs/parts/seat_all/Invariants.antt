@@ -6,7 +6,8 @@ use Rattle.clip_desk.proofs.parts.seat_all.Given as goal
 
 abbrev pub invariant-loop-number : goal.invariant-loop-number
 invariant-loop-number l = record {
-  seated : AreSeated l.tag l.callers (seen_keeps (view l.initial.writer.desk.place)) l.seen_history.seen.book l.seats.items;
+  seated : AreSeated l.tag l.callers (seen_keeps (view l.initial.writer.desk.place)) l.seen_history.seen.book
+      l.seats.items;
   count : vec_len l.seats ≡ l.number;
   view_same : view l.writer.desk.place ≡ view l.initial.writer.desk.place;
   left_given : l.left.given ≡ l.number;

@@ -9,8 +9,10 @@ use Rattle.clip_engine.proofs.answer.answer.Goals as goal
 pub returns : goal.returns
 returns c =
     let old = c.args.owned.now.registrar.history in let new = c.take_line.new.registry.registrar.history in
-    let taken = subst (λ t. Takes (names_in house) old new c.args.number c.args.line.now t) c.in-Articles.is c.in_ok-text.ensures.taken in
+    let taken = subst (λ t. Takes (names_in house) old new c.args.number c.args.line.now t) c.in-Articles.is
+    c.in_ok-text.ensures.taken in
     IfOk-weaker c.matched.result _ _
-    (λ text printed. matched_at c.args.form c.args.number c.args.line.now text.items old new c.in_ok-view-in-Articles.view.history c.deref.result.now c.in-Articles.articles.items taken
+    (λ text printed. matched_at c.args.form c.args.number c.args.line.now text.items old new
+    c.in_ok-view-in-Articles.view.history c.deref.result.now c.in-Articles.articles.items taken
     (ap (λ s. s.history) c.in_ok-view-in-Articles.ensures) c.deref.ensures.value printed)
     c.matched.ensures

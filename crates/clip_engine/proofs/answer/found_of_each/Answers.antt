@@ -9,5 +9,6 @@ pub loop-article-preserved : goal.loop-article-preserved
 loop-article-preserved c = record {
   value = grind (arith, common_steps);
   any = λ settings. subst (All (IsFor settings)) (sym c.in_ok-push.ensures.items)
-      (All-push (IsFor settings) c.loop-article.found.items (Alerts c.in_ok-alerts.field-0) (c.loop-article.invariant.any settings) tt);
+      (All-push (IsFor settings) c.loop-article.found.items (Alerts c.in_ok-alerts.field-0)
+      (c.loop-article.invariant.any settings) tt);
 }

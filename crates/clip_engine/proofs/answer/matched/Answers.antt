@@ -15,9 +15,14 @@ deliver_found-requires c =
 
 pub returns : goal.returns
 returns c =
-    let form = c.args.form in let n = c.args.number in let found = map found_value c.deref.result.now in let l = c.args.listeners.now in
+    let form = c.args.form in let n = c.args.number in let found = map found_value c.deref.result.now in let l =
+    c.args.listeners.now in
     IfOk-weaker c.deliver_found.result _ _
     (λ text printed.
-    printed ∙ ap (λ s. found_text s.form (both (style_value l.mail.render.style) l.mail.told.alerts (style_value l.feed.render.style) l.feed.told.alerts) n found) c.new-books.ensures.settings ∙ ap (λ hearers. found_text form hearers n found) c.requires
-    ∙ ap (found_text form house n) (ap (map found_value) c.deref.ensures.value ∙ c.in_ok-found.ensures.value) ∙ text-alerts_due form house n c.args.view.now c.args.articles.now)
+    printed ∙ ap (λ s. found_text s.form
+    (both (style_value l.mail.render.style) l.mail.told.alerts (style_value l.feed.render.style)
+    l.feed.told.alerts) n found) c.new-books.ensures.settings
+    ∙ ap (λ hearers. found_text form hearers n found) c.requires
+    ∙ ap (found_text form house n) (ap (map found_value) c.deref.ensures.value ∙ c.in_ok-found.ensures.value)
+    ∙ text-alerts_due form house n c.args.view.now c.args.articles.now)
     c.deliver_found.ensures.text

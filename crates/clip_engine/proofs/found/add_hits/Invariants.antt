@@ -6,4 +6,5 @@ use Rattle.clip_engine.proofs.found.add_hits.Given as goal
 
 -- the count and the first hits were added
 abbrev pub invariant-loop-hit : goal.invariant-loop-hit
-invariant-loop-hit l = l.bytes.items ≡ l.fn.bytes.items ++ (number_bytes (length l.hits) ++ flat_map hit_bytes (map hit_value (take l.hit-index l.hits)))
+invariant-loop-hit l = l.bytes.items
+    ≡ l.fn.bytes.items ++ (number_bytes (length l.hits) ++ flat_map hit_bytes (map hit_value (take l.hit-index l.hits)))

@@ -6,4 +6,6 @@ use Rattle.clip_engine.proofs.found.bytes_of_found.Given as goal
 
 -- the count and the first alerts were added
 abbrev pub invariant-loop-alert : goal.invariant-loop-alert
-invariant-loop-alert l = l.bytes.items ≡ number_bytes (length l.found.alerts.items) ++ flat_map (alert_bytes l.shows_hits) (map alert_value (take l.alert-index l.found.alerts.items))
+invariant-loop-alert l =
+    l.bytes.items ≡ number_bytes (length l.found.alerts.items)
+    ++ flat_map (alert_bytes l.shows_hits) (map alert_value (take l.alert-index l.found.alerts.items))

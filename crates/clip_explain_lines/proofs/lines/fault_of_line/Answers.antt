@@ -10,6 +10,7 @@ pub returns-in-Some : goal.returns-in-Some
 returns-in-Some c =
     let bytes = c.args.bytes.now in
     cause_tells bytes c.in-Some.cause c.says.result.now
-    (subst (λ found. option_map (λ cause. cause.refusal) found ≡ told_of (outline bytes)) c.in-Some.is c.in_ok-found.ensures.refusal)
+    (subst (λ found. option_map (λ cause. cause.refusal) found ≡ told_of (outline bytes)) c.in-Some.is
+    c.in_ok-found.ensures.refusal)
     (subst (λ found. IfSome found (IsCauseOf bytes)) c.in-Some.is c.in_ok-found.ensures.cause)
     (subst (TellsFirstOf bytes) c.in-Some.is c.in_ok-found.ensures.first) c.says.ensures

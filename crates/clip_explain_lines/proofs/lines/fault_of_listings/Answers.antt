@@ -18,7 +18,8 @@ returns-in-Some c =
     c.as_str.ensures.value c.in_ok-found.ensures in
     c.loop-place.invariant (fault_data c.in-Some.fault)
     (one_refused listing_view c.loop-place.place c.args.listings.now c.index-listings-place.result
-    (fault_data c.in-Some.fault) c.in-Some.fault.says.now c.loop-place-test.true c.index-listings-place.is fault.0 fault.1)
+    (fault_data c.in-Some.fault) c.in-Some.fault.says.now c.loop-place-test.true c.index-listings-place.is fault.0
+    fault.1)
 
 pub returns : goal.returns
 returns c =

@@ -6,4 +6,5 @@ use Rattle.clip_explain_lines.specs.LineTold.{TellsOfQueries}
 use Rattle.clip_explain_lines.proofs.lines.fault_of_listings.Given as goal
 
 abbrev pub invariant-loop-place : goal.invariant-loop-place
-invariant-loop-place l = (told : Data) → TellsFrom listing_view l.place l.listings told → TellsOfQueries 0 (map listing_view l.listings) told
+invariant-loop-place l = (told : Data) → TellsFrom listing_view l.place l.listings told
+    → TellsOfQueries 0 (map listing_view l.listings) told

@@ -11,7 +11,8 @@ pub returns : goal.returns
 returns c =
     elim c.match-explained.branch [
       | in-Read w ↦ subst (λ r. IfOk r (λ found. IsFaultOfQuery c.args.query.now c.args.place found)) (sym w.result-is)
-          (read_query c.args.query.now c.in_ok-explained.explained _ (is_utf8-from_IsUtf8 _ c.utf8.query) w.in-Read.is c.in_ok-explained.ensures)
+          (read_query c.args.query.now c.in_ok-explained.explained _ (is_utf8-from_IsUtf8 _ c.utf8.query) w.in-Read.is
+          c.in_ok-explained.ensures)
       | in-Refused+in_ok-path-in-Refused w ↦
           subst (λ r. IfOk r (λ found. IsFaultOfQuery c.args.query.now c.args.place found)) (sym w.result-is) (
             refused_query c.args.query.now c.in_ok-explained.explained _ w.in-Refused.is c.in_ok-explained.ensures,

@@ -12,5 +12,6 @@ invariant-loop-occur l = record {
   front : take l.start (map key_of l.keys.items) ≡ map key_of l.fn.keys.items;
   long : l.start ≤ vec_len l.keys;
   empty : l.found ≡ Nothing → vec_len l.keys ≡ l.start;
-  group : group_from l.found (drop l.start (map key_of l.keys.items)) (extracts_of (drop l.occur-index l.occur-items)) ≡ extract (tree_of l.query);
+  group : group_from l.found (drop l.start (map key_of l.keys.items)) (extracts_of (drop l.occur-index l.occur-items))
+      ≡ extract (tree_of l.query);
 }

@@ -8,7 +8,8 @@ use Rattle.clip_extract.proofs.extraction.keep.Goals as goal
 pub returns-in-Must-clause-front : goal.returns-in-Must-clause-front
 returns-in-Must-clause-front c =
     let xs = c.args.keys.now.items in
-    ap (λ ys. take c.args.start (map key_of ys)) c.remove.ensures ∙ front_removed key_of xs c.args.start c.args.middle (omega (arith, c.args.keys.now.ok))
+    ap (λ ys. take c.args.start (map key_of ys)) c.remove.ensures
+    ∙ front_removed key_of xs c.args.start c.args.middle (omega (arith, c.args.keys.now.ok))
 
 pub returns-in-Must-clause-kept : goal.returns-in-Must-clause-kept
 returns-in-Must-clause-kept c =
@@ -22,7 +23,8 @@ returns-in-Must-clause-kept c =
 
 pub returns-in-Must-2-clause-front : goal.returns-in-Must-2-clause-front
 returns-in-Must-2-clause-front c =
-    ap (λ ys. take c.args.start (map key_of ys)) c.truncate.ensures.items ∙ front_cut key_of c.args.keys.now.items c.args.start c.args.middle c.requires.low
+    ap (λ ys. take c.args.start (map key_of ys)) c.truncate.ensures.items
+    ∙ front_cut key_of c.args.keys.now.items c.args.start c.args.middle c.requires.low
 
 pub returns-in-Must-2-clause-kept : goal.returns-in-Must-2-clause-kept
 returns-in-Must-2-clause-kept c =
@@ -40,9 +42,12 @@ returns-in-Should c =
     record {
       front = refl;
       long = omega arith;
-      kept = parts xs c.args.start c.args.middle c.requires.low (omega (arith, length-map c.args.keys.now.items key_of, c.args.keys.now.ok))
+      kept = parts xs c.args.start c.args.middle c.requires.low
+          (omega (arith, length-map c.args.keys.now.items key_of, c.args.keys.now.ok))
           ∙ ⊎_elim
-          (λ e. ap (λ o. kept c.args.found o c.args.weight (drop c.args.start (take c.args.middle xs)) (drop c.args.middle xs)) (sym e))
-          (λ e. ap (λ o. kept c.args.found o c.args.weight (drop c.args.start (take c.args.middle xs)) (drop c.args.middle xs)) (sym e))
+          (λ e. ap (λ o. kept c.args.found o c.args.weight (drop c.args.start (take c.args.middle xs))
+          (drop c.args.middle xs)) (sym e))
+          (λ e. ap (λ o. kept c.args.found o c.args.weight (drop c.args.start (take c.args.middle xs))
+          (drop c.args.middle xs)) (sym e))
           c.in-Should.is;
     }

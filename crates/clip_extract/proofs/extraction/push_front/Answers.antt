@@ -13,22 +13,27 @@ pub returns-then-is_empty-clause-added : goal.returns-then-is_empty-clause-added
 returns-then-is_empty-clause-added c =
     let front = key_front (arc_str_bytes c.args.text.now) in
     let none : nat_eq (length front) 0 ≡ true =
-    ap (λ bs. nat_eq (length bs) 0) (sym (c.deref.ensures.value ∙ c.in_ok-front.ensures)) ∙ sym c.is_empty.ensures ∙ c.if-is_empty.true in
-    subst (λ (e : Extracted). IfOk c.push_any.result (λ _. Adds e c.args.keys.now.items c.push_any.new.keys.items)) (sym (empty_found (arc_str_bytes c.args.field.now) front none)) c.push_any.ensures.added
+    ap (λ bs. nat_eq (length bs) 0) (sym (c.deref.ensures.value ∙ c.in_ok-front.ensures)) ∙ sym c.is_empty.ensures
+    ∙ c.if-is_empty.true in
+    subst (λ (e : Extracted). IfOk c.push_any.result (λ _. Adds e c.args.keys.now.items c.push_any.new.keys.items))
+    (sym (empty_found (arc_str_bytes c.args.field.now) front none)) c.push_any.ensures.added
 
 pub returns-then-is_empty-clause-weight : goal.returns-then-is_empty-clause-weight
 returns-then-is_empty-clause-weight c =
     let front = key_front (arc_str_bytes c.args.text.now) in
     let none : nat_eq (length front) 0 ≡ true =
-    ap (λ bs. nat_eq (length bs) 0) (sym (c.deref.ensures.value ∙ c.in_ok-front.ensures)) ∙ sym c.is_empty.ensures ∙ c.if-is_empty.true in
-    subst (λ (e : Extracted). IfOk c.push_any.result (λ weight. weight ≡ e.weight)) (sym (empty_found (arc_str_bytes c.args.field.now) front none)) c.push_any.ensures.weight
+    ap (λ bs. nat_eq (length bs) 0) (sym (c.deref.ensures.value ∙ c.in_ok-front.ensures)) ∙ sym c.is_empty.ensures
+    ∙ c.if-is_empty.true in
+    subst (λ (e : Extracted). IfOk c.push_any.result (λ weight. weight ≡ e.weight))
+    (sym (empty_found (arc_str_bytes c.args.field.now) front none)) c.push_any.ensures.weight
 
 pub returns-clause-added : goal.returns-clause-added
 returns-clause-added c =
     let field = arc_str_bytes c.args.field.now in
     let front = key_front (arc_str_bytes c.args.text.now) in
     let some : nat_eq (length front) 0 ≡ false =
-    ap (λ bs. nat_eq (length bs) 0) (sym (c.deref.ensures.value ∙ c.in_ok-front.ensures)) ∙ sym c.is_empty.ensures ∙ c.if-is_empty.false in
+    ap (λ bs. nat_eq (length bs) 0) (sym (c.deref.ensures.value ∙ c.in_ok-front.ensures)) ∙ sym c.is_empty.ensures
+    ∙ c.if-is_empty.false in
     let key : Front (arc_str_bytes c.in_ok-clone.field-0) (arc_str_bytes c.in_ok-front.front) ≡ Front field front =
     λ i. Front (c.in_ok-clone.ensures.cases i) (c.in_ok-front.ensures i) in
     subst (λ (e : Extracted). Adds e c.args.keys.now.items c.push.new.self.items) (sym (front_found field front some))

@@ -6,4 +6,5 @@ use Rattle.clip_extract.proofs.second.second_child.Given as goal
 
 abbrev pub invariant-loop-occur : goal.invariant-loop-occur
 invariant-loop-occur l =
-    fold next_ranked (ranked l.ranking) (musts (extracts_of (drop l.occur-index l.occur-items))) ≡ fold next_ranked (None, None) (musts (extracts_of l.occur-items))
+    fold next_ranked (ranked l.ranking) (musts (extracts_of (drop l.occur-index l.occur-items)))
+    ≡ fold next_ranked (None, None) (musts (extracts_of l.occur-items))

@@ -7,6 +7,7 @@ use Rattle.clip_extract.proofs.second.second_keys.Goals as goal
 
 pub returns-in-None : goal.returns-in-None
 returns-in-None c =
-    let none : second_keys (tree_of c.args.query.now) ≡ [] = ap (λ o. in_order (only_words (unwrap_or o unnarrowed).keys)) (sym c.in-None.ensures) ∙ nothing_in_order in
+    let none : second_keys (tree_of c.args.query.now) ≡ [] =
+    ap (λ o. in_order (only_words (unwrap_or o unnarrowed).keys)) (sym c.in-None.ensures) ∙ nothing_in_order in
     let start : map key_of c.new-found.result.items ≡ [] = search rules in
     start ∙ sym none

@@ -1,4 +1,5 @@
-use Rattle.std.proofs.Common.{◌≡◌, ◌+◌, suc, [], ◌∷◌, ◌++◌, length, map, sym, ap, ◌∙◌, subst, arith, true, append_assoc, append-nil}
+use Rattle.std.proofs.Common.{◌≡◌, ◌+◌, suc, [], ◌∷◌, ◌++◌, length, map, sym, ap, ◌∙◌, subst, arith, true, append_assoc}
+use Rattle.std.proofs.Common.{append-nil}
 use Rattle.std.proofs.Common.{length-append}
 use Rattle.std.proofs.lemmas.List.{map-append}
 use Rattle.std.specs.Arc.{arc_value}
@@ -15,13 +16,18 @@ pub loop-listing-init : goal.loop-listing-init
 loop-listing-init g c =
     let names = names_in (g.A.Audience.hearers c.args.audience.now) in
     let all = map listing_view c.args.listings.items in
-    let gives : into_iter_items c.into_iter-listing-iterator.result ≡ c.args.listings.items = c.into_iter-listing-iterator.ensures.into_iter_gives.0 in
-    let whole : map listing_view (into_iter_items c.into_iter-listing-iterator.result) ≡ all = ap (map listing_view) gives in
+    let gives : into_iter_items c.into_iter-listing-iterator.result ≡ c.args.listings.items =
+    c.into_iter-listing-iterator.ensures.into_iter_gives.0 in
+    let whole : map listing_view (into_iter_items c.into_iter-listing-iterator.result) ≡ all =
+    ap (map listing_view) gives in
     let none = c.in_ok-all.ensures.items in
     record {
       ids = subst (λ ls. list_all (λ l. is_id l.id) ls ≡ true) (sym whole) c.requires;
-      takes = λ more taken. subst (λ xs. AreTakenAs names all (map arc_value xs ++ more)) (sym none) (subst (λ ls. AreTakenAs names ls more) whole taken);
-      first = λ r j refused. let start : j ≡ 0 + j = omega arith in subst (λ xs. FirstRefused names all r (length xs + j)) (sym none) (subst (FirstRefused names all r) start (subst (λ ls. FirstRefused names ls r j) whole refused));
+      takes = λ more taken. subst (λ xs. AreTakenAs names all (map arc_value xs ++ more)) (sym none)
+          (subst (λ ls. AreTakenAs names ls more) whole taken);
+      first = λ r j refused. let start : j ≡ 0 + j = omega arith in
+          subst (λ xs. FirstRefused names all r (length xs + j)) (sym none)
+          (subst (FirstRefused names all r) start (subst (λ ls. FirstRefused names ls r j) whole refused));
     }
 
 pub loop-listing-preserved : goal.loop-listing-preserved
@@ -31,16 +37,29 @@ loop-listing-preserved g c =
     let here = ap (map listing_view) c.in-Some.ensures.steps.0 in
     let s = arc_value c.in-Ok.standing in
     let taken = c.in-Ok.ensures in
-    let pushed : map arc_value c.push.new.self.items ≡ map arc_value c.loop-listing.all.items ++ s ∷ [] = ap (map arc_value) {y = c.loop-listing.all.items ++ c.in-Ok.standing ∷ []} c.in_ok-push-in-Ok.ensures.items ∙ map-append arc_value c.loop-listing.all.items (c.in-Ok.standing ∷ []) in
-    let count : length c.push.new.self.items ≡ length c.loop-listing.all.items + 1 = ap length {y = c.loop-listing.all.items ++ c.in-Ok.standing ∷ []} c.in_ok-push-in-Ok.ensures.items ∙ length-append c.loop-listing.all.items (c.in-Ok.standing ∷ []) in
+    let pushed : map arc_value c.push.new.self.items ≡ map arc_value c.loop-listing.all.items ++ s ∷ [] =
+    ap (map arc_value) {y = c.loop-listing.all.items ++ c.in-Ok.standing ∷ []} c.in_ok-push-in-Ok.ensures.items
+    ∙ map-append arc_value c.loop-listing.all.items (c.in-Ok.standing ∷ []) in
+    let count : length c.push.new.self.items ≡ length c.loop-listing.all.items + 1 =
+    ap length {y = c.loop-listing.all.items ++ c.in-Ok.standing ∷ []} c.in_ok-push-in-Ok.ensures.items
+    ∙ length-append c.loop-listing.all.items (c.in-Ok.standing ∷ []) in
     record {
       ids = second_of _ _ (subst (λ ls. list_all (λ l. is_id l.id) ls ≡ true) here c.loop-listing.invariant.ids);
       takes = λ more rest.
-          subst (AreTakenAs names all) (sym (ap (λ xs. xs ++ more) pushed ∙ append_assoc (map arc_value c.loop-listing.all.items) (s ∷ []) more))
-          (c.loop-listing.invariant.takes (s ∷ more) (subst (λ ls. AreTakenAs names ls (s ∷ more)) (sym here) (taken, rest)));
+          subst (AreTakenAs names all) (sym (ap (λ xs. xs ++ more) pushed
+          ∙ append_assoc (map arc_value c.loop-listing.all.items) (s ∷ []) more))
+          (c.loop-listing.invariant.takes (s ∷ more)
+          (subst (λ ls. AreTakenAs names ls (s ∷ more)) (sym here) (taken, rest)));
       first = λ r j refused.
-          let shifted : length c.loop-listing.all.items + suc j ≡ length c.push.new.self.items + j = omega (arith, count) in
-          subst (FirstRefused names all r) shifted (c.loop-listing.invariant.first r (suc j) (subst (λ ls. FirstRefused names ls r (suc j)) (sym here) ((s.tree, taken.read.query), taken.here, refused)));
+          let shifted : length c.loop-listing.all.items + suc j ≡ length c.push.new.self.items + j =
+          omega (arith, count) in
+          subst (FirstRefused names all r) shifted
+          (c.loop-listing.invariant.first r (suc j)
+          (subst (λ ls. FirstRefused names ls r (suc j)) (sym here) (
+            (s.tree, taken.read.query),
+            taken.here,
+            refused,
+          )));
     }
 
 pub returns-in-Err-Refused : goal.returns-in-Err-Refused
@@ -50,13 +69,18 @@ returns-in-Err-Refused g c =
     let here = ap (map listing_view) c.in-Some.ensures.steps.0 in
     let reason = c.in-Err-Refused.reason in
     let refused = rw c.in-Err-Refused.field-0-is at c.in-Err-Refused.ensures in
-    let first = c.loop-listing.invariant.first reason 0 (subst (λ ls. FirstRefused names ls reason 0) (sym here) refused) in
-    let place : length c.loop-listing.all.items + 0 ≡ c.len-place.result = omega (arith, c.len-place.ensures, c.loop-listing.all.ok.0) in
-    subst (λ r. FirstRefused names all r c.len-place.result) (sym c.in-Err-Refused.reason-is) (subst (FirstRefused names all reason) place first)
+    let first = c.loop-listing.invariant.first reason 0
+    (subst (λ ls. FirstRefused names ls reason 0) (sym here) refused) in
+    let place : length c.loop-listing.all.items + 0 ≡ c.len-place.result =
+    omega (arith, c.len-place.ensures, c.loop-listing.all.ok.0) in
+    subst (λ r. FirstRefused names all r c.len-place.result) (sym c.in-Err-Refused.reason-is)
+    (subst (FirstRefused names all reason) place first)
 
 pub returns : goal.returns
 returns g c =
     let names = names_in (g.A.Audience.hearers c.args.audience.now) in
     let all = map listing_view c.args.listings.items in
-    let none = ap (map listing_view) (none_left _ (omega (arith, c.in-None.ensures.steps.0, c.loop-listing.listing-iterator.rest.ok.0))) in
-    subst (AreTakenAs names all) (append-nil (map arc_value c.loop-listing.all.items)) (c.loop-listing.invariant.takes [] (subst (λ ls. AreTakenAs names ls []) (sym none) tt))
+    let none = ap (map listing_view)
+    (none_left _ (omega (arith, c.in-None.ensures.steps.0, c.loop-listing.listing-iterator.rest.ok.0))) in
+    subst (AreTakenAs names all) (append-nil (map arc_value c.loop-listing.all.items))
+    (c.loop-listing.invariant.takes [] (subst (λ ls. AreTakenAs names ls []) (sym none) tt))

@@ -18,6 +18,8 @@ invariant-loop-listing g l =
     let listings = map listing_view l.fn.listings.items in
     record {
       ids : list_all (λ l. is_id l.id) rest ≡ true;
-      takes : (more : List Standing) → AreTakenAs names rest more → AreTakenAs names listings (map arc_value l.all.items ++ more);
-      first : (r : Refusal) (j : ℕ) → FirstRefused names rest r j → FirstRefused names listings r (length l.all.items + j);
+      takes : (more : List Standing) → AreTakenAs names rest more
+          → AreTakenAs names listings (map arc_value l.all.items ++ more);
+      first : (r : Refusal) (j : ℕ) → FirstRefused names rest r j
+          → FirstRefused names listings r (length l.all.items + j);
     }

@@ -5,7 +5,8 @@ use Rattle.clip_front.proofs.answer.take_line_unread.Goals as goal
 pub returns-in_ok-text-in-Reply-clause-taken : goal.returns-in_ok-text-in-Reply-clause-taken
 returns-in_ok-text-in-Reply-clause-taken g c =
     let settles = rw c.in-Reply.is at c.in_ok-reply.ensures.comes in
-    takes_settled _ _ _ c.args.number c.args.bytes.now _ _ _ c.in_ok-line.ensures.outline settles c.in_ok-text-in-Reply.ensures
+    takes_settled _ _ _ c.args.number c.args.bytes.now _ _ _ c.in_ok-line.ensures.outline settles
+    c.in_ok-text-in-Reply.ensures
 
 pub returns-in-Match-clause-taken : goal.returns-in-Match-clause-taken
 returns-in-Match-clause-taken g c =

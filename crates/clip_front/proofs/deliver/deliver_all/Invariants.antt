@@ -13,6 +13,7 @@ invariant-loop-one g l =
     record {
       heard : hearers l.audience ≡ told_all (told_in first) (hearers l.fn.audience);
       notes : map note_value l.notes.items ≡ notes_of (hearers l.fn.audience) (told_in first);
-      rows : l.books.ledger ≡ l.fn.books.ledger ++ kept_rows l.fn.books.settings.keeps_rows (rows_in (hearers l.fn.audience) l.line first);
+      rows : l.books.ledger ≡ l.fn.books.ledger
+          ++ kept_rows l.fn.books.settings.keeps_rows (rows_in (hearers l.fn.audience) l.line first);
       settings : l.books.settings ≡ l.fn.books.settings;
     }

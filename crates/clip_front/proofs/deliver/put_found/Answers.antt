@@ -12,8 +12,10 @@ pub returns-in-Alerts-clause-front : goal.returns-in-Alerts-clause-front
 returns-in-Alerts-clause-front g c =
     let taken = g.W.Sink.taken in
     subst
-    (λ found. OnErr c.put_alerts.result (AppendsFront (taken c.args.flow.now.writer.now) (taken c.put_alerts.new.flow.writer.now)
-    (c.args.flow.now.outbox.now ++ item_text c.args.later (alerts_data c.args.settings.form (alerts_by_id (found_value found))))))
+    (λ found. OnErr c.put_alerts.result
+    (AppendsFront (taken c.args.flow.now.writer.now) (taken c.put_alerts.new.flow.writer.now)
+    (c.args.flow.now.outbox.now
+    ++ item_text c.args.later (alerts_data c.args.settings.form (alerts_by_id (found_value found))))))
     (sym c.in-Alerts.is) c.put_alerts.ensures.front
 
 -- its text is of the form of the settings
@@ -23,10 +25,14 @@ returns-in-Shown-clause-front g c =
     let shown = c.in-Shown.shown in
     let fit = subst (IsFor c.args.settings) c.in-Shown.is c.requires in
     subst
-    (λ found. OnErr c.put_shown.result (AppendsFront (taken c.args.flow.now.writer.now) (taken c.put_shown.new.flow.writer.now)
-    (c.args.flow.now.outbox.now ++ item_text c.args.later (alerts_data c.args.settings.form (alerts_by_id (found_value found))))))
+    (λ found. OnErr c.put_shown.result
+    (AppendsFront (taken c.args.flow.now.writer.now) (taken c.put_shown.new.flow.writer.now)
+    (c.args.flow.now.outbox.now
+    ++ item_text c.args.later (alerts_data c.args.settings.form (alerts_by_id (found_value found))))))
     (sym c.in-Shown.is)
     (subst
-    (λ form. OnErr c.put_shown.result (AppendsFront (taken c.args.flow.now.writer.now) (taken c.put_shown.new.flow.writer.now)
-    (c.args.flow.now.outbox.now ++ item_text c.args.later (alerts_data form (alerts_by_id (alerts_value shown.alerts.value))))))
+    (λ form. OnErr c.put_shown.result
+    (AppendsFront (taken c.args.flow.now.writer.now) (taken c.put_shown.new.flow.writer.now)
+    (c.args.flow.now.outbox.now
+    ++ item_text c.args.later (alerts_data form (alerts_by_id (alerts_value shown.alerts.value))))))
     fit.0 c.put_shown.ensures.front)

@@ -5,4 +5,11 @@ use Rattle.clip_grammar.proofs.Uniqueness.{one_tree}
 use Rattle.clip_grammar.proofs.laws.one_reading.Goals as goal
 
 pub returns : goal.returns
-returns c = record { lexemes = one_lexing; tree = one_tree; fault = one_fault; apart = reads_apart; decided = reads_or_faults }
+returns c = record {
+  lexemes = one_lexing;
+  tree = one_tree;
+  fault = one_fault;
+  apart = reads_apart;
+  decided =
+      reads_or_faults;
+}

@@ -6,4 +6,5 @@ use Rattle.clip_ledger.proofs.said.text_for.Given as goal
 
 -- the first note is among those that are left
 abbrev pub invariant-loop-note : goal.invariant-loop-note
-invariant-loop-note l = note_for (map note_value (drop l.note-index l.notes)) (arc_str_bytes l.query) ≡ note_for (map note_value l.fn.notes) (arc_str_bytes l.fn.query)
+invariant-loop-note l = note_for (map note_value (drop l.note-index l.notes)) (arc_str_bytes l.query)
+    ≡ note_for (map note_value l.fn.notes) (arc_str_bytes l.fn.query)

@@ -11,21 +11,33 @@ loop-alert-init g c = record { told = sym (told_none _); notes = ap (map note_va
 
 pub returns-in_err-note-clause-err : goal.returns-in_err-note-clause-err
 returns-in_err-note-clause-err g c =
-    let it = element alert_value c.args.alerts.now.alerts.items c.deref-alert-items.result.now c.loop-alert.alert-index c.alert-item.result c.deref-alert-items.ensures.value c.loop-alert-test.true c.alert-item.is in
-    on_err c.from_residual.result (refused_front _ c.loop-alert.alert-index (alert_value c.alert-item.result) _ _ _ it.0 it.1 c.loop-alert.invariant.told c.in_err-note.ensures.err)
+    let it = element alert_value c.args.alerts.now.alerts.items c.deref-alert-items.result.now c.loop-alert.alert-index
+    c.alert-item.result c.deref-alert-items.ensures.value c.loop-alert-test.true c.alert-item.is in
+    on_err c.from_residual.result
+    (refused_front _ c.loop-alert.alert-index (alert_value c.alert-item.result) _ _ _ it.0 it.1
+    c.loop-alert.invariant.told c.in_err-note.ensures.err)
 
 pub returns-in_err-keep-clause-err : goal.returns-in_err-keep-clause-err
 returns-in_err-keep-clause-err g c =
-    let it = element alert_value c.args.alerts.now.alerts.items c.deref-alert-items.result.now c.loop-alert.alert-index c.alert-item.result c.deref-alert-items.ensures.value c.loop-alert-test.true c.alert-item.is in
+    let it = element alert_value c.args.alerts.now.alerts.items c.deref-alert-items.result.now c.loop-alert.alert-index
+    c.alert-item.result c.deref-alert-items.ensures.value c.loop-alert-test.true c.alert-item.is in
     on_err c.from_residual-in_err-keep.result (heard_front _ (c.loop-alert.alert-index + 1) _ _
-    (c.in_ok-note.ensures.ok ∙ told_next _ c.loop-alert.alert-index (alert_value c.alert-item.result) _ _ it.0 it.1 c.loop-alert.invariant.told))
+    (c.in_ok-note.ensures.ok
+    ∙ told_next _ c.loop-alert.alert-index (alert_value c.alert-item.result) _ _ it.0 it.1
+    c.loop-alert.invariant.told))
 
 pub loop-alert-preserved : goal.loop-alert-preserved
 loop-alert-preserved g c =
-    let it = element alert_value c.args.alerts.now.alerts.items c.deref-alert-items.result.now c.loop-alert.alert-index c.alert-item.result c.deref-alert-items.ensures.value c.loop-alert-test.true c.alert-item.is in
+    let it = element alert_value c.args.alerts.now.alerts.items c.deref-alert-items.result.now c.loop-alert.alert-index
+    c.alert-item.result c.deref-alert-items.ensures.value c.loop-alert-test.true c.alert-item.is in
     record {
-      told = c.in_ok-note.ensures.ok ∙ told_next _ c.loop-alert.alert-index (alert_value c.alert-item.result) _ _ it.0 it.1 c.loop-alert.invariant.told;
+      told = c.in_ok-note.ensures.ok
+          ∙ told_next _ c.loop-alert.alert-index (alert_value c.alert-item.result) _ _ it.0 it.1
+          c.loop-alert.invariant.told;
       notes =
-          c.in_ok-keep.ensures ∙ ap (λ n. map note_value c.loop-alert.notes.items ++ cons_option n []) c.in_ok-note.ensures.note
-          ∙ notes_next _ c.loop-alert.alert-index (alert_value c.alert-item.result) _ _ (map note_value c.loop-alert.notes.items) it.0 it.1 c.loop-alert.invariant.told c.loop-alert.invariant.notes;
+          c.in_ok-keep.ensures ∙ ap (λ n. map note_value c.loop-alert.notes.items ++ cons_option n [])
+          c.in_ok-note.ensures.note
+          ∙ notes_next _ c.loop-alert.alert-index (alert_value c.alert-item.result) _ _
+          (map note_value c.loop-alert.notes.items) it.0 it.1 c.loop-alert.invariant.told
+          c.loop-alert.invariant.notes;
     }

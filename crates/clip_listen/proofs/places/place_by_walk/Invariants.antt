@@ -7,6 +7,7 @@ use Rattle.clip_listen.proofs.places.place_by_walk.Given as goal
 abbrev pub invariant-loop-part : goal.invariant-loop-part
 invariant-loop-part g l = record {
   counted : l.at ≡ l.part-index;
-  left : position_from (bytes_eq l.name) l.at (names_of (drop l.part-index l.parts)) ≡ position_from (bytes_eq l.fn.name) 0 (names_of l.fn.parts);
+  left : position_from (bytes_eq l.name) l.at (names_of (drop l.part-index l.parts))
+      ≡ position_from (bytes_eq l.fn.name) 0 (names_of l.fn.parts);
   name : l.name ≡ l.fn.name;
 }

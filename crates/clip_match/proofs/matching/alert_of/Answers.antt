@@ -12,7 +12,8 @@ with_hits-requires c =
     let count = places.end - places.start in
     let all = c.args.all_hits.now.value.items in
     let fields = c.args.article.now.fields in
-    let at = subst (λ o. IfSome o (StandAt (map hit_value all) (hits c.args.held.registered.now.standing.tree fields))) c.in-Some.is c.requires in
+    let at = subst (λ o. IfSome o (StandAt (map hit_value all) (hits c.args.held.registered.now.standing.tree fields)))
+    c.in-Some.is c.requires in
     c.in_ok-hits-in-Some.ensures
     ∙ sym (take-map hit_value count (drop places.start all))
     ∙ ap (take count) (sym (drop-map hit_value places.start all))

@@ -1,4 +1,5 @@
-use Rattle.std.proofs.Common.{◌≡◌, All, List, Vec, Global, true, is_some, map, filter, IsPermutation, sym, ap, subst, ◌∙◌, arith, rules}
+use Rattle.std.proofs.Common.{◌≡◌, All, List, Vec, Global, true, is_some, map, filter, IsPermutation, sym, ap, subst}
+use Rattle.std.proofs.Common.{◌∙◌, arith, rules}
 use Rattle.std.proofs.lemmas.List.{get_or-map, length-map}
 use Rattle.std.proofs.lemmas.Simd.{map-map}
 use Rattle.std.proofs.lemmas.List.Sorted.{All-permutation, IsPermutation-map}
@@ -16,7 +17,8 @@ use Rattle.clip_match.proofs.Due.{alerts_are_due}
 use Rattle.clip_match.proofs.matching.entries_due.Goals as goal
 
 -- what holds of all entries holds of them with their ids
-all_held : (P : Held → Type 0) (named : List Named) (held : List Held) → map (λ (n : Named). n.held) named ≡ held → All P held → All (λ (n : Named). P n.held) named
+all_held : (P : Held → Type 0) (named : List Named) (held : List Held) → map (λ (n : Named). n.held) named ≡ held
+    → All P held → All (λ (n : Named). P n.held) named
 all_held P named held is each k d lt =
     subst P (get_or-map (λ (n : Named). n.held) named k d d.held lt)
     (subst (All P) (sym is) each k d.held (omega (arith, lt, length-map named (λ (n : Named). n.held))))
@@ -25,9 +27,12 @@ pub returns-clause-hits : goal.returns-clause-hits
 returns-clause-hits c =
     let article = c.args.article.now in
     let found = c.in_ok-asked.field-0.all_hits in
-    subst (λ (list : Vec Hit Global). All (λ (n : Named). AreItsHits article (map hit_value list.items) n.held) c.sort_by_id.new.named.items) (sym c.in_ok-all_hits.ensures.ok)
-    (All-permutation (λ (n : Named). AreItsHits article (map hit_value found.items) n.held) c.in_ok-named.named.items c.sort_by_id.new.named.items c.sort_by_id.ensures.moved
-    (all_held (AreItsHits article (map hit_value found.items)) c.in_ok-named.named.items _ c.in_ok-named.ensures (λ k d lt. (c.in_ok-asked.ensures.hits k d lt).right)))
+    subst (λ (list : Vec Hit Global). All (λ (n : Named). AreItsHits article (map hit_value list.items) n.held)
+    c.sort_by_id.new.named.items) (sym c.in_ok-all_hits.ensures.ok)
+    (All-permutation (λ (n : Named). AreItsHits article (map hit_value found.items) n.held) c.in_ok-named.named.items
+    c.sort_by_id.new.named.items c.sort_by_id.ensures.moved
+    (all_held (AreItsHits article (map hit_value found.items)) c.in_ok-named.named.items _ c.in_ok-named.ensures
+    (λ k d lt. (c.in_ok-asked.ensures.hits k d lt).right)))
 
 pub returns-clause-due : goal.returns-clause-due
 returns-clause-due c =
@@ -40,13 +45,19 @@ returns-clause-due c =
     sym (map-map (λ (h : Held). h.registered.now) (λ (n : Named). n.held) named)
     ∙ ap (map (λ (h : Held). h.registered.now)) c.in_ok-named.ensures
     ∙ c.in_ok-asked.ensures.held in
-    let moved : IsPermutation (filter (λ r. holds r.standing.tree article.fields) (candidates_of state article)) sorted =
-    subst (λ xs. IsPermutation xs sorted) those (IsPermutation-map (λ (n : Named). n.held.registered.now) named c.sort_by_id.new.named.items c.sort_by_id.ensures.moved) in
+    let moved : IsPermutation (filter (λ r. holds r.standing.tree article.fields) (candidates_of state article))
+    sorted =
+    subst (λ xs. IsPermutation xs sorted) those
+    (IsPermutation-map (λ (n : Named). n.held.registered.now) named c.sort_by_id.new.named.items
+    c.sort_by_id.ensures.moved) in
     let due : map (alert_due article) sorted ≡ alerts state.history article =
-    alerts_are_due state article (candidates_of state article) sorted c.in_ok-asked.ensures.registered c.in_ok-asked.ensures.misses_none c.in_ok-asked.ensures.rising moved c.sort_by_id.ensures.sorted in
+    alerts_are_due state article (candidates_of state article) sorted c.in_ok-asked.ensures.registered
+    c.in_ok-asked.ensures.misses_none c.in_ok-asked.ensures.rising moved c.sort_by_id.ensures.sorted in
     search (rules, due)
 
 pub returns-clause-there : goal.returns-clause-there
 returns-clause-there c = λ at_once.
-    All-permutation (λ (n : Named). is_some n.held.hits ≡ true) c.in_ok-named.named.items c.sort_by_id.new.named.items c.sort_by_id.ensures.moved
-    (all_held (λ (h : Held). is_some h.hits ≡ true) c.in_ok-named.named.items _ c.in_ok-named.ensures (λ k d lt. (c.in_ok-asked.ensures.hits k d lt).there at_once))
+    All-permutation (λ (n : Named). is_some n.held.hits ≡ true) c.in_ok-named.named.items c.sort_by_id.new.named.items
+    c.sort_by_id.ensures.moved
+    (all_held (λ (h : Held). is_some h.hits ≡ true) c.in_ok-named.named.items _ c.in_ok-named.ensures
+    (λ k d lt. (c.in_ok-asked.ensures.hits k d lt).there at_once))

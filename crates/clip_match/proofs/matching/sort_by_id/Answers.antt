@@ -9,7 +9,9 @@ use Rattle.clip_match.proofs.matching.sort_by_id.Goals as goal
 
 pub returns-clause-sorted : goal.returns-clause-sorted
 returns-clause-sorted c =
-    sorted_mapped (λ (e : Named). e.held.registered.now) (λ (r s : Registered). is_lt (bytes_cmp r.standing.id s.standing.id)) _
-    (c.sort_unstable_by.ensures.sorted (λ (e f : Named). is_lt (bytes_cmp e.held.registered.now.standing.id f.held.registered.now.standing.id))
+    sorted_mapped (λ (e : Named). e.held.registered.now)
+    (λ (r s : Registered). is_lt (bytes_cmp r.standing.id s.standing.id)) _
+    (c.sort_unstable_by.ensures.sorted
+    (λ (e f : Named). is_lt (bytes_cmp e.held.registered.now.standing.id f.held.registered.now.standing.id))
     (ranks_by nat_list_cmp_total (λ (e : Named). e.held.registered.now.standing.id))
     (answers_always _ _ _ (λ f a r g called. ap is_lt (search (rules, of_calls)))))

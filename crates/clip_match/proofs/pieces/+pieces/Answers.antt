@@ -58,10 +58,12 @@ join-first-requires-send-F g t c κs within =
     let name = codes "clip_match::pieces::fn::match_from::join+arg2+Self" in
     param_send 1 _ (arg_send _ no (TupleAt name captured)
     (captures_send name rt global.the_row looked front u64-field.row number number gate
-    (shr_send _ _ _ (param_sync 0 _ r)) global_sent.the_send (shr_send _ _ _ view_is_sync) (shr_slice_send _ _ _ article_sent.the_sync)
+    (shr_send _ _ _ (param_sync 0 _ r)) global_sent.the_send (shr_send _ _ _ view_is_sync)
+    (shr_slice_send _ _ _ article_sent.the_sync)
     (search sendable) (search sendable) (search sendable) (shr_send _ _ _ (param_sync 1 _ s))))
 
 pub join-first-requires-send-A : goal.join-first-requires-send-A
 join-first-requires-send-A g t c κs within =
-    let found = vec_sent.the_send alerts.the_row global.the_row global_allocator.ghosts alerts_send global_sent.the_send allocator_sent.the_frees in
+    let found = vec_sent.the_send alerts.the_row global.the_row global_allocator.ghosts alerts_send
+    global_sent.the_send allocator_sent.the_frees in
     param_send 3 _ (arg_send _ no _ (result_sent.the_send _ _ found no_memory_sent.the_send))

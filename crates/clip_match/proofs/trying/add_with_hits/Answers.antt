@@ -1,4 +1,5 @@
-use Rattle.std.proofs.Common.{◌≡◌, ◌++◌, ◌∙◌, ◌∷◌, ◌+◌, List, [], Some, All, arith, length, map, take, get_or, option_map, option_to_list, sym, ap, subst}
+use Rattle.std.proofs.Common.{◌≡◌, ◌++◌, ◌∙◌, ◌∷◌, ◌+◌, List, [], Some, All, arith, length, map, take, get_or}
+use Rattle.std.proofs.Common.{option_map, option_to_list, sym, ap, subst}
 use Rattle.std.specs.List.{slice_get}
 use Rattle.std.specs.Arc.{arc_value}
 use Rattle.std.specs.Option.{IfSome, option_copied}
@@ -35,11 +36,14 @@ loop-position-preserved c =
     let all = map hit_value c.loop-position.all_hits.items in
     let found = hits one.registered.now.standing.tree article.fields in
     let made : map hit_value c.add_hits.new.found.items ≡ all ++ found =
-    subst (λ (a : AskedValue). (entry : Registered) → slice_get a.entries p ≡ Some entry → map hit_value c.add_hits.new.found.items ≡ all ++ hits entry.standing.tree a.article.fields) c.requires
+    subst (λ (a : AskedValue). (entry : Registered) → slice_get a.entries p ≡ Some entry
+    → map hit_value c.add_hits.new.found.items ≡ all ++ hits entry.standing.tree a.article.fields) c.requires
     c.in_ok-add_hits.ensures one.registered.now there in
     let places : HitPlaces = record { start = c.len-start.result; end = c.len-end.result } in
-    let start : places.start ≡ length all = omega (arith, c.len-start.ensures, length-map c.loop-position.all_hits.items hit_value) in
-    let end : places.end ≡ length (all ++ found) = omega (arith, c.len-end.ensures, length-map c.add_hits.new.found.items hit_value, ap length made) in
+    let start : places.start ≡ length all =
+    omega (arith, c.len-start.ensures, length-map c.loop-position.all_hits.items hit_value) in
+    let end : places.end ≡ length (all ++ found) =
+    omega (arith, c.len-end.ensures, length-map c.add_hits.new.found.items hit_value, ap length made) in
     let more : entries_at es (take i ps) ++ one.registered.now ∷ [] ≡ entries_at es (take (i + 1) ps) =
     ap (λ o. entries_at es (take i ps) ++ option_to_list o) (sym there)
     ∙ sym (entries_more es (take i ps) p)
@@ -53,12 +57,15 @@ loop-position-preserved c =
           ∙ ap (λ xs. entry old ++ xs) more;
       hits =
           λ before.
-          subst (All (HasItsHits c.args.hits article (map hit_value c.add_hits.new.found.items))) (sym c.in_ok-push-2.ensures.items)
+          subst (All (HasItsHits c.args.hits article (map hit_value c.add_hits.new.found.items)))
+          (sym c.in_ok-push-2.ensures.items)
           (subst (λ list. All (HasItsHits c.args.hits article list) (now ++ one ∷ [])) (sym made)
-          (All-append (HasItsHits c.args.hits article (all ++ found)) now (one ∷ []) (each_still c.args.hits article all found now (c.loop-position.invariant.hits before))
+          (All-append (HasItsHits c.args.hits article (all ++ found)) now (one ∷ [])
+          (each_still c.args.hits article all found now (c.loop-position.invariant.hits before))
           (All-cons (HasItsHits c.args.hits article (all ++ found)) one []
           (record {
-            right = subst (λ o. IfSome o (StandAt (all ++ found) found)) (sym c.of-in-loop-position.ensures.hits) (stand_last all found places start end);
+            right = subst (λ o. IfSome o (StandAt (all ++ found) found)) (sym c.of-in-loop-position.ensures.hits)
+                (stand_last all found places start end);
             there = λ _. ap is_some c.of-in-loop-position.ensures.hits;
           })
           (All-nil (HasItsHits c.args.hits article (all ++ found))))));

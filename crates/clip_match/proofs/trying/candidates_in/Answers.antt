@@ -11,13 +11,16 @@ use Rattle.clip_match.proofs.trying.candidates_in.Goals as goal
 use Rattle.clip_match.proofs.trying.candidates_in.Goals.{After-keep}
 
 -- the marks are those of the candidates
-kept : (c : After-keep) → c.keep.new.self ≡ map (candidate c.args.view.now.history (article_keys c.args.reading.now.article.fields) c.args.reading.now.entries) c.args.reading.now.entries
+kept : (c : After-keep) → c.keep.new.self
+    ≡ map (candidate c.args.view.now.history (article_keys c.args.reading.now.article.fields)
+    c.args.reading.now.entries) c.args.reading.now.entries
 kept c =
     let h = c.args.view.now.history in
     let es = c.args.reading.now.entries in
     let live : c.in-Some.live.now ≡ map (λ (r : Registered). is_live h r.seq) es =
     same_Some _ _ (c.in-Some.ensures ∙ ap (option_map (map (λ (r : Registered). is_live h r.seq))) c.requires) in
-    c.keep.ensures ∙ ap₂ both c.in_ok-marks.ensures live ∙ live_sharers h (article_keys c.args.reading.now.article.fields) es
+    c.keep.ensures ∙ ap₂ both c.in_ok-marks.ensures live
+    ∙ live_sharers h (article_keys c.args.reading.now.article.fields) es
 
 pub returns-clause-asked : goal.returns-clause-asked
 returns-clause-asked c =
@@ -30,6 +33,7 @@ returns-clause-positions c =
     let here = (goal.at.returns-clause-positions c).After-keep in
     let held = λ (r : Registered). holds r.standing.tree c.args.reading.now.article.fields in
     ap (λ ps. filter held (entries_at c.args.reading.now.entries ps)) c.in_ok-numbers_into.ensures
-    ∙ held_among c.args.view.now.history (article_keys c.args.reading.now.article.fields) c.args.reading.now.entries held c.keep_met.new.marks
+    ∙ held_among c.args.view.now.history (article_keys c.args.reading.now.article.fields) c.args.reading.now.entries
+    held c.keep_met.new.marks
     (c.keep_met.ensures.length ∙ ap length (kept here))
     (λ k e there passes. c.keep_met.ensures.none_lost k e there passes ∙ ap (λ fs. get_or fs k false) (kept here))

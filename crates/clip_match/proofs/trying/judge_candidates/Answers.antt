@@ -1,4 +1,5 @@
-use Rattle.std.proofs.Common.{◌≡◌, ◌+◌, ◌<◌, Bool, List, [], ◌∷◌, ◌++◌, All, Some, filter, length, map, drop, option_map, slice_get, refl, sym, ap, subst, ◌∙◌, arith}
+use Rattle.std.proofs.Common.{◌≡◌, ◌+◌, ◌<◌, Bool, List, [], ◌∷◌, ◌++◌, All, Some, filter, length, map, drop}
+use Rattle.std.proofs.Common.{option_map, slice_get, refl, sym, ap, subst, ◌∙◌, arith}
 use Rattle.std.specs.Arc.{arc_value}
 use Rattle.std.proofs.lemmas.List.{append_assoc, append-nil, drop_all, drop_more}
 use Rattle.std.proofs.lemmas.Option.{slice_get-map, slice_get_read}
@@ -33,7 +34,11 @@ try_segment-requires-clause-place c =
 
 -- the reading is of the segment's entries and the article
 value : (c : In_ok-reading)
-    → c.in_ok-reading.reading ≡ record { entries = arc_value c.index-segments-place.result; article = c.args.article.now }
+    → c.in_ok-reading.reading ≡ record {
+      entries = arc_value c.index-segments-place.result;
+      article =
+          c.args.article.now;
+    }
 value c =
     c.in_ok-reading.ensures
     ∙ ap (λ (es : List Registered). record { entries = es; article = c.in_ok-asking.asking }) c.deref.ensures

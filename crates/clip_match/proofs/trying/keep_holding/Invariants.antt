@@ -5,4 +5,6 @@ use Rattle.clip_match.proofs.trying.keep_holding.Given as goal
 
 abbrev pub invariant-loop-position : goal.invariant-loop-position
 invariant-loop-position l =
-    entries_at l.reading.entries l.holding.items ≡ filter (λ r. holds r.standing.tree l.reading.article.fields) (entries_at l.reading.entries (take l.position-index l.positions))
+    entries_at l.reading.entries l.holding.items
+    ≡ filter (λ r. holds r.standing.tree l.reading.article.fields)
+    (entries_at l.reading.entries (take l.position-index l.positions))

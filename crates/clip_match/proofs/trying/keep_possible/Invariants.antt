@@ -6,4 +6,5 @@ use Rattle.clip_match.proofs.trying.keep_possible.Given as goal
 abbrev pub invariant-loop-position : goal.invariant-loop-position
 invariant-loop-position l =
     filter (λ r. holds r.standing.tree l.reading.article.fields) (entries_at l.reading.entries l.possible.items)
-    ≡ filter (λ r. holds r.standing.tree l.reading.article.fields) (entries_at l.reading.entries (take l.position-index l.positions))
+    ≡ filter (λ r. holds r.standing.tree l.reading.article.fields)
+    (entries_at l.reading.entries (take l.position-index l.positions))

@@ -5,4 +5,5 @@ use Rattle.clip_meaning.specs.Article.{names, pairs_of}
 use Rattle.clip_meaning.proofs.fault.has_name.Given as goal
 
 abbrev pub invariant-loop-other : goal.invariant-loop-other
-invariant-loop-other l = list_any (bytes_eq l.name) (names (pairs_of (drop l.other-index l.fields))) ≡ list_any (bytes_eq l.name) (names (pairs_of l.fields))
+invariant-loop-other l = list_any (bytes_eq l.name) (names (pairs_of (drop l.other-index l.fields)))
+    ≡ list_any (bytes_eq l.name) (names (pairs_of l.fields))

@@ -8,5 +8,10 @@ use Rattle.clip_meaning.proofs.field.mark_runs.Given as goal
 abbrev pub invariant-loop-posting : goal.invariant-loop-posting
 invariant-loop-posting l = record {
   long : length l.flags.items ≡ length l.fn.flags.items;
-  raised : (k : ℕ) → k < length l.fn.flags.items → (is_up (get_or l.flags.items k 0) || list_any (λ p. covers (map arc_str_bytes l.words) (map arc_str_bytes l.phrase) k p.1) (drop l.posting-index l.postings)) ≡ (is_up (get_or l.fn.flags.items k 0) || list_any (λ p. covers (map arc_str_bytes l.words) (map arc_str_bytes l.phrase) k p.1) l.postings);
+  raised : (k : ℕ) → k < length l.fn.flags.items
+      → (is_up (get_or l.flags.items k 0)
+      || list_any (λ p. covers (map arc_str_bytes l.words) (map arc_str_bytes l.phrase) k p.1)
+      (drop l.posting-index l.postings))
+      ≡ (is_up (get_or l.fn.flags.items k 0)
+      || list_any (λ p. covers (map arc_str_bytes l.words) (map arc_str_bytes l.phrase) k p.1) l.postings);
 }

@@ -5,7 +5,8 @@ use Rattle.std.specs.Str.{bytes_eq}
 use Rattle.clip_meaning.proofs.field.starts_with.Given as goal
 
 abbrev pub invariant-loop-next : goal.invariant-loop-next
-invariant-loop-next l = starts_with bytes_eq (map arc_str_bytes l.words) (map arc_str_bytes l.phrase) ≡ starts_with bytes_eq (map arc_str_bytes l.fn.words) (map arc_str_bytes l.fn.phrase)
+invariant-loop-next l = starts_with bytes_eq (map arc_str_bytes l.words) (map arc_str_bytes l.phrase)
+    ≡ starts_with bytes_eq (map arc_str_bytes l.fn.words) (map arc_str_bytes l.fn.phrase)
 
 abbrev pub decreases-loop-next : goal.decreases-loop-next
 decreases-loop-next l = length l.phrase

@@ -11,8 +11,10 @@ returns-after-loop-occur-clause-raised t c k lt =
     let old = is_up (get_or c.args.flags.now.items k 0) in
     let field = c.args.field.now in
     let cs = c.deref-occur-items.result.now in
-    raise_end (asked field k) cs c.loop-occur.occur-index _ _ c.loop-occur-test.false (c.loop-occur.invariant.raised k lt)
+    raise_end (asked field k) cs c.loop-occur.occur-index _ _ c.loop-occur-test.false
+    (c.loop-occur.invariant.raised k lt)
     ∙ ap (λ b. old || b) (named_by field k cs
-    ∙ ap (λ xs. is_named_by (clauses_of (map (λ x. (x.0, tree_of x.1)) xs)) field.0 field.1 (get_or field.1 k [], k)) c.deref-occur-items.ensures.value
+    ∙ ap (λ xs. is_named_by (clauses_of (map (λ x. (x.0, tree_of x.1)) xs)) field.0 field.1 (get_or field.1 k [], k))
+    c.deref-occur-items.ensures.value
     ∙ ap (λ q. is_named q field.0 field.1 (get_or field.1 k [], k)) (sym (tree_of_group c.in-Group.clauses))
     ∙ ap (λ q. is_named (tree_of q) field.0 field.1 (get_or field.1 k [], k)) (sym c.in-Group.is))

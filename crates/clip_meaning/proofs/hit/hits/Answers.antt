@@ -9,4 +9,5 @@ pub returns : goal.returns
 unfolding hits
 returns c =
     let by_field = hits_in (tree_of c.args.query.now) in
-    fields_end by_field c.fields-field-items.result.now c.loop-field.field-index _ _ c.loop-field-test.false c.loop-field.invariant ∙ ap (flat_map by_field) c.fields-field-items.ensures
+    fields_end by_field c.fields-field-items.result.now c.loop-field.field-index _ _ c.loop-field-test.false
+    c.loop-field.invariant ∙ ap (flat_map by_field) c.fields-field-items.ensures

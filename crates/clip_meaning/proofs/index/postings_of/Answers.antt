@@ -1,4 +1,5 @@
-use Rattle.std.proofs.Common.{◌≡◌, ℕ, ◌+◌, List, [], ◌∷◌, ◌++◌, map, drop, append_assoc, append-nil, sym, ap, ◌∙◌, subst}
+use Rattle.std.proofs.Common.{◌≡◌, ℕ, ◌+◌, List, [], ◌∷◌, ◌++◌, map, drop, append_assoc, append-nil, sym, ap, ◌∙◌}
+use Rattle.std.proofs.Common.{subst}
 use Rattle.std.specs.Arc.{arc_str_bytes}
 use Rattle.std.proofs.lemmas.List.{drop_more, drop_all}
 use Rattle.std.proofs.lemmas.List.Elements.{All-nil, All-cons, All-append}
@@ -16,7 +17,9 @@ loop-word-init c = record {
 }
 
 pub invariant_of-posting : goal.invariant_of-posting
-invariant_of-posting c = subst (λ (text : List ℕ). IsLead text c.lead_of.result) (c.deref.ensures.value ∙ sym c.in_ok-clone.ensures.cases) c.lead_of.ensures
+invariant_of-posting c =
+    subst (λ (text : List ℕ). IsLead text c.lead_of.result) (c.deref.ensures.value
+    ∙ sym c.in_ok-clone.ensures.cases) c.lead_of.ensures
 
 pub loop-word-preserved : goal.loop-word-preserved
 loop-word-preserved c =
@@ -28,20 +31,26 @@ loop-word-preserved c =
     let posting : ◌≡◌ {A = List ℕ × ℕ} (arc_str_bytes c.in_ok-clone.field-0, c.len.result) (arc_str_bytes word, i) =
     λ k. (c.in_ok-clone.ensures.cases k, (c.len.ensures ∙ c.loop-word.invariant.count) k) in
     let next : numbered i (map arc_str_bytes (drop i words)) ≡ (arc_str_bytes word, i) ∷ rest =
-    ap (λ ws. numbered i (map arc_str_bytes ws)) (drop_more words i word c.loop-word-test.true) ∙ ap (λ w. (arc_str_bytes w, i) ∷ rest) (sym c.word-item.is) in
+    ap (λ ws. numbered i (map arc_str_bytes ws)) (drop_more words i word c.loop-word-test.true)
+    ∙ ap (λ w. (arc_str_bytes w, i) ∷ rest) (sym c.word-item.is) in
     record {
       count = c.in_ok-push.ensures.len ∙ ap (λ n. n + 1) c.loop-word.invariant.count;
-      words = ap (λ ps. ps ++ rest) c.in_ok-push.ensures.items ∙ append_assoc old _ rest ∙ ap (λ (p : List ℕ × ℕ). old ++ p ∷ rest) posting
+      words = ap (λ ps. ps ++ rest) c.in_ok-push.ensures.items ∙ append_assoc old _ rest
+          ∙ ap (λ (p : List ℕ × ℕ). old ++ p ∷ rest) posting
           ∙ ap (λ ps. old ++ ps) (sym next) ∙ c.loop-word.invariant.words;
       bytes = subst Led (sym c.in_ok-push.ensures.items)
-          (All-append (λ (p : Place). AreBytes p.0) old _ c.loop-word.invariant.bytes (All-cons (λ (p : Place). AreBytes p.0) _ [] (subst AreBytes (c.deref.ensures.value ∙ sym c.in_ok-clone.ensures.cases) c.lead_of.ensures.bytes) (All-nil (λ (p : Place). AreBytes p.0))));
+          (All-append (λ (p : Place). AreBytes p.0) old _ c.loop-word.invariant.bytes
+          (All-cons (λ (p : Place). AreBytes p.0) _ [] (subst AreBytes (c.deref.ensures.value
+          ∙ sym c.in_ok-clone.ensures.cases) c.lead_of.ensures.bytes) (All-nil (λ (p : Place). AreBytes p.0))));
     }
 
 pub returns-clause-words : goal.returns-clause-words
 returns-clause-words c =
     let i = c.loop-word.word-index in
     let postings = c.loop-word.postings.items in
-    sym (append-nil postings) ∙ ap (λ ws. postings ++ numbered i (map arc_str_bytes ws)) (sym (drop_all i c.args.words.now c.loop-word-test.false)) ∙ c.loop-word.invariant.words
+    sym (append-nil postings)
+    ∙ ap (λ ws. postings ++ numbered i (map arc_str_bytes ws))
+    (sym (drop_all i c.args.words.now c.loop-word-test.false)) ∙ c.loop-word.invariant.words
 
 pub returns-clause-bytes : goal.returns-clause-bytes
 returns-clause-bytes c = c.loop-word.invariant.bytes

@@ -9,6 +9,7 @@ use Rattle.clip_meaning.proofs.index.postings_of.Given as goal
 abbrev pub invariant-loop-word : goal.invariant-loop-word
 invariant-loop-word l = record {
   count : vec_len l.postings ≡ l.word-index;
-  words : l.postings.items ++ numbered l.word-index (map arc_str_bytes (drop l.word-index l.words)) ≡ numbered 0 (map arc_str_bytes l.words);
+  words : l.postings.items ++ numbered l.word-index (map arc_str_bytes (drop l.word-index l.words))
+      ≡ numbered 0 (map arc_str_bytes l.words);
   bytes : All (λ (p : List ℕ × ℕ). AreBytes p.0) l.postings.items;
 }

@@ -6,4 +6,5 @@ pub returns-then-a_lead-b_lead : goal.returns-then-a_lead-b_lead
 returns-then-a_lead-b_lead c = c.cmp.ensures ∙ leads_settle _ _ _ _ c.requires.a c.requires.b c.if-a_lead-b_lead.true
 
 pub returns-then-a-le8 : goal.returns-then-a-le8
-returns-then-a-le8 c = leads_tie _ _ _ _ c.requires.a c.requires.b c.if-a_lead-b_lead.false c.if-a-b.true c.if-a-le8.true
+returns-then-a-le8 c = leads_tie _ _ _ _ c.requires.a c.requires.b c.if-a_lead-b_lead.false c.if-a-b.true
+    c.if-a-le8.true

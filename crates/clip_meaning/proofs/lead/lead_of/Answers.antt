@@ -5,20 +5,26 @@ use Rattle.clip_meaning.proofs.lead.lead_of.Goals as goal
 
 pub overflow_mul-lead : goal.overflow_mul-lead
 overflow_mul-lead c =
-    let fits : c.loop-i.lead * 256 + 0 < 2 ^ 64 = (room c.loop-i.i c.loop-i.lead 0 c.loop-i-test.true c.loop-i.invariant.small (omega arith)).0 in omega arith
+    let fits : c.loop-i.lead * 256 + 0 < 2 ^ 64 =
+    (room c.loop-i.i c.loop-i.lead 0 c.loop-i-test.true c.loop-i.invariant.small (omega arith)).0 in omega arith
 
 pub overflow_add-lead : goal.overflow_add-lead
 overflow_add-lead c =
-    let fits : c.loop-i.lead * 256 + c.byte_at.result < 2 ^ 64 = (room c.loop-i.i c.loop-i.lead c.byte_at.result c.loop-i-test.true c.loop-i.invariant.small c.byte_at.type_inv).0 in omega arith
+    let fits : c.loop-i.lead * 256 + c.byte_at.result < 2 ^ 64 =
+    (room c.loop-i.i c.loop-i.lead c.byte_at.result c.loop-i-test.true c.loop-i.invariant.small
+    c.byte_at.type_inv).0 in omega arith
 
 pub loop-i-preserved : goal.loop-i-preserved
 loop-i-preserved c = record {
-  small = (room c.loop-i.i c.loop-i.lead c.byte_at.result c.loop-i-test.true c.loop-i.invariant.small c.byte_at.type_inv).1;
-  read = one_more c.loop-i.i c.loop-i.lead _ c.as_bytes-bytes.result.now c.loop-i-test.true (ap (λ b. c.loop-i.lead * 256 + b) c.byte_at.ensures) c.loop-i.invariant.read;
+  small = (room c.loop-i.i c.loop-i.lead c.byte_at.result c.loop-i-test.true c.loop-i.invariant.small
+      c.byte_at.type_inv).1;
+  read = one_more c.loop-i.i c.loop-i.lead _ c.as_bytes-bytes.result.now c.loop-i-test.true
+      (ap (λ b. c.loop-i.lead * 256 + b) c.byte_at.ensures) c.loop-i.invariant.read;
 }
 
 pub returns : goal.returns
 returns c = record {
   bytes = bytes_of c.args.text.now (λ i. omega (arith, c.type_inv.text i));
-  number = all_read c.loop-i.lead c.loop-i.i c.as_bytes-bytes.result.now (omega arith) c.loop-i.invariant.read ∙ ap lead_of c.as_bytes-bytes.ensures.value;
+  number = all_read c.loop-i.lead c.loop-i.i c.as_bytes-bytes.result.now (omega arith) c.loop-i.invariant.read
+      ∙ ap lead_of c.as_bytes-bytes.ensures.value;
 }

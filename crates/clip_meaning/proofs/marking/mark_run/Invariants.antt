@@ -6,5 +6,6 @@ abbrev pub invariant-loop-position : goal.invariant-loop-position
 invariant-loop-position l = record {
   long : length l.flags.items ≡ length l.fn.flags.items;
   reached : l.position ≤ max l.start l.end;
-  raised : (k : ℕ) → k < length l.fn.flags.items → is_up (get_or l.flags.items k 0) ≡ (is_up (get_or l.fn.flags.items k 0) || (nat_le l.start k && nat_lt k l.position));
+  raised : (k : ℕ) → k < length l.fn.flags.items → is_up (get_or l.flags.items k 0)
+      ≡ (is_up (get_or l.fn.flags.items k 0) || (nat_le l.start k && nat_lt k l.position));
 }

@@ -4,7 +4,8 @@ use Rattle.clip_merge.proofs.levels.level.Goals as goal
 
 pub overflow_add-level : goal.overflow_add-level
 overflow_add-level c =
-    let few : c.loop-rest.level < 32 = few_levels c.args.len c.loop-rest.level c.loop-rest.rest c.loop-rest.invariant (omega arith) (omega arith) in
+    let few : c.loop-rest.level < 32 =
+    few_levels c.args.len c.loop-rest.level c.loop-rest.rest c.loop-rest.invariant (omega arith) (omega arith) in
     omega arith
 
 pub loop-rest-preserved : goal.loop-rest-preserved

@@ -14,7 +14,8 @@ select-requires-clause-flags c =
     let segments = map arc_value c.args.segments.now in
     let flags : map vec_items c.deref-2.result.now ≡ flags_of c.args.live.now segments =
     ap (map vec_items) c.deref-2.ensures.value ∙ c.loop-segment.invariant
-    ∙ ap (λ ss. flags_of c.args.live.now (map arc_value ss)) (take_all c.loop-segment.segment-index c.args.segments.now c.loop-segment-test.false) in
+    ∙ ap (λ ss. flags_of c.args.live.now (map arc_value ss))
+    (take_all c.loop-segment.segment-index c.args.segments.now c.loop-segment-test.false) in
     subst (AreFlagsOf segments) (sym flags) (flags_each c.args.live.now segments)
 
 pub select-requires-clause-short : goal.select-requires-clause-short
@@ -22,7 +23,8 @@ select-requires-clause-short c =
     let segments = map arc_value c.args.segments.now in
     let flags : map vec_items c.deref-2.result.now ≡ flags_of c.args.live.now segments =
     ap (map vec_items) c.deref-2.ensures.value ∙ c.loop-segment.invariant
-    ∙ ap (λ ss. flags_of c.args.live.now (map arc_value ss)) (take_all c.loop-segment.segment-index c.args.segments.now c.loop-segment-test.false) in
+    ∙ ap (λ ss. flags_of c.args.live.now (map arc_value ss))
+    (take_all c.loop-segment.segment-index c.args.segments.now c.loop-segment-test.false) in
     subst (λ n. n ≤ MOST_POSITIONS) (sym (ap count_set flags ∙ count_named c.args.live.now segments)) c.requires.short
 
 pub select-requires-clause-rising : goal.select-requires-clause-rising
@@ -30,13 +32,17 @@ select-requires-clause-rising c =
     let segments = map arc_value c.args.segments.now in
     let flags : map vec_items c.deref-2.result.now ≡ flags_of c.args.live.now segments =
     ap (map vec_items) c.deref-2.ensures.value ∙ c.loop-segment.invariant
-    ∙ ap (λ ss. flags_of c.args.live.now (map arc_value ss)) (take_all c.loop-segment.segment-index c.args.segments.now c.loop-segment-test.false) in
-    subst IsRising (sym (ap (kept_of segments) flags ∙ kept_named c.args.live.now segments)) (named_rising c.args.live.now (all_entries segments) c.requires.rising)
+    ∙ ap (λ ss. flags_of c.args.live.now (map arc_value ss))
+    (take_all c.loop-segment.segment-index c.args.segments.now c.loop-segment-test.false) in
+    subst IsRising (sym (ap (kept_of segments) flags ∙ kept_named c.args.live.now segments))
+    (named_rising c.args.live.now (all_entries segments) c.requires.rising)
 
 pub returns : goal.returns
 returns c =
     let segments = map arc_value c.args.segments.now in
     let flags : map vec_items c.deref-2.result.now ≡ flags_of c.args.live.now segments =
     ap (map vec_items) c.deref-2.ensures.value ∙ c.loop-segment.invariant
-    ∙ ap (λ ss. flags_of c.args.live.now (map arc_value ss)) (take_all c.loop-segment.segment-index c.args.segments.now c.loop-segment-test.false) in
-    IfOk-weaker c.select.result _ (λ segment. segment ≡ named c.args.live.now (all_entries segments)) (λ segment is. is ∙ ap (kept_of segments) flags ∙ kept_named c.args.live.now segments) c.select.ensures
+    ∙ ap (λ ss. flags_of c.args.live.now (map arc_value ss))
+    (take_all c.loop-segment.segment-index c.args.segments.now c.loop-segment-test.false) in
+    IfOk-weaker c.select.result _ (λ segment. segment ≡ named c.args.live.now (all_entries segments)) (λ segment is. is
+    ∙ ap (kept_of segments) flags ∙ kept_named c.args.live.now segments) c.select.ensures

@@ -23,5 +23,6 @@ returns c =
     let before = c.loop-left.numbers.items in
     let first = c.args.first in
     sym (append-nil before)
-    ∙ ap (λ ns. before ++ ns) (sym (ap (λ w. marked_from first (bits_of 64 w)) c.loop-left-test.false ∙ ap (marked_from first) (no_bits 64) ∙ none_marked first 64))
+    ∙ ap (λ ns. before ++ ns) (sym (ap (λ w. marked_from first (bits_of 64 w)) c.loop-left-test.false
+    ∙ ap (marked_from first) (no_bits 64) ∙ none_marked first 64))
     ∙ c.loop-left.invariant

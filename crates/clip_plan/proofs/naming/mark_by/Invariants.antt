@@ -12,7 +12,10 @@ invariant-loop-left l = record {
   few : l.excluded + l.left ≤ length l.steps;
   long : length l.flags ≡ length l.fn.flags;
   counted : l.excluded ≡ excluded_at (map (meant l.runs (map tree_of l.queries) l.spots.terms) (drop l.left l.steps)) 0;
-  raised : (k : ℕ) → k < length l.fn.flags → is_up (get_or l.flags k 0) ≡ (is_up (get_or l.fn.flags k 0) || marks_name l.spots.field k (map (meant l.runs (map tree_of l.queries) l.spots.terms) (drop l.left l.steps)) 0);
+  raised : (k : ℕ) → k < length l.fn.flags
+      → is_up (get_or l.flags k 0)
+      ≡ (is_up (get_or l.fn.flags k 0)
+      || marks_name l.spots.field k (map (meant l.runs (map tree_of l.queries) l.spots.terms) (drop l.left l.steps)) 0);
 }
 
 abbrev pub decreases-loop-left : goal.decreases-loop-left

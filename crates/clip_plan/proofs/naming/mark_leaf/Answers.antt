@@ -9,4 +9,6 @@ pub returns-in-Pair-clause-raised : goal.returns-in-Pair-clause-raised
 returns-in-Pair-clause-raised c k lt =
     let spots = c.args.spots.now in
     c.mark_run.ensures.raised k lt
-    ∙ ap (λ step. is_up (get_or c.args.flags.now k 0) || mark_names spots.field k (meant c.args.runs.now (map tree_of c.args.queries.now) spots.terms step)) (sym c.in-Pair.is)
+    ∙ ap (λ step. is_up (get_or c.args.flags.now k 0)
+    || mark_names spots.field k (meant c.args.runs.now (map tree_of c.args.queries.now) spots.terms step))
+    (sym c.in-Pair.is)

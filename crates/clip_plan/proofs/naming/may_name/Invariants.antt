@@ -8,4 +8,5 @@ use Rattle.clip_plan.proofs.naming.may_name.Given as goal
 abbrev pub invariant-loop-step : goal.invariant-loop-step
 invariant-loop-step l =
     (runs : List (List ℕ)) (queries : List Tree) (k : ℕ)
-    → marks_name l.spots.field k (map (meant runs queries l.spots.terms) l.steps) 0 ≡ marks_name l.spots.field k (map (meant runs queries l.spots.terms) (drop l.step-index l.steps)) 0
+    → marks_name l.spots.field k (map (meant runs queries l.spots.terms) l.steps) 0
+    ≡ marks_name l.spots.field k (map (meant runs queries l.spots.terms) (drop l.step-index l.steps)) 0

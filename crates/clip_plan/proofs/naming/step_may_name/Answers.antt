@@ -18,4 +18,5 @@ returns-in-Pair c unnamed runs queries k =
     let field = c.args.spots.now.field in
     let terms = c.args.spots.now.terms in
     ap (λ step. mark_names field k (meant runs queries terms step)) c.in-Pair.is
-    ∙ other_covered field (term_at terms c.in-Pair.first) (term_at terms c.in-Pair.field-2 ∷ []) k (sym c.is_of_field-in-Pair.ensures ∙ unnamed)
+    ∙ other_covered field (term_at terms c.in-Pair.first) (term_at terms c.in-Pair.field-2 ∷ []) k
+    (sym c.is_of_field-in-Pair.ensures ∙ unnamed)

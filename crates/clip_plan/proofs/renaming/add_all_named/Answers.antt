@@ -7,10 +7,12 @@ use Rattle.clip_plan.proofs.renaming.add_all_named.Goals as goal
 
 pub loop-step-preserved : goal.loop-step-preserved
 loop-step-preserved c = λ queries.
-    next_named (mark_of c.args.runs.now queries) c.args.steps.now c.loop-step.step-index _ c.args.numbers.now.items c.loop-step.numbers.items c.add_named.new.numbers.items
+    next_named (mark_of c.args.runs.now queries) c.args.steps.now c.loop-step.step-index _ c.args.numbers.now.items
+    c.loop-step.numbers.items c.add_named.new.numbers.items
     c.loop-step-test.true (c.loop-step.invariant queries) (c.in_ok-add_named.ensures queries)
 
 pub returns : goal.returns
 returns c = λ queries.
     c.loop-step.invariant queries
-    ∙ ap (λ xs. c.args.numbers.now.items ++ names (map (mark_of c.args.runs.now queries) xs)) (take_all c.loop-step.step-index c.args.steps.now c.loop-step-test.false)
+    ∙ ap (λ xs. c.args.numbers.now.items ++ names (map (mark_of c.args.runs.now queries) xs))
+    (take_all c.loop-step.step-index c.args.steps.now c.loop-step-test.false)

@@ -5,4 +5,5 @@ use Rattle.clip_plan.specs.Steps.Plans.{mark_of}
 use Rattle.clip_plan.proofs.renaming.add_all_named.Given as goal
 
 abbrev pub invariant-loop-step : goal.invariant-loop-step
-invariant-loop-step l = (queries : List Tree) → l.numbers.items ≡ l.fn.numbers.items ++ names (map (mark_of l.runs queries) (take l.step-index l.steps))
+invariant-loop-step l = (queries : List Tree)
+    → l.numbers.items ≡ l.fn.numbers.items ++ names (map (mark_of l.runs queries) (take l.step-index l.steps))

@@ -4,4 +4,5 @@ use Rattle.clip_extract.specs.Covering.{front_keys}
 use Rattle.clip_presearch.proofs.keys.add_field_fronts.Given as goal
 
 abbrev pub invariant-loop-field : goal.invariant-loop-field
-invariant-loop-field l = map key_of l.keys.items ≡ map key_of l.fn.keys.items ++ flat_map front_keys (take l.field-index l.fields)
+invariant-loop-field l =
+    map key_of l.keys.items ≡ map key_of l.fn.keys.items ++ flat_map front_keys (take l.field-index l.fields)

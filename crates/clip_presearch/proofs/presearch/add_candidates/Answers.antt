@@ -26,7 +26,9 @@ loop-position-preserved-then-not-is_live c =
     let old = map (λ (e : Bor Registered). e.now) c.args.found.now.items in
     let same : c.args.positions.now ≡ positions_sharing ks es = c.requires in
     let dead = c.if-not-is_live.ensures ∙ ap (λ (r : Registered). is_live h r.seq) c.deref.ensures in
-    c.loop-position.invariant ∙ ap (λ xs. old ++ xs) (dead_next h ks es _ c.loop-position.position-index _ same c.loop-position-test.true c.in-Some.ensures (sym dead))
+    c.loop-position.invariant
+    ∙ ap (λ xs. old ++ xs) (dead_next h ks es _ c.loop-position.position-index _ same c.loop-position-test.true
+    c.in-Some.ensures (sym dead))
 
 pub loop-position-preserved : goal.loop-position-preserved
 loop-position-preserved c =
@@ -40,7 +42,8 @@ loop-position-preserved c =
     let alive = c.if-not-is_live.ensures ∙ ap (λ (r : Registered). is_live h r.seq) c.deref.ensures in
     ap (map (λ (e : Bor Registered). e.now)) c.in_ok-push.ensures.items
     ∙ map-append (λ (e : Bor Registered). e.now) c.loop-position.found.items _
-    ∙ ap (λ xs. map (λ (e : Bor Registered). e.now) c.loop-position.found.items ++ xs ∷ []) c.deref-in-loop-position.ensures
+    ∙ ap (λ xs. map (λ (e : Bor Registered). e.now) c.loop-position.found.items ++ xs ∷ [])
+    c.deref-in-loop-position.ensures
     ∙ ap (λ xs. xs ++ x ∷ []) c.loop-position.invariant
     ∙ append_assoc old (live_front h ks es i) (x ∷ [])
     ∙ ap (λ xs. old ++ xs) (live_next h ks es _ i x same c.loop-position-test.true c.in-Some.ensures (sym alive))
@@ -53,7 +56,14 @@ returns c =
     let i = c.loop-position.position-index in
     let old = map (λ (e : Bor Registered). e.now) c.args.found.now.items in
     let same : c.args.positions.now ≡ positions_sharing ks es = c.requires in
-    let all : length (placed_with ks es) ≤ i = omega (arith, ap length same, c.loop-position-test.false, length-map (placed_with ks es) (λ (e : ℕ × Registered). e.0)) in
+    let all : length (placed_with ks es) ≤ i =
+    omega (
+      arith,
+      ap length same,
+      c.loop-position-test.false,
+      length-map (placed_with ks es) (λ (e : ℕ × Registered). e.0),
+    ) in
     c.loop-position.invariant
-    ∙ ap (λ ps. old ++ filter (λ r. is_live h r.seq) (map (λ (e : ℕ × Registered). e.1) ps)) (take_all i (placed_with ks es) all)
+    ∙ ap (λ ps. old ++ filter (λ r. is_live h r.seq) (map (λ (e : ℕ × Registered). e.1) ps))
+    (take_all i (placed_with ks es) all)
     ∙ ap (λ xs. old ++ xs) (live_positions h ks es)

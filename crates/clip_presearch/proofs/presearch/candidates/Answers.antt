@@ -21,10 +21,12 @@ loop-segment-preserved c =
     let others : List Registered = all_entries (map arc_value (drop (i + 1) segments)) in
     let within : i < length segments = let l = c.loop-segment-test.true in omega arith in
     let parts : segment ++ others ≡ all_entries (map arc_value (drop i segments)) =
-    ap (λ ss. all_entries (map arc_value ss)) (sym (drop_more segments i c.segment-item.result within ∙ ap (λ x. x ∷ drop (i + 1) segments) (sym c.segment-item.is))) in
+    ap (λ ss. all_entries (map arc_value ss)) (sym (drop_more segments i c.segment-item.result within
+    ∙ ap (λ x. x ∷ drop (i + 1) segments) (sym c.segment-item.is))) in
     let found = map (λ (e : Bor Registered). e.now) c.loop-segment.found.items in
     ap (λ xs. xs ++ live_with h keys others)
-    (c.in_ok-add_candidates.ensures ∙ ap (λ (es : List Registered). found ++ live_with h keys es) c.deref-in-loop-segment.ensures)
+    (c.in_ok-add_candidates.ensures
+    ∙ ap (λ (es : List Registered). found ++ live_with h keys es) c.deref-in-loop-segment.ensures)
     ∙ append_assoc found (live_with h keys segment) (live_with h keys others)
     ∙ ap (λ xs. found ++ xs) (live_split h keys segment others)
     ∙ ap (λ es. found ++ live_with h keys es) parts
@@ -40,7 +42,8 @@ returns c =
     let whole = c.segments-segment-items.ensures.whole in
     let all : found ≡ candidates_of state article =
     sym (append-nil found)
-    ∙ ap (λ xs. found ++ live_with state.history keys (all_entries (map arc_value xs))) (sym (drop_all c.loop-segment.segment-index segments c.loop-segment-test.false))
+    ∙ ap (λ xs. found ++ live_with state.history keys (all_entries (map arc_value xs)))
+    (sym (drop_all c.loop-segment.segment-index segments c.loop-segment-test.false))
     ∙ c.loop-segment.invariant
     ∙ ap (λ xs. live_with state.history keys (all_entries xs)) c.segments-segment-items.ensures.segments in
     record {

@@ -7,5 +7,7 @@ use Rattle.clip_presearch.proofs.presearch.candidates.Given as goal
 
 abbrev pub invariant-loop-segment : goal.invariant-loop-segment
 invariant-loop-segment l =
-    map (λ e. e.now) l.found.items ++ live_with l.view.history (article_keys l.article.fields) (all_entries (map arc_value (drop l.segment-index l.segment-items)))
+    map (λ e. e.now) l.found.items
+    ++ live_with l.view.history (article_keys l.article.fields)
+    (all_entries (map arc_value (drop l.segment-index l.segment-items)))
     ≡ live_with l.view.history (article_keys l.article.fields) (all_entries (map arc_value l.segment-items))

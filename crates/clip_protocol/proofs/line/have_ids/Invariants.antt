@@ -5,4 +5,5 @@ use Rattle.clip_protocol.specs.Steps.Views.{listing_view}
 use Rattle.clip_protocol.proofs.line.have_ids.Given as goal
 
 abbrev pub invariant-loop-listing : goal.invariant-loop-listing
-invariant-loop-listing l = list_all (λ p. is_id p.id) (map listing_view (drop l.listing-index l.listings)) ≡ list_all (λ p. is_id p.id) (map listing_view l.listings)
+invariant-loop-listing l = list_all (λ p. is_id p.id) (map listing_view (drop l.listing-index l.listings))
+    ≡ list_all (λ p. is_id p.id) (map listing_view l.listings)

@@ -16,6 +16,11 @@ returns-in_ok-new-in-Ok c =
       id = c.in-Ok.ensures.id;
       text = text;
       listener = c.in-Ok.ensures.listener;
-      query = record { utf8 = utf8; reads = subst (λ t. Reads t s.tree) text st.reads; kept = subst HasNoFault text st.kept };
+      query = record {
+        utf8 = utf8;
+        reads = subst (λ t. Reads t s.tree) text st.reads;
+        kept =
+            subst HasNoFault text st.kept;
+      };
     } in
     subst (IsReadAs (listing_view c.args.listing)) (sym c.in_ok-new-in-Ok.ensures.ok) is

@@ -6,7 +6,8 @@ use Rattle.clip_protocol.proofs.printing.article_begun_text.Goals as goal
 pub returns : goal.returns
 unfolding print_from escape_byte
 returns c =
-    let before = c.in_ok-string.ensures.room.0 ∙ c.in_ok-key.ensures.room.0 ∙ c.in_ok-begin_object.ensures.room.0 ∙ c.new-out.ensures.before in
+    let before = c.in_ok-string.ensures.room.0 ∙ c.in_ok-key.ensures.room.0 ∙ c.in_ok-begin_object.ensures.room.0
+    ∙ c.new-out.ensures.before in
     let begun = c.in_ok-begin_object.ensures.ok ∙ ap (λ ts. ts ++ begin_object ∷ []) c.new-out.ensures.tokens in
     let named = c.in_ok-key.ensures.ok ∙ ap (λ ts. ts ++ key (codes "article") ∷ []) begun in
     let tokens = c.in_ok-string.ensures.ok ∙ ap (λ ts. ts ++ string c.args.article.now ∷ []) named in

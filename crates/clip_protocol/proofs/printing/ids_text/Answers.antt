@@ -9,5 +9,7 @@ pub returns : goal.returns
 returns c =
     let ds = map string (map (λ id. id.now) c.args.ids.now) in
     let before = c.in_ok-write_each_id.ensures.before ∙ c.new-out.ensures.before in
-    let tokens = c.in_ok-write_each_id.ensures.tokens ∙ ap (λ ts. ts ++ flat_map data_tokens ds) c.new-out.ensures.tokens in
-    c.into_inner.ensures.items ∙ ap₂ (λ b ts. b ++ print ts) before tokens ∙ ap (λ t. c.args.text.items ++ t) (print-each ds)
+    let tokens = c.in_ok-write_each_id.ensures.tokens
+    ∙ ap (λ ts. ts ++ flat_map data_tokens ds) c.new-out.ensures.tokens in
+    c.into_inner.ensures.items ∙ ap₂ (λ b ts. b ++ print ts) before tokens
+    ∙ ap (λ t. c.args.text.items ++ t) (print-each ds)

@@ -7,6 +7,8 @@ use Rattle.clip_protocol.proofs.printing.write_alerts_of_all.Given as goal
 
 abbrev pub invariant-loop-alerts : goal.invariant-loop-alerts
 invariant-loop-alerts l = record {
-  tokens : l.out.tokens ++ last_tokens (map (alerts_data l.form) (map alerts_by_id (map alerts_value (drop l.alerts-index l.found)))) ≡ l.initial.out.tokens ++ last_tokens (map (alerts_data l.form) (map alerts_by_id (map alerts_value l.found)));
+  tokens : l.out.tokens ++ last_tokens
+      (map (alerts_data l.form) (map alerts_by_id (map alerts_value (drop l.alerts-index l.found))))
+      ≡ l.initial.out.tokens ++ last_tokens (map (alerts_data l.form) (map alerts_by_id (map alerts_value l.found)));
   before : l.out.before ≡ l.initial.out.before;
 }

@@ -11,7 +11,10 @@ returns c =
     let ds = map hit_data (map hit_value c.args.hits.now) in
     record {
       tokens =
-          c.in_ok-end_array.ensures.ok ∙ ap (λ ts. ts ++ end_array ∷ []) (c.in_ok-write_each_hit.ensures.tokens ∙ ap (λ ts. ts ++ flat_map data_tokens ds) c.in_ok-begin_array.ensures.ok)
+          c.in_ok-end_array.ensures.ok
+          ∙ ap (λ ts. ts ++ end_array ∷ []) (c.in_ok-write_each_hit.ensures.tokens
+          ∙ ap (λ ts. ts ++ flat_map data_tokens ds) c.in_ok-begin_array.ensures.ok)
           ∙ array_tokens c.args.out.now.tokens ds;
-      before = c.in_ok-end_array.ensures.room.0 ∙ c.in_ok-write_each_hit.ensures.before ∙ c.in_ok-begin_array.ensures.room.0;
+      before = c.in_ok-end_array.ensures.room.0 ∙ c.in_ok-write_each_hit.ensures.before
+          ∙ c.in_ok-begin_array.ensures.room.0;
     }

@@ -7,6 +7,8 @@ use Rattle.clip_protocol.proofs.printing.write_hits_of_all.Given as goal
 
 abbrev pub invariant-loop-alert : goal.invariant-loop-alert
 invariant-loop-alert l = record {
-  tokens : l.out.tokens ++ last_tokens (map (λ a. array_of (map hit_data a.hits)) (map alert_value (drop l.alert-index l.alerts))) ≡ l.initial.out.tokens ++ last_tokens (map (λ a. array_of (map hit_data a.hits)) (map alert_value l.alerts));
+  tokens : l.out.tokens ++ last_tokens
+      (map (λ a. array_of (map hit_data a.hits)) (map alert_value (drop l.alert-index l.alerts)))
+      ≡ l.initial.out.tokens ++ last_tokens (map (λ a. array_of (map hit_data a.hits)) (map alert_value l.alerts));
   before : l.out.before ≡ l.initial.out.before;
 }

@@ -1,4 +1,5 @@
-use Rattle.std.proofs.Common.{◌≡◌, ◌+◌, ◌<◌, List, ℕ, ◌++◌, false, get_or, length, map, nat_lt, take, append_assoc, refl, sym, ap, subst, ◌∙◌}
+use Rattle.std.proofs.Common.{◌≡◌, ◌+◌, ◌<◌, List, ℕ, ◌++◌, false, get_or, length, map, nat_lt, take, append_assoc}
+use Rattle.std.proofs.Common.{refl, sym, ap, subst, ◌∙◌}
 use Rattle.serde_json.specs.Written.{comma_if, compact_text}
 use Rattle.clip_model.specs.Alerts as model
 use Rattle.clip_standing.specs.Alerts.{alert_value}
@@ -19,30 +20,39 @@ hits_of a = array_of (map hit_data a.hits)
 
 -- the hits of one alert more
 next : (alerts : List Alert) (i : ℕ) (a : Alert) → i < length alerts → a ≡ get_or alerts i a
-    → (items_begun false (take i (map hits_of (map alert_value alerts))) ++ comma_if (nat_lt 0 i)) ++ compact_text (hits_of (alert_value a)) ≡ items_begun false (take (i + 1) (map hits_of (map alert_value alerts)))
+    → (items_begun false (take i (map hits_of (map alert_value alerts))) ++ comma_if (nat_lt 0 i))
+    ++ compact_text (hits_of (alert_value a))
+    ≡ items_begun false (take (i + 1) (map hits_of (map alert_value alerts)))
 next alerts i a below is =
     let values = map alert_value alerts in
     let value = element alert_value alerts alerts i a refl below is in
     let shown = element hits_of values values i (alert_value a) refl value.0 value.1 in
-    append_assoc (items_begun false (take i (map hits_of values))) (comma_if (nat_lt 0 i)) (compact_text (hits_of (alert_value a)))
+    append_assoc (items_begun false (take i (map hits_of values))) (comma_if (nat_lt 0 i))
+    (compact_text (hits_of (alert_value a)))
     ∙ items_next (map hits_of values) i (hits_of (alert_value a)) shown.0 shown.1
 
 -- they were put behind a comma
 put : (g : Over) (c : In_ok-text g)
-    → Puts (stand g.W.Sink.taken g.W.Sink.has_failed c.args.flow.now.writer.now (c.args.flow.now.outbox.now ++ c.args.text.items))
-    (stand g.W.Sink.taken g.W.Sink.has_failed c.put_hits_of.new.flow.writer.now (c.put_hits_of.new.flow.outbox.now ++ c.in_ok-text.text.items))
+    → Puts (stand g.W.Sink.taken g.W.Sink.has_failed c.args.flow.now.writer.now (c.args.flow.now.outbox.now
+    ++ c.args.text.items))
+    (stand g.W.Sink.taken g.W.Sink.has_failed c.put_hits_of.new.flow.writer.now (c.put_hits_of.new.flow.outbox.now
+    ++ c.in_ok-text.text.items))
     (items_begun false (take (c.loop-place.place + 1) (map hits_of (map alert_value c.args.alerts.now))))
 put g c =
-    let old = stand g.W.Sink.taken g.W.Sink.has_failed c.args.flow.now.writer.now (c.args.flow.now.outbox.now ++ c.args.text.items) in
-    let now = stand g.W.Sink.taken g.W.Sink.has_failed c.put_hits_of.new.flow.writer.now (c.put_hits_of.new.flow.outbox.now ++ c.in_ok-text.text.items) in
+    let old = stand g.W.Sink.taken g.W.Sink.has_failed c.args.flow.now.writer.now (c.args.flow.now.outbox.now
+    ++ c.args.text.items) in
+    let now = stand g.W.Sink.taken g.W.Sink.has_failed c.put_hits_of.new.flow.writer.now
+    (c.put_hits_of.new.flow.outbox.now ++ c.in_ok-text.text.items) in
     let here = stand g.W.Sink.taken g.W.Sink.has_failed c.loop-place.flow.writer.now c.loop-place.flow.outbox.now in
     let a = c.index-alerts-place.result in
     let i = c.loop-place.place in
     let first = items_begun false (take i (map hits_of (map alert_value c.args.alerts.now))) in
     let comma = comma_if (nat_lt 0 i) in
-    let parted = puts_one old here c.loop-place.text.items c.separate.new.text.items first comma c.loop-place.invariant.puts c.in_ok-separate.ensures in
+    let parted = puts_one old here c.loop-place.text.items c.separate.new.text.items first comma
+    c.loop-place.invariant.puts c.in_ok-separate.ensures in
     subst (Puts old now) (next c.args.alerts.now c.loop-place.place a c.loop-place-test.true c.index-alerts-place.is)
-    (puts_more old (with_text here c.separate.new.text.items) now (first ++ comma) (compact_text (hits_of (alert_value a))) parted c.in_ok-text.ensures.puts)
+    (puts_more old (with_text here c.separate.new.text.items) now (first ++ comma)
+    (compact_text (hits_of (alert_value a))) parted c.in_ok-text.ensures.puts)
 
 pub returns-in_err-separate-clause-puts : goal.returns-in_err-separate-clause-puts
 returns-in_err-separate-clause-puts g c =
@@ -50,7 +60,8 @@ returns-in_err-separate-clause-puts g c =
     let i = c.loop-place.place in
     let front = items_front ds i in
     let here = stand g.W.Sink.taken g.W.Sink.has_failed c.loop-place.flow.writer.now c.loop-place.flow.outbox.now in
-    refused c.from_residual.result _ here c.loop-place.text.items (items_begun false (take i ds)) front.0 (items_begun false ds) c.from_residual.ensures.1 front.1 c.loop-place.invariant.puts
+    refused c.from_residual.result _ here c.loop-place.text.items (items_begun false (take i ds)) front.0
+    (items_begun false ds) c.from_residual.ensures.1 front.1 c.loop-place.invariant.puts
 
 pub returns-in_err-text-clause-puts : goal.returns-in_err-text-clause-puts
 returns-in_err-text-clause-puts g c =
@@ -60,12 +71,18 @@ returns-in_err-text-clause-puts g c =
     let front = items_front ds (i + 1) in
     let first = items_begun false (take i ds) in
     let comma = comma_if (nat_lt 0 i) in
-    let old = stand g.W.Sink.taken g.W.Sink.has_failed c.args.flow.now.writer.now (c.args.flow.now.outbox.now ++ c.args.text.items) in
+    let old = stand g.W.Sink.taken g.W.Sink.has_failed c.args.flow.now.writer.now (c.args.flow.now.outbox.now
+    ++ c.args.text.items) in
     let here = stand g.W.Sink.taken g.W.Sink.has_failed c.loop-place.flow.writer.now c.loop-place.flow.outbox.now in
-    let parted = puts_one old here c.loop-place.text.items c.separate.new.text.items first comma c.loop-place.invariant.puts c.in_ok-separate.ensures in
-    let now = stand g.W.Sink.taken g.W.Sink.has_failed c.put_hits_of.new.flow.writer.now c.put_hits_of.new.flow.outbox.now in
-    let whole = front.1 ∙ ap (λ t. t ++ front.0) (sym (next c.args.alerts.now i a c.loop-place-test.true c.index-alerts-place.is)) in
-    broken c.from_residual-in_err-text.result _ old (with_text here c.separate.new.text.items) now (first ++ comma) (compact_text (hits_of (alert_value a))) front.0 (items_begun false ds) c.from_residual-in_err-text.ensures.1 whole parted c.in_err-text.ensures.puts
+    let parted = puts_one old here c.loop-place.text.items c.separate.new.text.items first comma
+    c.loop-place.invariant.puts c.in_ok-separate.ensures in
+    let now = stand g.W.Sink.taken g.W.Sink.has_failed c.put_hits_of.new.flow.writer.now
+    c.put_hits_of.new.flow.outbox.now in
+    let whole = front.1 ∙ ap (λ t. t ++ front.0)
+    (sym (next c.args.alerts.now i a c.loop-place-test.true c.index-alerts-place.is)) in
+    broken c.from_residual-in_err-text.result _ old (with_text here c.separate.new.text.items) now (first ++ comma)
+    (compact_text (hits_of (alert_value a))) front.0 (items_begun false ds) c.from_residual-in_err-text.ensures.1
+    whole parted c.in_err-text.ensures.puts
 
 pub returns-in_err-text-2-clause-puts : goal.returns-in_err-text-2-clause-puts
 returns-in_err-text-2-clause-puts g c =
@@ -73,13 +90,16 @@ returns-in_err-text-2-clause-puts g c =
     let i = c.loop-place.place in
     let front = items_front ds (i + 1) in
     let here = (goal.at.returns-in_err-text-2-clause-puts g c).In_ok-text in
-    let now = stand g.W.Sink.taken g.W.Sink.has_failed c.put_piece.new.flow.writer.now c.put_piece.new.flow.outbox.now in
-    broken_on c.from_residual-in_err-text-2.result _ _ _ now (items_begun false (take (i + 1) ds)) front.0 (items_begun false ds) c.from_residual-in_err-text-2.ensures.1 front.1 (put g here) c.in_err-text-2.ensures.puts
+    let now = stand g.W.Sink.taken g.W.Sink.has_failed c.put_piece.new.flow.writer.now c.put_piece.new.flow.outbox.now
+    in
+    broken_on c.from_residual-in_err-text-2.result _ _ _ now (items_begun false (take (i + 1) ds)) front.0
+    (items_begun false ds) c.from_residual-in_err-text-2.ensures.1 front.1 (put g here) c.in_err-text-2.ensures.puts
 
 pub loop-place-preserved : goal.loop-place-preserved
 loop-place-preserved g c =
     let here = (goal.at.loop-place-preserved g c).In_ok-text in
     record {
-      same_reference = c.in_ok-text-2.ensures.same_reference ∙ c.in_ok-text.ensures.same_reference ∙ c.loop-place.invariant.same_reference;
+      same_reference = c.in_ok-text-2.ensures.same_reference ∙ c.in_ok-text.ensures.same_reference
+          ∙ c.loop-place.invariant.same_reference;
       puts = puts_on _ _ _ _ (put g here) c.in_ok-text-2.ensures.puts;
     }

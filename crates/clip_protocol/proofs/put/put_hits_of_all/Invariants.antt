@@ -12,5 +12,7 @@ invariant-loop-place g l =
     let failed = g.W.Sink.has_failed in
     record {
       same_reference : l.flow.writer.ghost_name ≡ l.fn.flow.writer.ghost_name;
-      puts : Puts (stand taken failed l.fn.flow.writer.now (l.fn.flow.outbox.now ++ l.fn.text.items)) (stand taken failed l.flow.writer.now (l.flow.outbox.now ++ l.text.items)) (items_begun false (take l.place (map (λ a. array_of (map hit_data a.hits)) (map alert_value l.alerts))));
+      puts : Puts (stand taken failed l.fn.flow.writer.now (l.fn.flow.outbox.now ++ l.fn.text.items))
+          (stand taken failed l.flow.writer.now (l.flow.outbox.now ++ l.text.items))
+          (items_begun false (take l.place (map (λ a. array_of (map hit_data a.hits)) (map alert_value l.alerts))));
     }

@@ -11,7 +11,9 @@ invariant-loop-at g l =
     record {
       same_reference : l.flow.writer.ghost_name ≡ l.fn.flow.writer.ghost_name;
       within : l.at ≤ length l.ids;
-      puts : Puts (stand taken failed l.fn.flow.writer.now (l.fn.flow.outbox.now ++ l.fn.text.items)) (stand taken failed l.flow.writer.now (l.flow.outbox.now ++ l.text.items)) (items_begun false (take l.at (map string (map (λ id. id.now) l.ids))));
+      puts : Puts (stand taken failed l.fn.flow.writer.now (l.fn.flow.outbox.now ++ l.fn.text.items))
+          (stand taken failed l.flow.writer.now (l.flow.outbox.now ++ l.text.items))
+          (items_begun false (take l.at (map string (map (λ id. id.now) l.ids))));
     }
 
 abbrev pub decreases-loop-at : goal.decreases-loop-at

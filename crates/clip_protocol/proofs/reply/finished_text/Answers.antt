@@ -9,4 +9,5 @@ use Rattle.clip_protocol.proofs.reply.finished_text.Goals as goal
 pub returns : goal.returns
 unfolding reply_value
 returns c =
-    c.ended.ensures (reply_value c.args.number (reply.finished (map alerts_by_id (map alerts_value c.args.found.now)))) (grind (arith, common_steps)) (grind (arith, common_steps))
+    c.ended.ensures (reply_value c.args.number (reply.finished (map alerts_by_id (map alerts_value c.args.found.now))))
+    (grind (arith, common_steps)) (grind (arith, common_steps))

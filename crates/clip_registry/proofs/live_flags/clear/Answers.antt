@@ -16,10 +16,13 @@ clear_in-requires c =
     let long = c.loop-place.invariant.long in
     let within : place < length segments = omega arith in
     let low : place < length flags = omega arith in
-    let here : c.index_mut.result.now ≡ get_or flags place [] = c.index_mut.ensures.value ∙ get_or_default flags place c.index_mut.result.now [] low in
+    let here : c.index_mut.result.now ≡ get_or flags place [] =
+    c.index_mut.ensures.value ∙ get_or_default flags place c.index_mut.result.now [] low in
     ap length (here ∙ c.loop-place.invariant.rest place (omega arith))
-    ∙ shape_at c.args.live.now.items (map arc_value segments) place c.requires (omega arith) (omega (arith, within, length-map segments arc_value))
-    ∙ ap length (segment_at segments place c.index-segments-place.result within c.index-segments-place.is ∙ sym c.deref.ensures)
+    ∙ shape_at c.args.live.now.items (map arc_value segments) place c.requires (omega arith)
+    (omega (arith, within, length-map segments arc_value))
+    ∙ ap length (segment_at segments place c.index-segments-place.result within c.index-segments-place.is
+    ∙ sym c.deref.ensures)
 
 pub loop-place-preserved : goal.loop-place-preserved
 loop-place-preserved c =
@@ -32,22 +35,30 @@ loop-place-preserved c =
     let long = c.loop-place.invariant.long in
     let within : place < length segments = omega arith in
     let low : place < length flags = omega arith in
-    let here : c.index_mut.result.now ≡ get_or flags place [] = c.index_mut.ensures.value ∙ get_or_default flags place c.index_mut.result.now [] low in
-    let segment : get_or (map arc_value segments) place [] ≡ c.deref.result.now = segment_at segments place c.index-segments-place.result within c.index-segments-place.is ∙ sym c.deref.ensures in
+    let here : c.index_mut.result.now ≡ get_or flags place [] =
+    c.index_mut.ensures.value ∙ get_or_default flags place c.index_mut.result.now [] low in
+    let segment : get_or (map arc_value segments) place [] ≡ c.deref.result.now =
+    segment_at segments place c.index-segments-place.result within c.index-segments-place.is
+    ∙ sym c.deref.ensures in
     record {
       long = length-set flags place new ∙ long;
       done = λ is are k lt.
           let old : c.index_mut.result.now ≡ flags_of is c.deref.result.now =
-          here ∙ c.loop-place.invariant.rest place (omega arith) ∙ flags_at is (map arc_value segments) c.args.live.now.items place are (omega (arith, within, length-map segments arc_value)) ∙ ap (flags_of is) segment in
+          here ∙ c.loop-place.invariant.rest place (omega arith)
+          ∙ flags_at is (map arc_value segments) c.args.live.now.items place are
+          (omega (arith, within, length-map segments arc_value)) ∙ ap (flags_of is) segment in
           elim (cases_order k place) [
             | inl same ↦
                 ap (λ j. get_or (set flags place new) j []) same ∙ get_or-set_same flags place new [] low
                 ∙ c.in_ok-clear_in.ensures.cleared is old
-                ∙ ap (flags_of (without (Some c.args.seq) is)) (sym segment ∙ ap (λ j. get_or (map arc_value segments) j []) (sym same))
-            | inr (inl less) ↦ get_or-set_other flags place k new [] (λ e. omega arith) ∙ c.loop-place.invariant.done is are k less
+                ∙ ap (flags_of (without (Some c.args.seq) is)) (sym segment
+                ∙ ap (λ j. get_or (map arc_value segments) j []) (sym same))
+            | inr (inl less) ↦ get_or-set_other flags place k new [] (λ e. omega arith)
+                ∙ c.loop-place.invariant.done is are k less
             | inr (inr more) ↦ absurd (omega arith)
           ];
-      rest = λ k le. get_or-set_other flags place k new [] (λ e. omega arith) ∙ c.loop-place.invariant.rest k (omega arith);
+      rest = λ k le. get_or-set_other flags place k new [] (λ e. omega arith)
+          ∙ c.loop-place.invariant.rest k (omega arith);
     }
 
 pub returns : goal.returns

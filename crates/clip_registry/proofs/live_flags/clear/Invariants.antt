@@ -7,6 +7,7 @@ abbrev pub invariant-loop-place : goal.invariant-loop-place
 invariant-loop-place l = record {
   long : length l.live.items ≡ length l.fn.live.items;
   done : (is : ℕ → Bool) → l.fn.live.items ≡ flags_by is (map arc_value l.segments)
-      → (k : ℕ) → k < l.place → get_or l.live.items k [] ≡ flags_of (without (Some l.seq) is) (get_or (map arc_value l.segments) k []);
+      → (k : ℕ) → k < l.place → get_or l.live.items k []
+      ≡ flags_of (without (Some l.seq) is) (get_or (map arc_value l.segments) k []);
   rest : (k : ℕ) → l.place ≤ k → get_or l.live.items k [] ≡ get_or l.fn.live.items k [];
 }

@@ -15,7 +15,9 @@ set-requires c =
 pub returns-in-Some-clause-cleared : goal.returns-in-Some-clause-cleared
 returns-in-Some-clause-cleared c = λ is flags.
     on_ok_weaker c.set.result
-    (λ cleared. cleared ∙ ap (λ fs. set fs c.in-Some.position false) flags ∙ cleared_here is c.args.segment.now c.args.seq c.in-Some.position c.in-Some.ensures.rising c.in-Some.ensures.there)
+    (λ cleared. cleared ∙ ap (λ fs. set fs c.in-Some.position false) flags
+    ∙ cleared_here is c.args.segment.now c.args.seq c.in-Some.position c.in-Some.ensures.rising
+    c.in-Some.ensures.there)
     c.set.ensures.ok
 
 pub returns-in-None-clause-cleared : goal.returns-in-None-clause-cleared

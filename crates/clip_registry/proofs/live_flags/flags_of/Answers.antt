@@ -16,6 +16,7 @@ returns c =
     IfOk-weaker c.new.result _ _
     (λ shared same.
     same ∙ c.loop-seq.invariant
-    ∙ ap (map live) (take_all c.loop-seq.seq-index c.seqs-seq-items.result.now c.loop-seq-test.false ∙ c.seqs-seq-items.ensures.value)
+    ∙ ap (map live) (take_all c.loop-seq.seq-index c.seqs-seq-items.result.now c.loop-seq-test.false
+    ∙ c.seqs-seq-items.ensures.value)
     ∙ of_seqs live c.args.segment.now)
     c.new.ensures

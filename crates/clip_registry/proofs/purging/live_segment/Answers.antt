@@ -10,10 +10,14 @@ use Rattle.clip_registry.proofs.Rising.{rising_filter}
 use Rattle.clip_registry.proofs.purging.live_segment.Goals as goal
 use Rattle.clip_registry.proofs.purging.live_segment.Goals.{In_ok-add_live_seqs}
 
-seqs : (c : In_ok-add_live_seqs) → c.add_live_seqs.new.seqs.items ≡ map (λ r. r.seq) (live_in c.args.roster.now.registry c.args.segment.now.value)
+seqs : (c : In_ok-add_live_seqs) → c.add_live_seqs.new.seqs.items
+    ≡ map (λ r. r.seq) (live_in c.args.roster.now.registry c.args.segment.now.value)
 seqs c =
-    c.in_ok-add_live_seqs.ensures ∙ ap (λ l. l ++ map (λ (r : Registered). r.seq) (live_in c.args.roster.now.registry (map arc_value c.entries.result.now))) c.new-seqs.ensures.items
-    ∙ ap (λ rs. map (λ (r : Registered). r.seq) (live_in c.args.roster.now.registry rs)) (c.entries.ensures.value ∙ c.deref.ensures)
+    c.in_ok-add_live_seqs.ensures
+    ∙ ap (λ l. l ++ map (λ (r : Registered). r.seq)
+    (live_in c.args.roster.now.registry (map arc_value c.entries.result.now))) c.new-seqs.ensures.items
+    ∙ ap (λ rs. map (λ (r : Registered). r.seq) (live_in c.args.roster.now.registry rs)) (c.entries.ensures.value
+    ∙ c.deref.ensures)
 
 pub returns-then-len : goal.returns-then-len
 returns-then-len c =
@@ -37,5 +41,6 @@ of-requires c =
 pub returns : goal.returns
 returns c =
     let m = c.args.roster.now.registry in
-    c.in_ok-new.ensures.ok ∙ c.in_ok-kept.ensures ∙ ap (λ seqs. named seqs c.args.segment.now.value) (c.of.ensures ∙ seqs (goal.at.returns c).In_ok-add_live_seqs)
+    c.in_ok-new.ensures.ok ∙ c.in_ok-kept.ensures
+    ∙ ap (λ seqs. named seqs c.args.segment.now.value) (c.of.ensures ∙ seqs (goal.at.returns c).In_ok-add_live_seqs)
     ∙ named_picked (is_live_in m) c.args.segment.now.value

@@ -9,11 +9,13 @@ returns-then-not-is_same_entry c = (
   λ h. absurd (false≢true h),
   λ same. c.if-not-is_same_entry.ensures.1
       (c.deref.ensures
-      ∙ same_at arc_value c.args.a.now c.args.b.now c.loop-place.place c.index-a-place.result c.index-b-place.result (omega arith) (omega arith) c.index-a-place.is c.index-b-place.is same
+      ∙ same_at arc_value c.args.a.now c.args.b.now c.loop-place.place c.index-a-place.result c.index-b-place.result
+      (omega arith) (omega arith) c.index-a-place.is c.index-b-place.is same
       ∙ sym c.deref-in-loop-place.ensures),
 )
 
 pub loop-place-preserved : goal.loop-place-preserved
 loop-place-preserved c =
-    same_more arc_value c.args.a.now c.args.b.now c.loop-place.place c.index-a-place.result c.index-b-place.result (omega arith) (omega arith) c.index-a-place.is c.index-b-place.is
+    same_more arc_value c.args.a.now c.args.b.now c.loop-place.place c.index-a-place.result c.index-b-place.result
+    (omega arith) (omega arith) c.index-a-place.is c.index-b-place.is
     (sym c.deref.ensures ∙ c.if-not-is_same_entry.ensures.0 refl ∙ c.deref-in-loop-place.ensures) c.loop-place.invariant

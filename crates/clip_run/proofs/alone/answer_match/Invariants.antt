@@ -19,7 +19,10 @@ invariant-loop-article g l =
       later : l.answer.has_article ≡ nat_lt 0 l.article-index;
       heard : hearers l.audience ≡ told_all (told_in first) (hearers l.fn.audience);
       notes : map note_value l.answer.notes.items ≡ notes_of (hearers l.fn.audience) (told_in first);
-      rows : l.books.ledger ≡ l.fn.books.ledger ++ kept_rows l.fn.books.settings.keeps_rows (rows_in (hearers l.fn.audience) l.number first);
+      rows : l.books.ledger ≡ l.fn.books.ledger
+          ++ kept_rows l.fn.books.settings.keeps_rows (rows_in (hearers l.fn.audience) l.number first);
       settings : l.books.settings ≡ l.fn.books.settings;
-      handed : HandsOver (g.W.Sink.taken l.fn.flow.writer.now) (l.fn.flow.outbox.now ++ begun_text (data_of l.fn.books.settings.form (map (alerts_due l.view) l.articles)) l.article-index) (g.W.Sink.taken l.flow.writer.now) l.flow.outbox.now;
+      handed : HandsOver (g.W.Sink.taken l.fn.flow.writer.now) (l.fn.flow.outbox.now
+          ++ begun_text (data_of l.fn.books.settings.form (map (alerts_due l.view) l.articles)) l.article-index)
+          (g.W.Sink.taken l.flow.writer.now) l.flow.outbox.now;
     }

@@ -10,7 +10,11 @@ abbrev pub invariant-lines : goal.invariant-lines
 invariant-lines g l = record {
   same_reference : l.flow.writer.ghost_name ≡ l.initial.flow.writer.ghost_name;
   goes :
-      Goes (TurnsIn (course_at g.A.Audience.hearers)) (λ s. s.0.owed ≡ []) (l.fn.crew, l.fn.audience) (l.crew, l.audience) (devices_at g.S.Source g.W.Sink l.fn.reader l.fn.writer) (devices_at g.S.Source g.W.Sink l.reader l.flow.writer.now) l.lines l.flow.outbox.now l.has_more l.count;
+      Goes (TurnsIn (course_at g.A.Audience.hearers)) (λ s. s.0.owed ≡ []) (l.fn.crew, l.fn.audience) (
+        l.crew,
+        l.audience,
+      ) (devices_at g.S.Source g.W.Sink l.fn.reader l.fn.writer)
+      (devices_at g.S.Source g.W.Sink l.reader l.flow.writer.now) l.lines l.flow.outbox.now l.has_more l.count;
 }
 
 abbrev pub decreases-lines : goal.decreases-lines

@@ -3,4 +3,10 @@ use Rattle.clip_run.proofs.session.run.Given as goal
 
 -- the desk whose parts were just made
 abbrev pub ghosts-run_desk : goal.ghosts-run_desk
-ghosts-run_desk g a = record { book = a.parts.book; callers = a.parts.callers; keeps = a.parts.keeps; heard_before = all_heard a.parts.updates }
+ghosts-run_desk g a = record {
+  book = a.parts.book;
+  callers = a.parts.callers;
+  keeps = a.parts.keeps;
+  heard_before =
+      all_heard a.parts.updates;
+}

@@ -25,11 +25,18 @@ use Rattle.clip_run.proofs.Outcomes.{ran_none, refused_is}
 use Rattle.clip_run.proofs.session.run_seated.Goals as goal
 
 -- a closure of three captures
-captures_send : (name : Sym) (A B C : RattleType) → IsSend A → IsSend B → IsSend C → IsSend (TupleAt name (A ∷ B ∷ C ∷ []))
-captures_send name A B C a b c = declared_send (type_at name (A ∷ B ∷ C ∷ [])) (as_row_send (row_field A) a, (as_row_send (row_field B) b, (as_row_send (row_field C) c, tt)))
+captures_send : (name : Sym) (A B C : RattleType) → IsSend A → IsSend B → IsSend C
+    → IsSend (TupleAt name (A ∷ B ∷ C ∷ []))
+captures_send name A B C a b c =
+    declared_send (type_at name (A ∷ B ∷ C ∷ [])) (
+      as_row_send (row_field A) a,
+      (as_row_send (row_field B) b, (as_row_send (row_field C) c, tt)),
+    )
 
 pub returns-in_err-nudges : goal.returns-in_err-nudges
-returns-in_err-nudges g c = ran_none (λ ended. ended.lines) (λ ended. ended.ledger) c.args.settings _ c.from_residual.result (refused_is c.from_residual.result c.from_residual.ensures.1) c.requires.fresh.unread
+returns-in_err-nudges g c =
+    ran_none (λ ended. ended.lines) (λ ended. ended.ledger) c.args.settings _ c.from_residual.result
+    (refused_is c.from_residual.result c.from_residual.ensures.1) c.requires.fresh.unread
 
 pub join_mut-lines-requires-send-F : goal.join_mut-lines-requires-send-F
 join_mut-lines-requires-send-F g c κs within =
@@ -43,7 +50,16 @@ join_mut-lines-requires-send-F g c κs within =
     param_send 1 _
     (arg_send _ no _
     (captures_send _ desk_row rt nudged
-    (search (sendable, synced)) (search (sendable, c.type_bounds.sync-R)) (search (sendable, global_sent.the_send, global_sent.the_sync, allocator_sent.the_frees, nudge_sent.the_send, nudge_sent.the_sync, receiver_sent.the_sync) depth 12)))
+    (search (sendable, synced)) (search (sendable, c.type_bounds.sync-R))
+    (search (
+      sendable,
+      global_sent.the_send,
+      global_sent.the_sync,
+      allocator_sent.the_frees,
+      nudge_sent.the_send,
+      nudge_sent.the_sync,
+      receiver_sent.the_sync,
+    ) depth 12)))
 
 pub join_mut-lines-requires-after_bounds : goal.join_mut-lines-requires-after_bounds
 join_mut-lines-requires-after_bounds g c κs within =
@@ -53,7 +69,11 @@ join_mut-lines-requires-after_bounds g c κs within =
       (
         bounds.static-G,
         (
-          (search (sendable, bounds.sync-R), search (sendable, bounds.sync-G), param_send 5 _ (arg_send _ no _ bounds.send-G)),
+          (
+            search (sendable, bounds.sync-R),
+            search (sendable, bounds.sync-G),
+            param_send 5 _ (arg_send _ no _ bounds.send-G),
+          ),
           (
             c.requires.fresh,
             (

@@ -11,7 +11,9 @@ returns g c =
     let input = left c.args.reader.now in
     let taken = g.W.Sink.taken in
     record {
-      outcome = ended_ok hearers c.args.crew.now s.new.crew c.stop.new.self.rows c.args.audience.now s.new.audience input (taken c.args.writer.now) (taken s.new.writer) s.result b.0 b.1 b.2 c.stop.ensures e.settled e.served;
+      outcome = ended_ok hearers c.args.crew.now s.new.crew c.stop.new.self.rows c.args.audience.now s.new.audience
+          input (taken c.args.writer.now) (taken s.new.writer) s.result b.0 b.1 b.2 c.stop.ensures e.settled e.served;
       honest = e.honest;
-      front = ended_err hearers c.args.crew.now s.new.crew c.args.audience.now s.new.audience input (left s.new.reader) (g.S.Source.met_end s.new.reader) (taken c.args.writer.now) (taken s.new.writer) s.result b.0 b.2 e.front;
+      front = ended_err hearers c.args.crew.now s.new.crew c.args.audience.now s.new.audience input (left s.new.reader)
+          (g.S.Source.met_end s.new.reader) (taken c.args.writer.now) (taken s.new.writer) s.result b.0 b.2 e.front;
     }

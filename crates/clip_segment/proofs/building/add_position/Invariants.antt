@@ -7,5 +7,6 @@ abbrev pub invariant-loop-key : goal.invariant-loop-key
 invariant-loop-key l = record {
   long : length l.lists.items ≡ length l.terms;
   lists : (under : KeyValue → List ℕ) → map vec_items l.initial.lists.items ≡ map under l.terms
-      → map vec_items l.lists.items ≡ map (with_positions (map key_of (take l.key-index l.keys)) l.position under) l.terms;
+      → map vec_items l.lists.items
+      ≡ map (with_positions (map key_of (take l.key-index l.keys)) l.position under) l.terms;
 }

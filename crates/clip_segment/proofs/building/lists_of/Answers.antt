@@ -17,7 +17,8 @@ loop-query-init c =
     record {
       position = refl;
       lists = record {
-        positions = c.in_ok-lists.ensures.positions ∙ ap (λ n. replicate n []) c.len.ensures ∙ none_yet query_keys terms;
+        positions = c.in_ok-lists.ensures.positions ∙ ap (λ n. replicate n []) c.len.ensures
+            ∙ none_yet query_keys terms;
         seconds = c.in_ok-lists.ensures.seconds ∙ ap (λ n. replicate n []) c.len.ensures ∙ none_yet second_keys terms;
       };
     }
@@ -30,7 +31,8 @@ add_position-requires-clause-terms c =
     let query = c.query-item.result in
     subst (λ ks. IsTrue (are_terms c.args.terms.now ks)) (sym (ap (map key_of) c.deref.ensures.value ∙ query.own))
     (asked_parts c.args.terms.now (tree_of query.query.now)
-    (asked_terms (λ k. tree_of k.query.now) c.args.queries.now c.loop-query.query-index query c.args.terms.now c.loop-query-test.true c.query-item.is c.requires.terms)).0
+    (asked_terms (λ k. tree_of k.query.now) c.args.queries.now c.loop-query.query-index query c.args.terms.now
+    c.loop-query-test.true c.query-item.is c.requires.terms)).0
 
 pub add_position-requires-clause-once : goal.add_position-requires-clause-once
 add_position-requires-clause-once c =
@@ -39,26 +41,32 @@ add_position-requires-clause-once c =
 
 pub add_position-requires-clause-long : goal.add_position-requires-clause-long
 add_position-requires-clause-long c =
-    sym (length-map c.loop-query.lists.positions.items vec_items) ∙ ap length c.loop-query.invariant.lists.positions ∙ length-map c.args.terms.now _
+    sym (length-map c.loop-query.lists.positions.items vec_items) ∙ ap length c.loop-query.invariant.lists.positions
+    ∙ length-map c.args.terms.now _
 
 pub add_position-requires-in-loop-query-clause-rising : goal.add_position-requires-in-loop-query-clause-rising
-add_position-requires-in-loop-query-clause-rising c = subst (IsStrictlySortedBy key_cmp) (sym c.requires.terms) (in_order_rises _)
+add_position-requires-in-loop-query-clause-rising c =
+    subst (IsStrictlySortedBy key_cmp) (sym c.requires.terms) (in_order_rises _)
 
 pub add_position-requires-in-loop-query-clause-terms : goal.add_position-requires-in-loop-query-clause-terms
 add_position-requires-in-loop-query-clause-terms c =
     let query = c.query-item.result in
-    subst (λ ks. IsTrue (are_terms c.args.terms.now ks)) (sym (ap (map key_of) c.deref-in-loop-query.ensures.value ∙ query.own_seconds))
+    subst (λ ks. IsTrue (are_terms c.args.terms.now ks)) (sym (ap (map key_of) c.deref-in-loop-query.ensures.value
+    ∙ query.own_seconds))
     (asked_parts c.args.terms.now (tree_of query.query.now)
-    (asked_terms (λ k. tree_of k.query.now) c.args.queries.now c.loop-query.query-index query c.args.terms.now c.loop-query-test.true c.query-item.is c.requires.terms)).1
+    (asked_terms (λ k. tree_of k.query.now) c.args.queries.now c.loop-query.query-index query c.args.terms.now
+    c.loop-query-test.true c.query-item.is c.requires.terms)).1
 
 pub add_position-requires-in-loop-query-clause-once : goal.add_position-requires-in-loop-query-clause-once
 add_position-requires-in-loop-query-clause-once c =
     let query = c.query-item.result in
-    in_order_still _ (second_extract (tree_of query.query.now)) (ap (map key_of) c.deref-in-loop-query.ensures.value ∙ query.own_seconds)
+    in_order_still _ (second_extract (tree_of query.query.now)) (ap (map key_of) c.deref-in-loop-query.ensures.value
+    ∙ query.own_seconds)
 
 pub add_position-requires-in-loop-query-clause-long : goal.add_position-requires-in-loop-query-clause-long
 add_position-requires-in-loop-query-clause-long c =
-    sym (length-map c.loop-query.lists.seconds.items vec_items) ∙ ap length c.loop-query.invariant.lists.seconds ∙ length-map c.args.terms.now _
+    sym (length-map c.loop-query.lists.seconds.items vec_items) ∙ ap length c.loop-query.invariant.lists.seconds
+    ∙ length-map c.args.terms.now _
 
 pub loop-query-preserved : goal.loop-query-preserved
 loop-query-preserved c =
@@ -69,10 +77,14 @@ loop-query-preserved c =
       position = ap (λ n. n + 1) before.position;
       lists = record {
         positions =
-            next_query query_keys (λ k. tree_of k.query.now) terms c.args.queries.now c.loop-query.query-index query c.loop-query.position _ _ c.loop-query-test.true c.query-item.is before.position before.lists.positions
-            (added_keys terms c.loop-query.position _ _ _ _ (ap (map key_of) c.deref.ensures.value ∙ query.own) c.in_ok-add_position.ensures);
+            next_query query_keys (λ k. tree_of k.query.now) terms c.args.queries.now c.loop-query.query-index query
+            c.loop-query.position _ _ c.loop-query-test.true c.query-item.is before.position before.lists.positions
+            (added_keys terms c.loop-query.position _ _ _ _ (ap (map key_of) c.deref.ensures.value
+            ∙ query.own) c.in_ok-add_position.ensures);
         seconds =
-            next_query second_keys (λ k. tree_of k.query.now) terms c.args.queries.now c.loop-query.query-index query c.loop-query.position _ _ c.loop-query-test.true c.query-item.is before.position before.lists.seconds
-            (added_keys terms c.loop-query.position _ _ _ _ (ap (map key_of) c.deref-in-loop-query.ensures.value ∙ query.own_seconds) c.in_ok-add_position-2.ensures);
+            next_query second_keys (λ k. tree_of k.query.now) terms c.args.queries.now c.loop-query.query-index query
+            c.loop-query.position _ _ c.loop-query-test.true c.query-item.is before.position before.lists.seconds
+            (added_keys terms c.loop-query.position _ _ _ _ (ap (map key_of) c.deref-in-loop-query.ensures.value
+            ∙ query.own_seconds) c.in_ok-add_position-2.ensures);
       };
     }

@@ -5,4 +5,5 @@ use Rattle.clip_segment.specs.Index.{asked_of}
 use Rattle.clip_segment.proofs.building.terms_of.Given as goal
 
 abbrev pub invariant-loop-query : goal.invariant-loop-query
-invariant-loop-query l = map key_of l.all.items ≡ flat_map asked_of (map (λ k. tree_of k.query.now) (take l.query-index l.queries))
+invariant-loop-query l =
+    map key_of l.all.items ≡ flat_map asked_of (map (λ k. tree_of k.query.now) (take l.query-index l.queries))

@@ -8,7 +8,8 @@ pub returns : goal.returns
 returns c = λ trees short terms_are made.
     let needs = c.in_ok-needs.needs in
     let many : length needs ≡ length trees =
-    c.in_ok-needs.ensures.long ∙ c.len.ensures ∙ sym (length-map c.args.plans (decoded c.args.terms)) ∙ ap length made.planned ∙ length-map trees plan_of in
+    c.in_ok-needs.ensures.long ∙ c.len.ensures ∙ sym (length-map c.args.plans (decoded c.args.terms))
+    ∙ ap length made.planned ∙ length-map trees plan_of in
     record {
       short = short;
       terms = terms_are;

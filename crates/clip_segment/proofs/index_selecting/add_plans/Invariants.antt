@@ -7,5 +7,7 @@ use Rattle.clip_segment.proofs.index_selecting.add_plans.Given as goal
 
 abbrev pub invariant-loop-position : goal.invariant-loop-position
 invariant-loop-position l =
-    (terms : List KeyValue) → map (decoded terms) l.plans ++ map (λ plan. decoded terms (renamed l.numbers plan)) (flagged (drop l.position l.kept) (drop l.position l.other))
+    (terms : List KeyValue) → map (decoded terms) l.plans
+    ++ map (λ plan. decoded terms (renamed l.numbers plan))
+    (flagged (drop l.position l.kept) (drop l.position l.other))
     ≡ map (decoded terms) l.fn.plans ++ map (λ plan. decoded terms (renamed l.numbers plan)) (flagged l.kept l.other)

@@ -23,13 +23,16 @@ loop-place-preserved c = λ rise.
     let terms = c.args.terms.now in
     let olds = c.args.olds.now in
     let place = c.loop-place.place in
-    let many : length c.keys-place-end.result.now ≡ length olds = sym (length-map c.keys-place-end.result.now key_of) ∙ ap length c.keys-place-end.ensures.terms in
+    let many : length c.keys-place-end.result.now ≡ length olds = sym (length-map c.keys-place-end.result.now key_of)
+    ∙ ap length c.keys-place-end.ensures.terms in
     let lt : place < length olds = omega (arith, many, c.loop-place-test.true) in
     elim c.match-numbers-place.branch [
       | in-Some w ↦
-          next_old terms olds place c.args.numbers.now (Some w.in-Some.number) None c.loop-place.old.items c.match-numbers-place.old.items c.requires.rising rise lt c.requires.numbers
+          next_old terms olds place c.args.numbers.now (Some w.in-Some.number) None c.loop-place.old.items
+          c.match-numbers-place.old.items c.requires.rising rise lt c.requires.numbers
           (sym w.in-Some.is) (ap (λ v. v.items) w.old-is ∙ w.set_number.ensures) (c.loop-place.invariant rise)
       | in_default w ↦
-          next_old terms olds place c.args.numbers.now None None c.loop-place.old.items c.match-numbers-place.old.items c.requires.rising rise lt c.requires.numbers
+          next_old terms olds place c.args.numbers.now None None c.loop-place.old.items c.match-numbers-place.old.items
+          c.requires.rising rise lt c.requires.numbers
           (sym (none_there _ w.in_default.not-Some)) (ap (λ v. v.items) w.old-is) (c.loop-place.invariant rise)
     ]

@@ -10,7 +10,9 @@ abbrev pub invariant-loop-index : goal.invariant-loop-index
 invariant-loop-index l = record {
   place : l.place ≡ l.index-index;
   few : length l.plans + count_set (drop l.index-index (map vec_items l.kept)) ≤ MOST_POSITIONS;
-  from : (trees : List (List Tree)) → AreIndexesOf trees (map (λ i. i.now) l.indexes) → AreFlagsOf trees (map vec_items l.kept)
+  from : (trees : List (List Tree)) → AreIndexesOf trees (map (λ i. i.now) l.indexes)
+      → AreFlagsOf trees (map vec_items l.kept)
       → l.terms ≡ terms_of (kept_of trees (map vec_items l.kept)) → AreFrom l.terms [] [] l.fn.plans
-      → AreFrom l.terms (kept_of (take l.index-index trees) (take l.index-index (map vec_items l.kept))) l.sources.items l.plans;
+      → AreFrom l.terms (kept_of (take l.index-index trees) (take l.index-index (map vec_items l.kept)))
+      l.sources.items l.plans;
 }

@@ -12,7 +12,8 @@ loop-number-preserved c = λ under all.
     let lt : n < length terms = omega arith in
     c.in_ok-push.ensures.ok
     ∙ ap (λ l. c.loop-number.lists ++ l ∷ [])
-    (c.deref.ensures.value ∙ c.in_ok-add_all_taken.ensures ∙ ap (λ l. l ++ flat_map (taken c.args.second n) c.args.sources.now) c.clear.ensures.items
+    (c.deref.ensures.value ∙ c.in_ok-add_all_taken.ensures
+    ∙ ap (λ l. l ++ flat_map (taken c.args.second n) c.args.sources.now) c.clear.ensures.items
     ∙ all n lt ∙ ap under (unwrap_or-slice_get terms n Any))
     ∙ ap (λ l. l ++ under (get_or terms n Any) ∷ []) (c.loop-number.invariant under all)
     ∙ sym (map_more under terms n Any lt)

@@ -12,22 +12,28 @@ loop-number-preserved c =
     let heads : List KeyValue = c.loop-number.heads.items in
     elim c.if-flag_at.branch [
       | then-flag_at+in_ok-push w ↦
-          kept_next (λ (ks : List KeyValue). ks) (λ k. k ∷ []) (λ x xs. refl) c.args.flags.now terms i Any heads c.if-flag_at.heads.items _
+          kept_next (λ (ks : List KeyValue). ks) (λ k. k ∷ []) (λ x xs. refl) c.args.flags.now terms i Any heads
+          c.if-flag_at.heads.items _
           (omega arith) (sym c.flag_at.ensures ∙ w.if-flag_at.true)
-          (ap (λ v. v.items) w.heads-is ∙ w.in_ok-push.ensures.items ∙ ap (λ k. heads ++ k ∷ []) w.head.ensures) c.loop-number.invariant
+          (ap (λ v. v.items) w.heads-is ∙ w.in_ok-push.ensures.items
+          ∙ ap (λ k. heads ++ k ∷ []) w.head.ensures) c.loop-number.invariant
       | else-flag_at w ↦
-          left_next (λ (ks : List KeyValue). ks) (λ k. k ∷ []) (λ x xs. refl) c.args.flags.now terms i Any heads c.if-flag_at.heads.items _
-          (omega arith) (sym c.flag_at.ensures ∙ w.if-flag_at.false) (ap (λ v. v.items) w.heads-is) c.loop-number.invariant
+          left_next (λ (ks : List KeyValue). ks) (λ k. k ∷ []) (λ x xs. refl) c.args.flags.now terms i Any heads
+          c.if-flag_at.heads.items _
+          (omega arith) (sym c.flag_at.ensures
+          ∙ w.if-flag_at.false) (ap (λ v. v.items) w.heads-is) c.loop-number.invariant
     ]
 
 pub returns-clause-rising : goal.returns-clause-rising
 returns-clause-rising c =
     let terms : List KeyValue = c.args.terms.now in
     subst (IsStrictlySortedBy key_cmp)
-    (sym (none_next (λ (ks : List KeyValue). ks) (λ k. k ∷ []) (λ x xs. refl) c.args.flags.now terms c.loop-number.number c.loop-number.heads.items _ refl (omega arith) c.loop-number.invariant))
+    (sym (none_next (λ (ks : List KeyValue). ks) (λ k. k ∷ []) (λ x xs. refl) c.args.flags.now terms
+    c.loop-number.number c.loop-number.heads.items _ refl (omega arith) c.loop-number.invariant))
     (flagged_rises c.args.flags.now terms c.order_law.ensures)
 
 pub returns-clause-flagged : goal.returns-clause-flagged
 returns-clause-flagged c =
     let terms : List KeyValue = c.args.terms.now in
-    none_next (λ (ks : List KeyValue). ks) (λ k. k ∷ []) (λ x xs. refl) c.args.flags.now terms c.loop-number.number c.loop-number.heads.items _ refl (omega arith) c.loop-number.invariant
+    none_next (λ (ks : List KeyValue). ks) (λ k. k ∷ []) (λ x xs. refl) c.args.flags.now terms c.loop-number.number
+    c.loop-number.heads.items _ refl (omega arith) c.loop-number.invariant

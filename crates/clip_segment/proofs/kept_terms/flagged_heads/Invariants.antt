@@ -4,4 +4,5 @@ use Rattle.clip_segment.specs.Selecting.{flagged}
 use Rattle.clip_segment.proofs.kept_terms.flagged_heads.Given as goal
 
 abbrev pub invariant-loop-number : goal.invariant-loop-number
-invariant-loop-number l = l.heads.items ++ flagged (drop l.number l.flags) (drop l.number l.terms) ≡ flagged l.flags l.terms
+invariant-loop-number l = l.heads.items ++ flagged (drop l.number l.flags) (drop l.number l.terms)
+    ≡ flagged l.flags l.terms

@@ -17,9 +17,11 @@ returns-clause-asked c =
     let used = c.set_all.new.flags.items in
     let index = index_of c.index.inside in
     let unset = c.in_ok-used.ensures.items_if_clones_equal (λ y h. h) in
-    let long : length c.in_ok-used.used.items ≡ length index.terms = ap length unset ∙ length-replicate c.len.result _ ∙ c.len.ensures in
+    let long : length c.in_ok-used.used.items ≡ length index.terms = ap length unset ∙ length-replicate c.len.result _
+    ∙ c.len.ensures in
     let all : (n : ℕ) → n < length index.terms
-    → flag_at used n ≡ ((list_any (flag_at c.args.kept.now) (list_at index.positions n) || list_any (flag_at c.args.kept.now) (list_at index.seconds n)) || list_any (nat_eq n) c.deref.result.now)
+    → flag_at used n ≡ ((list_any (flag_at c.args.kept.now) (list_at index.positions n)
+    || list_any (flag_at c.args.kept.now) (list_at index.seconds n)) || list_any (nat_eq n) c.deref.result.now)
     = λ n lt.
     c.set_all.ensures.flags n (omega (arith, lt, long, c.set_kept.ensures.long, c.set_kept-2.ensures.long))
     ∙ ap (λ b. b || list_any (nat_eq n) c.deref.result.now)
@@ -31,5 +33,6 @@ returns-clause-asked c =
     IfOk-weaker c.flagged_heads.result _ _ (λ heads are trees is key.
     let inside : IsIndexOf trees index = subst (IsIndexOf trees) (sym c.index.view_is) is in
     ap (list_any (is_same key)) (are ∙ ap (λ flags. flagged flags index.terms) c.deref-2.ensures.value)
-    ∙ used_terms trees index inside c.args.kept.now used c.deref.result.now (c.deref.ensures.value ∙ c.in_ok-numbers.ensures) all key)
+    ∙ used_terms trees index inside c.args.kept.now used c.deref.result.now (c.deref.ensures.value
+    ∙ c.in_ok-numbers.ensures) all key)
     c.flagged_heads.ensures.flagged

@@ -9,12 +9,17 @@ loop-position-preserved c =
     let i = c.loop-position.position in
     elim c.if-flag_at.branch [
       | then-flag_at+in_ok-add_numbers w ↦
-          kept_next (flat_map names) names (λ x xs. refl) c.args.kept.now c.args.plans.now i [] c.loop-position.numbers.items c.if-flag_at.numbers.items _
-          (omega arith) (sym c.flag_at.ensures ∙ w.if-flag_at.true) (ap (λ v. v.items) w.numbers-is ∙ w.in_ok-add_numbers.ensures) c.loop-position.invariant
+          kept_next (flat_map names) names (λ x xs. refl) c.args.kept.now c.args.plans.now i []
+          c.loop-position.numbers.items c.if-flag_at.numbers.items _
+          (omega arith) (sym c.flag_at.ensures ∙ w.if-flag_at.true) (ap (λ v. v.items) w.numbers-is
+          ∙ w.in_ok-add_numbers.ensures) c.loop-position.invariant
       | else-flag_at w ↦
-          left_next (flat_map names) names (λ x xs. refl) c.args.kept.now c.args.plans.now i [] c.loop-position.numbers.items c.if-flag_at.numbers.items _
-          (omega arith) (sym c.flag_at.ensures ∙ w.if-flag_at.false) (ap (λ v. v.items) w.numbers-is) c.loop-position.invariant
+          left_next (flat_map names) names (λ x xs. refl) c.args.kept.now c.args.plans.now i []
+          c.loop-position.numbers.items c.if-flag_at.numbers.items _
+          (omega arith) (sym c.flag_at.ensures
+          ∙ w.if-flag_at.false) (ap (λ v. v.items) w.numbers-is) c.loop-position.invariant
     ]
 
 pub returns : goal.returns
-returns c = none_next (flat_map names) names (λ x xs. refl) c.args.kept.now c.args.plans.now c.loop-position.position c.loop-position.numbers.items _ refl (omega arith) c.loop-position.invariant
+returns c = none_next (flat_map names) names (λ x xs. refl) c.args.kept.now c.args.plans.now c.loop-position.position
+    c.loop-position.numbers.items _ refl (omega arith) c.loop-position.invariant

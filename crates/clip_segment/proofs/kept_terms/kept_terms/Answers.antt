@@ -1,4 +1,5 @@
-use Rattle.std.proofs.Common.{◌≡◌, ◌+◌, ◌||◌, ◌++◌, List, [], map, flat_map, vec_items, refl, ap, sym, ◌∙◌, subst, arith}
+use Rattle.std.proofs.Common.{◌≡◌, ◌+◌, ◌||◌, ◌++◌, List, [], map, flat_map, vec_items, refl, ap, sym, ◌∙◌, subst}
+use Rattle.std.proofs.Common.{arith}
 use Rattle.std.specs.List.{list_any}
 use Rattle.std.specs.List.Sorted.{IsStrictlySortedBy}
 use Rattle.std.proofs.lemmas.List.{length-map}
@@ -29,7 +30,8 @@ loop-index-preserved c =
     let more : List KeyValue = c.in_ok-more.more.items in
     let new : List KeyValue = c.in_ok-heads.heads.items in
     let merged : new ≡ in_order (before ++ more) =
-    c.in_ok-heads.ensures ∙ ap (λ l. in_order (l ++ c.deref-in-loop-index.result.now)) c.deref.ensures.value ∙ ap (λ l. in_order (before ++ l)) c.deref-in-loop-index.ensures.value in
+    c.in_ok-heads.ensures ∙ ap (λ l. in_order (l ++ c.deref-in-loop-index.result.now)) c.deref.ensures.value
+    ∙ ap (λ l. in_order (before ++ l)) c.deref-in-loop-index.ensures.value in
     record {
       place = ap (λ n. n + 1) c.loop-index.invariant.place;
       rising = subst (IsStrictlySortedBy key_cmp) (sym merged) (in_order_rises (before ++ more));
@@ -39,9 +41,12 @@ loop-index-preserved c =
           next_asked trees (map (λ r. r.now) c.args.indexes.now) flags i key before new are flagged_all
           (omega (arith, c.loop-index-test.true, length-map c.args.indexes.now (λ r. r.now)))
           (c.loop-index.invariant.all trees are flagged_all key)
-          (ap (list_any (is_same key)) merged ∙ among_in_order (before ++ more) key ∙ list_any-append (is_same key) before more
+          (ap (list_any (is_same key)) merged ∙ among_in_order (before ++ more) key
+          ∙ list_any-append (is_same key) before more
           ∙ ap (λ b. list_any (is_same key) before || b)
-          (c.in_ok-more.ensures.asked (at_place trees i) (index_here (λ r. r.now) c.args.indexes.now trees i c.index-item.result are c.loop-index-test.true c.index-item.is) key
+          (c.in_ok-more.ensures.asked (at_place trees i)
+          (index_here (λ r. r.now) c.args.indexes.now trees i c.index-item.result are c.loop-index-test.true
+          c.index-item.is) key
           ∙ ap (λ fs. list_any (is_same key) (flat_map asked_of (flagged fs (at_place trees i))))
           (c.flags_of.ensures ∙ ap (at_place flags) c.loop-index.invariant.place)));
     }
@@ -55,5 +60,6 @@ returns-clause-terms c =
     ∙ strict_keys key_cmp_total key_cmp_same heads _ c.loop-index.invariant.rising (λ q.
     c.loop-index.invariant.all trees are flagged_all q
     ∙ ap (λ ts. list_any (is_same q) (flat_map asked_of ts))
-    (all_kept trees (map (λ r. r.now) c.args.indexes.now) flags c.loop-index.index-index are flagged_all (omega (arith, c.loop-index-test.false, length-map c.args.indexes.now (λ r. r.now))))))
+    (all_kept trees (map (λ r. r.now) c.args.indexes.now) flags c.loop-index.index-index are flagged_all
+    (omega (arith, c.loop-index-test.false, length-map c.args.indexes.now (λ r. r.now))))))
     c.of_heads.ensures

@@ -11,6 +11,9 @@ abbrev pub invariant-loop-index : goal.invariant-loop-index
 invariant-loop-index l = record {
   place : l.place ≡ l.index-index;
   rising : IsStrictlySortedBy key_cmp l.heads.items;
-  all : (trees : List (List Tree)) → AreIndexesOf trees (map (λ i. i.now) l.indexes) → AreFlagsOf trees (map vec_items l.kept) → (key : KeyValue)
-      → list_any (is_same key) l.heads.items ≡ list_any (is_same key) (flat_map asked_of (kept_of (take l.index-index trees) (take l.index-index (map vec_items l.kept))));
+  all : (trees : List (List Tree)) → AreIndexesOf trees (map (λ i. i.now) l.indexes)
+      → AreFlagsOf trees (map vec_items l.kept) → (key : KeyValue)
+      → list_any (is_same key) l.heads.items
+      ≡ list_any (is_same key)
+      (flat_map asked_of (kept_of (take l.index-index trees) (take l.index-index (map vec_items l.kept))));
 }

@@ -6,6 +6,7 @@ pub loop-number-preserved : goal.loop-number-preserved
 loop-number-preserved c = record {
   long = c.set_flag.ensures.long ∙ c.loop-number.invariant.long;
   flags = λ n lt.
-      flags_more n c.args.numbers.now c.loop-number.number-index _ _ _ _ c.loop-number-test.true (c.loop-number.invariant.flags n lt)
+      flags_more n c.args.numbers.now c.loop-number.number-index _ _ _ _ c.loop-number-test.true
+      (c.loop-number.invariant.flags n lt)
       (c.set_flag.ensures.flags n (omega (arith, lt, c.loop-number.invariant.long)));
 }

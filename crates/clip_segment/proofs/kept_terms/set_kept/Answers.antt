@@ -13,21 +13,24 @@ loop-number-init c = record {
   long = refl;
   flags = λ n lt.
       let none : ltb n 0 ≡ false = grind (arith, nat_tests) in
-      sym (ap (λ b. flag_at c.args.flags.now.items n || (b && list_any (flag_at c.args.kept.now) (list_at c.args.lists.now n))) none ∙ or-false _);
+      sym (ap (λ b. flag_at c.args.flags.now.items n
+      || (b && list_any (flag_at c.args.kept.now) (list_at c.args.lists.now n))) none ∙ or-false _);
 }
 
 pub loop-number-preserved : goal.loop-number-preserved
 loop-number-preserved c =
     let i = c.loop-number.number in
     let is_kept = λ (n : ℕ). list_any (flag_at c.args.kept.now) (list_at c.args.lists.now n) in
-    let here : c.any_flag.result ≡ is_kept i = c.any_flag.ensures ∙ ap (list_any (flag_at c.args.kept.now)) c.get.ensures in
+    let here : c.any_flag.result ≡ is_kept i =
+    c.any_flag.ensures ∙ ap (list_any (flag_at c.args.kept.now)) c.get.ensures in
     elim c.if-any_flag.branch [
       | then-any_flag w ↦ record {
         long = ap (λ v. length v.items) w.flags-is ∙ w.set_flag.ensures.long ∙ c.loop-number.invariant.long;
         flags = λ n lt.
             set_more n i _ _ _ true (is_kept n) (c.loop-number.invariant.flags n lt)
             (λ e. sym w.if-any_flag.true ∙ here ∙ ap is_kept (sym e))
-            (ap (λ v. flag_at v.items n) w.flags-is ∙ w.set_flag.ensures.flags n (omega (arith, lt, c.loop-number.invariant.long))
+            (ap (λ v. flag_at v.items n) w.flags-is
+            ∙ w.set_flag.ensures.flags n (omega (arith, lt, c.loop-number.invariant.long))
             ∙ ap (λ b. flag_at c.loop-number.flags.items n || b) (sym (and-true (nat_eq n i))));
       }
       | else-any_flag w ↦ record {
@@ -44,4 +47,5 @@ pub returns-clause-flags : goal.returns-clause-flags
 returns-clause-flags c = λ n lt.
     let past : ltb n c.loop-number.number ≡ true = grind (arith, nat_tests) in
     c.loop-number.invariant.flags n lt
-    ∙ ap (λ b. flag_at c.args.flags.now.items n || (b && list_any (flag_at c.args.kept.now) (list_at c.args.lists.now n))) past
+    ∙ ap (λ b. flag_at c.args.flags.now.items n
+    || (b && list_any (flag_at c.args.kept.now) (list_at c.args.lists.now n))) past

@@ -7,5 +7,7 @@ use Rattle.clip_segment.proofs.kept_terms.set_kept.Given as goal
 abbrev pub invariant-loop-number : goal.invariant-loop-number
 invariant-loop-number l = record {
   long : length l.flags.items ≡ length l.fn.flags.items;
-  flags : (n : ℕ) → n < length l.fn.flags.items → flag_at l.flags.items n ≡ (flag_at l.fn.flags.items n || (ltb n l.number && list_any (flag_at l.kept) (list_at l.lists n)));
+  flags : (n : ℕ) → n < length l.fn.flags.items
+      → flag_at l.flags.items n
+      ≡ (flag_at l.fn.flags.items n || (ltb n l.number && list_any (flag_at l.kept) (list_at l.lists n)));
 }

@@ -6,5 +6,6 @@ use Rattle.clip_segment.proofs.marking.marks_under.Given as goal
 abbrev pub invariant-loop-number : goal.invariant-loop-number
 invariant-loop-number l = record {
   long : length l.marks ≡ l.bound;
-  marked : (n : ℕ) → n < l.bound → get_or l.marks n false ≡ list_any (nat_eq n) (flat_map (list_at l.lists) (take l.number-index l.numbers));
+  marked : (n : ℕ) → n < l.bound
+      → get_or l.marks n false ≡ list_any (nat_eq n) (flat_map (list_at l.lists) (take l.number-index l.numbers));
 }

@@ -11,6 +11,8 @@ pub returns : goal.returns
 returns c =
     let segments = map arc_value c.args.segments.now in
     let flags = map vec_items c.args.kept.now in
-    let are = subst (λ is. AreIndexesOf (map trees_of segments) (map (λ (r : Bor IndexValue). r.now) is)) (sym c.deref.ensures.value) c.in_ok-indexes_of.ensures in
+    let are = subst (λ is. AreIndexesOf (map trees_of segments) (map (λ (r : Bor IndexValue). r.now) is))
+    (sym c.deref.ensures.value) c.in_ok-indexes_of.ensures in
     IfOk-weaker c.select.result _ (λ index. IsIndexOf (trees_of (kept_of segments flags)) index) (λ index made.
-    subst (λ ts. IsIndexOf ts index) (kept_trees segments flags) (made (map trees_of segments) are (flags_of_trees segments flags c.requires.flags))) c.select.ensures
+    subst (λ ts. IsIndexOf ts index) (kept_trees segments flags)
+    (made (map trees_of segments) are (flags_of_trees segments flags c.requires.flags))) c.select.ensures

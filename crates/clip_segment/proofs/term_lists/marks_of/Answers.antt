@@ -1,4 +1,5 @@
-use Rattle.std.proofs.Common.{◌≡◌, ◌<◌, ◌||◌, ◌+◌, ◌++◌, ◌∷◌, ℕ, nat_eq, List, length, flat_map, take, get_or, [], append-nil, ap, sym, ◌∙◌, arith}
+use Rattle.std.proofs.Common.{◌≡◌, ◌<◌, ◌||◌, ◌+◌, ◌++◌, ◌∷◌, ℕ, nat_eq, List, length, flat_map, take, get_or, []}
+use Rattle.std.proofs.Common.{append-nil, ap, sym, ◌∙◌, arith}
 use Rattle.std.specs.List.{list_any}
 use Rattle.std.proofs.lemmas.Grind.{flat_map-append}
 use Rattle.std.proofs.lemmas.List.{take_more}
@@ -7,7 +8,8 @@ use Rattle.std.proofs.lemmas.Option.{unwrap_or-slice_get}
 use Rattle.clip_segment.proofs.term_lists.marks_of.Goals as goal
 
 -- the items of one list more
-next_list : (lists : List (List ℕ)) (i : ℕ) → i < length lists → flat_map (λ list. list) (take (i + 1) lists) ≡ flat_map (λ list. list) (take i lists) ++ get_or lists i []
+next_list : (lists : List (List ℕ)) (i : ℕ) → i < length lists → flat_map (λ list. list) (take (i + 1) lists)
+    ≡ flat_map (λ list. list) (take i lists) ++ get_or lists i []
 next_list lists i lt =
     let here = get_or lists i [] in
     ap (flat_map (λ list. list)) (take_more lists i [] lt)

@@ -5,5 +5,6 @@ use Rattle.clip_segment.proofs.term_lists.marks_of.Given as goal
 abbrev pub invariant-loop-number : goal.invariant-loop-number
 invariant-loop-number l = record {
   long : length l.marks ≡ l.bound;
-  marked : (n : ℕ) → n < l.bound → get_or l.marks n false ≡ list_any (nat_eq n) (flat_map (λ list. list) (take l.number l.lists));
+  marked : (n : ℕ) → n < l.bound
+      → get_or l.marks n false ≡ list_any (nat_eq n) (flat_map (λ list. list) (take l.number l.lists));
 }

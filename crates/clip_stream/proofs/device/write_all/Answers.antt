@@ -7,5 +7,6 @@ pub loop-at-preserved : goal.loop-at-preserved
 loop-at-preserved g c = record {
   within = search rules;
   failed = search rules;
-  taken = let h = c.in_ok-n.ensures.bytes in appends_more _ _ _ c.args.bytes.now c.loop-at.at c.in_ok-n.n c.loop-at.invariant.taken (rw take_rest at h);
+  taken = let h = c.in_ok-n.ensures.bytes in
+      appends_more _ _ _ c.args.bytes.now c.loop-at.at c.in_ok-n.n c.loop-at.invariant.taken (rw take_rest at h);
 }

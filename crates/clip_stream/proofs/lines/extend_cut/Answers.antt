@@ -4,4 +4,5 @@ use Rattle.clip_stream.proofs.lines.extend_cut.Goals as goal
 
 pub returns : goal.returns
 returns c = c.in_ok-extend_from_slice.ensures.items ∙
-    cut_extended c.args.line.now.items c.args.bytes.now (1048577 - c.len-room.result) c.min-more.result c.requires (omega arith) (omega arith)
+    cut_extended c.args.line.now.items c.args.bytes.now (1048577 - c.len-room.result) c.min-more.result c.requires
+    (omega arith) (omega arith)

@@ -9,5 +9,6 @@ pub returns : goal.returns
 returns c = λ w e.
     let builder = c.loop-token.builder in
     c.into_query.ensures
-    ∙ ap (λ (s : State). Tree.Group (clauses_of s.group.clauses)) (sym (read_end c.loop-token.rest.now (state_of builder) c.in_default.ensures.cases) ∙ c.loop-token.invariant)
+    ∙ ap (λ (s : State). Tree.Group (clauses_of s.group.clauses))
+    (sym (read_end c.loop-token.rest.now (state_of builder) c.in_default.ensures.cases) ∙ c.loop-token.invariant)
     ∙ grown w (map token_of c.args.tokens.now) e

@@ -6,7 +6,8 @@ use Rattle.clip_syntax.proofs.build.build.Given as goal
 
 abbrev pub invariant-loop-token : goal.invariant-loop-token
 invariant-loop-token l =
-    read_all (map token_of l.rest) (state_of l.builder) ≡ read_all (map token_of l.tokens) (start (items_words (map token_of l.tokens)))
+    read_all (map token_of l.rest) (state_of l.builder)
+    ≡ read_all (map token_of l.tokens) (start (items_words (map token_of l.tokens)))
 
 abbrev pub decreases-loop-token : goal.decreases-loop-token
 decreases-loop-token l = length l.rest

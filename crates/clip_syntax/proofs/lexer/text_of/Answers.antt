@@ -7,7 +7,8 @@ use Rattle.clip_syntax.proofs.lexer.text_of.Goals.{in-Bare, in-Escaped}
 
 pub loop-glyph-preserved : goal.loop-glyph-preserved
 loop-glyph-preserved c =
-    let char : char_of (get_or c.args.glyphs.now c.loop-glyph.glyph-index (Bare 0)) ≡ c.match-glyph.c = elim c.match-glyph.branch [
+    let char : char_of (get_or c.args.glyphs.now c.loop-glyph.glyph-index (Bare 0)) ≡ c.match-glyph.c =
+    elim c.match-glyph.branch [
       | in-Bare w ↦ ap char_of w.in-Bare.is ∙ sym w.c-is
       | in-Escaped w ↦ ap char_of w.in-Escaped.is ∙ sym w.c-is
     ] in

@@ -6,7 +6,8 @@ use Rattle.clip_syntax.proofs.parser.are_clauses.Given as goal
 
 abbrev pub invariant-loop-token : goal.invariant-loop-token
 invariant-loop-token l =
-    (accepts (map token_of l.rest) l.progress.depth l.progress.may_end l.progress.stage ≡ accepts (map token_of l.tokens) zero false Fresh)
+    (accepts (map token_of l.rest) l.progress.depth l.progress.may_end l.progress.stage
+    ≡ accepts (map token_of l.tokens) zero false Fresh)
     × (l.progress.depth + length l.rest ≤ length l.tokens)
 
 abbrev pub decreases-loop-token : goal.decreases-loop-token

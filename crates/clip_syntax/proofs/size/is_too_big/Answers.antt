@@ -15,5 +15,9 @@ returns-else-node_count-gt-MOST_NODES c = λ w e.
     let nodes = written_nodes w token_of c.args.tokens.now e in
     let depth = written_depth w _ e in (
       λ deep. inr (omega (arith, ltb-true MOST_OPEN c.most_open.result deep)),
-      λ big. lt-ltb MOST_OPEN c.most_open.result (elim big [ inl many ↦ absurd (omega arith) | inr deep ↦ omega arith ]),
+      λ big. lt-ltb MOST_OPEN c.most_open.result (elim big [
+        | inl many ↦ absurd (omega arith)
+        | inr deep ↦
+            omega arith
+      ]),
     )

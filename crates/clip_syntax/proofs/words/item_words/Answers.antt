@@ -14,9 +14,11 @@ returns-then-is_empty-clause-lacking c = λ w e.
     let parts : map token_of c.loop-token.rest.now ≡ token ∷ after = grind arith in
     let found : item_text token (begins_colon after) ≡ Some text = grind arith in
     let none : length c.in_ok-words.words.items ≡ 0 = grind arith in
-    let here : lacks (map token_of c.loop-token.rest.now) ≡ true = lacks_here _ after token text arc_str_bytes c.in_ok-words.words.items parts found c.in_ok-words.ensures none in
+    let here : lacks (map token_of c.loop-token.rest.now) ≡ true =
+    lacks_here _ after token text arc_str_bytes c.in_ok-words.words.items parts found c.in_ok-words.ensures none in
     sym (ap not (sym (lacks_written w _ e) ∙ sym c.loop-token.invariant.1 ∙ here))
 
 pub returns-clause-lacking : goal.returns-clause-lacking
 returns-clause-lacking c = λ w e.
-    sym (ap not (sym (lacks_written w _ e) ∙ sym c.loop-token.invariant.1 ∙ lacks_none c.loop-token.rest.now c.in_default.ensures.cases))
+    sym (ap not (sym (lacks_written w _ e) ∙ sym c.loop-token.invariant.1
+    ∙ lacks_none c.loop-token.rest.now c.in_default.ensures.cases))

@@ -15,13 +15,24 @@ place_words-requires c =
 
 pub returns-clause-keys : goal.returns-clause-keys
 returns-clause-keys c =
-    let words = differing_words c.args.field.now.1 c.postings.result.now c.postings.ensures.words c.postings.ensures.sorted in
-    c.in_ok-place_words.ensures.keys ∙ ap (λ more. map key_of c.args.keys.now.items ++ more) (ap₂ (λ name ws. map (Word name) ws) c.name.ensures words)
+    let words = differing_words c.args.field.now.1 c.postings.result.now c.postings.ensures.words
+    c.postings.ensures.sorted in
+    c.in_ok-place_words.ensures.keys
+    ∙ ap (λ more. map key_of c.args.keys.now.items ++ more)
+    (ap₂ (λ name ws. map (Word name) ws) c.name.ensures words)
 
 pub returns-clause-places : goal.returns-clause-places
 returns-clause-places c =
     let words = c.args.field.now.1 in
     let long : length c.place_words.new.places.items ≡ length words =
-    omega (arith, c.in_ok-place_words.ensures.long, ap length c.words.ensures, length-map c.words.result.now arc_str_bytes, c.in_ok-places.ensures.len) in
-    all_placed (arc_str_bytes c.name.result.now) (map key_of c.place_words.new.keys.items) c.place_words.new.places.items words c.postings.result.now c.postings.ensures.words long c.in_ok-place_words.ensures.placed
+    omega (
+      arith,
+      c.in_ok-place_words.ensures.long,
+      ap length c.words.ensures,
+      length-map c.words.result.now arc_str_bytes,
+      c.in_ok-places.ensures.len,
+    ) in
+    all_placed (arc_str_bytes c.name.result.now) (map key_of c.place_words.new.keys.items)
+    c.place_words.new.places.items words c.postings.result.now c.postings.ensures.words long
+    c.in_ok-place_words.ensures.placed
     ∙ ap (λ (name : List ℕ). map (Word name) words) c.name.ensures

@@ -1,4 +1,5 @@
-use Rattle.std.proofs.Common.{◌≡◌, ℕ, ◌-◌, ◌+◌, ◌<◌, List, ◌++◌, All, Some, option_map, map, length, take, drop, set, length-set, append-nil, refl, ap, sym, ◌∙◌, subst, arith}
+use Rattle.std.proofs.Common.{◌≡◌, ℕ, ◌-◌, ◌+◌, ◌<◌, List, ◌++◌, All, Some, option_map, map, length, take, drop, set}
+use Rattle.std.proofs.Common.{length-set, append-nil, refl, ap, sym, ◌∙◌, subst, arith}
 use Rattle.std.specs.Arc.{arc_str_bytes}
 use Rattle.std.proofs.lemmas.List.{take_all, drop_all, length-map}
 use Rattle.std.proofs.lemmas.List.Elements.{All-nil}
@@ -9,7 +10,13 @@ use Rattle.clip_terms.proofs.PlacedWords.{Place, counted, words_at, keys_more, e
 use Rattle.clip_terms.proofs.asking.place_words.Goals as goal
 
 pub loop-posting-init : goal.loop-posting-init
-loop-posting-init c = record { keys = refl; last = tt; long = refl; placed = All-nil (IsPlaced (arc_str_bytes c.args.name.now) (map key_of c.args.keys.now.items) c.args.places.now.items) }
+loop-posting-init c = record {
+  keys = refl;
+  last = tt;
+  long = refl;
+  placed =
+      All-nil (IsPlaced (arc_str_bytes c.args.name.now) (map key_of c.args.keys.now.items) c.args.places.now.items);
+}
 
 pub overflow_sub-len : goal.overflow_sub-len
 overflow_sub-len c =
@@ -18,8 +25,11 @@ overflow_sub-len c =
     let old = map key_of c.loop-posting.keys.items in
     let new = map key_of c.add_differing.new.keys.items in
     let word = c.word-word.result.now in
-    let some : 0 < length new = (ends_more name (arc_str_bytes word) last old new c.loop-posting.invariant.last c.in_ok-add_differing.ensures).0 in
-    subst (λ (n : ℕ). 0 < n) (length-map c.add_differing.new.keys.items key_of ∙ counted c.add_differing.new.keys ∙ sym c.len.ensures) some
+    let some : 0 < length new =
+    (ends_more name (arc_str_bytes word) last old new c.loop-posting.invariant.last
+    c.in_ok-add_differing.ensures).0 in
+    subst (λ (n : ℕ). 0 < n) (length-map c.add_differing.new.keys.items key_of ∙ counted c.add_differing.new.keys
+    ∙ sym c.len.ensures) some
 
 pub index_mut-requires : goal.index_mut-requires
 index_mut-requires c =
@@ -27,7 +37,9 @@ index_mut-requires c =
     let i = c.loop-posting.posting-index in
     let x = c.posting-item.result in
     subst (λ (n : ℕ). n < c.loop-posting.places.len) (sym c.position.ensures)
-    (subst (λ (n : ℕ). x.1 < n) (sym c.loop-posting.invariant.long ∙ counted c.loop-posting.places) (position_within ps (length c.args.places.now.items) i x c.requires c.loop-posting-test.true c.posting-item.is))
+    (subst (λ (n : ℕ). x.1 < n) (sym c.loop-posting.invariant.long
+    ∙ counted c.loop-posting.places)
+    (position_within ps (length c.args.places.now.items) i x c.requires c.loop-posting-test.true c.posting-item.is))
 
 pub loop-posting-preserved : goal.loop-posting-preserved
 loop-posting-preserved c =
@@ -43,15 +55,20 @@ loop-posting-preserved c =
     let is = c.posting-item.is in
     let before = c.loop-posting.invariant in
     let word : c.as_str.result.now ≡ x.0 = c.as_str.ensures.value ∙ c.word-word.ensures in
-    let grown : new ≡ old ++ key_added name last x.0 = c.in_ok-add_differing.ensures ∙ ap (λ (v : List ℕ). old ++ key_added name last v) c.word-word.ensures in
+    let grown : new ≡ old ++ key_added name last x.0 =
+    c.in_ok-add_differing.ensures ∙ ap (λ (v : List ℕ). old ++ key_added name last v) c.word-word.ensures in
     let place : c.len.result - 1 ≡ length new - 1 = omega (arith, length-map c.add_differing.new.keys.items key_of) in
     record {
-      keys = ap (λ (v : List ℕ). new ++ map (Word name) (differing (Some v) (words_at (drop (i + 1) ps)))) word ∙ keys_more name last old new _ ps i x lt is grown before.keys;
-      last = subst (λ (v : List ℕ). EndsWith name (Some v) new) (sym word) (ends_more name x.0 last old new before.last grown);
+      keys = ap (λ (v : List ℕ). new ++ map (Word name) (differing (Some v) (words_at (drop (i + 1) ps)))) word
+          ∙ keys_more name last old new _ ps i x lt is grown before.keys;
+      last = subst (λ (v : List ℕ). EndsWith name (Some v) new) (sym word)
+          (ends_more name x.0 last old new before.last grown);
       long = length-set places _ _ ∙ before.long;
       placed =
-          subst (λ (n : ℕ). All (IsPlaced name new (set places n (c.len.result - 1))) (take (i + 1) ps)) (sym c.position.ensures)
-          (placed_more name last old new places (c.len.result - 1) (length c.args.places.now.items) ps i x c.requires before.long lt is grown place before.last before.placed);
+          subst (λ (n : ℕ). All (IsPlaced name new (set places n (c.len.result - 1))) (take (i + 1) ps))
+          (sym c.position.ensures)
+          (placed_more name last old new places (c.len.result - 1) (length c.args.places.now.items) ps i x c.requires
+          before.long lt is grown place before.last before.placed);
     }
 
 pub returns-clause-keys : goal.returns-clause-keys
@@ -60,9 +77,14 @@ returns-clause-keys c =
     let new = map key_of c.loop-posting.keys.items in
     let last = option_map (λ w. w.now) c.loop-posting.last in
     sym (append-nil new)
-    ∙ ap (λ (ps : List Place). new ++ map (Word name) (differing last (words_at ps))) (sym (drop_all c.loop-posting.posting-index c.args.postings.now c.loop-posting-test.false)) ∙ c.loop-posting.invariant.keys
+    ∙ ap (λ (ps : List Place). new ++ map (Word name) (differing last (words_at ps)))
+    (sym (drop_all c.loop-posting.posting-index c.args.postings.now c.loop-posting-test.false))
+    ∙ c.loop-posting.invariant.keys
 
 pub returns-clause-placed : goal.returns-clause-placed
 returns-clause-placed c =
-    subst (λ (ps : List Place). All (IsPlaced (arc_str_bytes c.args.name.now) (map key_of c.loop-posting.keys.items) c.loop-posting.places.items) ps)
-    (take_all c.loop-posting.posting-index c.args.postings.now c.loop-posting-test.false) c.loop-posting.invariant.placed
+    subst (λ (ps : List Place).
+    All (IsPlaced (arc_str_bytes c.args.name.now) (map key_of c.loop-posting.keys.items)
+    c.loop-posting.places.items) ps)
+    (take_all c.loop-posting.posting-index c.args.postings.now c.loop-posting-test.false)
+    c.loop-posting.invariant.placed

@@ -8,6 +8,7 @@ abbrev pub invariant-loop-spot : goal.invariant-loop-spot
 invariant-loop-spot l = record {
   long : length l.flags ≡ length l.fn.flags;
   raised : (k : ℕ) → k < length l.fn.flags
-      → (is_up (get_or l.flags k 0) || list_any (covers_before l.run l.numbers l.anchor.place k) (drop l.spot-index l.anchor.spots.now))
+      → (is_up (get_or l.flags k 0)
+      || list_any (covers_before l.run l.numbers l.anchor.place k) (drop l.spot-index l.anchor.spots.now))
       ≡ (is_up (get_or l.fn.flags k 0) || list_any (covers_before l.run l.numbers l.anchor.place k) l.anchor.spots.now);
 }

@@ -16,6 +16,14 @@ loop-bits-preserved c =
     let one_more : c.loop-bits.bits ≡ 1 + k = omega (arith, c.loop-bits-test.true) in
     let twice : 2 ^ c.loop-bits.bits ≡ 2 * step = ap (λ (n : ℕ). 2 ^ n) one_more ∙ pow-add 2 1 k in
     let next =
-    stepped leads part.start part.end low step c.args.lead c.step_if-low.result c.requires.rise so.from (pow_pos k) (omega (arith, so.upto, twice, pow_pos k))
-    (c.step_if-low.ensures ∙ ap (λ (n : ℕ). if nat_lt (get_or leads (low + (n - 1)) 0) c.args.lead then step else 0) shifted) so.below in
-    record { few = omega (arith, few); from = omega (arith, so.from); upto = omega (arith, next.0, so.upto, twice); below = next.1 }
+    stepped leads part.start part.end low step c.args.lead c.step_if-low.result c.requires.rise so.from (pow_pos k)
+    (omega (arith, so.upto, twice, pow_pos k))
+    (c.step_if-low.ensures ∙ ap (λ (n : ℕ). if nat_lt (get_or leads (low + (n - 1)) 0) c.args.lead then step else 0)
+    shifted) so.below in
+    record {
+      few = omega (arith, few);
+      from = omega (arith, so.from);
+      upto =
+          omega (arith, next.0, so.upto, twice);
+      below = next.1;
+    }

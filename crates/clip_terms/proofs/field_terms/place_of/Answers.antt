@@ -4,15 +4,23 @@ use Rattle.clip_meaning.specs.Leads.{IsLead}
 use Rattle.clip_extract.specs.Keys.{KeyValue, key_of, text_of}
 use Rattle.clip_terms.specs.Steps.Leads.{IsShortLength}
 use Rattle.clip_terms.proofs.Headings.{below_middle, above_middle, found_middle, found_nowhere, found_later}
-use Rattle.clip_terms.proofs.LeadsOfTerms.{leads_long, lead_at, lengths_long, length_at, read_at, never_fall, all_below, all_above}
+use Rattle.clip_terms.proofs.LeadsOfTerms.{leads_long, lead_at, lengths_long, length_at, read_at, never_fall, all_below}
+use Rattle.clip_terms.proofs.LeadsOfTerms.{all_above}
 use Rattle.clip_terms.proofs.field_terms.place_of.Goals as goal
 
 pub first_near-first-requires-clause-within : goal.first_near-first-requires-clause-within
-first_near-first-requires-clause-within c = omega (arith, c.requires.within, leads_long (map key_of c.args.keys.now) c.args.leads.now c.requires.leads, length-map c.args.keys.now key_of)
+first_near-first-requires-clause-within c =
+    omega (
+      arith,
+      c.requires.within,
+      leads_long (map key_of c.args.keys.now) c.args.leads.now c.requires.leads,
+      length-map c.args.keys.now key_of,
+    )
 
 pub first_near-first-requires-clause-rise : goal.first_near-first-requires-clause-rise
 first_near-first-requires-clause-rise c =
-    never_fall (map key_of c.args.keys.now) c.args.leads.now c.args.part.now.start c.args.part.now.end c.requires.leads (omega (arith, c.requires.within, length-map c.args.keys.now key_of)) c.requires.rise
+    never_fall (map key_of c.args.keys.now) c.args.leads.now c.args.part.now.start c.args.part.now.end c.requires.leads
+    (omega (arith, c.requires.within, length-map c.args.keys.now key_of)) c.requires.rise
 
 pub returns-then-first-part : goal.returns-then-first-part
 returns-then-first-part c =
@@ -22,11 +30,18 @@ returns-then-first-part c =
     let within : end ≤ length ts = omega (arith, c.requires.within, length-map c.args.keys.now key_of) in
     let upto : end ≤ c.first_near-first.result = c.if-first-part.true in
     found_nowhere ts start end c.args.sought.now end end (omega arith)
-    (all_below ts c.args.leads.now start end c.args.sought.now c.lead-lead.result c.requires.leads c.lead-lead.ensures within (λ n a b. c.first_near-first.ensures.below n a (omega arith)))
+    (all_below ts c.args.leads.now start end c.args.sought.now c.lead-lead.result c.requires.leads c.lead-lead.ensures
+    within (λ n a b. c.first_near-first.ensures.below n a (omega arith)))
     (λ n d a b. absurd (omega arith))
 
 pub bounds-leads-first : goal.bounds-leads-first
-bounds-leads-first c = omega (arith, c.if-first-part.false, c.requires.within, leads_long (map key_of c.args.keys.now) c.args.leads.now c.requires.leads, length-map c.args.keys.now key_of)
+bounds-leads-first c = omega (
+  arith,
+  c.if-first-part.false,
+  c.requires.within,
+  leads_long (map key_of c.args.keys.now) c.args.leads.now c.requires.leads,
+  length-map c.args.keys.now key_of,
+)
 
 pub returns-then-leads-first : goal.returns-then-leads-first
 returns-then-leads-first c =
@@ -36,12 +51,22 @@ returns-then-leads-first c =
     let first = c.first_near-first.result in
     let within : end ≤ length ts = omega (arith, c.requires.within, length-map c.args.keys.now key_of) in
     found_nowhere ts start end c.args.sought.now first first (omega arith)
-    (all_below ts c.args.leads.now start first c.args.sought.now c.lead-lead.result c.requires.leads c.lead-lead.ensures (omega (arith, within, c.if-first-part.false)) c.first_near-first.ensures.below)
-    (all_above ts c.args.leads.now start end c.args.sought.now c.lead-lead.result first c.requires.leads c.lead-lead.ensures within
-    (never_fall ts c.args.leads.now start end c.requires.leads within c.requires.rise) c.first_near-first.ensures.from c.if-leads-first.true)
+    (all_below ts c.args.leads.now start first c.args.sought.now c.lead-lead.result c.requires.leads
+    c.lead-lead.ensures (omega (arith, within, c.if-first-part.false)) c.first_near-first.ensures.below)
+    (all_above ts c.args.leads.now start end c.args.sought.now c.lead-lead.result first c.requires.leads
+    c.lead-lead.ensures within
+    (never_fall ts c.args.leads.now start end c.requires.leads within c.requires.rise) c.first_near-first.ensures.from
+    c.if-leads-first.true)
 
 pub bounds-leads-first-2 : goal.bounds-leads-first-2
-bounds-leads-first-2 c = omega (arith, c.if-first-part.false, c.requires.within, leads_long (map key_of c.args.keys.now) c.args.leads.now c.requires.leads, length-map c.args.keys.now key_of)
+bounds-leads-first-2 c =
+    omega (
+      arith,
+      c.if-first-part.false,
+      c.requires.within,
+      leads_long (map key_of c.args.keys.now) c.args.leads.now c.requires.leads,
+      length-map c.args.keys.now key_of,
+    )
 
 pub order-requires-clause-lead : goal.order-requires-clause-lead
 order-requires-clause-lead c =
@@ -49,8 +74,10 @@ order-requires-clause-lead c =
     let first = c.first_near-first.result in
     let k = c.index-keys-first.result in
     let inside : first < length keys = omega (arith, c.if-first-part.false, c.requires.within) in
-    subst (λ (t : KeyValue). IsLead (text_of t) (get_or c.args.leads.now first 0)) (read_at keys first k inside c.index-keys-first.is (key_of k))
-    (lead_at (map key_of keys) c.args.leads.now c.requires.leads first (key_of k) (omega (arith, length-map keys key_of)))
+    subst (λ (t : KeyValue). IsLead (text_of t) (get_or c.args.leads.now first 0))
+    (read_at keys first k inside c.index-keys-first.is (key_of k))
+    (lead_at (map key_of keys) c.args.leads.now c.requires.leads first (key_of k)
+    (omega (arith, length-map keys key_of)))
 
 pub returns-in-Less : goal.returns-in-Less
 returns-in-Less c =
@@ -60,8 +87,11 @@ returns-in-Less c =
     let first = c.first_near-first.result in
     let k = c.index-keys-first.result in
     let inside : first < length keys = omega (arith, c.if-first-part.false, c.requires.within) in
-    found_later ts start (first + 1) c.args.part.now.end c.args.sought.now (omega (arith, c.first_near-first.ensures.from))
-    (below_middle ts start c.args.part.now.end c.args.sought.now c.requires.rise first (key_of k) (read_at keys first k inside c.index-keys-first.is) c.first_near-first.ensures.from (omega (arith, c.if-first-part.false)) (sym c.in-Less.ensures))
+    found_later ts start (first + 1) c.args.part.now.end c.args.sought.now
+    (omega (arith, c.first_near-first.ensures.from))
+    (below_middle ts start c.args.part.now.end c.args.sought.now c.requires.rise first (key_of k)
+    (read_at keys first k inside c.index-keys-first.is) c.first_near-first.ensures.from
+    (omega (arith, c.if-first-part.false)) (sym c.in-Less.ensures))
     c.place_among.result c.place_among.ensures
 
 pub returns-in-Greater : goal.returns-in-Greater
@@ -74,8 +104,11 @@ returns-in-Greater c =
     let k = c.index-keys-first.result in
     let inside : first < length keys = omega (arith, c.if-first-part.false, c.requires.within) in
     found_nowhere ts start end c.args.sought.now first first (omega arith)
-    (all_below ts c.args.leads.now start first c.args.sought.now c.lead-lead.result c.requires.leads c.lead-lead.ensures (omega (arith, length-map keys key_of)) c.first_near-first.ensures.below)
-    (above_middle ts start end c.args.sought.now c.requires.rise first (key_of k) (read_at keys first k inside c.index-keys-first.is) c.first_near-first.ensures.from (omega (arith, c.if-first-part.false)) (sym c.in-Greater.ensures))
+    (all_below ts c.args.leads.now start first c.args.sought.now c.lead-lead.result c.requires.leads
+    c.lead-lead.ensures (omega (arith, length-map keys key_of)) c.first_near-first.ensures.below)
+    (above_middle ts start end c.args.sought.now c.requires.rise first (key_of k)
+    (read_at keys first k inside c.index-keys-first.is) c.first_near-first.ensures.from
+    (omega (arith, c.if-first-part.false)) (sym c.in-Greater.ensures))
 
 pub returns-in-Equal : goal.returns-in-Equal
 returns-in-Equal c =
@@ -83,7 +116,9 @@ returns-in-Equal c =
     let first = c.first_near-first.result in
     let k = c.index-keys-first.result in
     let inside : first < length keys = omega (arith, c.if-first-part.false, c.requires.within) in
-    found_middle (map key_of keys) c.args.part.now.start c.args.part.now.end c.args.sought.now c.requires.rise first (key_of k) (read_at keys first k inside c.index-keys-first.is) c.first_near-first.ensures.from (omega (arith, c.if-first-part.false)) (sym c.in-Equal.ensures)
+    found_middle (map key_of keys) c.args.part.now.start c.args.part.now.end c.args.sought.now c.requires.rise first
+    (key_of k) (read_at keys first k inside c.index-keys-first.is) c.first_near-first.ensures.from
+    (omega (arith, c.if-first-part.false)) (sym c.in-Equal.ensures)
 
 pub order-requires-clause-length : goal.order-requires-clause-length
 order-requires-clause-length c =
@@ -91,8 +126,17 @@ order-requires-clause-length c =
     let first = c.first_near-first.result in
     let k = c.index-keys-first.result in
     let inside : first < length keys = omega (arith, c.if-first-part.false, c.requires.within) in
-    subst (λ (t : KeyValue). IsShortLength (text_of t) (get_or c.args.lengths.now first 0)) (read_at keys first k inside c.index-keys-first.is (key_of k))
-    (length_at (map key_of keys) c.args.lengths.now c.requires.lengths first (key_of k) (omega (arith, length-map keys key_of)))
+    subst (λ (t : KeyValue). IsShortLength (text_of t) (get_or c.args.lengths.now first 0))
+    (read_at keys first k inside c.index-keys-first.is (key_of k))
+    (length_at (map key_of keys) c.args.lengths.now c.requires.lengths first (key_of k)
+    (omega (arith, length-map keys key_of)))
 
 pub bounds-lengths-first : goal.bounds-lengths-first
-bounds-lengths-first c = omega (arith, c.if-first-part.false, c.requires.within, lengths_long (map key_of c.args.keys.now) c.args.lengths.now c.requires.lengths, length-map c.args.keys.now key_of)
+bounds-lengths-first c =
+    omega (
+      arith,
+      c.if-first-part.false,
+      c.requires.within,
+      lengths_long (map key_of c.args.keys.now) c.args.lengths.now c.requires.lengths,
+      length-map c.args.keys.now key_of,
+    )

@@ -13,6 +13,8 @@ loop-head-preserved c =
     let key : KeyValue = c.head-item.result in
     let lead = c.head.inside.lead in
     let is = subst (λ (k : KeyValue). IsLead (text_of k) lead) c.head.view_is c.head.invariant.0 in
-    let more : take (i + 1) heads ≡ take i heads ++ key ∷ [] = take_more heads i key c.loop-head-test.true ∙ ap (λ (k : KeyValue). take i heads ++ k ∷ []) (sym c.head-item.is) in
+    let more : take (i + 1) heads ≡ take i heads ++ key ∷ [] = take_more heads i key c.loop-head-test.true
+    ∙ ap (λ (k : KeyValue). take i heads ++ k ∷ []) (sym c.head-item.is) in
     subst (λ (ts : List KeyValue). AreLeads ts c.push.new.self.items) (sym more)
-    (subst (λ (ns : List ℕ). AreLeads (take i heads ++ key ∷ []) ns) (sym c.in_ok-push.ensures.items) (leads_push (take i heads) c.loop-head.leads.items key lead c.loop-head.invariant is))
+    (subst (λ (ns : List ℕ). AreLeads (take i heads ++ key ∷ []) ns) (sym c.in_ok-push.ensures.items)
+    (leads_push (take i heads) c.loop-head.leads.items key lead c.loop-head.invariant is))

@@ -12,4 +12,6 @@ returns c =
     let right = drop c.loop-first.at_b b in
     c.in_ok-add_all-2.ensures ∙ ap (λ l. c.add_all.new.all.items ++ l) (rest b c.loop-first.at_b)
     ∙ ap (λ l. l ++ right) (c.in_ok-add_all.ensures ∙ ap (λ l. heads ++ l) (rest a c.loop-first.at_a))
-    ∙ all_merged heads left right (a ++ b) (c.in_default.ensures.lesser heads c.loop-first.invariant.left c.loop-first.invariant.right) c.loop-first.invariant.among
+    ∙ all_merged heads left right (a ++ b)
+    (c.in_default.ensures.lesser heads c.loop-first.invariant.left c.loop-first.invariant.right)
+    c.loop-first.invariant.among

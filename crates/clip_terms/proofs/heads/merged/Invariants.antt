@@ -10,7 +10,9 @@ invariant-loop-first l = record {
   in_b : l.at_b ≤ length l.b;
   left : IsStrictlySortedBy key_cmp (l.heads.items ++ drop l.at_a l.a);
   right : IsStrictlySortedBy key_cmp (l.heads.items ++ drop l.at_b l.b);
-  among : (key : KeyValue) → (list_any (is_same key) l.heads.items || list_any (is_same key) (drop l.at_a l.a ++ drop l.at_b l.b)) ≡ list_any (is_same key) (l.a ++ l.b);
+  among : (key : KeyValue)
+      → (list_any (is_same key) l.heads.items || list_any (is_same key) (drop l.at_a l.a ++ drop l.at_b l.b))
+      ≡ list_any (is_same key) (l.a ++ l.b);
 }
 
 abbrev pub decreases-loop-first : goal.decreases-loop-first

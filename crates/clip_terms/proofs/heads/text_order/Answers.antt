@@ -11,7 +11,8 @@ returns-then-a-b c =
     let a = c.a.inside in
     let b = c.b.inside in
     c.cmp.ensures
-    ∙ leads_settle (text_of (key_of a.key.now)) (text_of (key_of b.key.now)) a.lead b.lead c.a.invariant.0 c.b.invariant.0 c.if-a-b.true
+    ∙ leads_settle (text_of (key_of a.key.now)) (text_of (key_of b.key.now)) a.lead b.lead c.a.invariant.0
+    c.b.invariant.0 c.if-a-b.true
     ∙ ap₂ (λ k l. bytes_cmp (text_of k) (text_of l)) c.a.view_is c.b.view_is
 
 pub returns-then-a-le8 : goal.returns-then-a-le8
@@ -19,6 +20,7 @@ returns-then-a-le8 c =
     let a = c.a.inside in
     let b = c.b.inside in
     let ys = text_of (key_of b.key.now) in
-    short_texts_tie (text_of (key_of a.key.now)) ys a.lead b.lead a.length c.a.invariant.0 c.b.invariant.0 c.if-a-b.false c.a.invariant.1
+    short_texts_tie (text_of (key_of a.key.now)) ys a.lead b.lead a.length c.a.invariant.0 c.b.invariant.0
+    c.if-a-b.false c.a.invariant.1
     (subst (IsShortLength ys) (sym c.if-a-b-2.true) c.b.invariant.1) c.if-a-le8.true
     ∙ ap₂ (λ k l. bytes_cmp (text_of k) (text_of l)) c.a.view_is c.b.view_is

@@ -17,9 +17,12 @@ loop-key-preserved c =
     let before = map key_of (take i keys) in
     let short = c.short_length.result in
     let is = subst (λ (text : List ℕ). IsShortLength text short) c.text.ensures c.short_length.ensures in
-    let more : map key_of (take (i + 1) keys) ≡ before ++ key_of k ∷ [] = map_more key_of keys i k c.loop-key-test.true ∙ ap (λ (x : Key). before ++ key_of x ∷ []) (sym c.key-item.is) in
+    let more : map key_of (take (i + 1) keys) ≡ before ++ key_of k ∷ [] = map_more key_of keys i k c.loop-key-test.true
+    ∙ ap (λ (x : Key). before ++ key_of x ∷ []) (sym c.key-item.is) in
     subst (λ (ts : List KeyValue). AreShortLengths ts c.push.new.self.items) (sym more)
-    (subst (λ (lengths : List ℕ). AreShortLengths (before ++ key_of k ∷ []) lengths) (sym c.in_ok-push.ensures.items) (lengths_push before c.loop-key.lengths.items (key_of k) short c.loop-key.invariant is))
+    (subst (λ (lengths : List ℕ). AreShortLengths (before ++ key_of k ∷ []) lengths) (sym c.in_ok-push.ensures.items)
+    (lengths_push before c.loop-key.lengths.items (key_of k) short c.loop-key.invariant is))
 
 pub returns : goal.returns
-returns c = subst (λ (keys : List Key). AreShortLengths (map key_of keys) c.loop-key.lengths.items) (take_all c.loop-key.key-index c.args.keys.now c.loop-key-test.false) c.loop-key.invariant
+returns c = subst (λ (keys : List Key). AreShortLengths (map key_of keys) c.loop-key.lengths.items)
+    (take_all c.loop-key.key-index c.args.keys.now c.loop-key-test.false) c.loop-key.invariant

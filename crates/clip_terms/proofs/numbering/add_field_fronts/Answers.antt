@@ -14,8 +14,11 @@ returns c =
     let old = c.args.numbers.now.items in
     let new = c.add_posting_fronts.new.numbers.items in
     let ps = c.postings.result.now in
-    field_asked c.args.terms.now c.args.field.now c.deref.result.now ps old new c.order_law.ensures (c.deref.ensures.value ∙ c.name.ensures) c.postings.ensures.words
-    (subst (λ (v : FieldTermsValue). new ≡ old ++ known (map (number_of v.terms) (map (Front v.field) (asked_fronts [] (map (λ p. p.0) ps))))) c.of_field-of_field.ensures c.in_ok-add_posting_fronts.ensures)
+    field_asked c.args.terms.now c.args.field.now c.deref.result.now ps old new c.order_law.ensures
+    (c.deref.ensures.value ∙ c.name.ensures) c.postings.ensures.words
+    (subst (λ (v : FieldTermsValue). new
+    ≡ old ++ known (map (number_of v.terms) (map (Front v.field) (asked_fronts [] (map (λ p. p.0) ps)))))
+    c.of_field-of_field.ensures c.in_ok-add_posting_fronts.ensures)
 
 pub add_fronts_of-requires-clause-texts : goal.add_fronts_of-requires-clause-texts
 add_fronts_of-requires-clause-texts c = subst (All IsUtf8) c.words.ensures (texts_all c.words.result.now)

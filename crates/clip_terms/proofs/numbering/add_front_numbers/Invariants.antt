@@ -8,6 +8,7 @@ use Rattle.clip_terms.proofs.numbering.add_front_numbers.Given as goal
 
 abbrev pub invariant-loop-place : goal.invariant-loop-place
 invariant-loop-place l = record {
-  added : AddsNumbersOf l.terms (flat_map front_keys (take l.place (finite.entries l.asking.fields))) l.fn.numbers.items l.numbers.items;
+  added : AddsNumbersOf l.terms (flat_map front_keys (take l.place (finite.entries l.asking.fields)))
+      l.fn.numbers.items l.numbers.items;
   leads : AreLeads (flat_map ordered_keys (drop l.place (finite.entries l.asking.fields))) l.leads;
 }

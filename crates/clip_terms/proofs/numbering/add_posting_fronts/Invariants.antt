@@ -10,5 +10,8 @@ use Rattle.clip_terms.proofs.numbering.add_posting_fronts.Given as goal
 abbrev pub invariant-loop-posting : goal.invariant-loop-posting
 invariant-loop-posting l =
     shadow (Utf8 l.last)
-    × (l.numbers.items ++ known (map (number_of l.of_field.terms) (map (Front l.of_field.field) (asked_fronts l.last (map (λ p. p.0) (drop l.posting-index l.postings)))))
-    ≡ l.fn.numbers.items ++ known (map (number_of l.of_field.terms) (map (Front l.of_field.field) (asked_fronts [] (map (λ p. p.0) l.postings)))))
+    × (l.numbers.items ++ known
+    (map (number_of l.of_field.terms)
+    (map (Front l.of_field.field) (asked_fronts l.last (map (λ p. p.0) (drop l.posting-index l.postings)))))
+    ≡ l.fn.numbers.items ++ known
+    (map (number_of l.of_field.terms) (map (Front l.of_field.field) (asked_fronts [] (map (λ p. p.0) l.postings)))))

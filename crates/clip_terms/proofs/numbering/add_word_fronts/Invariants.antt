@@ -8,8 +8,10 @@ use Rattle.clip_terms.proofs.numbering.add_word_fronts.Given as goal
 
 abbrev pub invariant-loop-front : goal.invariant-loop-front
 invariant-loop-front l =
-    l.numbers.items ++ known (map (number_of l.of_field.terms) (map (Front l.of_field.field) (other_fronts l.lasts l.fronts)))
-    ≡ l.fn.numbers.items ++ known (map (number_of l.of_field.terms) (map (Front l.of_field.field) (other_fronts (fronts l.last) (fronts l.word))))
+    l.numbers.items ++ known
+    (map (number_of l.of_field.terms) (map (Front l.of_field.field) (other_fronts l.lasts l.fronts)))
+    ≡ l.fn.numbers.items ++ known
+    (map (number_of l.of_field.terms) (map (Front l.of_field.field) (other_fronts (fronts l.last) (fronts l.word))))
 
 abbrev pub decreases-loop-front : goal.decreases-loop-front
 decreases-loop-front l = length l.fronts

@@ -10,7 +10,11 @@ use Rattle.clip_terms.proofs.LeadsOfTerms.{leads_long, lead_at, lengths_long, le
 use Rattle.clip_terms.proofs.numbering.key_numbers.Goals as goal
 
 pub loop-place-init : goal.loop-place-init
-loop-place-init c = record { numbers = c.in_ok-numbers.ensures.items; terms = ap (λ (v : FieldTermsValue). v.terms) c.of_field-of_field.ensures }
+loop-place-init c = record {
+  numbers = c.in_ok-numbers.ensures.items;
+  terms =
+      ap (λ (v : FieldTermsValue). v.terms) c.of_field-of_field.ensures;
+}
 
 pub key_number-requires-clause-terms : goal.key_number-requires-clause-terms
 key_number-requires-clause-terms c = c.loop-place.invariant.terms
@@ -24,29 +28,58 @@ loop-place-preserved c =
     let before = map key_of (take i keys) in
     record {
       numbers =
-          c.in_ok-push.ensures.items ∙ ap (λ numbers. numbers ++ c.key_number.result ∷ []) c.loop-place.invariant.numbers
-          ∙ ap (λ n. map number before ++ n ∷ []) (c.key_number.ensures.number ∙ ap (λ (k : Key). number (key_of k)) c.index-keys-place.is)
-          ∙ sym (ap (map number) (map_more key_of keys i key c.loop-place-test.true) ∙ map_push number before (key_of (get_or keys i key)));
+          c.in_ok-push.ensures.items
+          ∙ ap (λ numbers. numbers ++ c.key_number.result ∷ []) c.loop-place.invariant.numbers
+          ∙ ap (λ n. map number before ++ n ∷ []) (c.key_number.ensures.number
+          ∙ ap (λ (k : Key). number (key_of k)) c.index-keys-place.is)
+          ∙ sym (ap (map number) (map_more key_of keys i key c.loop-place-test.true)
+          ∙ map_push number before (key_of (get_or keys i key)));
       terms = c.key_number.ensures.terms;
     }
 
 pub returns : goal.returns
-returns c = c.loop-place.invariant.numbers ∙ ap (λ keys. map (number_of c.args.terms.now) (map key_of keys)) (take_all c.loop-place.place c.args.keys.now c.loop-place-test.false)
+returns c = c.loop-place.invariant.numbers
+    ∙ ap (λ keys. map (number_of c.args.terms.now) (map key_of keys))
+    (take_all c.loop-place.place c.args.keys.now c.loop-place-test.false)
 
 pub slice_bounds-from-count : goal.slice_bounds-from-count
-slice_bounds-from-count c = omega (arith, c.loop-place-test.true, leads_long (map key_of c.args.keys.now) c.args.leads.now c.requires.leads, length-map c.args.keys.now key_of)
+slice_bounds-from-count c =
+    omega (
+      arith,
+      c.loop-place-test.true,
+      leads_long (map key_of c.args.keys.now) c.args.leads.now c.requires.leads,
+      length-map c.args.keys.now key_of,
+    )
 
 pub slice_bounds-from-start : goal.slice_bounds-from-start
-slice_bounds-from-start c = omega (arith, c.loop-place-test.true, leads_long (map key_of c.args.keys.now) c.args.leads.now c.requires.leads, length-map c.args.keys.now key_of)
+slice_bounds-from-start c =
+    omega (
+      arith,
+      c.loop-place-test.true,
+      leads_long (map key_of c.args.keys.now) c.args.leads.now c.requires.leads,
+      length-map c.args.keys.now key_of,
+    )
 
 pub bounds-lengths-place : goal.bounds-lengths-place
-bounds-lengths-place c = omega (arith, c.loop-place-test.true, lengths_long (map key_of c.args.keys.now) c.args.lengths.now c.requires.lengths, length-map c.args.keys.now key_of)
+bounds-lengths-place c =
+    omega (
+      arith,
+      c.loop-place-test.true,
+      lengths_long (map key_of c.args.keys.now) c.args.lengths.now c.requires.lengths,
+      length-map c.args.keys.now key_of,
+    )
 
 pub key_number-requires-clause-some : goal.key_number-requires-clause-some
 key_number-requires-clause-some c =
     let leads = c.args.leads.now in
     let place = c.loop-place.place in
-    let inside : place < length leads = omega (arith, c.loop-place-test.true, leads_long (map key_of c.args.keys.now) leads c.requires.leads, length-map c.args.keys.now key_of) in
+    let inside : place < length leads =
+    omega (
+      arith,
+      c.loop-place-test.true,
+      leads_long (map key_of c.args.keys.now) leads c.requires.leads,
+      length-map c.args.keys.now key_of,
+    ) in
     some_left (length leads - place) place leads (omega (arith, inside)) inside
 
 pub key_number-requires-clause-lead : goal.key_number-requires-clause-lead
@@ -55,10 +88,19 @@ key_number-requires-clause-lead c =
     let leads = c.args.leads.now in
     let place = c.loop-place.place in
     let k = c.index-keys-place.result in
-    let inside : place < length leads = omega (arith, c.loop-place-test.true, leads_long (map key_of keys) leads c.requires.leads, length-map keys key_of) in
-    subst (IsLead (text_of (key_of k))) (sym (first_left (length leads - place) place leads (omega (arith, inside)) inside))
-    (subst (λ (t : KeyValue). IsLead (text_of t) (get_or leads place 0)) (read_at keys place k c.loop-place-test.true c.index-keys-place.is (key_of k))
-    (lead_at (map key_of keys) leads c.requires.leads place (key_of k) (omega (arith, c.loop-place-test.true, length-map keys key_of))))
+    let inside : place < length leads =
+    omega (
+      arith,
+      c.loop-place-test.true,
+      leads_long (map key_of keys) leads c.requires.leads,
+      length-map keys key_of,
+    ) in
+    subst (IsLead (text_of (key_of k)))
+    (sym (first_left (length leads - place) place leads (omega (arith, inside)) inside))
+    (subst (λ (t : KeyValue). IsLead (text_of t) (get_or leads place 0))
+    (read_at keys place k c.loop-place-test.true c.index-keys-place.is (key_of k))
+    (lead_at (map key_of keys) leads c.requires.leads place (key_of k)
+    (omega (arith, c.loop-place-test.true, length-map keys key_of))))
 
 pub key_number-requires-clause-short : goal.key_number-requires-clause-short
 key_number-requires-clause-short c =
@@ -66,5 +108,7 @@ key_number-requires-clause-short c =
     let lengths = c.args.lengths.now in
     let place = c.loop-place.place in
     let k = c.index-keys-place.result in
-    subst (λ (t : KeyValue). IsShortLength (text_of t) (get_or lengths place 0)) (read_at keys place k c.loop-place-test.true c.index-keys-place.is (key_of k))
-    (length_at (map key_of keys) lengths c.requires.lengths place (key_of k) (omega (arith, c.loop-place-test.true, length-map keys key_of)))
+    subst (λ (t : KeyValue). IsShortLength (text_of t) (get_or lengths place 0))
+    (read_at keys place k c.loop-place-test.true c.index-keys-place.is (key_of k))
+    (length_at (map key_of keys) lengths c.requires.lengths place (key_of k)
+    (omega (arith, c.loop-place-test.true, length-map keys key_of)))

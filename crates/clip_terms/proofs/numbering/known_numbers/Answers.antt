@@ -9,5 +9,7 @@ loop-number-preserved c =
     let i = c.loop-number.number-index in
     let old = c.loop-number.numbers.items in
     let rest = known (drop (i + 1) by_key) in
-    ap (λ numbers. numbers ++ rest) c.in_ok-add_known.ensures ∙ append_assoc old (option_to_list (get_or by_key i None)) rest
-    ∙ ap (λ more. old ++ more) (sym (ap known (drop_more by_key i None c.loop-number-test.true))) ∙ c.loop-number.invariant
+    ap (λ numbers. numbers ++ rest) c.in_ok-add_known.ensures
+    ∙ append_assoc old (option_to_list (get_or by_key i None)) rest
+    ∙ ap (λ more. old ++ more) (sym (ap known (drop_more by_key i None c.loop-number-test.true)))
+    ∙ c.loop-number.invariant

@@ -11,6 +11,10 @@ returns c =
     let h : Heading = (c.args.rank, c.args.field.now) in
     let start = c.partition_point-start.result in
     let end = c.partition_point-end.result in
-    let lower = IsPartitionPoint-from_clause (λ k. is_lt (heading_cmp (heading (key_of k)) h)) keys start c.partition_point-start.ensures.partitioned (lower_first keys h c.requires) (λ a r f k. search (rules, of_calls)) in
-    let upto = IsPartitionPoint-from_clause (λ k. is_le (heading_cmp (heading (key_of k)) h)) keys end c.partition_point-end.ensures.partitioned (upto_first keys h c.requires) (λ a r f k. search (rules, of_calls)) in
+    let lower = IsPartitionPoint-from_clause (λ k. is_lt (heading_cmp (heading (key_of k)) h)) keys start
+    c.partition_point-start.ensures.partitioned (lower_first keys h c.requires)
+    (λ a r f k. search (rules, of_calls)) in
+    let upto = IsPartitionPoint-from_clause (λ k. is_le (heading_cmp (heading (key_of k)) h)) keys end
+    c.partition_point-end.ensures.partitioned (upto_first keys h c.requires) (λ a r f k. search (rules, of_calls))
+    in
     part_found keys h start end c.partition_point-start.ensures.bound c.partition_point-end.ensures.bound lower upto

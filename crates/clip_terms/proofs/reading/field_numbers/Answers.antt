@@ -11,7 +11,8 @@ pub bounds-places-place : goal.bounds-places-place
 bounds-places-place c =
     let read = λ (v : Vec ℕ Global). map (number_at c.args.by_key.now) v.items in
     let wanted = λ (f : FieldValue). map (number_of c.args.terms.now) (field_keys f) in
-    let long : length c.args.places.now ≡ length c.args.fields.now = sym (length-map c.args.places.now read) ∙ ap length c.requires ∙ length-map c.args.fields.now wanted in
+    let long : length c.args.places.now ≡ length c.args.fields.now = sym (length-map c.args.places.now read)
+    ∙ ap length c.requires ∙ length-map c.args.fields.now wanted in
     omega (arith, long)
 
 pub numbers_of-requires : goal.numbers_of-requires
@@ -19,4 +20,5 @@ numbers_of-requires c =
     let read = λ (v : Vec ℕ Global). map (number_at c.args.by_key.now) v.items in
     let wanted = λ (f : FieldValue). map (number_of c.args.terms.now) (field_keys f) in
     ap (map (number_at c.args.by_key.now)) c.deref.ensures.value
-    ∙ both_at read wanted c.args.places.now c.args.fields.now c.loop-place.place c.index-places-place.result c.index-fields-place.result c.requires (omega arith) c.index-places-place.is c.index-fields-place.is
+    ∙ both_at read wanted c.args.places.now c.args.fields.now c.loop-place.place c.index-places-place.result
+    c.index-fields-place.result c.requires (omega arith) c.index-places-place.is c.index-fields-place.is

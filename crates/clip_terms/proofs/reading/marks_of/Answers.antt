@@ -12,9 +12,11 @@ loop-number-preserved c =
       long = ap length c.mark.ensures ∙ length-set marks _ _ ∙ before.long;
       flags = λ n lt.
           ap (λ flags. unwrap_or (slice_get flags n) true) c.mark.ensures
-          ∙ flag_more marks c.args.bound c.args.numbers.now c.loop-number.number-index c.loop-number-test.true before.long before.flags n lt;
+          ∙ flag_more marks c.args.bound c.args.numbers.now c.loop-number.number-index c.loop-number-test.true
+          before.long before.flags n lt;
     }
 
 pub returns-clause-flags : goal.returns-clause-flags
 returns-clause-flags c =
-    subst (λ (numbers : List ℕ). AreFlags c.loop-number.marks c.args.bound numbers) (take_all c.loop-number.number-index c.args.numbers.now c.loop-number-test.false) c.loop-number.invariant.flags
+    subst (λ (numbers : List ℕ). AreFlags c.loop-number.marks c.args.bound numbers)
+    (take_all c.loop-number.number-index c.args.numbers.now c.loop-number-test.false) c.loop-number.invariant.flags

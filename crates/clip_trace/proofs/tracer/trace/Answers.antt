@@ -10,11 +10,15 @@ loop-event-preserved c =
     let events = c.loop-event.yielded in
     let answers = c.loop-event.answers.items in
     let steps : List Step = zip (map event_of events) (map answer_of answers) in
-    let more : zip (map event_of (events ++ c.in-Some.event ∷ [])) (map answer_of c.push.new.self.items) ≡ steps ++ (event_of c.in-Some.event, answer_of c.in_ok-step.field-0) ∷ [] =
-    ap (λ given. zip (map event_of (events ++ c.in-Some.event ∷ [])) (map answer_of given)) c.in_ok-push.ensures.items ∙ one_more events answers c.in-Some.event c.in_ok-step.field-0 c.loop-event.invariant.each in
+    let more : zip (map event_of (events ++ c.in-Some.event ∷ [])) (map answer_of c.push.new.self.items)
+    ≡ steps ++ (event_of c.in-Some.event, answer_of c.in_ok-step.field-0) ∷ [] =
+    ap (λ given. zip (map event_of (events ++ c.in-Some.event ∷ [])) (map answer_of given)) c.in_ok-push.ensures.items
+    ∙ one_more events answers c.in-Some.event c.in_ok-step.field-0 c.loop-event.invariant.each in
     let on = c.in_ok-step.ensures.goes_on steps c.loop-event.invariant.due c.loop-event.invariant.stands in
     record {
-      each = let a = length-append answers (c.in_ok-step.field-0 ∷ []) in let b = length-append events (c.in-Some.event ∷ []) in let d = ap length c.in_ok-push.ensures.items in let e = c.loop-event.invariant.each in omega arith;
+      each = let a = length-append answers (c.in_ok-step.field-0 ∷ []) in let b =
+          length-append events (c.in-Some.event ∷ []) in let d = ap length c.in_ok-push.ensures.items in let e =
+          c.loop-event.invariant.each in omega arith;
       due = subst IsDue (sym more) on.0;
       stands = ap stand more ∙ on.1;
     }

@@ -22,23 +22,52 @@ use Rattle.tests.specs.contracts.desk.room.Way as way
 use Rattle.tests.specs.contracts.desk.room.Room as room
 use Rattle.tests.proofs.desk.room.Plan.TheSendSync as plan_sent
 
-ruleset global = (sendable, global_sent.the_send, global_sent.the_sync, allocator_sent.the_frees, nudge_sent.the_send, nudge_sent.the_sync)
+ruleset global = (
+  sendable,
+  global_sent.the_send,
+  global_sent.the_sync,
+  allocator_sent.the_frees,
+  nudge_sent.the_send,
+  nudge_sent.the_sync,
+)
 
 module _ (N : RattleType) (g : Ghosts N.Denot) where
   handed_send : IsSend (handed.the_row N g)
   handed_send = declared_send (handed.the_type N g) (receipt_sent.the_send, (search sendable, tt))
 
   way_sync : IsSync (way.the_row N g)
-  way_sync = declared_sync (way.the_type N g) (search (global, sender_sent.the_sync, handed_send) depth 20, (search (global, receiver_sent.the_sync, handed_send) depth 20, tt))
+  way_sync = declared_sync (way.the_type N g) (
+    search (global, sender_sent.the_sync, handed_send) depth 20,
+    (search (global, receiver_sent.the_sync, handed_send) depth 20, tt),
+  )
 
   pub room_sync : IsSync (room.the_row N g)
-  room_sync = declared_sync (room.the_type N g) (search global, (desk_sync N log.the_row g log_impl.ghosts log_sent.the_send, (search (global, sender_sent.the_sync) depth 20, (search (global, receiver_sent.the_sync) depth 20, (search (global, plan_sent.the_sync), (way_sync, (way_sync, tt)))))))
+  room_sync = declared_sync (room.the_type N g) (
+    search global,
+    (
+      desk_sync N log.the_row g log_impl.ghosts log_sent.the_send,
+      (
+        search (global, sender_sent.the_sync) depth 20,
+        (
+          search (global, receiver_sent.the_sync) depth 20,
+          (search (global, plan_sent.the_sync), (way_sync, (way_sync, tt))),
+        ),
+      ),
+    ),
+  )
 
 -- a closure of two captures
 pub two_send : (name : Sym) (A B : RattleType) → IsSend A → IsSend B → IsSend (TupleAt name (A ∷ B ∷ []))
-two_send name A B a b = declared_send (type_at name (A ∷ B ∷ [])) (as_row_send (row_field A) a, (as_row_send (row_field B) b, tt))
+two_send name A B a b = declared_send (type_at name (A ∷ B ∷ [])) (
+  as_row_send (row_field A) a,
+  (as_row_send (row_field B) b, tt),
+)
 
 -- a closure of three captures
-pub three_send : (name : Sym) (A B C : RattleType) → IsSend A → IsSend B → IsSend C → IsSend (TupleAt name (A ∷ B ∷ C ∷ []))
+pub three_send : (name : Sym) (A B C : RattleType) → IsSend A → IsSend B → IsSend C
+    → IsSend (TupleAt name (A ∷ B ∷ C ∷ []))
 three_send name A B C a b c =
-    declared_send (type_at name (A ∷ B ∷ C ∷ [])) (as_row_send (row_field A) a, (as_row_send (row_field B) b, (as_row_send (row_field C) c, tt)))
+    declared_send (type_at name (A ∷ B ∷ C ∷ [])) (
+      as_row_send (row_field A) a,
+      (as_row_send (row_field B) b, (as_row_send (row_field C) c, tt)),
+    )

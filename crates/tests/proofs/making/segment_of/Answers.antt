@@ -9,7 +9,8 @@ pub loop-seq-preserved : goal.loop-seq-preserved
 loop-seq-preserved c =
     let before = c.loop-seq.entries.items in
     let next = c.in_ok-entry.field-0 in
-    subst (λ (es : List Registered). IsFilled (c.loop-seq.seq + 1) es) (sym (ap (map arc_value) c.in_ok-push.ensures.items ∙ map-append arc_value before (next ∷ [])))
+    subst (λ (es : List Registered). IsFilled (c.loop-seq.seq + 1) es)
+    (sym (ap (map arc_value) c.in_ok-push.ensures.items ∙ map-append arc_value before (next ∷ [])))
     (filled_more c.loop-seq.seq (map arc_value before) (arc_value next) c.loop-seq.invariant c.in_ok-entry.ensures)
 
 pub build-requires-clause-short : goal.build-requires-clause-short

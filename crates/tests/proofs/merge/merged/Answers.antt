@@ -13,11 +13,13 @@ four_rise = search rules
 
 pub merge-requires-clause-rising : goal.merge-requires-clause-rising
 merge-requires-clause-rising c =
-    let seqs = ap (λ ss. map (λ (e : Registered). e.seq) (all_entries (map arc_value ss))) c.deref.ensures.value ∙ c.in_ok-singles.ensures in
+    let seqs = ap (λ ss. map (λ (e : Registered). e.seq) (all_entries (map arc_value ss))) c.deref.ensures.value
+    ∙ c.in_ok-singles.ensures in
     entries_rise (all_entries (map arc_value c.deref.result.now)) (subst AreRising (sym seqs) four_rise)
 
 pub merge-requires-clause-short : goal.merge-requires-clause-short
 merge-requires-clause-short c =
     let all = all_entries (map arc_value c.deref.result.now) in
-    let seqs = ap (λ ss. length (map (λ (e : Registered). e.seq) (all_entries (map arc_value ss)))) c.deref.ensures.value ∙ ap length c.in_ok-singles.ensures in
+    let seqs = ap (λ ss. length (map (λ (e : Registered). e.seq) (all_entries (map arc_value ss))))
+    c.deref.ensures.value ∙ ap length c.in_ok-singles.ensures in
     omega (arith, named_fewer c.of-live.result all, length-map all (λ (e : Registered). e.seq))

@@ -12,5 +12,7 @@ compare_exchange-found-requires c =
       sym (ap (λ w. w.book) h),
       pen.0 ∙ sym (ap (λ w. w.book) h),
       offer.0,
-      rw (ap (λ w. w.key) h, pen.1, offer.1, offer.3) (adds_moves c.args.self.now.seen.log (entry_of c.args.entry.now) c.args.self.now.count (sym c.args.self.now.counted)),
+      rw (ap (λ w. w.key) h, pen.1, offer.1, offer.3)
+          (adds_moves c.args.self.now.seen.log (entry_of c.args.entry.now) c.args.self.now.count
+          (sym c.args.self.now.counted)),
     )

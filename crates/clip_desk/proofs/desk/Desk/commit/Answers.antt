@@ -14,7 +14,8 @@ returns-clause-last g c =
     both_ok
     (λ (r : ReceiptIs). r.history ≡ with_command before caller command)
     (λ (r : ReceiptIs). r.applied ≡ answer_of command (applied before command))
-    (λ (r : ReceiptIs). (x : model.History) × (r.history ≡ with_command x caller command) × (r.applied ≡ answer_of command (applied x command)))
+    (λ (r : ReceiptIs). (x : model.History) × (r.history ≡ with_command x caller command)
+    × (r.applied ≡ answer_of command (applied x command)))
     c.commit-answer.result c.commit-answer.ensures.entry c.commit-answer.ensures.applied (λ r p q. (before, p, q))
 
 -- proved by search alone: it stands here so that a wrong body is refused at once

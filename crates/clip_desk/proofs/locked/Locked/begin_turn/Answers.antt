@@ -4,7 +4,10 @@ use Rattle.clip_registry.specs.RegistryState.{RegistryState}
 use Rattle.clip_desk.proofs.locked.Locked.begin_turn.Goals as goal
 
 pub returns-clause-nothing : goal.returns-clause-nothing
-returns-clause-nothing g c e first run = c.begin_turn.ensures.nothing e first (subst (λ (s : RegistryState). IsRun s.segments first) (ap (λ s. s.registry) (sym c.self.view_is)) run)
+returns-clause-nothing g c e first run =
+    c.begin_turn.ensures.nothing e first
+    (subst (λ (s : RegistryState). IsRun s.segments first) (ap (λ s. s.registry) (sym c.self.view_is)) run)
 
 pub returns-clause-few : goal.returns-clause-few
-returns-clause-few g c e = subst (λ (s : RegistryState). AreFew s.segments) (ap (λ s. s.registry) c.self.view_is) (c.begin_turn.ensures.few e)
+returns-clause-few g c e =
+    subst (λ (s : RegistryState). AreFew s.segments) (ap (λ s. s.registry) c.self.view_is) (c.begin_turn.ensures.few e)

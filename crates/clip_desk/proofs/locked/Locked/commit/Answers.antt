@@ -20,7 +20,8 @@ invariant_of-self g c =
     let told = c.tell_last.new.updates in (
       search rules,
       subst (λ (h : History). AllFollow g.N.DeskName.heard_before h told) (sym history)
-          (all_follow_entry g.N.DeskName.heard_before before c.self.inside.updates told c.self.invariant.1 e (c.tell_last.ensures before e history)),
+          (all_follow_entry g.N.DeskName.heard_before before c.self.inside.updates told c.self.invariant.1 e
+          (c.tell_last.ensures before e history)),
     )
 
 pub show_surely-requires-clause-callers : goal.show_surely-requires-clause-callers
@@ -30,18 +31,24 @@ show_surely-requires-clause-callers g c =
     let caller = c.args.seat.now.caller in
     let command = command_of c.args.command in
     let view = c.in-Ok.grown.view.history in
-    let is : view ≡ with_command seen caller command = followed c.self.inside.registrar c.in-Ok.grown.registrar seen view caller c.caller-caller.result command (ap (λ s. s.history) c.in-Ok.ensures.view) c.in-Ok.ensures.registrar i.log c.caller-caller.ensures.caller in
+    let is : view ≡ with_command seen caller command =
+    followed c.self.inside.registrar c.in-Ok.grown.registrar seen view caller c.caller-caller.result command
+    (ap (λ s. s.history) c.in-Ok.ensures.view) c.in-Ok.ensures.registrar i.log c.caller-caller.ensures.caller in
     let known = c.caller-caller.ensures.known in
     let same = c.caller-caller.ensures.caller in
     let shown = c.self.inside.writer.desk.shown.value in
     let low : 0 < caller = omega (arith, known.0, same) in
     let high : caller ≤ g.N.DeskName.callers = omega (arith, known.1, same, c.requires.desk.1) in
-    by_grown shown.callers g.N.DeskName.callers caller shown.view.history seen view command shown.callers_are (ap (λ v. v.history) i.shown_is ∙ sym i.log) is low high i.shown_callers
+    by_grown shown.callers g.N.DeskName.callers caller shown.view.history seen view command shown.callers_are
+    (ap (λ v. v.history) i.shown_is ∙ sym i.log) is low high i.shown_callers
 
 pub add-requires-clause-desk : goal.add-requires-clause-desk
 add-requires-clause-desk g c =
-    let i = c.self.invariant.0 in
-    (ap (λ f. f.seen.book) c.again-seen_history.ensures ∙ (i.book_is ∙ sym c.requires.desk.0), i.head_is ∙ ap head_of (sym c.requires.desk.0))
+    let i = c.self.invariant.0 in (
+      ap (λ f. f.seen.book) c.again-seen_history.ensures ∙ (i.book_is ∙ sym c.requires.desk.0),
+      i.head_is
+          ∙ ap head_of (sym c.requires.desk.0),
+    )
 
 pub add-requires-clause-one_more : goal.add-requires-clause-one_more
 add-requires-clause-one_more g c =
@@ -57,7 +64,9 @@ add-requires-clause-own g c =
     let caller = c.args.seat.now.caller in
     let command = command_of c.args.command in
     let after = c.in-Ok.grown.registrar.history in
-    let is : after ≡ with_command seen caller command = followed c.self.inside.registrar c.in-Ok.grown.registrar seen after caller c.caller-caller.result command refl c.in-Ok.ensures.registrar c.self.invariant.0.log c.caller-caller.ensures.caller in
+    let is : after ≡ with_command seen caller command =
+    followed c.self.inside.registrar c.in-Ok.grown.registrar seen after caller c.caller-caller.result command refl
+    c.in-Ok.ensures.registrar c.self.invariant.0.log c.caller-caller.ensures.caller in
     (own_fits seen after c.args.seat.now.mine caller command is (c.if-not-agrees.ensures refl).1).1
 
 pub returns-clause-told : goal.returns-clause-told
@@ -66,7 +75,8 @@ returns-clause-told g c =
     let command = command_of c.args.command in
     let e = next_entry before c.caller-caller.result command in
     let history : c.in-Ok.grown.registrar.history ≡ before ++ e ∷ [] = ap (λ s. s.history) c.in-Ok.ensures.registrar in
-    subst (λ (h : List Heard). AreTold (event_of command) h c.tell_last.new.updates) (ap (λ s. s.updates) c.self.view_is) (c.tell_last.ensures before e history)
+    subst (λ (h : List Heard). AreTold (event_of command) h c.tell_last.new.updates)
+    (ap (λ s. s.updates) c.self.view_is) (c.tell_last.ensures before e history)
 
 pub returns-clause-legal : goal.returns-clause-legal
 returns-clause-legal g c =
@@ -76,14 +86,19 @@ returns-clause-legal g c =
     let command = command_of c.args.command in
     let after = c.new.result.history in
     let next = c.in-Ok.grown.registrar in
-    let told : after ≡ next.history = ap (λ r. r.history) c.new.ensures ∙ ap (λ f. f.seen.log) c.again-2.ensures ∙ c.if-not-add.ensures.added in
-    let is : after ≡ with_command seen caller command = followed c.self.inside.registrar next seen after caller c.caller-caller.result command told c.in-Ok.ensures.registrar i.log c.caller-caller.ensures.caller in
+    let told : after ≡ next.history = ap (λ r. r.history) c.new.ensures ∙ ap (λ f. f.seen.log) c.again-2.ensures
+    ∙ c.if-not-add.ensures.added in
+    let is : after ≡ with_command seen caller command =
+    followed c.self.inside.registrar next seen after caller c.caller-caller.result command told
+    c.in-Ok.ensures.registrar i.log c.caller-caller.ensures.caller in
     let known = c.caller-caller.ensures.known in
     let same = c.caller-caller.ensures.caller in
     let shown = c.self.inside.writer.desk.shown.value in
     let low : 0 < caller = omega (arith, known.0, same) in
     let high : caller ≤ g.N.DeskName.callers = omega (arith, known.1, same, c.requires.desk.1) in
-    let by : IsBy shown.callers after = by_grown shown.callers g.N.DeskName.callers caller shown.view.history seen after command shown.callers_are (ap (λ v. v.history) i.shown_is ∙ sym i.log) is low high i.shown_callers in
+    let by : IsBy shown.callers after =
+    by_grown shown.callers g.N.DeskName.callers caller shown.view.history seen after command shown.callers_are
+    (ap (λ v. v.history) i.shown_is ∙ sym i.log) is low high i.shown_callers in
     (subst IsLegal (sym told) c.add.ensures.legal, subst (λ (n : ℕ). IsBy n after) i.shown_callers by)
 
 pub returns-clause-seen : goal.returns-clause-seen
@@ -92,9 +107,14 @@ returns-clause-seen g c =
     let caller = c.args.seat.now.caller in
     let command = command_of c.args.command in
     let after = c.new.result.history in
-    let told = ap (λ r. r.history) c.new.ensures ∙ ap (λ f. f.seen.log) c.again-2.ensures ∙ c.if-not-add.ensures.added in
-    let is : after ≡ with_command seen caller command = followed c.self.inside.registrar c.in-Ok.grown.registrar seen after caller c.caller-caller.result command told c.in-Ok.ensures.registrar c.self.invariant.0.log c.caller-caller.ensures.caller in
-    (seen_grown c.args.seat.now.seen seen after caller command (c.if-not-agrees.ensures refl).0 is, ap (λ s. s.seen) c.if-not-add.ensures.seat.0 ∙ sym told)
+    let told = ap (λ r. r.history) c.new.ensures ∙ ap (λ f. f.seen.log) c.again-2.ensures
+    ∙ c.if-not-add.ensures.added in
+    let is : after ≡ with_command seen caller command =
+    followed c.self.inside.registrar c.in-Ok.grown.registrar seen after caller c.caller-caller.result command told
+    c.in-Ok.ensures.registrar c.self.invariant.0.log c.caller-caller.ensures.caller in (
+      seen_grown c.args.seat.now.seen seen after caller command (c.if-not-agrees.ensures refl).0 is,
+      ap (λ s. s.seen) c.if-not-add.ensures.seat.0 ∙ sym told,
+    )
 
 pub returns-clause-mine : goal.returns-clause-mine
 returns-clause-mine g c =
@@ -103,8 +123,11 @@ returns-clause-mine g c =
     let command = command_of c.args.command in
     let mine = c.args.seat.now.mine in
     let after = c.in-Ok.grown.registrar.history in
-    let told : c.new.result.history ≡ after = ap (λ r. r.history) c.new.ensures ∙ ap (λ f. f.seen.log) c.again-2.ensures ∙ c.if-not-add.ensures.added in
-    let is : after ≡ with_command seen caller command = followed c.self.inside.registrar c.in-Ok.grown.registrar seen after caller c.caller-caller.result command refl c.in-Ok.ensures.registrar c.self.invariant.0.log c.caller-caller.ensures.caller in
+    let told : c.new.result.history ≡ after = ap (λ r. r.history) c.new.ensures
+    ∙ ap (λ f. f.seen.log) c.again-2.ensures ∙ c.if-not-add.ensures.added in
+    let is : after ≡ with_command seen caller command =
+    followed c.self.inside.registrar c.in-Ok.grown.registrar seen after caller c.caller-caller.result command refl
+    c.in-Ok.ensures.registrar c.self.invariant.0.log c.caller-caller.ensures.caller in
     let own_is = (c.if-not-agrees.ensures refl).1 in
     let more = c.if-not-add.ensures.seat.1 ∙ mine_grown seen after mine caller command is own_is in
     (ap (λ h. own h caller) told ∙ own_grown seen after mine caller command is own_is ∙ sym more, more)
@@ -116,7 +139,9 @@ returns-clause-later g c =
     let command = command_of c.args.command in
     let after = c.add.new.self.seen in
     let told = ap (λ s. s.seen) c.if-not-add.ensures.seat.0 in
-    let is : after ≡ with_command seen caller command = followed c.self.inside.registrar c.in-Ok.grown.registrar seen after caller c.caller-caller.result command told c.in-Ok.ensures.registrar c.self.invariant.0.log c.caller-caller.ensures.caller in
+    let is : after ≡ with_command seen caller command =
+    followed c.self.inside.registrar c.in-Ok.grown.registrar seen after caller c.caller-caller.result command told
+    c.in-Ok.ensures.registrar c.self.invariant.0.log c.caller-caller.ensures.caller in
     seen_grown c.args.seat.now.seen seen after caller command (c.if-not-agrees.ensures refl).0 is
 
 pub returns-then-not-add-clause-later : goal.returns-then-not-add-clause-later

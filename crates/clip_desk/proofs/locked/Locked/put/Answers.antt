@@ -8,12 +8,16 @@ pub show-requires-clause-later : goal.show-requires-clause-later
 show-requires-clause-later g c =
     let shown = c.self.inside.writer.desk.shown.value.view.history in
     let view = c.in_ok-view.view.history in
-    let same : shown ≡ view = ap (λ s. s.history) c.self.invariant.0.shown_is ∙ (ap (λ s. s.registry.history) c.self.view_is ∙ (sym c.requires.0 ∙ sym (ap (λ s. s.history) c.in_ok-view.ensures))) in
+    let same : shown ≡ view = ap (λ s. s.history) c.self.invariant.0.shown_is
+    ∙ (ap (λ s. s.registry.history) c.self.view_is
+    ∙ (sym c.requires.0 ∙ sym (ap (λ s. s.history) c.in_ok-view.ensures))) in
     subst (IsPrefix shown) same (prefix_self shown)
 
 pub show-requires-clause-callers : goal.show-requires-clause-callers
 show-requires-clause-callers g c =
     let shown = c.self.inside.writer.desk.shown.value in
     let view = c.in_ok-view.view.history in
-    let same : shown.view.history ≡ view = ap (λ s. s.history) c.self.invariant.0.shown_is ∙ (ap (λ s. s.registry.history) c.self.view_is ∙ (sym c.requires.0 ∙ sym (ap (λ s. s.history) c.in_ok-view.ensures))) in
+    let same : shown.view.history ≡ view = ap (λ s. s.history) c.self.invariant.0.shown_is
+    ∙ (ap (λ s. s.registry.history) c.self.view_is
+    ∙ (sym c.requires.0 ∙ sym (ap (λ s. s.history) c.in_ok-view.ensures))) in
     subst (IsBy shown.callers) same shown.callers_are

@@ -8,7 +8,8 @@ use Rattle.clip_desk.proofs.seat.Seat.learn.Goals as goal
 
 pub returns-then-self-receipt-clause-mine : goal.returns-then-self-receipt-clause-mine
 returns-then-self-receipt-clause-mine c =
-    let all = own c.again.result.seen.log c.self.inside.right.caller in (drop c.self.inside.right.made all, take-append-drop c.self.inside.right.made all)
+    let all = own c.again.result.seen.log c.self.inside.right.caller in
+    (drop c.self.inside.right.made all, take-append-drop c.self.inside.right.made all)
 
 pub returns-else-self-receipt-clause-mine : goal.returns-else-self-receipt-clause-mine
 returns-else-self-receipt-clause-mine c =

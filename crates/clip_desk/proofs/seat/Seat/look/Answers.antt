@@ -11,7 +11,8 @@ invariant_of-self c =
 pub returns-in_default-clause-same : goal.returns-in_default-clause-same
 returns-in_default-clause-same c =
     let s = c.self.inside in
-    let keeps : seen_keeps (view c.read_here-answer.new.end.place) ≡ c.args.self.now.keeps = c.read_here-answer.ensures.kept.keeps _ _ c.self.invariant.0 ∙ ap (λ v. v.keeps) c.self.view_is in
+    let keeps : seen_keeps (view c.read_here-answer.new.end.place) ≡ c.args.self.now.keeps =
+    c.read_here-answer.ensures.kept.keeps _ _ c.self.invariant.0 ∙ ap (λ v. v.keeps) c.self.view_is in
     λ i. record {
       tag = (c.self.view_is i).tag;
       caller = (c.self.view_is i).caller;

@@ -11,5 +11,6 @@ invariant-loop-listener g l =
     let rest = l.listener-iterator in
     (goal.iterator-loop-listener g).can_next rest ×
     (goal.iterator-loop-listener g).is_finite rest ×
-    (map (heard_by heard) l.parts.items ++ unmarked heard (into_iter_items rest) ≡ unmarked heard l.fn.listeners.items) ×
+    (map (heard_by heard) l.parts.items ++ unmarked heard (into_iter_items rest) ≡ unmarked heard l.fn.listeners.items)
+    ×
     (vec_len l.parts + into_iter_len rest ≤ vec_capacity l.parts)

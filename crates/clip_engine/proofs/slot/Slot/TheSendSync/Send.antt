@@ -25,4 +25,5 @@ still f (leaves L l S s r) q = λ a. q (f a)
 pub send : IsSend the_row
 send =
     let all : AllSend (fields the_type) = (search sendable, tt) in
-    owning_send the_type all (λ s. there s.at s.kept) (λ k. still (to the_type) (exits_of k (fields the_type)) ((struct_send (shape the_type) all).leaving k))
+    owning_send the_type all (λ s. there s.at s.kept)
+    (λ k. still (to the_type) (exits_of k (fields the_type)) ((struct_send (shape the_type) all).leaving k))

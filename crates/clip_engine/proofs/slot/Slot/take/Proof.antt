@@ -10,7 +10,8 @@ use mir.Syntax.{named}
 use mir.Val.{Val}
 use contract.Monad.{fact}
 use contract.Running.{tables}
-use types.Kit.{‵, raw, ◌⊛◌, some, at_ret, ◌$◌, ◌∵◌, !, qed, done, move, keep, use1, split, join, fsplit, fsplit3, fjoin, pick, rewrite, suffices, frame, group}
+use types.Kit.{‵, raw, ◌⊛◌, some, at_ret, ◌$◌, ◌∵◌, !, qed, done, move, keep, use1, split, join, fsplit, fsplit3, fjoin}
+use types.Kit.{pick, rewrite, suffices, frame, group}
 use types.Run.{enter, of_opd, load, look, stop, fld, first, blocks, exec, returns}
 use types.ByLocal.{alloc_all, pass_all, free_all, look_at, get, through, sets, sets_last, env}
 use types.Part.{whole, sub, look_in}
@@ -43,7 +44,8 @@ take_spec 𝓤 𝓛 𝓜 𝓡 wired =
     (λ κs. (mut_vals, tt)) (λ κs. (mut_Tells (named 0) κs.0 R, tt)) (λ κs qs bounds a _ are.
     let b = a.0.ref_ptr.0 in let o = a.0.ref_ptr.1 in let h = a.0.now in let vs = mut_vals a.0 in
     let y : W.Ghost = ((κs, qs, bounds, a, (vs, tt)), tt) in
-    qed 𝓛 (((‵ (flft κs.0 qs.0) ⊛ ‵ ftrue) ⊛ ‵ ((MutRef (named 0) κs.0 R).own_val a.0 vs) ⊛ ‵ ftrue) ∷ raw (fact 𝓤 (IsSome h.kept)) ∷ []) ∵
+    qed 𝓛 (((‵ (flft κs.0 qs.0) ⊛ ‵ ftrue) ⊛ ‵ ((MutRef (named 0) κs.0 R).own_val a.0 vs) ⊛ ‵ ftrue)
+    ∷ raw (fact 𝓤 (IsSome h.kept)) ∷ []) ∵
     move ! (1 ∷ []) $ heard ! (IsSome h.kept) (λ some_kept.
     let k = (the_some h.kept some_kept).0 in let is_k = (the_some h.kept some_kept).1 in
     split ! $ split ! $ move ! (2 ∷ []) $ split ! $ keep ! (0 ∷ 2 ∷ []) $
@@ -52,15 +54,20 @@ take_spec 𝓤 𝓛 𝓜 𝓡 wired =
     move ! (1 ∷ []) $ peeks ! R _ (shows 𝓛 R) h us (λ is. fsplit ! $ move ! (1 ∷ []) $
     rewrite ! 0 (λ (m : Option K.Denot). ‵ (lies_in h.at m)) is_k refl $
     in_a_block ! h.at (λ p. lies_at K full_share p k) (id⊢ 𝓤 _) (λ b' o' e.
-    use1 𝓛 (some (λ (v : Val). ‵ (fat full_share (lone K.mir) b' o' v) ⊛ ‵ (K.own_val k (v ∷ [])))) (part_out 𝓛 K refl full_share k b' o') $ pick ! (λ v. split ! $
+    use1 𝓛 (some (λ (v : Val). ‵ (fat full_share (lone K.mir) b' o' v) ⊛ ‵ (K.own_val k (v ∷ []))))
+    (part_out 𝓛 K refl full_share k b' o') $ pick ! (λ v. split ! $
     move ! (1 ∷ []) $ peeks ! K (Is K) (shows 𝓛 K) k (v ∷ []) (λ is_v.
     let good = (laws.lawful 𝓛).typed k (v ∷ []) is_v in
     let word = lowers.val_is h us is ∙ ap (λ (p : Ptr). lowers.lowered (record h { at = p }) ∷ []) e in
     let Cell = λ (ws : List Val). ‵ (cell_at full_share R.mir ws b o) in
-    -- [what is kept owns; its bits; what the fields own; the slot; the open borrow, in three entries; self's first part]
+    -- [what is kept owns; its bits; what the fields own; the slot; the open borrow, in three entries; self's first
+    -- part]
     rewrite ! 3 Cell word refl $
     first ! $ blocks ! $
-    sets ! (of_opd ! (load ! (through ! refl (fld ! refl (stop !))) (look_in ! 3 (sub ! 0 refl (whole !))))) refl (tt, tt) $
+    sets ! (of_opd ! (load ! (through ! refl (fld ! refl (stop !))) (look_in ! 3 (sub ! 0 refl (whole !))))) refl (
+      tt,
+      tt,
+    ) $
     sets ! (of_opd ! (get ! refl)) refl (tt, tt) $
     sets_last ! (of_opd ! (load ! (through ! refl (stop !)) (look ! 1 refl))) refl good.0 $
     exec ! 𝓣.C 𝓣.Λ (env code.Mir.locals l) (after 1 (code.function).body) (at_ret _ (W.post y)) $
@@ -71,4 +78,5 @@ take_spec 𝓤 𝓛 𝓜 𝓡 wired =
     -- [two parts of self; the token; what is kept; self's first part]
     returns ! (look_at ! 0 refl) $ free_all ! refl $ move ! (4 ∷ []) $
     suffices ! _ (ends_at 𝓛 f.ended stayed c y v k (record h { kept = None }, tt) (tt, tt)) $ says ! (sym is_k, refl) $
-    group ! 3 $ nothing ! $ move ! (1 ∷ 0 ∷ []) $ join ! $ nothing ! $ move ! (2 ∷ 0 ∷ []) $ join ! $ frame ! $ frame ! $ done !))))))))
+    group ! 3 $ nothing ! $ move ! (1 ∷ 0 ∷ []) $ join ! $ nothing ! $ move ! (2 ∷ 0 ∷ []) $ join ! $ frame ! $ frame !
+    $ done !))))))))

@@ -10,7 +10,8 @@ range-requires-clause-end_boundary c =
     let end = c.self.inside.end in
     let text : IsUtf8 (drop end word) = subst IsUtf8 c.range_from.ensures.value c.range_from.utf8 in
     let is = sym (c.chars.ensures.rest ∙ c.range_from.ensures.value) ∙ c.in_ok-next.ensures.steps.0 in
-    next_end word c.next.new.self.rest.now end c.len_utf8.result c.in_ok-next.next text is c.len_utf8.ensures.value c.self.invariant.0
+    next_end word c.next.new.self.rest.now end c.len_utf8.result c.in_ok-next.next text is c.len_utf8.ensures.value
+    c.self.invariant.0
 
 pub invariant_of-self : goal.invariant_of-self
 invariant_of-self c =
@@ -18,7 +19,8 @@ invariant_of-self c =
     let end = c.self.inside.end in
     let text : IsUtf8 (drop end word) = subst IsUtf8 c.range_from.ensures.value c.range_from.utf8 in
     let is = sym (c.chars.ensures.rest ∙ c.range_from.ensures.value) ∙ c.in_ok-next.ensures.steps.0 in
-    next_end word c.next.new.self.rest.now end c.len_utf8.result c.in_ok-next.next text is c.len_utf8.ensures.value c.self.invariant.0
+    next_end word c.next.new.self.rest.now end c.len_utf8.result c.in_ok-next.next text is c.len_utf8.ensures.value
+    c.self.invariant.0
 
 pub returns : goal.returns
 returns c =
@@ -30,5 +32,7 @@ returns c =
     let some : 0 < c.self.inside.left = omega (arith, c.if-self-eq0.false) in
     let whole : end + size - 0 ≡ end + size = omega arith in
     sym c.self.view_is
-    ∙ next_front word c.next.new.self.rest.now end size c.self.inside.left c.in_ok-next.next text is c.len_utf8.ensures.value some
-    ∙ ap (λ front. front ∷ fronts_after word (end + size) (c.self.inside.left - 1)) (sym (c.range.ensures.value ∙ ap (λ n. take n word) whole))
+    ∙ next_front word c.next.new.self.rest.now end size c.self.inside.left c.in_ok-next.next text is
+    c.len_utf8.ensures.value some
+    ∙ ap (λ front. front ∷ fronts_after word (end + size) (c.self.inside.left - 1))
+    (sym (c.range.ensures.value ∙ ap (λ n. take n word) whole))

@@ -21,7 +21,8 @@ returns-clause-err g c = on_err _ (heard_whole _ _ _ c.in_ok-said.ensures.heard)
 pub returns-clause-notes : goal.returns-clause-notes
 returns-clause-notes g c =
     on_ok _
-    (ap (map note_value) {y = c.args.self.now.notes.items ++ c.in_ok-said.said.items} c.in_ok-append.ensures.items ∙ map-append note_value c.args.self.now.notes.items c.in_ok-said.said.items
+    (ap (map note_value) {y = c.args.self.now.notes.items ++ c.in_ok-said.said.items} c.in_ok-append.ensures.items
+    ∙ map-append note_value c.args.self.now.notes.items c.in_ok-said.said.items
     ∙ ap (λ said. map note_value c.args.self.now.notes.items ++ said) c.in_ok-said.ensures.notes)
 
 -- proved by search alone: it stands here so that a wrong body is refused at once

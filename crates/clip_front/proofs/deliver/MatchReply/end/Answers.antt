@@ -11,10 +11,22 @@ returns-in_err-text-clause-front g c = on_err _ (none_taken _ _)
 
 pub returns-clause-moved : goal.returns-clause-moved
 returns-clause-moved g c =
-    let P : List ℕ → Type 0 = λ t. OnOk c.put.result (HandsOver (g.W.Sink.taken c.args.flow.now.writer.now) (c.args.flow.now.outbox.now ++ t) (g.W.Sink.taken c.put.new.self.writer.now) c.put.new.self.outbox.now) in
-    subst P (c.deref-2.ensures.value ∙ c.in_ok-text.ensures ∙ ap (λ ns. c.new.result.items ++ closing c.args.self.number (map (λ n. arc_str_bytes n.text) ns)) c.deref.ensures.value ∙ ap (λ xs. xs ++ closing c.args.self.number (map (λ n. arc_str_bytes n.text) c.args.self.notes.items)) c.new.ensures.items) c.put.ensures.moved
+    let P : List ℕ → Type 0 =
+    λ t. OnOk c.put.result (HandsOver (g.W.Sink.taken c.args.flow.now.writer.now) (c.args.flow.now.outbox.now ++ t)
+    (g.W.Sink.taken c.put.new.self.writer.now) c.put.new.self.outbox.now) in
+    subst P (c.deref-2.ensures.value ∙ c.in_ok-text.ensures
+    ∙ ap (λ ns. c.new.result.items ++ closing c.args.self.number (map (λ n. arc_str_bytes n.text) ns))
+    c.deref.ensures.value ∙ ap (λ xs. xs
+    ++ closing c.args.self.number (map (λ n. arc_str_bytes n.text) c.args.self.notes.items)) c.new.ensures.items)
+    c.put.ensures.moved
 
 pub returns-clause-front : goal.returns-clause-front
 returns-clause-front g c =
-    let P : List ℕ → Type 0 = λ t. OnErr c.put.result (AppendsFront (g.W.Sink.taken c.args.flow.now.writer.now) (g.W.Sink.taken c.put.new.self.writer.now) (c.args.flow.now.outbox.now ++ t)) in
-    subst P (c.deref-2.ensures.value ∙ c.in_ok-text.ensures ∙ ap (λ ns. c.new.result.items ++ closing c.args.self.number (map (λ n. arc_str_bytes n.text) ns)) c.deref.ensures.value ∙ ap (λ xs. xs ++ closing c.args.self.number (map (λ n. arc_str_bytes n.text) c.args.self.notes.items)) c.new.ensures.items) c.put.ensures.front
+    let P : List ℕ → Type 0 =
+    λ t. OnErr c.put.result (AppendsFront (g.W.Sink.taken c.args.flow.now.writer.now)
+    (g.W.Sink.taken c.put.new.self.writer.now) (c.args.flow.now.outbox.now ++ t)) in
+    subst P (c.deref-2.ensures.value ∙ c.in_ok-text.ensures
+    ∙ ap (λ ns. c.new.result.items ++ closing c.args.self.number (map (λ n. arc_str_bytes n.text) ns))
+    c.deref.ensures.value ∙ ap (λ xs. xs
+    ++ closing c.args.self.number (map (λ n. arc_str_bytes n.text) c.args.self.notes.items)) c.new.ensures.items)
+    c.put.ensures.front

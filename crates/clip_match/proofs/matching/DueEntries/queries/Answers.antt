@@ -12,6 +12,8 @@ returns c =
     let named = c.args.self.now.named.items in
     let id : Named → _ = λ n. n.held.registered.now.standing.id in
     let entry : Named → Registered = λ n. n.held.registered.now in
-    c.loop-one.invariant ∙ ap (map id) (take_all c.loop-one.one-index c.as_slice-named.result.now (omega (arith, c.loop-one-test.false)))
+    c.loop-one.invariant ∙ ap (map id)
+    (take_all c.loop-one.one-index c.as_slice-named.result.now (omega (arith, c.loop-one-test.false)))
     ∙ ap (map id) c.as_slice-named.ensures.value
-    ∙ sym (map-map (λ a. a.query) (alert_due article) (map entry named) ∙ map-map (λ (r : Registered). r.standing.id) entry named)
+    ∙ sym (map-map (λ a. a.query) (alert_due article) (map entry named)
+    ∙ map-map (λ (r : Registered). r.standing.id) entry named)

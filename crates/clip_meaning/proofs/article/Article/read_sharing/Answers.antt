@@ -11,16 +11,20 @@ pub insert-requires : goal.insert-requires
 insert-requires c =
     let once = once_from_fault c.args.id.now (pairs_of c.args.fields.now) (sym c.fault_of.ensures ∙ c.in_default.is) in
     let x = c.loop-name-item.result in
-    let named : c.in_ok-read.field-0.0 ≡ string_bytes x.0 = ap (λ (e : Entry). e.0) c.in_ok-read.ensures ∙ c.as_str.ensures.value in
+    let named : c.in_ok-read.field-0.0 ≡ string_bytes x.0 = ap (λ (e : Entry). e.0) c.in_ok-read.ensures
+    ∙ c.as_str.ensures.value in
     ap (λ (m : Fields). finite.contains_key m c.in_ok-read.field-0.0) c.loop-name.invariant
-    ∙ new_name c.args.fields.now c.loop-name.name-index x c.in_ok-read.field-0.0 once c.loop-name-test.true c.loop-name-item.is named
+    ∙ new_name c.args.fields.now c.loop-name.name-index x c.in_ok-read.field-0.0 once c.loop-name-test.true
+    c.loop-name-item.is named
 
 pub loop-name-preserved : goal.loop-name-preserved
 loop-name-preserved c =
     let once = once_from_fault c.args.id.now (pairs_of c.args.fields.now) (sym c.fault_of.ensures ∙ c.in_default.is) in
     let x = c.loop-name-item.result in
-    let named : c.in_ok-read.field-0.0 ≡ string_bytes x.0 = ap (λ (e : Entry). e.0) c.in_ok-read.ensures ∙ c.as_str.ensures.value in
-    let words : c.in_ok-read.field-0.1 ≡ words_of (string_bytes x.1) = ap (λ (e : Entry). e.1) c.in_ok-read.ensures ∙ ap words_of c.as_str-in-loop-name.ensures.value in
+    let named : c.in_ok-read.field-0.0 ≡ string_bytes x.0 = ap (λ (e : Entry). e.0) c.in_ok-read.ensures
+    ∙ c.as_str.ensures.value in
+    let words : c.in_ok-read.field-0.1 ≡ words_of (string_bytes x.1) = ap (λ (e : Entry). e.1) c.in_ok-read.ensures
+    ∙ ap words_of c.as_str-in-loop-name.ensures.value in
     c.in_ok-insert.ensures.ok
     ∙ ap (λ (m : Fields). finite.insert m c.in_ok-read.field-0.0 c.in_ok-read.field-0.1) c.loop-name.invariant
     ∙ (λ i. finite.insert (read_fields (pairs_of (take c.loop-name.name-index c.args.fields.now))) (named i) (words i))

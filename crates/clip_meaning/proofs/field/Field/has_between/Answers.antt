@@ -8,4 +8,6 @@ use Rattle.clip_meaning.proofs.field.Field.has_between.Goals as goal
 
 pub returns : goal.returns
 returns c =
-    c.has_between.ensures ∙ words_pass (λ w. above (end_of c.args.low.now) w && below (end_of c.args.high.now) w) _ _ c.self.invariant ∙ ap (λ (e : Entry). list_any (λ w. above (end_of c.args.low.now) w && below (end_of c.args.high.now) w) e.1) c.self.view_is
+    c.has_between.ensures ∙ words_pass (λ w. above (end_of c.args.low.now) w && below (end_of c.args.high.now) w) _ _
+    c.self.invariant ∙ ap (λ (e : Entry). list_any (λ w. above (end_of c.args.low.now) w
+    && below (end_of c.args.high.now) w) e.1) c.self.view_is

@@ -8,7 +8,8 @@ use Rattle.clip_meaning.proofs.field.Field.has_front.Goals as goal
 
 pub returns-clause-front : goal.returns-clause-front
 returns-clause-front c =
-    c.has_front.ensures ∙ words_pass (begins_with c.args.front.now) _ _ c.self.invariant ∙ ap (λ (e : Entry). list_any (begins_with c.args.front.now) e.1) c.self.view_is
+    c.has_front.ensures ∙ words_pass (begins_with c.args.front.now) _ _ c.self.invariant
+    ∙ ap (λ (e : Entry). list_any (begins_with c.args.front.now) e.1) c.self.view_is
 
 pub returns-clause-texts : goal.returns-clause-texts
 returns-clause-texts c = subst (λ (e : Entry). All IsUtf8 e.1) c.self.view_is (texts_all c.self.inside.words.items)

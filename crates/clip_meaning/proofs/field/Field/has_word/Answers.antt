@@ -7,4 +7,5 @@ use Rattle.clip_meaning.proofs.field.Field.has_word.Goals as goal
 
 pub returns : goal.returns
 returns c =
-    c.has_word.ensures ∙ words_pass (λ w. bytes_eq w c.args.word.now) _ _ c.self.invariant ∙ ap (λ (e : Entry). list_any (λ w. bytes_eq w c.args.word.now) e.1) c.self.view_is
+    c.has_word.ensures ∙ words_pass (λ w. bytes_eq w c.args.word.now) _ _ c.self.invariant
+    ∙ ap (λ (e : Entry). list_any (λ w. bytes_eq w c.args.word.now) e.1) c.self.view_is

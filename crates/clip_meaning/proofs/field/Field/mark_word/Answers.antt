@@ -10,5 +10,7 @@ returns-clause-raised c k lt =
     let old = is_up (get_or c.args.flags.now.items k 0) in
     let words = map arc_str_bytes c.self.inside.words.items in
     c.mark_all.ensures.raised k lt
-    ∙ ap (λ b. old || b) (passing_at (λ w. bytes_eq w c.args.word.now) words c.self.inside.index c.occurrences.result.now k c.self.invariant c.occurrences.ensures (omega (arith, lt, c.requires, ap (λ (e : Entry). length e.1) c.self.view_is)))
+    ∙ ap (λ b. old || b) (passing_at (λ w. bytes_eq w c.args.word.now) words c.self.inside.index
+    c.occurrences.result.now k c.self.invariant c.occurrences.ensures
+    (omega (arith, lt, c.requires, ap (λ (e : Entry). length e.1) c.self.view_is)))
     ∙ ap (λ (e : Entry). old || bytes_eq (get_or e.1 k []) c.args.word.now) c.self.view_is

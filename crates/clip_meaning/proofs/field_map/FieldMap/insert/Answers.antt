@@ -8,18 +8,24 @@ use Rattle.clip_meaning.proofs.field_map.FieldMap.insert.Goals as goal
 pub insert-requires : goal.insert-requires
 insert-requires c =
     let q = c.as_str.result.now in
-    rw c.self.inside.fields.ok.0 (place_within c.self.inside.fields.items c.args.self.now q c.place-place.result c.self.invariant c.self.view_is c.place-place.ensures)
+    rw c.self.inside.fields.ok.0
+    (place_within c.self.inside.fields.items c.args.self.now q c.place-place.result c.self.invariant c.self.view_is
+    c.place-place.ensures)
 
 pub invariant_of-self-2 : goal.invariant_of-self-2
 invariant_of-self-2 c =
     let m = c.args.self.now in
     let name = c.as_str.ensures.value ∙ c.name.ensures in
-    let is : c.place-place.result ≡ count bytes_cmp nat_list_cmp_total c.args.field.0 (entries m) = c.place-place.ensures ∙ ap (λ (q : List ℕ). count bytes_cmp nat_list_cmp_total q (entries m)) name in
-    (inserted c.self.inside.fields.items c.insert.new.self.items m c.args.field.0 c.args.field.1 c.place-place.result c.self.invariant c.self.view_is is c.requires c.in_ok-insert.ensures.items).0
+    let is : c.place-place.result ≡ count bytes_cmp nat_list_cmp_total c.args.field.0 (entries m) =
+    c.place-place.ensures ∙ ap (λ (q : List ℕ). count bytes_cmp nat_list_cmp_total q (entries m)) name in
+    (inserted c.self.inside.fields.items c.insert.new.self.items m c.args.field.0 c.args.field.1 c.place-place.result
+    c.self.invariant c.self.view_is is c.requires c.in_ok-insert.ensures.items).0
 
 pub returns-clause-ok : goal.returns-clause-ok
 returns-clause-ok c =
     let m = c.args.self.now in
     let name = c.as_str.ensures.value ∙ c.name.ensures in
-    let is : c.place-place.result ≡ count bytes_cmp nat_list_cmp_total c.args.field.0 (entries m) = c.place-place.ensures ∙ ap (λ (q : List ℕ). count bytes_cmp nat_list_cmp_total q (entries m)) name in
-    (inserted c.self.inside.fields.items c.insert.new.self.items m c.args.field.0 c.args.field.1 c.place-place.result c.self.invariant c.self.view_is is c.requires c.in_ok-insert.ensures.items).1
+    let is : c.place-place.result ≡ count bytes_cmp nat_list_cmp_total c.args.field.0 (entries m) =
+    c.place-place.ensures ∙ ap (λ (q : List ℕ). count bytes_cmp nat_list_cmp_total q (entries m)) name in
+    (inserted c.self.inside.fields.items c.insert.new.self.items m c.args.field.0 c.args.field.1 c.place-place.result
+    c.self.invariant c.self.view_is is c.requires c.in_ok-insert.ensures.items).1

@@ -15,5 +15,7 @@ returns c =
     let r = rises ps c.from_low-postings.ensures.sorted in
     let part : Rises xs = subst Rises (sym c.from_low-postings.ensures.value) (rises_from low ps r) in
     let first = run_first low _ _ (range_run low high) ps xs r part c.from_low-postings.ensures.value in
-    let point = IsPartitionPoint-from_clause (λ p. below high p.0) xs c.partition_point-place.result c.partition_point-place.ensures.partitioned first (λ a r f k. search (rules, of_calls)) in
-    run_read low _ _ (range_run low high) ps xs c.split_at.result.0.now c.partition_point-place.result r c.from_low-postings.ensures.value c.partition_point-place.ensures.bound point c.split_at.ensures.front
+    let point = IsPartitionPoint-from_clause (λ p. below high p.0) xs c.partition_point-place.result
+    c.partition_point-place.ensures.partitioned first (λ a r f k. search (rules, of_calls)) in
+    run_read low _ _ (range_run low high) ps xs c.split_at.result.0.now c.partition_point-place.result r
+    c.from_low-postings.ensures.value c.partition_point-place.ensures.bound point c.split_at.ensures.front

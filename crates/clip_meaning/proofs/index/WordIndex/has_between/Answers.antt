@@ -10,10 +10,12 @@ returns-in-Some c =
     let high = end_of c.args.high.now in
     let ps = c.args.self.now in
     let p = c.in-Some.posting.now in
-    let within = first_above low c.from_low.result.now ps p c.from_low.ensures.value c.in-Some.ensures.item.3.0 c.in-Some.ensures.item.1 in
+    let within = first_above low c.from_low.result.now ps p c.from_low.ensures.value c.in-Some.ensures.item.3.0
+    c.in-Some.ensures.item.1 in
     c.is_below.ensures ∙ ap (below high) (c.deref.ensures.value ∙ c.word.ensures)
     ∙ sym (ap (λ b. b && below high p.0) within)
-    ∙ first_read (λ p. above low p.0 && below high p.0) c.from_low.result.now _ p c.from_low.ensures.value c.in-Some.ensures.item.3.0 c.in-Some.ensures.item.1
+    ∙ first_read (λ p. above low p.0 && below high p.0) c.from_low.result.now _ p c.from_low.ensures.value
+    c.in-Some.ensures.item.3.0 c.in-Some.ensures.item.1
     ∙ sym (range_settles low high ps (rises ps c.from_low.ensures.sorted))
 
 pub returns-in-None : goal.returns-in-None
@@ -21,5 +23,6 @@ returns-in-None c =
     let low = end_of c.args.low.now in
     let high = end_of c.args.high.now in
     let ps = c.args.self.now in
-    none_read (λ p. above low p.0 && below high p.0) c.from_low.result.now _ c.from_low.ensures.value c.in-None.ensures.item.3
+    none_read (λ p. above low p.0 && below high p.0) c.from_low.result.now _ c.from_low.ensures.value
+    c.in-None.ensures.item.3
     ∙ sym (range_settles low high ps (rises ps c.from_low.ensures.sorted))

@@ -9,5 +9,8 @@ returns-clause-value c =
     let word = c.args.word.now in
     let ps = c.postings-postings.result.now in
     let sorted : Sorted ps = subst Sorted (sym c.postings-postings.ensures.value) c.postings-postings.ensures.sorted in
-    let point = IsPartitionPoint-from_clause (λ p. is_gt (bytes_cmp word p.0)) ps c.partition_point-place.result c.partition_point-place.ensures.partitioned (below_first word ps (rises ps sorted)) (λ a r f k. search (rules, of_calls)) in
-    from_word word ps c.args.self.now c.split_at.result.1.now c.partition_point-place.result c.postings-postings.ensures.value c.partition_point-place.ensures.bound point c.split_at.ensures.back
+    let point = IsPartitionPoint-from_clause (λ p. is_gt (bytes_cmp word p.0)) ps c.partition_point-place.result
+    c.partition_point-place.ensures.partitioned (below_first word ps (rises ps sorted))
+    (λ a r f k. search (rules, of_calls)) in
+    from_word word ps c.args.self.now c.split_at.result.1.now c.partition_point-place.result
+    c.postings-postings.ensures.value c.partition_point-place.ensures.bound point c.split_at.ensures.back

@@ -12,6 +12,9 @@ returns c =
     let sorted : Sorted ps = subst Sorted (sym c.postings-postings.ensures.value) c.postings-postings.ensures.sorted in
     let led : Led ps = subst Led (sym c.postings-postings.ensures.value) c.postings-postings.ensures.bytes in
     let up = leads_rise ps (rises ps sorted) led in
-    let point = IsPartitionPoint-from_clause (below_lead lead) ps c.partition_point-place.result c.partition_point-place.ensures.partitioned (lesser_first lead ps up) (λ a r f k. search (rules, of_calls)) in
-    lead_read lead ps c.split_at.result.1.now c.split_at-2.result.0.now c.partition_point-place.result c.count_of_lead.result up c.partition_point-place.ensures.bound point c.split_at.ensures.back c.count_of_lead.ensures.count c.split_at-2.ensures.front
+    let point = IsPartitionPoint-from_clause (below_lead lead) ps c.partition_point-place.result
+    c.partition_point-place.ensures.partitioned (lesser_first lead ps up) (λ a r f k. search (rules, of_calls)) in
+    lead_read lead ps c.split_at.result.1.now c.split_at-2.result.0.now c.partition_point-place.result
+    c.count_of_lead.result up c.partition_point-place.ensures.bound point c.split_at.ensures.back
+    c.count_of_lead.ensures.count c.split_at-2.ensures.front
     ∙ ap (filter (has_lead lead)) c.postings-postings.ensures.value

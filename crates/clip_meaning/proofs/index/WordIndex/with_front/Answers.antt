@@ -14,5 +14,7 @@ returns c =
     let r = rises ps c.not_below-postings.ensures.sorted in
     let part : Rises xs = subst Rises (sym c.not_below-postings.ensures.value) (rises_from (End.With front) ps r) in
     let first = run_first (End.With front) _ _ (front_run front) ps xs r part c.not_below-postings.ensures.value in
-    let point = IsPartitionPoint-from_clause (λ p. begins_with front p.0) xs c.partition_point-place.result c.partition_point-place.ensures.partitioned first (λ a r f k. search (rules, of_calls)) in
-    run_read (End.With front) _ _ (front_run front) ps xs c.split_at.result.0.now c.partition_point-place.result r c.not_below-postings.ensures.value c.partition_point-place.ensures.bound point c.split_at.ensures.front
+    let point = IsPartitionPoint-from_clause (λ p. begins_with front p.0) xs c.partition_point-place.result
+    c.partition_point-place.ensures.partitioned first (λ a r f k. search (rules, of_calls)) in
+    run_read (End.With front) _ _ (front_run front) ps xs c.split_at.result.0.now c.partition_point-place.result r
+    c.not_below-postings.ensures.value c.partition_point-place.ensures.bound point c.split_at.ensures.front

@@ -23,5 +23,7 @@ pub returns : goal.returns
 returns c =
     rw (← c.self.view_is)
     (c.loop-word.invariant
-    ∙ ap (λ ws. set_of (flags_of ws)) (take_all c.loop-word.word-index c.deref-word-items.result.now c.loop-word-test.false ∙ c.deref-word-items.ensures.value)
+    ∙ ap (λ ws. set_of (flags_of ws))
+    (take_all c.loop-word.word-index c.deref-word-items.result.now c.loop-word-test.false
+    ∙ c.deref-word-items.ensures.value)
     ∙ all_counted c.self.inside.bound c.self.inside.words.items c.self.invariant)

@@ -8,4 +8,5 @@ returns-then-number-self c =
     let word = c.index.result.now in
     rw (← c.self.view_is)
     (ap (λ n. nat_eq n 1) (shr_and_one word (c.args.number % 64))
-    ∙ read_bit c.self.inside.bound c.self.inside.words.items c.self.invariant c.args.number word c.if-number-self.true c.index.ensures)
+    ∙ read_bit c.self.inside.bound c.self.inside.words.items c.self.invariant c.args.number word c.if-number-self.true
+    c.index.ensures)

@@ -1,5 +1,6 @@
 -- The list stands behind the items, and its end behind the ends.
-use Rattle.std.proofs.Common.{◌≡◌, ℕ, List, ◌-◌, ◌+◌, ◌++◌, length, take, refl, ap, sym, ◌∙◌, subst, arith, length-append}
+use Rattle.std.proofs.Common.{◌≡◌, ℕ, List, ◌-◌, ◌+◌, ◌++◌, length, take, refl, ap, sym, ◌∙◌, subst, arith}
+use Rattle.std.proofs.Common.{length-append}
 use Rattle.std.proofs.lemmas.List.{take_at}
 use Rattle.clip_pieces.specs.Packed.{cut, AreEnds}
 use Rattle.clip_pieces.proofs.Cuts.{all_fit, list_within, items_left, pushed_ends, pushed_cut}
@@ -8,10 +9,12 @@ use Rattle.clip_pieces.proofs.packed.PackedLists.push.Goals as goal
 pub overflow_cast-len : goal.overflow_cast-len
 overflow_cast-len g c =
     let list = length c.args.list.now in
-    all_fit list c.len.result c.len-2.result c.if-list-gt-MOST_ITEMS.false c.if-len-list.false (c.len-2.ensures ∙ c.in_ok-extend_from_slice.ensures.len ∙ ap (λ n. n + list) (sym c.len.ensures))
+    all_fit list c.len.result c.len-2.result c.if-list-gt-MOST_ITEMS.false c.if-len-list.false (c.len-2.ensures
+    ∙ c.in_ok-extend_from_slice.ensures.len ∙ ap (λ n. n + list) (sym c.len.ensures))
 
 pub overflow_sub-len : goal.overflow_sub-len
-overflow_sub-len g c = list_within (length c.args.list.now) c.self.inside.items.len c.len-in-Err.result (c.len-in-Err.ensures ∙ c.in_ok-extend_from_slice.ensures.len)
+overflow_sub-len g c = list_within (length c.args.list.now) c.self.inside.items.len c.len-in-Err.result
+    (c.len-in-Err.ensures ∙ c.in_ok-extend_from_slice.ensures.len)
 
 -- where there is no room for the end, the items are as they were
 pub invariant_of-self-in-Err : goal.invariant_of-self-in-Err
@@ -19,19 +22,24 @@ invariant_of-self-in-Err g c =
     let items = c.self.inside.items.items in
     let list = c.args.list.now in
     let count : c.len-in-Err.result - length list ≡ length items =
-    items_left (length list) c.self.inside.items.len c.len-in-Err.result (c.len-in-Err.ensures ∙ c.in_ok-extend_from_slice.ensures.len) ∙ c.self.inside.items.ok.0 in
+    items_left (length list) c.self.inside.items.len c.len-in-Err.result (c.len-in-Err.ensures
+    ∙ c.in_ok-extend_from_slice.ensures.len) ∙ c.self.inside.items.ok.0 in
     let back : c.truncate.new.self.items ≡ items =
-    c.truncate.ensures.items ∙ ap (λ n. take n c.extend_from_slice.new.self.items) count ∙ ap (take (length items)) c.in_ok-extend_from_slice.ensures.items ∙ take_at items list (length items) refl in
-    subst (λ (ends : List ℕ). AreEnds 0 ends c.truncate.new.self.items) (sym c.in-Err.ensures.items) (subst (λ (xs : List g.row.T.Denot). AreEnds 0 c.self.inside.ends.items xs) (sym back) c.self.invariant)
+    c.truncate.ensures.items ∙ ap (λ n. take n c.extend_from_slice.new.self.items) count
+    ∙ ap (take (length items)) c.in_ok-extend_from_slice.ensures.items ∙ take_at items list (length items) refl in
+    subst (λ (ends : List ℕ). AreEnds 0 ends c.truncate.new.self.items) (sym c.in-Err.ensures.items)
+    (subst (λ (xs : List g.row.T.Denot). AreEnds 0 c.self.inside.ends.items xs) (sym back) c.self.invariant)
 
 pub returns-in-Err-clause-err : goal.returns-in-Err-clause-err
 returns-in-Err-clause-err g c =
     let items = c.self.inside.items.items in
     let list = c.args.list.now in
     let count : c.len-in-Err.result - length list ≡ length items =
-    items_left (length list) c.self.inside.items.len c.len-in-Err.result (c.len-in-Err.ensures ∙ c.in_ok-extend_from_slice.ensures.len) ∙ c.self.inside.items.ok.0 in
+    items_left (length list) c.self.inside.items.len c.len-in-Err.result (c.len-in-Err.ensures
+    ∙ c.in_ok-extend_from_slice.ensures.len) ∙ c.self.inside.items.ok.0 in
     let back : c.truncate.new.self.items ≡ items =
-    c.truncate.ensures.items ∙ ap (λ n. take n c.extend_from_slice.new.self.items) count ∙ ap (take (length items)) c.in_ok-extend_from_slice.ensures.items ∙ take_at items list (length items) refl in
+    c.truncate.ensures.items ∙ ap (λ n. take n c.extend_from_slice.new.self.items) count
+    ∙ ap (take (length items)) c.in_ok-extend_from_slice.ensures.items ∙ take_at items list (length items) refl in
     (λ i. cut 0 (c.in-Err.ensures.items i) (back i)) ∙ c.self.view_is
 
 pub invariant_of-self-in-Ok : goal.invariant_of-self-in-Ok
@@ -40,8 +48,10 @@ invariant_of-self-in-Ok g c =
     let items = c.self.inside.items.items in
     let list = c.args.list.now in
     let fits = c.self.inside.items.ok.0 in
-    let end : c.len-2.result ≡ length (items ++ list) = omega (arith, length-append items list, fits, c.len-2.ensures, c.in_ok-extend_from_slice.ensures.len) in
-    rw (c.in-Ok.ensures.items, c.in_ok-extend_from_slice.ensures.items) (pushed_ends 0 ends items list c.len-2.result end c.self.invariant)
+    let end : c.len-2.result ≡ length (items ++ list) =
+    omega (arith, length-append items list, fits, c.len-2.ensures, c.in_ok-extend_from_slice.ensures.len) in
+    rw (c.in-Ok.ensures.items, c.in_ok-extend_from_slice.ensures.items)
+    (pushed_ends 0 ends items list c.len-2.result end c.self.invariant)
 
 pub returns-in-Ok-clause-ok : goal.returns-in-Ok-clause-ok
 returns-in-Ok-clause-ok g c =
@@ -49,5 +59,7 @@ returns-in-Ok-clause-ok g c =
     let items = c.self.inside.items.items in
     let list = c.args.list.now in
     let fits = c.self.inside.items.ok.0 in
-    let end : c.len-2.result ≡ length (items ++ list) = omega (arith, length-append items list, fits, c.len-2.ensures, c.in_ok-extend_from_slice.ensures.len) in
-    rw (c.in-Ok.ensures.items, c.in_ok-extend_from_slice.ensures.items, ← c.self.view_is) (pushed_cut 0 ends items list c.len-2.result end c.self.invariant)
+    let end : c.len-2.result ≡ length (items ++ list) =
+    omega (arith, length-append items list, fits, c.len-2.ensures, c.in_ok-extend_from_slice.ensures.len) in
+    rw (c.in-Ok.ensures.items, c.in_ok-extend_from_slice.ensures.items, ← c.self.view_is)
+    (pushed_cut 0 ends items list c.len-2.result end c.self.invariant)

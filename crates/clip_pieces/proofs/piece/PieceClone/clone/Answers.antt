@@ -9,5 +9,6 @@ returns g c =
     record {
       cases =
           made.1 ∙ ap (λ items. items ++ made.0) c.in_ok-items.ensures.items
-          ∙ same_from_all_zip g.T.Clone.is_clone c.deref.result.now made.0 made.2 g.met.T.Exact.exact ∙ c.deref.ensures.value ∙ c.self.view_is;
+          ∙ same_from_all_zip g.T.Clone.is_clone c.deref.result.now made.0 made.2 g.met.T.Exact.exact
+          ∙ c.deref.ensures.value ∙ c.self.view_is;
     }

@@ -10,4 +10,5 @@ returns c =
     rw (← c.self.view_is)
     (ap (λ n. Some (nat_eq n 1)) (shr_and_one c.word_at.result bit)
     ∙ ap (λ word. Some (nat_eq (bit_at word bit) 1)) c.word_at.ensures
-    ∙ held_flag c.self.inside.len c.self.inside.words c.self.invariant c.args.place (omega (arith, c.if-place-self.false)))
+    ∙ held_flag c.self.inside.len c.self.inside.words c.self.invariant c.args.place
+    (omega (arith, c.if-place-self.false)))

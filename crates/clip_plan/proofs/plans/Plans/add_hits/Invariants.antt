@@ -11,5 +11,7 @@ use Rattle.clip_plan.proofs.plans.Plans.add_hits.Given as goal
 -- what was there, and then the hits in the fields so far
 abbrev pub invariant-loop-of_field : goal.invariant-loop-of_field
 invariant-loop-of_field l =
-    (tree : Tree) (terms : List KeyValue) (fields : List FieldValue) → l.spots ≡ map (spots_among terms) fields → decoded terms (unwrap_or (slice_get l.self l.place) []) ≡ plan_of tree
-    → map hit_value l.found.items ≡ map hit_value l.fn.found.items ++ flat_map (hits_in tree) (take l.of_field-index fields)
+    (tree : Tree) (terms : List KeyValue) (fields : List FieldValue) → l.spots ≡ map (spots_among terms) fields
+    → decoded terms (unwrap_or (slice_get l.self l.place) []) ≡ plan_of tree
+    → map hit_value l.found.items ≡ map hit_value l.fn.found.items
+    ++ flat_map (hits_in tree) (take l.of_field-index fields)

@@ -13,5 +13,6 @@ returns c =
     on_ok_weaker c.add_all_named.result (λ added.
     added queries
     ∙ ap (λ ms. c.args.numbers.now.items ++ names ms)
-    (ap marks c.get.ensures ∙ sym (mapped_at marks c.self.inside.steps c.args.place []) ∙ ap (λ plans. unwrap_or (slice_get plans c.args.place) []) c.self.view_is))
+    (ap marks c.get.ensures ∙ sym (mapped_at marks c.self.inside.steps c.args.place [])
+    ∙ ap (λ plans. unwrap_or (slice_get plans c.args.place) []) c.self.view_is))
     c.add_all_named.ensures

@@ -12,4 +12,5 @@ returns-clause-raised c = λ tree plan.
     let terms = c.args.spots.now.terms in
     c.mark_by.ensures.raised tree
     (ap (λ (qs : List Query). map (meant runs (map tree_of qs) terms) c.get.result.now) c.deref.ensures.value
-    ∙ plan_of_steps runs queries terms c.args.self.now c.self.inside.steps c.args.place c.get.result.now tree c.self.view_is c.get.ensures plan)
+    ∙ plan_of_steps runs queries terms c.args.self.now c.self.inside.steps c.args.place c.get.result.now tree
+    c.self.view_is c.get.ensures plan)

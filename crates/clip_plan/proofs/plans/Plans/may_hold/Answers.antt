@@ -9,14 +9,20 @@ pub returns-then-has : goal.returns-then-has
 returns-then-has c = λ tree plan fails.
     let reading = c.args.reading.now in
     let words = c.in-Some.words.now in
-    ruled_out_at c.self.inside.runs (map tree_of c.self.inside.queries.items) reading.terms reading.article.fields tree c.args.self.now c.self.inside.steps c.deref.result.now c.args.place words
-    c.self.view_is (c.deref.ensures.value ∙ c.self.invariant.1) c.in-Some.ensures.lookup.3.0 c.in-Some.ensures.lookup.1 c.if-words.false
-    (ap (λ b. b && has_key reading.article.fields (term_at reading.terms words.second)) (sym c.has.ensures ∙ c.if-has.true) ∙ sym c.has-then-has.ensures ∙ fails) plan
+    ruled_out_at c.self.inside.runs (map tree_of c.self.inside.queries.items) reading.terms reading.article.fields tree
+    c.args.self.now c.self.inside.steps c.deref.result.now c.args.place words
+    c.self.view_is (c.deref.ensures.value ∙ c.self.invariant.1) c.in-Some.ensures.lookup.3.0 c.in-Some.ensures.lookup.1
+    c.if-words.false
+    (ap (λ b. b && has_key reading.article.fields (term_at reading.terms words.second)) (sym c.has.ensures
+    ∙ c.if-has.true) ∙ sym c.has-then-has.ensures ∙ fails) plan
 
 pub returns-else-has : goal.returns-else-has
 returns-else-has c = λ tree plan fails.
     let reading = c.args.reading.now in
     let words = c.in-Some.words.now in
-    ruled_out_at c.self.inside.runs (map tree_of c.self.inside.queries.items) reading.terms reading.article.fields tree c.args.self.now c.self.inside.steps c.deref.result.now c.args.place words
-    c.self.view_is (c.deref.ensures.value ∙ c.self.invariant.1) c.in-Some.ensures.lookup.3.0 c.in-Some.ensures.lookup.1 c.if-words.false
-    (ap (λ b. b && has_key reading.article.fields (term_at reading.terms words.second)) (sym c.has.ensures ∙ fails)) plan
+    ruled_out_at c.self.inside.runs (map tree_of c.self.inside.queries.items) reading.terms reading.article.fields tree
+    c.args.self.now c.self.inside.steps c.deref.result.now c.args.place words
+    c.self.view_is (c.deref.ensures.value ∙ c.self.invariant.1) c.in-Some.ensures.lookup.3.0 c.in-Some.ensures.lookup.1
+    c.if-words.false
+    (ap (λ b. b && has_key reading.article.fields (term_at reading.terms words.second)) (sym c.has.ensures ∙ fails))
+    plan

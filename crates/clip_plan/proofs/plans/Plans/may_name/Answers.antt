@@ -12,6 +12,8 @@ returns c = λ none tree plan k.
     let terms = c.args.spots.now.terms in
     let field = c.args.spots.now.field in
     sym
-    (ap (λ marks. marks_name field k marks 0) (plan_of_steps runs queries terms c.args.self.now c.self.inside.steps c.args.place c.get.result.now tree c.self.view_is c.get.ensures plan)
+    (ap (λ marks. marks_name field k marks 0)
+    (plan_of_steps runs queries terms c.args.self.now c.self.inside.steps c.args.place c.get.result.now tree
+    c.self.view_is c.get.ensures plan)
     ∙ plan_named field k tree)
     ∙ c.may_name.ensures none runs queries k

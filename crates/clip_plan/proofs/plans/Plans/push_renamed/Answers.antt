@@ -7,13 +7,18 @@ use Rattle.clip_plan.proofs.Standing.{places_pushed, marks_pushed}
 use Rattle.clip_plan.proofs.plans.Plans.push_renamed.Goals as goal
 
 pub invariant_of-self-2 : goal.invariant_of-self-2
-invariant_of-self-2 c =
-    (places_pushed c.self.inside.steps c.push_steps.new.plans c.deref-2.result.now c.new-steps.ensures.items (c.in_ok-add_steps.ensures.added []) c.self.invariant.0 c.deref-2.ensures.value c.in_ok-push_steps.ensures.ok, c.push_steps.ensures.firsts c.self.invariant.1)
+invariant_of-self-2 c = (
+  places_pushed c.self.inside.steps c.push_steps.new.plans c.deref-2.result.now c.new-steps.ensures.items
+      (c.in_ok-add_steps.ensures.added []) c.self.invariant.0 c.deref-2.ensures.value c.in_ok-push_steps.ensures.ok,
+  c.push_steps.ensures.firsts c.self.invariant.1,
+)
 
 pub returns : goal.returns
 returns c = λ terms.
     let marks = map (mark_of c.other.inside.runs (map tree_of c.other.inside.queries.items)) in
-    marks_pushed c.self.inside.steps c.push_steps.new.plans c.deref-2.result.now c.args.self.now c.new-steps.ensures.items (c.in_ok-add_steps.ensures.added terms) c.self.invariant.0 c.deref-2.ensures.value c.in_ok-push_steps.ensures.ok c.self.view_is
+    marks_pushed c.self.inside.steps c.push_steps.new.plans c.deref-2.result.now c.args.self.now
+    c.new-steps.ensures.items (c.in_ok-add_steps.ensures.added terms) c.self.invariant.0 c.deref-2.ensures.value
+    c.in_ok-push_steps.ensures.ok c.self.view_is
     ∙ ap (λ ms. map (decoded terms) c.args.self.now ++ decoded terms (renamed c.args.numbers.now ms) ∷ [])
     (ap (λ qs. map (mark_of c.other.inside.runs (map tree_of qs)) c.get-from.result.now) c.deref.ensures.value
     ∙ ap marks c.get-from.ensures

@@ -11,5 +11,6 @@ invariant-loop-step l = record {
   queries : length l.fn.queries.items ≤ length l.queries.items;
   added : (terms : List KeyValue)
       → Adds terms l.fn.runs l.fn.queries.items l.fn.steps.items l.runs l.queries.items l.steps.items
-      (marks_renamed terms l.self.numbers.now l.self.runs.now (map tree_of l.self.queries.now) (take l.step-index l.from));
+      (marks_renamed terms l.self.numbers.now l.self.runs.now (map tree_of l.self.queries.now)
+      (take l.step-index l.from));
 }

@@ -8,4 +8,5 @@ pub invariant_of-result : goal.invariant_of-result
 invariant_of-result c = nothing_yet c.new.result.items c.new.ensures.items
 
 pub returns : goal.returns
-returns c = empty_map (map arc_value c.new.result.items) (ap (λ (xs : Shared). joined (map arc_value xs)) c.new.ensures.items)
+returns c = empty_map (map arc_value c.new.result.items)
+    (ap (λ (xs : Shared). joined (map arc_value xs)) c.new.ensures.items)

@@ -14,7 +14,11 @@ returns-clause-found c =
     let front = c.in_ok-front.front.now in
     let last = c.in_ok-front.field-0-0.now in
     let whole : c.args.pieces.now ≡ front ++ last ∷ [] = c.in_ok-front.ensures.cases.0 in
-    let sorted = subst (λ (xs : Shared). T (finite.is_sorted bytes_cmp (joined (map arc_value xs)))) whole c.requires.sorted in
+    let sorted = subst (λ (xs : Shared). T (finite.is_sorted bytes_cmp (joined (map arc_value xs)))) whole
+    c.requires.sorted in
     let filled = subst (λ (xs : Shared). AreFilled (map arc_value xs)) whole c.requires.filled in
-    let point = IsPartitionPoint-from_clause (λ p. ends_below q (arc_value p)) front n c.partition_point.ensures.partitioned (parted q front (last ∷ []) sorted filled) (λ a r f k. search (rules, of_calls)) in
-    subst (λ (xs : Shared). IsPlaceFor q (map arc_value xs) n) (sym whole) (is_place q front last n c.partition_point.ensures.bound point.0 point.1)
+    let point = IsPartitionPoint-from_clause (λ p. ends_below q (arc_value p)) front n
+    c.partition_point.ensures.partitioned (parted q front (last ∷ []) sorted filled)
+    (λ a r f k. search (rules, of_calls)) in
+    subst (λ (xs : Shared). IsPlaceFor q (map arc_value xs) n) (sym whole)
+    (is_place q front last n c.partition_point.ensures.bound point.0 point.1)

@@ -10,5 +10,6 @@ pub returns-then-is_none-clause-removed : goal.returns-then-is_none-clause-remov
 returns-then-is_none-clause-removed c =
     let q = c.args.id.now in
     let none : None ≡ finite.get c.args.piece.now.value q =
-    ap (λ o. option_map arc_value (option_copied o)) (sym (none_from c.get.result c.if-is_none.ensures)) ∙ c.get.ensures ∙ ap (λ m. finite.get m q) c.deref.ensures in
+    ap (λ o. option_map arc_value (option_copied o)) (sym (none_from c.get.result c.if-is_none.ensures))
+    ∙ c.get.ensures ∙ ap (λ m. finite.get m q) c.deref.ensures in
     removed_none c.args.piece.now.value q (sym (ap is_some none))

@@ -8,7 +8,8 @@ use Rattle.clip_registry.proofs.by_id.pieces.split.Goals as goal
 use Rattle.clip_registry.proofs.by_id.pieces.split.Goals.{then-ends_below, else-ends_below}
 
 pub index-requires : goal.index-requires
-index-requires c = rw c.args.pieces.now.ok.0 (shared_within c.args.id.now c.args.pieces.now.items c.args.place c.requires.place)
+index-requires c = rw c.args.pieces.now.ok.0
+    (shared_within c.args.id.now c.args.pieces.now.items c.args.place c.requires.place)
 
 pub overflow_add-next : goal.overflow_add-next
 overflow_add-next c =
@@ -33,25 +34,30 @@ index_mut-requires c =
 full : (c : goal.After-drop-index_mut) → finite.len (arc_value c.index.result.now) ≡ MOST_IN_PIECE
 full c =
     let xs = c.args.pieces.now.items in
-    let at = shared_at xs c.args.place c.index.result.now (arc_value c.index.result.now) (shared_within c.args.id.now xs c.args.place c.requires.place) c.index.ensures in
+    let at = shared_at xs c.args.place c.index.result.now (arc_value c.index.result.now)
+    (shared_within c.args.id.now xs c.args.place c.requires.place) c.index.ensures in
     ap finite.len (sym at) ∙ c.requires.full (arc_value c.index.result.now)
 
-cut : (c : goal.After-drop-index_mut) → AreHalves (arc_value c.index.result.now) (arc_value c.in_ok-lower-2.lower) (arc_value c.in_ok-upper.upper)
+cut : (c : goal.After-drop-index_mut)
+    → AreHalves (arc_value c.index.result.now) (arc_value c.in_ok-lower-2.lower) (arc_value c.in_ok-upper.upper)
 cut c =
     let low : arc_value c.in_ok-lower-2.lower ≡ c.in_ok-lower.lower = c.in_ok-lower-2.ensures.ok in
     let high : arc_value c.in_ok-upper.upper ≡ c.in_ok-lower.upper = c.in_ok-upper.ensures.ok in
     let halves : AreHalves c.deref.result.now c.in_ok-lower.lower c.in_ok-lower.upper = c.in_ok-lower.ensures in
     subst (λ m. AreHalves m (arc_value c.in_ok-lower-2.lower) (arc_value c.in_ok-upper.upper)) c.deref.ensures
-    (subst (λ m. AreHalves c.deref.result.now m (arc_value c.in_ok-upper.upper)) (sym low) (subst (λ m. AreHalves c.deref.result.now c.in_ok-lower.lower m) (sym high) halves))
+    (subst (λ m. AreHalves c.deref.result.now m (arc_value c.in_ok-upper.upper)) (sym low)
+    (subst (λ m. AreHalves c.deref.result.now c.in_ok-lower.lower m) (sym high) halves))
 
 pub returns-clause-in_order : goal.returns-clause-in_order
 returns-clause-in_order c =
-    split_in_order c.args.id.now c.args.pieces.now.items c.insert.new.self.items c.args.place c.index.result.now c.in_ok-lower-2.lower c.in_ok-upper.upper c.requires.in_order c.requires.place c.index.ensures
+    split_in_order c.args.id.now c.args.pieces.now.items c.insert.new.self.items c.args.place c.index.result.now
+    c.in_ok-lower-2.lower c.in_ok-upper.upper c.requires.in_order c.requires.place c.index.ensures
     (full c) (cut c) c.in_ok-insert.ensures.items
 
 pub returns-clause-same : goal.returns-clause-same
 returns-clause-same c =
-    split_same c.args.id.now c.args.pieces.now.items c.insert.new.self.items c.args.place c.index.result.now c.in_ok-lower-2.lower c.in_ok-upper.upper c.requires.in_order c.requires.place c.index.ensures
+    split_same c.args.id.now c.args.pieces.now.items c.insert.new.self.items c.args.place c.index.result.now
+    c.in_ok-lower-2.lower c.in_ok-upper.upper c.requires.in_order c.requires.place c.index.ensures
     (full c) (cut c) c.in_ok-insert.ensures.items
 
 pub returns-clause-room : goal.returns-clause-room
@@ -61,9 +67,11 @@ returns-clause-room c =
     let low : arc_value c.in_ok-lower-2.lower ≡ c.in_ok-lower.lower = c.in_ok-lower-2.ensures.ok in
     elim c.if-ends_below.branch [
       | then-ends_below w ↦ subst (λ k. HasRoomFor q new k) (sym (w.next-is ∙ add-one c.args.place))
-          (room_above q c.args.pieces.now.items c.insert.new.self.items c.args.place c.index.result.now c.in_ok-lower-2.lower c.in_ok-upper.upper c.requires.in_order c.requires.place c.index.ensures
+          (room_above q c.args.pieces.now.items c.insert.new.self.items c.args.place c.index.result.now
+          c.in_ok-lower-2.lower c.in_ok-upper.upper c.requires.in_order c.requires.place c.index.ensures
           (full c) (cut c) c.in_ok-insert.ensures.items (ap (ends_below q) low ∙ sym w.if-ends_below.ensures))
       | else-ends_below w ↦ subst (λ k. HasRoomFor q new k) (sym w.next-is)
-          (room_under q c.args.pieces.now.items c.insert.new.self.items c.args.place c.index.result.now c.in_ok-lower-2.lower c.in_ok-upper.upper c.requires.in_order c.requires.place c.index.ensures
+          (room_under q c.args.pieces.now.items c.insert.new.self.items c.args.place c.index.result.now
+          c.in_ok-lower-2.lower c.in_ok-upper.upper c.requires.in_order c.requires.place c.index.ensures
           (full c) (cut c) c.in_ok-insert.ensures.items (ap (ends_below q) low ∙ sym w.if-ends_below.ensures))
     ]

@@ -1,4 +1,5 @@
-use Rattle.std.proofs.Common.{◌≡◌, append-nil, ◌+◌, ◌++◌, ◌∷◌, [], true, false, ◌==◌, Bool, List, length, map, take, drop, refl, sym, ap, ap₂, ◌∙◌, arith}
+use Rattle.std.proofs.Common.{◌≡◌, append-nil, ◌+◌, ◌++◌, ◌∷◌, [], true, false, ◌==◌, Bool, List, length, map, take}
+use Rattle.std.proofs.Common.{drop, refl, sym, ap, ap₂, ◌∙◌, arith}
 use Rattle.std.proofs.lemmas.Bool.Decides.{nat_tests}
 use Rattle.std.proofs.lemmas.List.{length-map, map-append, take-map, drop-map, drop-drop}
 use Rattle.std.proofs.lemmas.List.Elements.{same_from_all_zip}
@@ -15,7 +16,8 @@ use Rattle.clip_registry.specs.Steps.Merging.{replaced}
 use Rattle.clip_registry.proofs.Clearing.{left_flags}
 use Rattle.clip_registry.proofs.LiveFlags.{shape_of}
 use Rattle.clip_registry.proofs.merging.Merged.put_flags.Goals as goal
-use Rattle.clip_registry.proofs.merging.Merged.put_flags.Goals.{then-not-is_empty+in_ok-merged+in_ok-clear_dead+in_ok-push, else-not-is_empty}
+use Rattle.clip_registry.proofs.merging.Merged.put_flags.Goals.{then-not-is_empty+in_ok-merged+in_ok-clear_dead+in_ok-push}
+use Rattle.clip_registry.proofs.merging.Merged.put_flags.Goals.{else-not-is_empty}
 
 shelf_some : (es : List Registered) → (length es == 0) ≡ false → shelf es ≡ es ∷ []
 shelf_some [] h = grind (arith, nat_tests)
@@ -33,7 +35,9 @@ returns c =
     let first = c.args.first in
     let es = c.args.self.now.entries in
     let count = c.len.result in
-    let counted : count ≡ length c.args.self.now.sources = c.len.ensures ∙ c.self.inside.sources.ok.0 ∙ sym (length-map c.self.inside.sources.items arc_value) ∙ ap (λ (m : Merge). length m.sources) c.self.view_is in
+    let counted : count ≡ length c.args.self.now.sources = c.len.ensures ∙ c.self.inside.sources.ok.0
+    ∙ sym (length-map c.self.inside.sources.items arc_value)
+    ∙ ap (λ (m : Merge). length m.sources) c.self.view_is in
     let value : c.self.inside.segment.value ≡ es = ap (λ (x : Merge). x.entries) c.self.view_is in
     let is = is_live_in m in
     let was = c.self.invariant.is in
@@ -49,11 +53,16 @@ returns c =
     let added = c.in_ok-extend_with_clones.ensures.items in
     let rest = c.in_ok-extend_with_clones-2.ensures.items in
     let front : c.extend_with_clones.new.self.items ≡ flags_in m (take first segments) =
-    added.1 ∙ ap (λ l. l ++ added.0) c.in_ok-live.ensures.items ∙ same_from_all_zip (λ (x y : List Bool). y ≡ x) _ _ added.2 (λ x y e. e)
-    ∙ c.split_at.ensures.front ∙ ap (take first) (c.deref.ensures.value ∙ c.state.invariant.1) ∙ take-map (flags_of (is_live_in m)) first segments in
-    let middle : c.if-not-is_empty.live.items ≡ flags_in m (take first segments ++ shelf es) = elim c.if-not-is_empty.branch [
+    added.1 ∙ ap (λ l. l ++ added.0) c.in_ok-live.ensures.items
+    ∙ same_from_all_zip (λ (x y : List Bool). y ≡ x) _ _ added.2 (λ x y e. e)
+    ∙ c.split_at.ensures.front ∙ ap (take first) (c.deref.ensures.value ∙ c.state.invariant.1)
+    ∙ take-map (flags_of (is_live_in m)) first segments in
+    let middle : c.if-not-is_empty.live.items ≡ flags_in m (take first segments ++ shelf es) =
+    elim c.if-not-is_empty.branch [
       | then-not-is_empty+in_ok-merged+in_ok-clear_dead+in_ok-push w ↦
-          let some : (length es == 0) ≡ false = ap (λ (rs : List Registered). length rs == 0) (sym value ∙ sym c.deref-2.ensures) ∙ sym c.is_empty.ensures ∙ w.if-not-is_empty.true in
+          let some : (length es == 0) ≡ false =
+          ap (λ (rs : List Registered). length rs == 0) (sym value ∙ sym c.deref-2.ensures)
+          ∙ sym c.is_empty.ensures ∙ w.if-not-is_empty.true in
           let shared : map arc_value w.deref-then-not-is_empty-2.result.now ≡ of_merge =
           ap (map arc_value) w.deref-then-not-is_empty-2.ensures.value in
           let flags : w.clear_dead.new.live ≡ flags_of is es =
@@ -70,13 +79,19 @@ returns c =
           ∙ sym (map-append (flags_of (is_live_in m)) (take first segments) (es ∷ []))
           ∙ ap (λ l. flags_in m (take first segments ++ l)) (sym (shelf_some es some))
       | else-not-is_empty w ↦
-          let none : (length es == 0) ≡ true = ap (λ (rs : List Registered). length rs == 0) (sym value ∙ sym c.deref-2.ensures) ∙ sym c.is_empty.ensures ∙ w.if-not-is_empty.false in
-          ap (λ (v : Vec (List Bool) Global). v.items) w.live-is ∙ front ∙ ap (flags_in m) (sym (append-nil (take first segments)) ∙ ap (λ l. take first segments ++ l) (sym (shelf_none es none)))
+          let none : (length es == 0) ≡ true =
+          ap (λ (rs : List Registered). length rs == 0) (sym value ∙ sym c.deref-2.ensures)
+          ∙ sym c.is_empty.ensures ∙ w.if-not-is_empty.false in
+          ap (λ (v : Vec (List Bool) Global). v.items) w.live-is ∙ front
+          ∙ ap (flags_in m) (sym (append-nil (take first segments))
+          ∙ ap (λ l. take first segments ++ l) (sym (shelf_none es none)))
     ] in
     let back : rest.0 ≡ flags_in m (drop (first + count) segments) =
     same_from_all_zip (λ (x y : List Bool). y ≡ x) _ _ rest.2 (λ x y e. e)
-    ∙ c.split_at-2.ensures.back ∙ ap (drop count) c.split_at.ensures.back ∙ ap (λ l. drop count (drop first l)) (c.deref.ensures.value ∙ c.state.invariant.1)
-    ∙ drop-drop count first (flags_in m segments) ∙ ap (λ k. drop k (flags_in m segments)) (omega arith) ∙ drop-map (flags_of (is_live_in m)) (first + count) segments in
+    ∙ c.split_at-2.ensures.back ∙ ap (drop count) c.split_at.ensures.back
+    ∙ ap (λ l. drop count (drop first l)) (c.deref.ensures.value ∙ c.state.invariant.1)
+    ∙ drop-drop count first (flags_in m segments) ∙ ap (λ k. drop k (flags_in m segments)) (omega arith)
+    ∙ drop-map (flags_of (is_live_in m)) (first + count) segments in
     rest.1 ∙ ap₂ (λ xs ys. xs ++ ys) middle back
     ∙ sym (map-append (flags_of (is_live_in m)) (take first segments ++ shelf es) (drop (first + count) segments))
     ∙ ap (λ k. flags_in k (replaced segments first count es)) c.state.invariant.0.registry

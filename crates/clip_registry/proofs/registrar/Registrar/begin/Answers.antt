@@ -10,8 +10,10 @@ use Rattle.clip_registry.proofs.registrar.Registrar.begin.Goals.{After-plan}
 planned : (c : After-plan) → map arc_value c.deref-2.result.now ≡ c.args.self.now.segments
 planned c =
     ap (map arc_value) c.deref-2.ensures.value
-    ∙ ap (λ (s : RegistryState). s.segments) (c.behind-state.view_is ∙ c.deref.ensures ∙ ap (state_or_beginning c.self.inside.keeps) (sym c.in-Some.is) ∙ c.self.view_is)
+    ∙ ap (λ (s : RegistryState). s.segments) (c.behind-state.view_is ∙ c.deref.ensures
+    ∙ ap (state_or_beginning c.self.inside.keeps) (sym c.in-Some.is) ∙ c.self.view_is)
 
 pub returns-in-None-clause-nothing : goal.returns-in-None-clause-nothing
 returns-in-None-clause-nothing c _ first run =
-    c.in-None.ensures.none refl first (subst (λ ss. IsRun ss first) (sym (planned (goal.at.returns-in-None-clause-nothing c).After-plan)) run)
+    c.in-None.ensures.none refl first
+    (subst (λ ss. IsRun ss first) (sym (planned (goal.at.returns-in-None-clause-nothing c).After-plan)) run)

@@ -9,6 +9,7 @@ returns c =
     let place = c.args.seq - c.self.inside.base - 1 in
     c.unwrap_or.ensures
     ∙ ap (λ found. unwrap_or found false) c.get.ensures
-    ∙ flag_found c.self.inside.base c.self.inside.live c.args.seq place (let h = c.if-seq-self.false in omega arith) (omega arith)
+    ∙ flag_found c.self.inside.base c.self.inside.live c.args.seq place (let h = c.if-seq-self.false in
+    omega arith) (omega arith)
     ∙ c.self.invariant.flagged c.args.seq
     ∙ ap (λ (r : Roster). is_live_in r.registry c.args.seq) c.self.view_is

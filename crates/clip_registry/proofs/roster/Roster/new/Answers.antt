@@ -10,5 +10,6 @@ use Rattle.clip_registry.proofs.roster.Roster.new.Goals as goal
 pub invariant_of-result : goal.invariant_of-result
 invariant_of-result c = record {
   numbered = subst (IsNumbered _) (sym c.new.ensures) (numbered_empty _);
-  flagged = λ seq. ap (λ fs. flag_at c.args.listed fs seq) c.new-2.ensures ∙ flag_at-nil c.args.listed seq ∙ sym (ap (λ m. is_live_in m seq) c.new.ensures ∙ none_live seq);
+  flagged = λ seq. ap (λ fs. flag_at c.args.listed fs seq) c.new-2.ensures ∙ flag_at-nil c.args.listed seq
+      ∙ sym (ap (λ m. is_live_in m seq) c.new.ensures ∙ none_live seq);
 }

@@ -6,6 +6,7 @@ use Rattle.clip_registry.proofs.roster.Roster.without_ids.Given as goal
 
 abbrev pub invariant-loop-id : goal.invariant-loop-id
 invariant-loop-id l = record {
-  left : roster_without l.roster (map string_bytes (drop l.id-index l.ids)) ≡ roster_without l.initial.roster (map string_bytes l.ids);
+  left : roster_without l.roster (map string_bytes (drop l.id-index l.ids))
+      ≡ roster_without l.initial.roster (map string_bytes l.ids);
   flags : l.live.items ≡ flags_in l.roster.registry (map arc_value l.segments);
 }

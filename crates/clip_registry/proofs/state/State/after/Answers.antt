@@ -31,14 +31,18 @@ change-requires-clause-small c =
 pub change-requires-clause-within : goal.change-requires-clause-within
 change-requires-clause-within c =
     let kept = c.self.invariant.0 in
-    subst (λ n. All (λ (r : Registered). r.seq ≤ n) (all_entries (state_of c.self.inside).segments)) (sym kept.listed) kept.whole.within
+    subst (λ n. All (λ (r : Registered). r.seq ≤ n) (all_entries (state_of c.self.inside).segments)) (sym kept.listed)
+    kept.whole.within
 
 pub overflow_add-index_mut : goal.overflow_add-index_mut
 overflow_add-index_mut c =
     let kept = c.self.invariant.0 in
-    let place : c.args.caller - 1 < length c.self.inside.counts.items = let a = kept.callers in let b = c.requires.caller_from in let d = c.requires.caller_to in omega arith in
+    let place : c.args.caller - 1 < length c.self.inside.counts.items = let a = kept.callers in let b =
+    c.requires.caller_from in let d = c.requires.caller_to in omega arith in
     let at : c.index_mut.result.now ≡ length (own (state_of c.self.inside).history c.args.caller) =
-    counted c.self.inside.counts.items (c.args.caller - 1) c.index_mut.result.now (length (own (state_of c.self.inside).history c.args.caller)) place c.index_mut.ensures.value (kept.numbers c.args.caller c.requires.caller_from c.requires.caller_to) in
+    counted c.self.inside.counts.items (c.args.caller - 1) c.index_mut.result.now
+    (length (own (state_of c.self.inside).history c.args.caller)) place c.index_mut.ensures.value
+    (kept.numbers c.args.caller c.requires.caller_from c.requires.caller_to) in
     let few = own_length (state_of c.self.inside).history c.args.caller in
     let short = kept.legal.short in
     omega arith
@@ -55,25 +59,42 @@ next_of c = record {
 }
 
 -- the command is accepted as the change of segments and roster says
-accepted : (c : In_ok-changed) → IsAccepted c.args.caller (command_of c.args.command.now) (state_of c.self.inside) (next_of c) c.in_ok-changed.changed.applied
+accepted : (c : In_ok-changed)
+    → IsAccepted c.args.caller (command_of c.args.command.now) (state_of c.self.inside) (next_of c)
+    c.in_ok-changed.changed.applied
 accepted c =
     let h : History = (state_of c.self.inside).history in
     let command : model.Command = command_of c.args.command.now in
-    let short : length h < MOST_ENTRIES = let b = c.len.ensures in let d = c.if-len-ge-MOST_ENTRIES.false in omega arith in
-    let log : c.in_ok-log.log ≡ record c.self.inside.log { history = with_command h c.args.caller command } = c.in_ok-log.ensures
-    ∙ ap (λ (e : model.HistoryEntry). record c.self.inside.log { history = h ++ e ∷ [] }) (c.in_ok-entry.ensures ∙ ap (λ (s : RegistryState). next_entry s.history c.args.caller command) (sym c.self.view_is)) in
-    accepted_after (state_of c.self.inside) _ c.self.inside.roster (content c.in_ok-changed.changed.segments.items c.in_ok-changed.changed.roster) c.in_ok-changed.changed.applied c.self.inside.counts.items c.args.caller command
-    c.self.invariant.0 short c.in_ok-changed.ensures.changed (λ i. record { segments = map arc_value c.in_ok-changed.changed.segments.items; history = (log i).history; keeps = (log i).keeps })
+    let short : length h < MOST_ENTRIES = let b = c.len.ensures in let d = c.if-len-ge-MOST_ENTRIES.false in
+    omega arith in
+    let log : c.in_ok-log.log ≡ record c.self.inside.log { history = with_command h c.args.caller command } =
+    c.in_ok-log.ensures
+    ∙ ap (λ (e : model.HistoryEntry). record c.self.inside.log { history = h ++ e ∷ [] }) (c.in_ok-entry.ensures
+    ∙ ap (λ (s : RegistryState). next_entry s.history c.args.caller command) (sym c.self.view_is)) in
+    accepted_after (state_of c.self.inside) _ c.self.inside.roster
+    (content c.in_ok-changed.changed.segments.items c.in_ok-changed.changed.roster) c.in_ok-changed.changed.applied
+    c.self.inside.counts.items c.args.caller command
+    c.self.invariant.0 short c.in_ok-changed.ensures.changed (λ i. record {
+      segments =
+          map arc_value c.in_ok-changed.changed.segments.items;
+      history = (log i).history;
+      keeps = (log i).keeps;
+    })
 
 pub invariant_of-next : goal.invariant_of-next
 invariant_of-next c =
     let kept = c.self.invariant.0 in
     let h : History = (state_of c.self.inside).history in
-    let place : c.args.caller - 1 < length c.self.inside.counts.items = let a = kept.callers in let b = c.requires.caller_from in let d = c.requires.caller_to in omega arith in
+    let place : c.args.caller - 1 < length c.self.inside.counts.items = let a = kept.callers in let b =
+    c.requires.caller_from in let d = c.requires.caller_to in omega arith in
     let at : c.index_mut.result.now ≡ length (own h c.args.caller) =
-    counted c.self.inside.counts.items (c.args.caller - 1) c.index_mut.result.now (length (own h c.args.caller)) place c.index_mut.ensures.value (kept.numbers c.args.caller c.requires.caller_from c.requires.caller_to) in (
-      consistent_after (state_of c.self.inside) _ c.self.inside.roster (content c.in_ok-changed.changed.segments.items c.in_ok-changed.changed.roster) c.in_ok-changed.changed.applied
-          c.self.inside.counts.items c.args.caller (command_of c.args.command.now) c.index_mut.result.now kept c.requires.fits c.requires.caller_from c.requires.caller_to
+    counted c.self.inside.counts.items (c.args.caller - 1) c.index_mut.result.now (length (own h c.args.caller)) place
+    c.index_mut.ensures.value (kept.numbers c.args.caller c.requires.caller_from c.requires.caller_to) in (
+      consistent_after (state_of c.self.inside) _ c.self.inside.roster
+          (content c.in_ok-changed.changed.segments.items c.in_ok-changed.changed.roster)
+          c.in_ok-changed.changed.applied
+          c.self.inside.counts.items c.args.caller (command_of c.args.command.now) c.index_mut.result.now kept
+          c.requires.fits c.requires.caller_from c.requires.caller_to
           c.in_ok-changed.ensures.changed (accepted (goal.at.invariant_of-next c).In_ok-changed) at,
       c.in_ok-changed.ensures.flags,
     )

@@ -7,7 +7,12 @@ use Rattle.clip_registry.specs.Steps.Roster.{Roster}
 use Rattle.clip_standing.proofs.Clones.{map_shared}
 use Rattle.clip_registry.proofs.state.StateClone.clone.Goals as goal
 
-same_state : (c : goal.In_ok-clone-5) → record { segments = map arc_value c.in_ok-clone.field-0.items; history = c.in_ok-clone-2.field-0.history; keeps = c.in_ok-clone-2.field-0.keeps } ≡ state_of c.self.inside
+same_state : (c : goal.In_ok-clone-5) → record {
+  segments = map arc_value c.in_ok-clone.field-0.items;
+  history =
+      c.in_ok-clone-2.field-0.history;
+  keeps = c.in_ok-clone-2.field-0.keeps;
+} ≡ state_of c.self.inside
 same_state c = λ i. record {
   segments = map_shared c.self.inside.segments.items c.in_ok-clone.field-0.items c.in_ok-clone.ensures.cases.0 i;
   history = (c.in_ok-clone-2.ensures.cases i).history;
@@ -16,12 +21,17 @@ same_state c = λ i. record {
 
 pub invariant_of-result : goal.invariant_of-result
 invariant_of-result c =
-    let counts : c.in_ok-clone-4.field-0.items ≡ c.self.inside.counts.items = same_from_all_zip (λ (x y : ℕ). y ≡ x) _ _ c.in_ok-clone-4.ensures.cases.0 (λ x y e. e) in
-    let live : c.in_ok-clone-5.field-0.items ≡ c.self.inside.live.items = same_from_all_zip (λ (x y : List Bool). y ≡ x) _ _ c.in_ok-clone-5.ensures.cases.0 (λ x y e. e) in
+    let counts : c.in_ok-clone-4.field-0.items ≡ c.self.inside.counts.items =
+    same_from_all_zip (λ (x y : ℕ). y ≡ x) _ _ c.in_ok-clone-4.ensures.cases.0 (λ x y e. e) in
+    let live : c.in_ok-clone-5.field-0.items ≡ c.self.inside.live.items =
+    same_from_all_zip (λ (x y : List Bool). y ≡ x) _ _ c.in_ok-clone-5.ensures.cases.0 (λ x y e. e) in
     let roster = c.in_ok-clone-3.ensures.cases in
-    let segments = map_shared c.self.inside.segments.items c.in_ok-clone.field-0.items c.in_ok-clone.ensures.cases.0 in (
+    let segments =
+    map_shared c.self.inside.segments.items c.in_ok-clone.field-0.items c.in_ok-clone.ensures.cases.0 in (
       subst (λ s. IsConsistent s c.in_ok-clone-3.field-0 c.in_ok-clone-4.field-0.items) (sym (same_state c))
-          (subst (λ (r : Roster). IsConsistent (state_of c.self.inside) r c.in_ok-clone-4.field-0.items) (sym c.in_ok-clone-3.ensures.cases)
+          (subst
+          (λ (r : Roster). IsConsistent (state_of c.self.inside) r c.in_ok-clone-4.field-0.items)
+          (sym c.in_ok-clone-3.ensures.cases)
           (subst (IsConsistent (state_of c.self.inside) c.self.inside.roster) (sym counts) c.self.invariant.0)),
       live ∙ c.self.invariant.1 ∙ sym (λ i. flags_in (roster i).registry (segments i)),
     )

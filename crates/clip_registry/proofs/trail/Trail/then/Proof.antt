@@ -22,20 +22,30 @@ use Rattle.clip_registry.proofs.trail.Trail.then.Statement.{statement}
 use Rattle.clip_registry.proofs.trail.Trail.then.Code as code
 
 abbrev stayed : Stays f.ended.signature.params f.ended.kept
-stayed = (stay_none_ref (0 ∷ []) tt (plain (λ _. the_row)) yes, (stay_none_ref (1 ∷ []) tt (plain (λ _. entry_row)) yes, tt))
+stayed = (
+  stay_none_ref (0 ∷ []) tt (plain (λ _. the_row)) yes,
+  (stay_none_ref (1 ∷ []) tt (plain (λ _. entry_row)) yes, tt),
+)
 
 pub then_spec : {M : Type 1} → statement M
 then_spec 𝓤 𝓛 𝓜 𝓡 wired =
     let c = f.clauses 𝓛 𝓜.mem 𝓡.returns in
-    proved 𝓛 f.ended stayed c 𝓜 𝓡 (Goes-none_ref 𝓛 2 (0 ∷ []) tt (plain (λ _. the_row)) yes, (Goes-none_ref 𝓛 2 (1 ∷ []) tt (plain (λ _. entry_row)) yes, tt))
+    proved 𝓛 f.ended stayed c 𝓜 𝓡 (
+      Goes-none_ref 𝓛 2 (0 ∷ []) tt (plain (λ _. the_row)) yes,
+      (Goes-none_ref 𝓛 2 (1 ∷ []) tt (plain (λ _. entry_row)) yes, tt),
+    )
     f.Key.name code.function (code.unfolded 𝓤 𝓛.H 𝓜 𝓡 wired)
-    (λ κs. (shr_vals, (shr_vals, tt))) (λ κs. (shr_Tells (named 0) κs.0 the_row, (shr_Tells (named 1) κs.1.0 entry_row, tt))) (λ κs qs bounds a g are.
+    (λ κs. (shr_vals, (shr_vals, tt)))
+    (λ κs. (shr_Tells (named 0) κs.0 the_row, (shr_Tells (named 1) κs.1.0 entry_row, tt))) (λ κs qs bounds a g are.
     let trail : the_row.Denot = record { history = a.0.now.history ++ entry_of a.1.0.now ∷ [] } in
-    qed 𝓛 ((raw (alive 𝓛 f.signature κs qs) ⊛ ‵ (owns (types_at f.signature.params κs) a (shr_vals a.0, (shr_vals a.1.0, tt)))) ∷ raw ((c κs a).requires g) ∷ []) ∵
+    qed 𝓛 ((raw (alive 𝓛 f.signature κs qs) ⊛ ‵
+    (owns (types_at f.signature.params κs) a (shr_vals a.0, (shr_vals a.1.0, tt)))) ∷ raw ((c κs a).requires g)
+    ∷ []) ∵
     keep ! (0 ∷ []) $ split ! $
     enter ! _ _ _ _ _ $ alloc_all ! (λ l. pass_all ! refl ((tt, tt), ((tt, tt), tt)) $
     sets ! (agg ! (no_more !)) refl (tt, tt) $
     returns ! (look_at ! 0 refl) $ free_all ! refl $
-    suffices ! _ (ends_at 𝓛 f.ended stayed c ((κs, qs, bounds, a, (shr_vals a.0, (shr_vals a.1.0, tt))), g) (vstruct vnil) trail (tt, (tt, tt)) (tt, (tt, tt))) $ says ! refl $
+    suffices ! _ (ends_at 𝓛 f.ended stayed c ((κs, qs, bounds, a, (shr_vals a.0, (shr_vals a.1.0, tt))), g)
+    (vstruct vnil) trail (tt, (tt, tt)) (tt, (tt, tt))) $ says ! refl $
     pure_i ! (the_row.own_val trail (vstruct vnil ∷ [])) ((λ vss. (tt, tt)), tt) ((tt, (refl, tt)), tt) $
     move ! (1 ∷ 2 ∷ 0 ∷ []) $ done !))

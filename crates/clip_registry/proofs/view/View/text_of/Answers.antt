@@ -11,4 +11,6 @@ use Rattle.clip_registry.proofs.view.View.text_of.Goals as goal
 pub returns-in-None : goal.returns-in-None
 returns-in-None c =
     ap (option_map (λ (r : Registered). r.standing.text)) (sym (get-empty {X = Registered} bytes_cmp c.args.id.now))
-    ∙ ap (λ (s : RegistryState). option_map (λ (r : Registered). r.standing.text) (finite.get (replay s.history) c.args.id.now)) (ap (state_or_beginning c.self.inside.keeps) (sym c.in-None.is) ∙ c.self.view_is)
+    ∙ ap (λ (s : RegistryState).
+    option_map (λ (r : Registered). r.standing.text) (finite.get (replay s.history) c.args.id.now))
+    (ap (state_or_beginning c.self.inside.keeps) (sym c.in-None.is) ∙ c.self.view_is)

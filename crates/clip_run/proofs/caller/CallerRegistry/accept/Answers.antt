@@ -9,7 +9,9 @@ returns-in-Ok g c =
     let i = c.self.invariant in
     record {
       judged = rw (← c.self.view_is)
-          (accepted e.last.0 c.in-Ok.receipt.history c.self.inside.desk.now.callers c.self.inside.seat.caller c.self.inside.seat.mine c.commit.new.seat.mine (command_of c.args.command) c.applied.result e.last.1 (c.applied.ensures ∙ e.last.2) e.legal.0 e.legal.1 i.desk_alone i.first e.mine.0 e.mine.1);
+          (accepted e.last.0 c.in-Ok.receipt.history c.self.inside.desk.now.callers c.self.inside.seat.caller
+          c.self.inside.seat.mine c.commit.new.seat.mine (command_of c.args.command) c.applied.result e.last.1
+          (c.applied.ensures ∙ e.last.2) e.legal.0 e.legal.1 i.desk_alone i.first e.mine.0 e.mine.1);
       goes_on = tt;
     }
 
@@ -20,7 +22,9 @@ returns-in-Err-default-Full g c =
     let full = e.full c.in-Err-default-Full.field-0-1-is in
     record {
       judged = rw (← c.self.view_is)
-          (refused c.commit.new.seat.seen c.self.inside.desk.now.callers c.self.inside.seat.caller c.self.inside.seat.mine c.commit.new.seat.mine (command_of c.args.command) full.0 full.1 full.2 i.desk_alone i.first full.3 e.stays);
+          (refused c.commit.new.seat.seen c.self.inside.desk.now.callers c.self.inside.seat.caller
+          c.self.inside.seat.mine c.commit.new.seat.mine (command_of c.args.command) full.0 full.1 full.2
+          i.desk_alone i.first full.3 e.stays);
       goes_on = tt;
     }
 

@@ -11,10 +11,20 @@ use Rattle.clip_run.proofs.crew.Crew.answer.Goals as goal
 pub returns-in_err-take-clause-err : goal.returns-in_err-take-clause-err
 returns-in_err-take-clause-err g c =
     let view = course_at g.A.Audience.hearers in
-    on_err _ (breaks_unwritten (TurnsIn view) (BreaksIn view) (c.args.self.now, c.args.audience.now) (c.take.new.self, c.args.audience.now) c.args.number c.args.bytes.now (g.W.Sink.taken c.args.flow.now.writer.now) c.args.flow.now.outbox.now c.in_err-take.ensures.err)
+    on_err _ (breaks_unwritten (TurnsIn view) (BreaksIn view) (c.args.self.now, c.args.audience.now) (
+      c.take.new.self,
+      c.args.audience.now,
+    ) c.args.number c.args.bytes.now (g.W.Sink.taken c.args.flow.now.writer.now)
+    c.args.flow.now.outbox.now c.in_err-take.ensures.err)
 
 pub returns-then-self-lt-MOST_WAITING-clause-ok : goal.returns-then-self-lt-MOST_WAITING-clause-ok
-returns-then-self-lt-MOST_WAITING-clause-ok g c = record { text = []; answered = c.in_ok-take.ensures.ok; handed = handed_none (g.W.Sink.taken c.args.flow.now.writer.now) c.args.flow.now.outbox.now }
+returns-then-self-lt-MOST_WAITING-clause-ok g c =
+    record {
+      text = [];
+      answered = c.in_ok-take.ensures.ok;
+      handed =
+          handed_none (g.W.Sink.taken c.args.flow.now.writer.now) c.args.flow.now.outbox.now;
+    }
 
 pub returns-clause-ok : goal.returns-clause-ok
 returns-clause-ok g c =
@@ -22,7 +32,9 @@ returns-clause-ok g c =
     on_ok_weaker c.pay.result
     (λ p. record {
       text = p.text;
-      answered = turns_paid (course c.args.self.now (hearers c.args.audience.now)) (course c.take.new.self (hearers c.args.audience.now)) (course c.pay.new.self (hearers c.pay.new.audience)) c.args.number c.args.bytes.now p.text c.in_ok-take.ensures.ok p.pays;
+      answered = turns_paid (course c.args.self.now (hearers c.args.audience.now))
+          (course c.take.new.self (hearers c.args.audience.now)) (course c.pay.new.self (hearers c.pay.new.audience))
+          c.args.number c.args.bytes.now p.text c.in_ok-take.ensures.ok p.pays;
       handed = p.handed;
     })
     c.pay.ensures.ok
@@ -33,7 +45,9 @@ returns-clause-err g c =
     on_err_weaker c.pay.result
     (λ p. record {
       text = p.text;
-      broken = inl (breaks_turned (course c.args.self.now (hearers c.args.audience.now)) (course c.take.new.self (hearers c.args.audience.now)) (course c.pay.new.self (hearers c.pay.new.audience)) c.args.number c.args.bytes.now [] p.text c.in_ok-take.ensures.ok p.broken);
+      broken = inl (breaks_turned (course c.args.self.now (hearers c.args.audience.now))
+          (course c.take.new.self (hearers c.args.audience.now)) (course c.pay.new.self (hearers c.pay.new.audience))
+          c.args.number c.args.bytes.now [] p.text c.in_ok-take.ensures.ok p.broken);
       written = p.written;
     })
     c.pay.ensures.err

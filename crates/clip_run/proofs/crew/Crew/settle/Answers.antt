@@ -18,26 +18,30 @@ use Rattle.clip_run.proofs.crew.Crew.settle.Goals as goal
 pub settle_batch-requires-clause-waits : goal.settle_batch-requires-clause-waits
 settle_batch-requires-clause-waits g c κs within = record {
   items = c.args.items.now;
-  here = got c.args.items.now c.args.line c.in-Some.item.now c.in-Some.ensures.lookup.3.0 c.in-Some.ensures.lookup.1 ∙ ap Some c.in-Waiting.is;
+  here = got c.args.items.now c.args.line c.in-Some.item.now c.in-Some.ensures.lookup.3.0 c.in-Some.ensures.lookup.1
+      ∙ ap Some c.in-Waiting.is;
   due = c.requires;
 }
 
 pub returns-in_default-clause-heard : goal.returns-in_default-clause-heard
 returns-in_default-clause-heard g c =
     let hearers = g.A.Audience.hearers c.args.audience.now in
-    heard_none hearers (owed_at c.args.items.now c.args.line) [] (owed_past c.args.items.now c.args.line c.in_default.ensures.lookup.3)
+    heard_none hearers (owed_at c.args.items.now c.args.line) []
+    (owed_past c.args.items.now c.args.line c.in_default.ensures.lookup.3)
 
 pub returns-in_default-clause-crew : goal.returns-in_default-clause-crew
 returns-in_default-clause-crew g c =
     let hearers = g.A.Audience.hearers c.args.audience.now in
-    kept_none c.args.self.now hearers (owed_at c.args.items.now c.args.line) [] (owed_past c.args.items.now c.args.line c.in_default.ensures.lookup.3)
+    kept_none c.args.self.now hearers (owed_at c.args.items.now c.args.line) []
+    (owed_past c.args.items.now c.args.line c.in_default.ensures.lookup.3)
 
 pub returns-in_default-clause-moved : goal.returns-in_default-clause-moved
 returns-in_default-clause-moved g c =
     let hearers = g.A.Audience.hearers c.args.audience.now in
     let taken = g.W.Sink.taken c.args.flow.now.writer.now in
     let gathered = c.args.flow.now.outbox.now in
-    handed_ready hearers (owed_at c.args.items.now c.args.line) [] c.args.self.now.settings.form taken taken gathered gathered (owed_past c.args.items.now c.args.line c.in_default.ensures.lookup.3) (handed_none taken gathered)
+    handed_ready hearers (owed_at c.args.items.now c.args.line) [] c.args.self.now.settings.form taken taken gathered
+    gathered (owed_past c.args.items.now c.args.line c.in_default.ensures.lookup.3) (handed_none taken gathered)
 
 pub returns-in-Ready-clause-heard : goal.returns-in-Ready-clause-heard
 returns-in-Ready-clause-heard g c =
@@ -45,7 +49,8 @@ returns-in-Ready-clause-heard g c =
     let items = c.args.items.now in
     let line = c.args.line in
     let read = got items line c.in-Some.item.now c.in-Some.ensures.lookup.3.0 c.in-Some.ensures.lookup.1 in
-    on_ok _ (heard_none hearers (owed_at items line) c.in-Ready.text.items (ap owed_from (read ∙ ap Some c.in-Ready.is)))
+    on_ok _ (heard_none hearers (owed_at items line) c.in-Ready.text.items
+    (ap owed_from (read ∙ ap Some c.in-Ready.is)))
 
 pub returns-in-Ready-clause-crew : goal.returns-in-Ready-clause-crew
 returns-in-Ready-clause-crew g c =
@@ -53,7 +58,8 @@ returns-in-Ready-clause-crew g c =
     let items = c.args.items.now in
     let line = c.args.line in
     let read = got items line c.in-Some.item.now c.in-Some.ensures.lookup.3.0 c.in-Some.ensures.lookup.1 in
-    on_ok _ (kept_none c.args.self.now hearers (owed_at items line) c.in-Ready.text.items (ap owed_from (read ∙ ap Some c.in-Ready.is)))
+    on_ok _ (kept_none c.args.self.now hearers (owed_at items line) c.in-Ready.text.items
+    (ap owed_from (read ∙ ap Some c.in-Ready.is)))
 
 pub returns-in-Ready-clause-moved : goal.returns-in-Ready-clause-moved
 returns-in-Ready-clause-moved g c =
@@ -63,7 +69,9 @@ returns-in-Ready-clause-moved g c =
     let line = c.args.line in
     let read = got items line c.in-Some.item.now c.in-Some.ensures.lookup.3.0 c.in-Some.ensures.lookup.1 in
     on_ok_weaker c.put.result
-    (handed_ready hearers (owed_at items line) c.in-Ready.text.items c.args.self.now.settings.form (taken c.args.flow.now.writer.now) (taken c.put.new.self.writer.now) c.args.flow.now.outbox.now c.put.new.self.outbox.now (ap owed_from (read ∙ ap Some c.in-Ready.is)))
+    (handed_ready hearers (owed_at items line) c.in-Ready.text.items c.args.self.now.settings.form
+    (taken c.args.flow.now.writer.now) (taken c.put.new.self.writer.now) c.args.flow.now.outbox.now
+    c.put.new.self.outbox.now (ap owed_from (read ∙ ap Some c.in-Ready.is)))
     (rw c.deref.ensures.value at c.put.ensures.moved)
 
 pub returns-in-Ready-clause-err : goal.returns-in-Ready-clause-err
@@ -79,7 +87,9 @@ returns-in-Ready-clause-front g c =
     let line = c.args.line in
     let read = got items line c.in-Some.item.now c.in-Some.ensures.lookup.3.0 c.in-Some.ensures.lookup.1 in
     on_err_weaker c.put.result
-    (front_ready hearers (owed_at items line) c.in-Ready.text.items c.args.self.now.settings.form (taken c.args.flow.now.writer.now) (taken c.put.new.self.writer.now) c.args.flow.now.outbox.now (ap owed_from (read ∙ ap Some c.in-Ready.is)))
+    (front_ready hearers (owed_at items line) c.in-Ready.text.items c.args.self.now.settings.form
+    (taken c.args.flow.now.writer.now) (taken c.put.new.self.writer.now) c.args.flow.now.outbox.now
+    (ap owed_from (read ∙ ap Some c.in-Ready.is)))
     (rw c.deref.ensures.value at c.put.ensures.front)
 
 pub returns-in-Waiting-clause-heard : goal.returns-in-Waiting-clause-heard
@@ -89,8 +99,10 @@ returns-in-Waiting-clause-heard g c =
     let items = c.args.items.now in
     let line = c.args.line in
     let read = got items line c.in-Some.item.now c.in-Some.ensures.lookup.3.0 c.in-Some.ensures.lookup.1 in
-    let same : owed_to old c.in-Waiting.batch ≡ owed_of old (owed_at items line) = ap (λ item. owed_of old (owed_from item)) (sym (read ∙ ap Some c.in-Waiting.is)) in
-    subst (λ o. OnOk c.settle_batch.result (hearers c.settle_batch.new.audience ≡ told_all o.alerts old)) same c.settle_batch.ensures.heard
+    let same : owed_to old c.in-Waiting.batch ≡ owed_of old (owed_at items line) =
+    ap (λ item. owed_of old (owed_from item)) (sym (read ∙ ap Some c.in-Waiting.is)) in
+    subst (λ o. OnOk c.settle_batch.result (hearers c.settle_batch.new.audience ≡ told_all o.alerts old)) same
+    c.settle_batch.ensures.heard
 
 pub returns-in-Waiting-clause-crew : goal.returns-in-Waiting-clause-crew
 returns-in-Waiting-clause-crew g c =
@@ -99,14 +111,18 @@ returns-in-Waiting-clause-crew g c =
     let items = c.args.items.now in
     let line = c.args.line in
     let read = got items line c.in-Some.item.now c.in-Some.ensures.lookup.3.0 c.in-Some.ensures.lookup.1 in
-    let same : owed_to old c.in-Waiting.batch ≡ owed_of old (owed_at items line) = ap (λ item. owed_of old (owed_from item)) (sym (read ∙ ap Some c.in-Waiting.is)) in
-    subst (λ o. OnOk c.settle_batch.result (c.settle_batch.new.self ≡ record crew { rows = crew.rows ++ kept_rows crew.settings.keeps_rows o.rows })) same c.settle_batch.ensures.crew
+    let same : owed_to old c.in-Waiting.batch ≡ owed_of old (owed_at items line) =
+    ap (λ item. owed_of old (owed_from item)) (sym (read ∙ ap Some c.in-Waiting.is)) in
+    subst (λ o. OnOk c.settle_batch.result (c.settle_batch.new.self
+    ≡ record crew { rows = crew.rows ++ kept_rows crew.settings.keeps_rows o.rows })) same
+    c.settle_batch.ensures.crew
 
 pub returns-in-Waiting-clause-due : goal.returns-in-Waiting-clause-due
 returns-in-Waiting-clause-due g c =
     let items = c.args.items.now in
     let read = got items c.args.line c.in-Some.item.now c.in-Some.ensures.lookup.3.0 c.in-Some.ensures.lookup.1 in
-    on_ok_weaker c.settle_batch.result (λ keeps. keeps items (read ∙ ap Some c.in-Waiting.is) c.requires) c.settle_batch.ensures.due
+    on_ok_weaker c.settle_batch.result (λ keeps. keeps items (read ∙ ap Some c.in-Waiting.is) c.requires)
+    c.settle_batch.ensures.due
 
 pub returns-in-Waiting-clause-moved : goal.returns-in-Waiting-clause-moved
 returns-in-Waiting-clause-moved g c =
@@ -115,8 +131,12 @@ returns-in-Waiting-clause-moved g c =
     let items = c.args.items.now in
     let line = c.args.line in
     let read = got items line c.in-Some.item.now c.in-Some.ensures.lookup.3.0 c.in-Some.ensures.lookup.1 in
-    let same : owed_to old c.in-Waiting.batch ≡ owed_of old (owed_at items line) = ap (λ item. owed_of old (owed_from item)) (sym (read ∙ ap Some c.in-Waiting.is)) in
-    subst (λ o. OnOk c.settle_batch.result (HandsOver (taken c.args.flow.now.writer.now) (c.args.flow.now.outbox.now ++ o.text c.args.self.now.settings.form) (taken c.settle_batch.new.flow.writer.now) c.settle_batch.new.flow.outbox.now)) same c.settle_batch.ensures.moved
+    let same : owed_to old c.in-Waiting.batch ≡ owed_of old (owed_at items line) =
+    ap (λ item. owed_of old (owed_from item)) (sym (read ∙ ap Some c.in-Waiting.is)) in
+    subst (λ o. OnOk c.settle_batch.result
+    (HandsOver (taken c.args.flow.now.writer.now) (c.args.flow.now.outbox.now
+    ++ o.text c.args.self.now.settings.form) (taken c.settle_batch.new.flow.writer.now)
+    c.settle_batch.new.flow.outbox.now)) same c.settle_batch.ensures.moved
 
 pub returns-in-Waiting-clause-err : goal.returns-in-Waiting-clause-err
 returns-in-Waiting-clause-err g c =
@@ -125,8 +145,10 @@ returns-in-Waiting-clause-err g c =
     let items = c.args.items.now in
     let line = c.args.line in
     let read = got items line c.in-Some.item.now c.in-Some.ensures.lookup.3.0 c.in-Some.ensures.lookup.1 in
-    let same : owed_to old c.in-Waiting.batch ≡ owed_of old (owed_at items line) = ap (λ item. owed_of old (owed_from item)) (sym (read ∙ ap Some c.in-Waiting.is)) in
-    subst (λ o. OnErr c.settle_batch.result (HearsFront o.alerts old (hearers c.settle_batch.new.audience))) same c.settle_batch.ensures.err
+    let same : owed_to old c.in-Waiting.batch ≡ owed_of old (owed_at items line) =
+    ap (λ item. owed_of old (owed_from item)) (sym (read ∙ ap Some c.in-Waiting.is)) in
+    subst (λ o. OnErr c.settle_batch.result (HearsFront o.alerts old (hearers c.settle_batch.new.audience))) same
+    c.settle_batch.ensures.err
 
 pub returns-in-Waiting-clause-front : goal.returns-in-Waiting-clause-front
 returns-in-Waiting-clause-front g c =
@@ -135,5 +157,8 @@ returns-in-Waiting-clause-front g c =
     let items = c.args.items.now in
     let line = c.args.line in
     let read = got items line c.in-Some.item.now c.in-Some.ensures.lookup.3.0 c.in-Some.ensures.lookup.1 in
-    let same : owed_to old c.in-Waiting.batch ≡ owed_of old (owed_at items line) = ap (λ item. owed_of old (owed_from item)) (sym (read ∙ ap Some c.in-Waiting.is)) in
-    subst (λ o. OnErr c.settle_batch.result (AppendsFront (taken c.args.flow.now.writer.now) (taken c.settle_batch.new.flow.writer.now) (c.args.flow.now.outbox.now ++ o.text c.args.self.now.settings.form))) same c.settle_batch.ensures.front
+    let same : owed_to old c.in-Waiting.batch ≡ owed_of old (owed_at items line) =
+    ap (λ item. owed_of old (owed_from item)) (sym (read ∙ ap Some c.in-Waiting.is)) in
+    subst (λ o. OnErr c.settle_batch.result
+    (AppendsFront (taken c.args.flow.now.writer.now) (taken c.settle_batch.new.flow.writer.now)
+    (c.args.flow.now.outbox.now ++ o.text c.args.self.now.settings.form))) same c.settle_batch.ensures.front

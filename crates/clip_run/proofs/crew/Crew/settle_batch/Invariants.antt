@@ -19,7 +19,13 @@ invariant-loop-article g l =
       later : l.reply.has_article ≡ nat_lt 0 l.article;
       heard : hearers l.audience ≡ told_all (told_in first) (hearers l.fn.audience);
       notes : map note_value l.reply.notes.items ≡ notes_of (hearers l.fn.audience) (told_in first);
-      crew : l.self ≡ record l.fn.self { rows = l.fn.self.rows ++ kept_rows l.fn.self.settings.keeps_rows (rows_in (hearers l.fn.audience) l.batch.number first) };
+      crew : l.self ≡ record l.fn.self {
+        rows =
+            l.fn.self.rows ++ kept_rows l.fn.self.settings.keeps_rows
+            (rows_in (hearers l.fn.audience) l.batch.number first);
+      };
       due : KeepsDue l.fn.self.settings l.line l.batch l.fn.answers.items l.answers.items;
-      handed : HandsOver (g.W.Sink.taken l.fn.flow.writer.now) (l.fn.flow.outbox.now ++ begun_text (data_of l.fn.self.settings.form (due_to l.batch)) l.article) (g.W.Sink.taken l.flow.writer.now) l.flow.outbox.now;
+      handed : HandsOver (g.W.Sink.taken l.fn.flow.writer.now) (l.fn.flow.outbox.now
+          ++ begun_text (data_of l.fn.self.settings.form (due_to l.batch)) l.article)
+          (g.W.Sink.taken l.flow.writer.now) l.flow.outbox.now;
     }

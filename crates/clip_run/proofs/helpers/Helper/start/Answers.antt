@@ -24,9 +24,13 @@ use Rattle.clip_run.proofs.helpers.Helper.start.Goals as goal
 ruleset shared = (sendable, global_sent.the_send, global_sent.the_sync, allocator_sent.the_frees, arc_sent.the_send)
 
 -- a closure of four captures
-captures_send : (name : Sym) (A B C D : RattleType) → IsSend A → IsSend B → IsSend C → IsSend D → IsSend (TupleAt name (A ∷ B ∷ C ∷ D ∷ []))
+captures_send : (name : Sym) (A B C D : RattleType) → IsSend A → IsSend B → IsSend C → IsSend D
+    → IsSend (TupleAt name (A ∷ B ∷ C ∷ D ∷ []))
 captures_send name A B C D a b c d =
-    declared_send (type_at name (A ∷ B ∷ C ∷ D ∷ [])) (as_row_send (row_field A) a, (as_row_send (row_field B) b, (as_row_send (row_field C) c, (as_row_send (row_field D) d, tt))))
+    declared_send (type_at name (A ∷ B ∷ C ∷ D ∷ [])) (
+      as_row_send (row_field A) a,
+      (as_row_send (row_field B) b, (as_row_send (row_field C) c, (as_row_send (row_field D) d, tt))),
+    )
 
 pub spawn_with-requires-send-F : goal.spawn_with-requires-send-F
 spawn_with-requires-send-F g c κs within =

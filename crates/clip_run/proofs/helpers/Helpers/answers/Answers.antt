@@ -12,4 +12,5 @@ loop-preserved g c =
 pub returns : goal.returns
 returns g c =
     let group = arc_value c.args.group.now in
-    All-permutation (IsDueAt group.settings group.items.items) c.loop.answers.items c.order_last_first.new.answers.items c.order_last_first.ensures c.loop.invariant.due
+    All-permutation (IsDueAt group.settings group.items.items) c.loop.answers.items
+    c.order_last_first.new.answers.items c.order_last_first.ensures c.loop.invariant.due

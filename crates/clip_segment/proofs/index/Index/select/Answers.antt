@@ -22,8 +22,10 @@ returns c =
     let from = c.in_ok-sources.ensures trees are flagged_all terms_are start in
     made kept (omega (arith, kept_few trees flags, c.requires)) terms_are
     (record {
-      positions = c.in_ok-positions.ensures (λ term. query_positions_with query_keys term kept) (λ number lt. ap (flat_map (taken false number)) c.deref.ensures.value ∙ from.placed false number lt);
-      seconds = c.in_ok-seconds.ensures (λ term. query_positions_with second_keys term kept) (λ number lt. ap (flat_map (taken true number)) c.deref-2.ensures.value ∙ from.placed true number lt);
+      positions = c.in_ok-positions.ensures (λ term. query_positions_with query_keys term kept)
+          (λ number lt. ap (flat_map (taken false number)) c.deref.ensures.value ∙ from.placed false number lt);
+      seconds = c.in_ok-seconds.ensures (λ term. query_positions_with second_keys term kept)
+          (λ number lt. ap (flat_map (taken true number)) c.deref-2.ensures.value ∙ from.placed true number lt);
       planned = from.planned;
     }))
     c.made_index.ensures

@@ -10,9 +10,11 @@ use Rattle.clip_segment.proofs.index.Index.with_key.Goals as goal
 pub returns-in-Some : goal.returns-in-Some
 returns-in-Some c trees is =
     let inside : IsIndexOf trees (index_of c.self.inside) = subst (IsIndexOf trees) (sym c.self.view_is) is in
-    c.get.ensures ∙ list_of_key query_keys trees c.self.inside.terms c.self.inside.positions inside.positions (key_of c.args.key.now) c.in-Some.number c.in-Some.ensures
+    c.get.ensures ∙ list_of_key query_keys trees c.self.inside.terms c.self.inside.positions inside.positions
+    (key_of c.args.key.now) c.in-Some.number c.in-Some.ensures
 
 pub returns-in-None : goal.returns-in-None
 returns-in-None c trees is =
     let inside : IsIndexOf trees (index_of c.self.inside) = subst (IsIndexOf trees) (sym c.self.view_is) is in
-    sym (no_number query_keys trees c.self.inside.terms keys_asked inside.terms (key_of c.args.key.now) c.in-None.ensures)
+    sym (no_number query_keys trees c.self.inside.terms keys_asked inside.terms (key_of c.args.key.now)
+    c.in-None.ensures)

@@ -11,5 +11,10 @@ pub returns : goal.returns
 returns c =
     let inside = c.self.inside in
     let at = c.args.position in
-    subst (λ (asked : AskedValue). IfOk c.judge.result (λ held. (entry : Registered) → slice_get asked.entries at ≡ Some entry → held ≡ holds entry.standing.tree asked.article.fields)) c.self.view_is
-    (IfOk-weaker c.judge.result _ _ (λ held judged entry there. judged entry.standing.tree (plan_of_entry inside.segment.now (index_asked inside) c.self.invariant.index at entry there)) c.judge.ensures)
+    subst (λ (asked : AskedValue). IfOk c.judge.result (λ held. (entry : Registered)
+    → slice_get asked.entries at ≡ Some entry → held ≡ holds entry.standing.tree asked.article.fields))
+    c.self.view_is
+    (IfOk-weaker c.judge.result _ _
+    (λ held judged entry there.
+    judged entry.standing.tree
+    (plan_of_entry inside.segment.now (index_asked inside) c.self.invariant.index at entry there)) c.judge.ensures)

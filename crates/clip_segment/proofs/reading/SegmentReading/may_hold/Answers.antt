@@ -10,5 +10,7 @@ pub returns : goal.returns
 returns c =
     let inside = c.self.inside in
     let at = c.args.position in
-    subst (λ (asked : AskedValue). (entry : Registered) → slice_get asked.entries at ≡ Some entry → c.may_hold.result ≡ false → holds entry.standing.tree asked.article.fields ≡ false) c.self.view_is
-    (λ entry there fails. c.may_hold.ensures entry.standing.tree (plan_of_entry inside.segment.now (index_asked inside) c.self.invariant.index at entry there) fails)
+    subst (λ (asked : AskedValue). (entry : Registered) → slice_get asked.entries at ≡ Some entry
+    → c.may_hold.result ≡ false → holds entry.standing.tree asked.article.fields ≡ false) c.self.view_is
+    (λ entry there fails. c.may_hold.ensures entry.standing.tree
+    (plan_of_entry inside.segment.now (index_asked inside) c.self.invariant.index at entry there) fails)

@@ -11,7 +11,8 @@ use Rattle.clip_segment.proofs.EntryPositions.{tests_of_trees}
 use Rattle.clip_segment.proofs.Sharing.{passing_flags}
 use Rattle.clip_segment.proofs.reading.SegmentReading.sharer_marks.Goals as goal
 
-both_ok : {T E : Type 0} (r : Result T E) (P Q R : T → Type 0) → ((x : T) → P x → Q x → R x) → IfOk r P → IfOk r Q → IfOk r R
+both_ok : {T E : Type 0} (r : Result T E) (P Q R : T → Type 0) → ((x : T) → P x → Q x → R x) → IfOk r P → IfOk r Q
+    → IfOk r R
 both_ok (Ok x) P Q R f p q = f x p q
 both_ok (Err e) P Q R f p q = p
 
@@ -28,7 +29,10 @@ returns c =
     (λ marks long marked.
     passing_flags (λ tree. share (query_keys tree) keys) trees marks (long ∙ c.len.ensures ∙ plan_each trees index is)
     (λ n lt. marked n (omega (arith, lt, long))
-    ∙ sharing query_keys keys_asked trees index.terms is.terms index.positions is.positions fields numbers.result.now numbers.ensures.within numbers.ensures.had n)
+    ∙ sharing query_keys keys_asked trees index.terms is.terms index.positions is.positions fields numbers.result.now
+    numbers.ensures.within numbers.ensures.had n)
     ∙ tests_of_trees (λ tree. share (query_keys tree) keys) inside.segment.now
-    ∙ ap (λ (asked : AskedValue). map (λ (e : Registered). share (query_keys e.standing.tree) (article_keys asked.article.fields)) asked.entries) c.self.view_is)
+    ∙ ap (λ (asked : AskedValue).
+    map (λ (e : Registered). share (query_keys e.standing.tree) (article_keys asked.article.fields)) asked.entries)
+    c.self.view_is)
     c.marks_under.ensures.long c.marks_under.ensures.marked

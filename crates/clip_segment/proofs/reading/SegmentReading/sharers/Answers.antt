@@ -12,5 +12,7 @@ pub returns : goal.returns
 returns c =
     let asked = c.args.self.now in
     on_ok_weaker c.numbers_into.result
-    (λ read. read ∙ ap marked c.in_ok-marks.ensures ∙ marked_map (λ (e : Registered). share (query_keys e.standing.tree) (article_keys asked.article.fields)) 0 asked.entries)
+    (λ read. read ∙ ap marked c.in_ok-marks.ensures
+    ∙ marked_map (λ (e : Registered). share (query_keys e.standing.tree) (article_keys asked.article.fields)) 0
+    asked.entries)
     c.numbers_into.ensures

@@ -19,5 +19,6 @@ invariant_of-result c =
       rising = subst IsRising (sym e) c.requires.rising;
       short = omega (arith, kept_few segments flags, c.requires.short, few);
       seqs = c.in_ok-seqs.ensures ∙ ap (λ es. seqs_of (map arc_value es)) c.deref.ensures.value;
-      index = subst (λ (rs : List Registered). IsIndexOf (trees_of rs) c.in_ok-index.index) (sym e) c.in_ok-index.ensures;
+      index = subst (λ (rs : List Registered). IsIndexOf (trees_of rs) c.in_ok-index.index) (sym e)
+          c.in_ok-index.ensures;
     }

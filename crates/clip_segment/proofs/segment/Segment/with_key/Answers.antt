@@ -15,8 +15,10 @@ returns-clause-holders c =
 
 pub returns-clause-within : goal.returns-clause-within
 returns-clause-within c =
-    subst (λ ns. All (λ position. position < length c.args.self.now) ns) (sym (returns-clause-holders c)) (positions_within (key_of c.args.key.now) c.args.self.now)
+    subst (λ ns. All (λ position. position < length c.args.self.now) ns) (sym (returns-clause-holders c))
+    (positions_within (key_of c.args.key.now) c.args.self.now)
 
 pub returns-clause-rising : goal.returns-clause-rising
 returns-clause-rising c =
-    subst (λ ns. AllPairs (λ p q. p < q) ns) (sym (returns-clause-holders c)) (positions_rise (key_of c.args.key.now) c.args.self.now)
+    subst (λ ns. AllPairs (λ p q. p < q) ns) (sym (returns-clause-holders c))
+    (positions_rise (key_of c.args.key.now) c.args.self.now)

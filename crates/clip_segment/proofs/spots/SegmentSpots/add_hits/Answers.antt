@@ -12,7 +12,11 @@ returns c =
     let at = c.args.position in
     let reading = inside.reading.now in
     let before = map hit_value c.args.found.now.items in
-    subst (λ (asked : AskedValue). OnOk c.add_hits.result ((entry : Registered) → slice_get asked.entries at ≡ Some entry → map hit_value c.add_hits.new.found.items ≡ before ++ hits entry.standing.tree asked.article.fields)) c.self.view_is
+    subst (λ (asked : AskedValue). OnOk c.add_hits.result ((entry : Registered)
+    → slice_get asked.entries at ≡ Some entry → map hit_value c.add_hits.new.found.items
+    ≡ before ++ hits entry.standing.tree asked.article.fields)) c.self.view_is
     (IfOk-weaker c.add_hits.result _ _
-    (λ _ made entry there. made entry.standing.tree reading.terms reading.article.fields (c.deref.ensures.value ∙ c.self.invariant.fields) (decoded_of_entry inside.segment.now reading.terms inside.plans.now c.self.invariant.plans at entry there))
+    (λ _ made entry there. made entry.standing.tree reading.terms reading.article.fields (c.deref.ensures.value
+    ∙ c.self.invariant.fields)
+    (decoded_of_entry inside.segment.now reading.terms inside.plans.now c.self.invariant.plans at entry there))
     c.add_hits.ensures)

@@ -23,7 +23,8 @@ invariant_of-self c =
       size,
       inside.3,
       λ at_end. let none = inside.4 at_end in omega (arith, none, simp length-take at within),
-      subst (IsFeedOf c.feed_of-self-inside.result) (sym (later_pending c.self.inside.buffer.items s e n fits)) searched,
+      subst (IsFeedOf c.feed_of-self-inside.result) (sym (later_pending c.self.inside.buffer.items s e n fits))
+          searched,
     )
 
 pub returns-in_ok-extend_cut-in-Some-clause-rest : goal.returns-in_ok-extend_cut-in-Some-clause-rest
@@ -34,15 +35,22 @@ returns-in_ok-extend_cut-in-Some-clause-rest c =
     let feeds = rw c.in-Some.is at c.self.invariant.5 in
     let within = feeds.within in
     let fits : s + n ≤ e = omega (arith, simp length-take at within) in
-    later_pending c.self.inside.buffer.items s e n fits ∙ sym feeds.after ∙ ap (λ r. after_line r.pending) c.self.view_is
+    later_pending c.self.inside.buffer.items s e n fits ∙ sym feeds.after
+    ∙ ap (λ r. after_line r.pending) c.self.view_is
 
 pub returns-in_ok-extend_cut-in-None-clause-line : goal.returns-in_ok-extend_cut-in-None-clause-line
 returns-in_ok-extend_cut-in-None-clause-line c =
-    let same = ap (λ xs. take (c.self.inside.end - c.self.inside.start) (drop c.self.inside.start xs)) c.deref.ensures.value ∙ ap (λ r. r.pending) c.self.view_is in
+    let same = ap (λ xs. take (c.self.inside.end - c.self.inside.start) (drop c.self.inside.start xs))
+    c.deref.ensures.value ∙ ap (λ r. r.pending) c.self.view_is in
     let none = rw c.in-None.is at c.self.invariant.5 in
-    c.in_ok-extend_cut-in-None.ensures ∙ ap (λ xs. cut (c.args.line.now.items ++ xs)) (same ∙ sym (first_line-no_feed _ (sym (ap (λ r. has_feed r.pending) c.self.view_is) ∙ none)))
+    c.in_ok-extend_cut-in-None.ensures
+    ∙ ap (λ xs. cut (c.args.line.now.items ++ xs)) (same
+    ∙ sym (first_line-no_feed _ (sym (ap (λ r. has_feed r.pending) c.self.view_is) ∙ none)))
 
 pub returns-in_ok-extend_cut-in-None-clause-rest : goal.returns-in_ok-extend_cut-in-None-clause-rest
 returns-in_ok-extend_cut-in-None-clause-rest c =
     let none = rw c.in-None.is at c.self.invariant.5 in
-    nothing_pending c.self.inside.buffer.items c.self.inside.end ∙ sym (after_line-no_feed (take (c.self.inside.end - c.self.inside.start) (drop c.self.inside.start c.self.inside.buffer.items)) none) ∙ ap (λ r. after_line r.pending) c.self.view_is
+    nothing_pending c.self.inside.buffer.items c.self.inside.end
+    ∙ sym (after_line-no_feed
+    (take (c.self.inside.end - c.self.inside.start) (drop c.self.inside.start c.self.inside.buffer.items)) none)
+    ∙ ap (λ r. after_line r.pending) c.self.view_is

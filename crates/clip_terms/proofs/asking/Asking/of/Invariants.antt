@@ -8,6 +8,7 @@ use Rattle.clip_terms.proofs.asking.Asking.of.Given as goal
 abbrev pub invariant-loop-field : goal.invariant-loop-field
 invariant-loop-field l = record {
   keys : map key_of l.keys.items ≡ Any ∷ flat_map ordered_keys (take l.field-index l.field-items);
-  places : map (λ places. map (term_at (map key_of l.keys.items)) places.items) l.places.items ≡ map field_keys (take l.field-index l.field-items);
+  places : map (λ places. map (term_at (map key_of l.keys.items)) places.items) l.places.items
+      ≡ map field_keys (take l.field-index l.field-items);
   counts : l.counts.items ≡ map (λ field. length (ordered_keys field)) (take l.field-index l.field-items);
 }

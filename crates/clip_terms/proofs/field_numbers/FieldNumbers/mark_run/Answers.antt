@@ -11,5 +11,6 @@ returns-clause-raised c k lt =
     let rarest = c.rarest-rarest.result in
     let old = is_up (get_or c.args.flags.now k 0) in
     c.mark_about.ensures.raised k lt
-    ∙ ap (λ (ns : List (Option ℕ)). old || list_any (covers_before run ns rarest.place k) rarest.spots.now) (c.deref-2.ensures.value ∙ c.self.view_is)
+    ∙ ap (λ (ns : List (Option ℕ)). old || list_any (covers_before run ns rarest.place k) rarest.spots.now)
+    (c.deref-2.ensures.value ∙ c.self.view_is)
     ∙ ap (λ b. old || b) (anchored_covers run c.args.self.now rarest c.rarest-rarest.ensures k)

@@ -9,18 +9,23 @@ use Rattle.clip_terms.proofs.field_terms.FieldTerms.front.Goals as goal
 pub place_of-requires-clause-rise : goal.place_of-requires-clause-rise
 place_of-requires-clause-rise c =
     let t = c.self.inside in
-    texts_rise (map key_of t.keys.now) (heading (Front t.field.now [])) t.fronts.start t.fronts.end c.self.invariant.strict c.self.invariant.fronts
+    texts_rise (map key_of t.keys.now) (heading (Front t.field.now [])) t.fronts.start t.fronts.end
+    c.self.invariant.strict c.self.invariant.fronts
 
 pub returns-in-Some : goal.returns-in-Some
 returns-in-Some c =
     let t = c.self.inside in
-    sym (placed_number (map key_of t.keys.now) (Front t.field.now c.args.text.now) t.fronts.start t.fronts.end c.self.invariant.strict c.self.invariant.fronts c.in-Some.place
-    (subst (λ (text : List ℕ). IsPlaceOf (map key_of t.keys.now) t.fronts.start t.fronts.end text (Some c.in-Some.place)) c.of-text.ensures c.in-Some.ensures))
+    sym (placed_number (map key_of t.keys.now) (Front t.field.now c.args.text.now) t.fronts.start t.fronts.end
+    c.self.invariant.strict c.self.invariant.fronts c.in-Some.place
+    (subst (λ (text : List ℕ). IsPlaceOf (map key_of t.keys.now) t.fronts.start t.fronts.end text
+    (Some c.in-Some.place)) c.of-text.ensures c.in-Some.ensures))
     ∙ ap (λ (v : FieldTermsValue). number_of v.terms (Front v.field c.args.text.now)) c.self.view_is
 
 pub returns-in-None : goal.returns-in-None
 returns-in-None c =
     let t = c.self.inside in
-    sym (no_number (map key_of t.keys.now) (Front t.field.now c.args.text.now) t.fronts.start t.fronts.end c.self.invariant.strict c.self.invariant.fronts
-    (subst (λ (text : List ℕ). IsPlaceOf (map key_of t.keys.now) t.fronts.start t.fronts.end text None) c.of-text.ensures c.in-None.ensures))
+    sym (no_number (map key_of t.keys.now) (Front t.field.now c.args.text.now) t.fronts.start t.fronts.end
+    c.self.invariant.strict c.self.invariant.fronts
+    (subst (λ (text : List ℕ). IsPlaceOf (map key_of t.keys.now) t.fronts.start t.fronts.end text None)
+    c.of-text.ensures c.in-None.ensures))
     ∙ ap (λ (v : FieldTermsValue). number_of v.terms (Front v.field c.args.text.now)) c.self.view_is

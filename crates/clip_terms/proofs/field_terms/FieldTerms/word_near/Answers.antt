@@ -9,16 +9,19 @@ use Rattle.clip_terms.proofs.field_terms.FieldTerms.word_near.Goals as goal
 pub place_of-requires-clause-rise : goal.place_of-requires-clause-rise
 place_of-requires-clause-rise c =
     let t = c.self.inside in
-    texts_rise (map key_of t.keys.now) (heading (Word t.field.now [])) t.words.start t.words.end c.self.invariant.strict c.self.invariant.words
+    texts_rise (map key_of t.keys.now) (heading (Word t.field.now [])) t.words.start t.words.end
+    c.self.invariant.strict c.self.invariant.words
 
 pub returns-in-Some : goal.returns-in-Some
 returns-in-Some c =
     let t = c.self.inside in
-    sym (placed_number (map key_of t.keys.now) (Word t.field.now c.args.word.now) t.words.start t.words.end c.self.invariant.strict c.self.invariant.words c.in-Some.place c.in-Some.ensures)
+    sym (placed_number (map key_of t.keys.now) (Word t.field.now c.args.word.now) t.words.start t.words.end
+    c.self.invariant.strict c.self.invariant.words c.in-Some.place c.in-Some.ensures)
     ∙ ap (λ (v : FieldTermsValue). number_of v.terms (Word v.field c.args.word.now)) c.self.view_is
 
 pub returns-in-None : goal.returns-in-None
 returns-in-None c =
     let t = c.self.inside in
-    sym (no_number (map key_of t.keys.now) (Word t.field.now c.args.word.now) t.words.start t.words.end c.self.invariant.strict c.self.invariant.words c.in-None.ensures)
+    sym (no_number (map key_of t.keys.now) (Word t.field.now c.args.word.now) t.words.start t.words.end
+    c.self.invariant.strict c.self.invariant.words c.in-None.ensures)
     ∙ ap (λ (v : FieldTermsValue). number_of v.terms (Word v.field c.args.word.now)) c.self.view_is

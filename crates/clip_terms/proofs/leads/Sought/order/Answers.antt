@@ -12,12 +12,14 @@ returns-then-lead-self c =
     let text = text_of (key_of c.args.key.now) in
     let s = c.self.inside in
     subst (λ (t : List ℕ). c.cmp.result ≡ bytes_cmp text t) c.self.view_is
-    (c.cmp.ensures ∙ leads_settle text (text_sought s.text) c.args.lead s.lead c.requires.lead c.self.invariant.0 c.if-lead-self.true)
+    (c.cmp.ensures ∙ leads_settle text (text_sought s.text) c.args.lead s.lead c.requires.lead c.self.invariant.0
+    c.if-lead-self.true)
 
 pub returns-then-length-le8 : goal.returns-then-length-le8
 returns-then-length-le8 c =
     let text = text_of (key_of c.args.key.now) in
     let s = c.self.inside in
     subst (λ (t : List ℕ). Equal ≡ bytes_cmp text t) c.self.view_is
-    (short_texts_tie text (text_sought s.text) c.args.lead s.lead c.args.length c.requires.lead c.self.invariant.0 c.if-lead-self.false c.requires.length
+    (short_texts_tie text (text_sought s.text) c.args.lead s.lead c.args.length c.requires.lead c.self.invariant.0
+    c.if-lead-self.false c.requires.length
     (subst (IsShortLength (text_sought s.text)) (sym c.if-length-self.true) c.self.invariant.1) c.if-length-le8.true)

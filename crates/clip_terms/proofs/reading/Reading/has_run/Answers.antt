@@ -9,7 +9,8 @@ use Rattle.clip_terms.proofs.reading.Reading.has_run.Goals as goal
 
 pub returns-then-not-has_all : goal.returns-then-not-has_all
 returns-then-not-has_all c =
-    sym (lacks_numbers c.args.self.now.article.fields c.args.self.now.terms c.args.run.now (sym c.has_all.ensures ∙ c.if-not-has_all.true))
+    sym (lacks_numbers c.args.self.now.article.fields c.args.self.now.terms c.args.run.now (sym c.has_all.ensures
+    ∙ c.if-not-has_all.true))
 
 pub returns : goal.returns
 returns c =
@@ -17,7 +18,8 @@ returns c =
     c.stands_in_any.ensures
     ∙ ap (list_any (stands_among c.args.run.now)) c.deref.ensures.value
     ∙ ap (list_any (stands_among c.args.run.now)) c.self.invariant.fields
-    ∙ run_stands inside.article.now.fields inside.terms.now c.self.invariant.strict c.args.run.now (sym c.is_empty.ensures ∙ c.if-is_empty.false)
+    ∙ run_stands inside.article.now.fields inside.terms.now c.self.invariant.strict c.args.run.now
+    (sym c.is_empty.ensures ∙ c.if-is_empty.false)
     ∙ ap (λ (r : ReadingValue). has_run r.article.fields (map (term_at r.terms) c.args.run.now)) c.self.view_is
 
 pub stands_in_any-requires : goal.stands_in_any-requires

@@ -16,10 +16,14 @@ of-requires-clause-numbers c =
     let fields = finite.entries inside.article.now.fields in
     let terms = inside.terms.now in
     let found = c.index-fields-place.result in
-    let within : place < length fields = omega (arith, c.requires, ap (λ (r : ReadingValue). length (finite.entries r.article.fields)) c.self.view_is) in
-    let field : found ≡ get_or fields place ([], []) = c.index-fields-place.is ∙ ap (λ fs. get_or fs place found) c.fields.ensures ∙ get_or_default fields place found ([], []) within in
+    let within : place < length fields =
+    omega (arith, c.requires, ap (λ (r : ReadingValue). length (finite.entries r.article.fields)) c.self.view_is) in
+    let field : found ≡ get_or fields place ([], []) =
+    c.index-fields-place.is ∙ ap (λ fs. get_or fs place found) c.fields.ensures
+    ∙ get_or_default fields place found ([], []) within in
     c.index.ensures
-    ∙ field_at (λ (f : FieldValue). map (number_of terms) (field_keys f)) inside.fields.items fields place c.index.result.now ([], []) c.self.invariant.fields within
+    ∙ field_at (λ (f : FieldValue). map (number_of terms) (field_keys f)) inside.fields.items fields place
+    c.index.result.now ([], []) c.self.invariant.fields within
     ∙ ap (λ (f : FieldValue). map (number_of terms) (field_keys f)) (sym field)
     ∙ ap (λ (r : ReadingValue). map (number_of r.terms) (field_keys found)) c.self.view_is
 
@@ -29,6 +33,10 @@ of-requires-clause-among c =
     let place = c.args.place in
     let fields = finite.entries inside.article.now.fields in
     let found = c.index-fields-place.result in
-    let within : place < length fields = omega (arith, c.requires, ap (λ (r : ReadingValue). length (finite.entries r.article.fields)) c.self.view_is) in
-    let field : found ≡ get_or fields place ([], []) = c.index-fields-place.is ∙ ap (λ fs. get_or fs place found) c.fields.ensures ∙ get_or_default fields place found ([], []) within in
-    subst (λ (r : ReadingValue). IsOfArticle r.article.fields found) c.self.view_is (subst (IsOfArticle inside.article.now.fields) (sym field) (of_article inside.article.now.fields place within))
+    let within : place < length fields =
+    omega (arith, c.requires, ap (λ (r : ReadingValue). length (finite.entries r.article.fields)) c.self.view_is) in
+    let field : found ≡ get_or fields place ([], []) =
+    c.index-fields-place.is ∙ ap (λ fs. get_or fs place found) c.fields.ensures
+    ∙ get_or_default fields place found ([], []) within in
+    subst (λ (r : ReadingValue). IsOfArticle r.article.fields found) c.self.view_is
+    (subst (IsOfArticle inside.article.now.fields) (sym field) (of_article inside.article.now.fields place within))

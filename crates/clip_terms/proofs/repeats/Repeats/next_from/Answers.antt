@@ -12,7 +12,9 @@ loop-at-preserved c =
     let next = c.moved-at.result in
     let now = c.agreeing-at.ensures in
     let moves = c.moved-at.ensures in
-    let here : begins_with run (drop at.start numbers) ≡ false = part_stands run numbers at (omega (arith, now.short, c.if-at-self.false)) (now.no_more (omega (arith, now.short, c.if-at-self.false))) in
+    let here : begins_with run (drop at.start numbers) ≡ false =
+    part_stands run numbers at (omega (arith, now.short, c.if-at-self.false))
+    (now.no_more (omega (arith, now.short, c.if-at-self.false))) in
     record {
       from = omega (arith, c.loop-at.invariant.from, now.start, moves.start);
       short = omega (arith, moved_short run at next moves, now.short);
@@ -32,5 +34,6 @@ pub returns : goal.returns
 returns c p past =
     elim (cases_lt p c.loop-at.at.start) [
       | inl less ↦ c.loop-at.invariant.nowhere p past less
-      | inr ge ↦ past_end c.args.self.now.run.now c.args.numbers.now p c.requires.some (omega (arith, c.loop-at-test.false))
+      | inr ge ↦ past_end c.args.self.now.run.now c.args.numbers.now p c.requires.some
+          (omega (arith, c.loop-at-test.false))
     ]

@@ -14,5 +14,8 @@ returns-then-length-span c =
     let inside : i < r.count = omega (arith, length-take-le r.count r.spans c.requires.repeats.few) in
     let span = get_or r.spans i none in
     let same : get_or (take r.count r.spans) i none ≡ span = get_or-take r.count r.spans i none inside in
-    subst (λ (s : Span). (0 < s.period) × (s.period + s.period ≤ n) × Returns r.run.now s.period n × NoneBelow r.run.now s.period n) (sym same)
-    (in_span r.run.now span n (c.requires.repeats.spans i none inside) (subst (λ (s : Span). s.from ≤ n) same c.if-span-length.true) (subst (λ (s : Span). n ≤ s.upto) same c.if-length-span.true))
+    subst (λ (s : Span). (0 < s.period) × (s.period + s.period ≤ n) × Returns r.run.now s.period n
+    × NoneBelow r.run.now s.period n) (sym same)
+    (in_span r.run.now span n (c.requires.repeats.spans i none inside)
+    (subst (λ (s : Span). s.from ≤ n) same c.if-span-length.true)
+    (subst (λ (s : Span). n ≤ s.upto) same c.if-length-span.true))

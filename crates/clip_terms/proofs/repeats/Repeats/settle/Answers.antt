@@ -13,13 +13,23 @@ returns-clause-repeats c =
     elim c.if-at.branch [
       | then-at w ↦
           subst (λ (x : Repeats). AreRepeats (record x { known = n + 1 })) (sym w.self-is)
-          (settled_more r s n w.max.result c.requires.repeats c.requires.room c.requires.some c.requires.returns c.requires.least (omega (arith, w.max.ensures)) (omega (arith, w.max.ensures)) (λ m known twice. omega (arith, w.max.ensures)))
-      | else-at w ↦ subst (λ (x : Repeats). AreRepeats (record x { known = n + 1 })) (sym w.self-is) (settled r s n c.requires.repeats c.requires.least (omega (arith, w.if-at.false)))
+          (settled_more r s n w.max.result c.requires.repeats c.requires.room c.requires.some c.requires.returns
+          c.requires.least (omega (arith, w.max.ensures)) (omega (arith, w.max.ensures))
+          (λ m known twice. omega (arith, w.max.ensures)))
+      | else-at w ↦ subst (λ (x : Repeats). AreRepeats (record x { known = n + 1 })) (sym w.self-is)
+          (settled r s n c.requires.repeats c.requires.least (omega (arith, w.if-at.false)))
     ]
 
 pub returns-clause-least : goal.returns-clause-least
 returns-clause-least c d some lt back =
     let r = c.args.self.now in
     let n = c.args.at.start + c.args.at.kept in
-    let same : c.if-at.self.run.now ≡ r.run.now = elim c.if-at.branch [ then-at w ↦ ap (λ (x : Repeats). x.run.now) w.self-is | else-at w ↦ ap (λ (x : Repeats). x.run.now) w.self-is ] in
-    c.requires.least d some lt (returns_less r.run.now d (n + 1) r.known (subst (λ (xs : List ℕ). Returns xs d (n + 1)) same back) (omega (arith, c.if-length-self.false)))
+    let same : c.if-at.self.run.now ≡ r.run.now =
+    elim c.if-at.branch [
+      | then-at w ↦ ap (λ (x : Repeats). x.run.now) w.self-is
+      | else-at w ↦
+          ap (λ (x : Repeats). x.run.now) w.self-is
+    ] in
+    c.requires.least d some lt
+    (returns_less r.run.now d (n + 1) r.known (subst (λ (xs : List ℕ). Returns xs d (n + 1)) same back)
+    (omega (arith, c.if-length-self.false)))

@@ -16,13 +16,16 @@ returns-clause-raised c k lt =
     let inside = c.self.inside in
     let holds = c.self.invariant in
     c.mark_run.ensures.raised k lt
-    ∙ ap (λ b. old || b) (run_covers inside.reading.now.terms holds.strict inside.field.now inside.numbers.now run k holds.numbers)
+    ∙ ap (λ b. old || b) (run_covers inside.reading.now.terms holds.strict inside.field.now inside.numbers.now run k
+    holds.numbers)
     ∙ ap (λ (s : SpotsValue). old || is_covered s.field (map (term_at s.terms) run) k) c.self.view_is
 
 pub returns-then-is_empty-clause-raised : goal.returns-then-is_empty-clause-raised
 returns-then-is_empty-clause-raised c k lt =
     let old = is_up (get_or c.args.flags.now k 0) in
     let value = c.args.self.now in
-    let short : length c.args.run.now ≡ 0 = eqb-true (length c.args.run.now) 0 (sym c.is_empty.ensures ∙ c.if-is_empty.true) in
+    let short : length c.args.run.now ≡ 0 =
+    eqb-true (length c.args.run.now) 0 (sym c.is_empty.ensures ∙ c.if-is_empty.true) in
     let none : c.args.run.now ≡ [] = nil_from_length c.args.run.now (omega (arith, short)) in
-    sym (ap (λ run. old || is_covered value.field (map (term_at value.terms) run) k) none ∙ ap (λ b. old || b) (none_covered value.field k) ∙ or_false old)
+    sym (ap (λ run. old || is_covered value.field (map (term_at value.terms) run) k) none
+    ∙ ap (λ b. old || b) (none_covered value.field k) ∙ or_false old)

@@ -15,9 +15,12 @@ returns-clause-raised c k lt =
     let holds = c.self.invariant in
     let found = c.postings_near.result.now in
     let value = c.args.self.now in
-    let are : AreNear inside.field.now (term_at inside.reading.now.terms number) found = subst (λ (s : SpotsValue). AreNear s.field (term_at s.terms number) found) (sym c.self.view_is) c.postings_near.ensures in
+    let are : AreNear inside.field.now (term_at inside.reading.now.terms number) found =
+    subst (λ (s : SpotsValue). AreNear s.field (term_at s.terms number) found) (sym c.self.view_is)
+    c.postings_near.ensures in
     c.mark_places.ensures.raised k lt
     ∙ ap (λ (ns : List (Option ℕ)). old || list_any (covers_at (number ∷ []) ns k) found) c.numbers.ensures
-    ∙ ap (λ b. old || b) (run_postings inside.reading.now.terms holds.strict inside.field.now inside.numbers.now found (number ∷ []) number k (omega arith) refl holds.numbers are)
+    ∙ ap (λ b. old || b) (run_postings inside.reading.now.terms holds.strict inside.field.now inside.numbers.now found
+    (number ∷ []) number k (omega arith) refl holds.numbers are)
     ∙ ap (λ (s : SpotsValue). old || is_covered s.field (term_at s.terms number ∷ []) k) c.self.view_is
     ∙ ap (λ b. old || b) (one_at value.field (term_at value.terms number) k (omega (arith, lt, c.requires)))

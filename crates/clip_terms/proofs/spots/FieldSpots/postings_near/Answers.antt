@@ -19,7 +19,8 @@ pub returns-then-not-has : goal.returns-then-not-has
 returns-then-not-has c =
     let inside = c.self.inside in
     subst (λ (s : SpotsValue). AreNear s.field (term_at s.terms c.args.number) []) c.self.view_is
-    (none_near inside.field.now (term_at inside.reading.now.terms c.args.number) (c.self.invariant.among _ (sym c.has.ensures ∙ c.if-not-has.true)))
+    (none_near inside.field.now (term_at inside.reading.now.terms c.args.number)
+    (c.self.invariant.among _ (sym c.has.ensures ∙ c.if-not-has.true)))
 
 pub returns-in-Some : goal.returns-in-Some
 returns-in-Some c =
@@ -36,10 +37,16 @@ returns-in-Some c =
     subst (λ (key : KeyValue). IsLead (text_of key) lead) (sym (unwrap_or-slice_get terms n Any))
     (subst (λ (l : ℕ). IsLead (text_of (get_or terms n Any)) l) (sym (c.in-Some.ensures.lookup.3.1 0))
     (lead_at terms leads are n Any (omega (arith, inside_leads, leads_long terms leads are)))) in
-    subst (λ (s : SpotsValue). AreNear s.field (term_at s.terms n) found) c.self.view_is (lead_near inside.field.now (term_at terms n) lead found is c.of_lead.ensures)
+    subst (λ (s : SpotsValue). AreNear s.field (term_at s.terms n) found) c.self.view_is
+    (lead_near inside.field.now (term_at terms n) lead found is c.of_lead.ensures)
 
 pub returns-in-None : goal.returns-in-None
 returns-in-None c =
     let value = c.args.self.now in
     none_past value.field value.terms c.args.number
-    (omega (arith, c.in-None.ensures.lookup.3, leads_long c.terms.result.now c.leads.result.now c.leads.ensures, ap length c.terms.ensures))
+    (omega (
+      arith,
+      c.in-None.ensures.lookup.3,
+      leads_long c.terms.result.now c.leads.result.now c.leads.ensures,
+      ap length c.terms.ensures,
+    ))

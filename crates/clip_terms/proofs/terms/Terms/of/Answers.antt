@@ -10,13 +10,17 @@ use Rattle.clip_terms.proofs.terms.Terms.of.Goals as goal
 
 pub parts_of-requires : goal.parts_of-requires
 parts_of-requires c =
-    subst (IsStrictlySortedBy key_cmp) (sym (ap (λ (keys : List Key). map key_of keys) c.deref-3.ensures.value ∙ c.in_ok-keys.ensures)) (in_order_rises (map key_of c.args.keys.items))
+    subst (IsStrictlySortedBy key_cmp) (sym (ap (λ (keys : List Key). map key_of keys) c.deref-3.ensures.value
+    ∙ c.in_ok-keys.ensures)) (in_order_rises (map key_of c.args.keys.items))
 
 pub invariant_of-result : goal.invariant_of-result
 invariant_of-result c = (
   subst (IsStrictlySortedBy key_cmp) (sym c.in_ok-keys.ensures) (in_order_rises (map key_of c.args.keys.items)),
   omega arith,
-  subst (λ (keys : List Key). AreLeads (map key_of keys) c.in_ok-leads.leads.items) c.deref.ensures.value c.in_ok-leads.ensures,
-  subst (λ (keys : List Key). AreShortLengths (map key_of keys) c.in_ok-lengths.lengths.items) c.deref-2.ensures.value c.in_ok-lengths.ensures,
-  subst (λ (keys : List Key). All (IsFieldPart (map key_of keys)) c.in_ok-parts.parts.items) c.deref-3.ensures.value c.in_ok-parts.ensures,
+  subst (λ (keys : List Key). AreLeads (map key_of keys) c.in_ok-leads.leads.items) c.deref.ensures.value
+      c.in_ok-leads.ensures,
+  subst (λ (keys : List Key). AreShortLengths (map key_of keys) c.in_ok-lengths.lengths.items) c.deref-2.ensures.value
+      c.in_ok-lengths.ensures,
+  subst (λ (keys : List Key). All (IsFieldPart (map key_of keys)) c.in_ok-parts.parts.items) c.deref-3.ensures.value
+      c.in_ok-parts.ensures,
 )

@@ -8,5 +8,6 @@ use Rattle.clip_trace.proofs.batch.Batch.into_found.Goals as goal
 
 pub returns : goal.returns
 returns c =
-    sym (map-map found_of alerts_value c.self.inside.found.items) ∙ ap (map found_of) c.self.invariant ∙ map-map found_of (alerts_due c.self.inside.view) _
+    sym (map-map found_of alerts_value c.self.inside.found.items) ∙ ap (map found_of) c.self.invariant
+    ∙ map-map found_of (alerts_due c.self.inside.view) _
     ∙ ap (λ (b : Batch). map (found_after b.history) (take b.matched b.articles)) c.self.view_is

@@ -6,10 +6,16 @@ use Rattle.clip_trace_lines.specs.Steps.TraceOutline.{AnswersIn, BreaksIn}
 use Rattle.clip_trace_lines.proofs.trace_session.TraceServerServerUnit.answer.Goals as goal
 
 pub returns-in_err-text-clause-err : goal.returns-in_err-text-clause-err
-returns-in_err-text-clause-err g c = on_err _ (breaks_unwritten (AnswersIn stand_at) BreaksIn (c.args.self.now, c.args._lent.now) _ c.args.number c.args.bytes.now _ _ refl)
+returns-in_err-text-clause-err g c =
+    on_err _ (breaks_unwritten (AnswersIn stand_at) BreaksIn (c.args.self.now, c.args._lent.now) _ c.args.number
+    c.args.bytes.now _ _ refl)
 
 pub returns-clause-ok : goal.returns-clause-ok
-returns-clause-ok g c = answers_put (AnswersIn stand_at) (c.args.self.now, c.args._lent.now) _ c.args.number c.args.bytes.now c.in_ok-text.text.items _ _ _ _ _ c.in_ok-text.ensures (rw c.deref.ensures.value at c.put.ensures.moved)
+returns-clause-ok g c = answers_put (AnswersIn stand_at) (c.args.self.now, c.args._lent.now) _ c.args.number
+    c.args.bytes.now c.in_ok-text.text.items _ _ _ _ _ c.in_ok-text.ensures
+    (rw c.deref.ensures.value at c.put.ensures.moved)
 
 pub returns-clause-err : goal.returns-clause-err
-returns-clause-err g c = breaks_put (AnswersIn stand_at) BreaksIn (c.args.self.now, c.args._lent.now) _ c.args.number c.args.bytes.now c.in_ok-text.text.items _ _ _ _ c.in_ok-text.ensures (rw c.deref.ensures.value at c.put.ensures.front)
+returns-clause-err g c =
+    breaks_put (AnswersIn stand_at) BreaksIn (c.args.self.now, c.args._lent.now) _ c.args.number c.args.bytes.now
+    c.in_ok-text.text.items _ _ _ _ c.in_ok-text.ensures (rw c.deref.ensures.value at c.put.ensures.front)

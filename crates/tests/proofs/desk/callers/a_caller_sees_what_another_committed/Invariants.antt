@@ -3,4 +3,10 @@ use Rattle.tests.proofs.desk.callers.a_caller_sees_what_another_committed.Given 
 
 -- the desk whose parts were just made
 abbrev pub ghosts-run_both : goal.ghosts-run_both
-ghosts-run_both g a = record { book = a.parts.book; callers = a.parts.callers; keeps = a.parts.keeps; heard_before = all_heard a.parts.updates }
+ghosts-run_both g a = record {
+  book = a.parts.book;
+  callers = a.parts.callers;
+  keeps = a.parts.keeps;
+  heard_before =
+      all_heard a.parts.updates;
+}

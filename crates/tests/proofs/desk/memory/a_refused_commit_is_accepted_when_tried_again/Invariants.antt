@@ -3,4 +3,10 @@ use Rattle.tests.proofs.desk.memory.a_refused_commit_is_accepted_when_tried_agai
 
 -- the desk whose parts were just made
 abbrev pub ghosts-run_again : goal.ghosts-run_again
-ghosts-run_again g a = record { book = a.parts.book; callers = a.parts.callers; keeps = a.parts.keeps; heard_before = all_heard a.parts.updates }
+ghosts-run_again g a = record {
+  book = a.parts.book;
+  callers = a.parts.callers;
+  keeps = a.parts.keeps;
+  heard_before =
+      all_heard a.parts.updates;
+}

@@ -3,4 +3,10 @@ use Rattle.tests.proofs.desk.merging.four_segments_become_one_and_a_purge_leaves
 
 -- the desk whose parts were just made
 abbrev pub ghosts-run_merge : goal.ghosts-run_merge
-ghosts-run_merge g a = record { book = a.parts.book; callers = a.parts.callers; keeps = a.parts.keeps; heard_before = all_heard a.parts.updates }
+ghosts-run_merge g a = record {
+  book = a.parts.book;
+  callers = a.parts.callers;
+  keeps = a.parts.keeps;
+  heard_before =
+      all_heard a.parts.updates;
+}

@@ -12,10 +12,13 @@ returns-in-Some c =
     let last = c.in-Some.last.now in
     let item : last ≡ get_or c.self.inside.entries.items (length c.self.inside.entries.items - 1) last =
     subst (λ (xs : Items). last ≡ get_or xs (length xs - 1) last) c.deref.ensures.value c.in-Some.ensures.item.1 in
-    let some : 0 < length c.self.inside.entries.items = subst (λ (xs : Items). 0 < length xs) c.deref.ensures.value (omega (arith, c.in-Some.ensures.item)) in
-    c.gt.ensures ∙ ap (λ k. is_gt (bytes_cmp q k)) c.id_of.ensures ∙ ap (λ (a : Arc Registered Global). is_gt (bytes_cmp q a.value.standing.id)) item
+    let some : 0 < length c.self.inside.entries.items =
+    subst (λ (xs : Items). 0 < length xs) c.deref.ensures.value (omega (arith, c.in-Some.ensures.item)) in
+    c.gt.ensures ∙ ap (λ k. is_gt (bytes_cmp q k)) c.id_of.ensures
+    ∙ ap (λ (a : Arc Registered Global). is_gt (bytes_cmp q a.value.standing.id)) item
     ∙ sym (ends_with c.self.inside.entries.items c.args.self.now c.self.invariant c.self.view_is q last some)
 
 pub returns-in-None : goal.returns-in-None
 returns-in-None c =
-    sym (ends_empty c.self.inside.entries.items c.args.self.now c.self.invariant c.self.view_is c.args.id.now (subst (λ (xs : Items). length xs ≡ 0) c.deref.ensures.value (omega (arith, c.in-None.ensures.item))))
+    sym (ends_empty c.self.inside.entries.items c.args.self.now c.self.invariant c.self.view_is c.args.id.now
+    (subst (λ (xs : Items). length xs ≡ 0) c.deref.ensures.value (omega (arith, c.in-None.ensures.item))))

@@ -10,12 +10,18 @@ use Rattle.clip_registry.proofs.by_id.piece.Piece.remove.Goals as goal
 
 pub remove-requires : goal.remove-requires
 remove-requires c =
-    rw c.self.inside.entries.ok.0 (within c.self.inside.entries.items c.args.self.now c.self.invariant c.self.view_is c.in-Ok.place c.args.id.now c.in-Ok.ensures.found.0 c.in-Ok.ensures.found.1)
+    rw c.self.inside.entries.ok.0
+    (within c.self.inside.entries.items c.args.self.now c.self.invariant c.self.view_is c.in-Ok.place c.args.id.now
+    c.in-Ok.ensures.found.0 c.in-Ok.ensures.found.1)
 
-left : (c : goal.After-remove) → T (finite.is_sorted bytes_cmp (map keyed c.remove.new.self.items)) × (finite.from_sorted (map keyed c.remove.new.self.items) ≡ finite.remove c.args.self.now c.args.id.now)
+left : (c : goal.After-remove) → T (finite.is_sorted bytes_cmp (map keyed c.remove.new.self.items))
+    × (finite.from_sorted (map keyed c.remove.new.self.items) ≡ finite.remove c.args.self.now c.args.id.now)
 left c =
-    subst (λ (xs : Items). T (finite.is_sorted bytes_cmp (map keyed xs)) × (finite.from_sorted (map keyed xs) ≡ finite.remove c.args.self.now c.args.id.now)) (sym c.remove.ensures.items)
-    (removed c.self.inside.entries.items c.args.self.now c.self.invariant c.self.view_is c.in-Ok.place c.args.id.now c.in-Ok.ensures.found.0 c.in-Ok.ensures.found.1)
+    subst (λ (xs : Items). T (finite.is_sorted bytes_cmp (map keyed xs))
+    × (finite.from_sorted (map keyed xs) ≡ finite.remove c.args.self.now c.args.id.now))
+    (sym c.remove.ensures.items)
+    (removed c.self.inside.entries.items c.args.self.now c.self.invariant c.self.view_is c.in-Ok.place c.args.id.now
+    c.in-Ok.ensures.found.0 c.in-Ok.ensures.found.1)
 
 pub invariant_of-self : goal.invariant_of-self
 invariant_of-self c = (left c).0
@@ -26,7 +32,8 @@ returns-in-Ok-clause-removed c = (left c).1
 pub returns-in-Ok-clause-gone : goal.returns-in-Ok-clause-gone
 returns-in-Ok-clause-gone c =
     ap (λ (a : Arc Registered Global). Some a.value) c.remove.ensures.value
-    ∙ got c.self.inside.entries.items c.args.self.now c.self.invariant c.self.view_is c.in-Ok.place c.args.id.now c.remove.result c.in-Ok.ensures.found.0 c.in-Ok.ensures.found.1
+    ∙ got c.self.inside.entries.items c.args.self.now c.self.invariant c.self.view_is c.in-Ok.place c.args.id.now
+    c.remove.result c.in-Ok.ensures.found.0 c.in-Ok.ensures.found.1
 
 pub returns-in-Err-clause-removed : goal.returns-in-Err-clause-removed
 returns-in-Err-clause-removed c = removed_none c.args.self.now c.args.id.now c.in-Err.ensures.missing.1
