@@ -1,0 +1,45 @@
+"""Asking the engine on behalf of a request, and refusing as it does."""
+
+from __future__ import annotations
+
+import json
+from typing import Any
+
+from .door import Door
+from .engine import Behind
+from .pipe import Ended
+from .problems import WORDS, Problem
+from .trial import line_of
+
+Json = dict[str, Any]
+
+
+async def ask(door: Door, value: Json) -> Json:
+    """The engine's reply to a request of the protocol, without its line's number. `Problem` where it is refused, with
+    the reason and the place; where the engine is behind; and where it ended."""
+    line = line_of(value)
+    try:
+        reply: Json = json.loads(await door.engine.ask(line))
+    except Behind:
+        raise Problem("behind", headers={"Retry-After": "1"}) from None
+    except Ended as error:
+        raise Problem("ended", str(error), {"Retry-After": "1"}) from None
+    reply.pop("line", None)
+    if "refused" in reply:
+        raise await refusal(door, line, reply)
+    return reply
+
+
+async def refusal(door: Door, line: bytes, reply: Json) -> Problem:
+    """The problem that a refusal of the engine is, explained."""
+    word = reply["refused"] if reply["refused"] in WORDS else "fault"
+    members: Json = {"which": reply["which"]} if "which" in reply else {}
+    told = await door.explainer.line(line.decode(errors="replace"))
+    if told.get("refused") != reply["refused"]:
+        return Problem(word, **members)
+    members.update({name: told[name] for name in ("member", "at") if name in told})
+    if word == "query":
+        query = json.loads(line)["queries"][reply["which"]]["query"]
+        read = await door.explainer.explain(query)
+        members.update({name: read[name] for name in ("fault", "at") if name in read})
+    return Problem(word, told.get("says", ""), **members)

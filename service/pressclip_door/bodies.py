@@ -1,0 +1,59 @@
+"""Reading what a request brings."""
+
+from __future__ import annotations
+
+import asyncio
+import json
+from typing import Any
+
+from aiohttp import web
+
+from .door import Door
+from .problems import Problem
+
+Json = dict[str, Any]
+JSON_TYPES = ("application/json",)
+
+
+async def body_of(door: Door, request: web.Request) -> bytes:
+    """The whole body; `Problem` where it is too large, of another type than JSON, or slow."""
+    if request.content_type not in JSON_TYPES:
+        raise Problem("type", "send application/json")
+    return await read_all(door, request)
+
+
+async def read_all(door: Door, request: web.Request) -> bytes:
+    """The whole body of any type."""
+    limits = door.settings.limits
+    if (request.content_length or 0) > limits.body_bytes:
+        raise Problem("body", f"at most {limits.body_bytes:,} bytes are taken")
+    try:
+        return await asyncio.wait_for(request.read(), limits.body_seconds)
+    except asyncio.TimeoutError:
+        raise Problem("slow", f"the body did not come within {limits.body_seconds:.0f} s") from None
+
+
+async def object_of(door: Door, request: web.Request) -> Json:
+    """The body as a JSON object; `Problem` where it is none."""
+    text = await body_of(door, request)
+    try:
+        value = json.loads(text)
+    except (ValueError, RecursionError) as error:
+        raise Problem("json", str(error)) from None
+    if not isinstance(value, dict):
+        raise Problem("shape", "a JSON object is asked for")
+    return value
+
+
+def with_members(value: Json, needed: dict[str, type], allowed: dict[str, type] | None = None) -> Json:
+    """The value, which has these members of these types and no others; `Problem` else."""
+    kinds = {**needed, **(allowed or {})}
+    for name in needed:
+        if name not in value:
+            raise Problem("shape", f"the member {name} is missing", member=name)
+    for name, member in value.items():
+        if name not in kinds:
+            raise Problem("shape", f"there is no member {name}", member=name)
+        if not isinstance(member, kinds[name]):
+            raise Problem("shape", f"the member {name} is of another type", member=name)
+    return value

@@ -1,0 +1,185 @@
+"""The engine of the door: `keep`, `grid submit` or a plain command, asked line by line, started again where it ends."""
+
+from __future__ import annotations
+
+import asyncio
+import time
+from collections import deque
+from dataclasses import dataclass
+from typing import Awaitable, Callable, Protocol, Sequence
+
+from .pipe import Awaited, Ended, Owed, Pipe, Sink
+
+FIRST_PAUSE_SECONDS = 0.1
+MOST_PAUSE_SECONDS = 10.0
+SECONDS_TO_END = 60.0
+
+Batch = Sequence[tuple[Owed, bytes]]
+
+
+class Behind(Exception):
+    """Too much waits for the engine already; nothing was sent."""
+
+
+class Follower(Protocol):
+    """Who hears each reply before whoever awaits it."""
+
+    def follow(self, batch: Batch) -> Awaitable[None] | None:
+        """Takes lines with their replies. What it gives, if anything, is awaited before the replies are handed out."""
+
+    def told(self, text: str) -> None:
+        """Takes a line that the engine told on standard error."""
+
+    def ended(self, status: int) -> None:
+        """Hears that the engine ended when it should not have."""
+
+
+@dataclass(frozen=True)
+class Room:
+    """How much may be on its way to the engine."""
+
+    lines: int = 4_096
+    bytes: int = 8 << 20
+
+
+class Engine:
+    """Lines in, reply lines out, in order. `start` it and `stop` it; between them it is started anew where it ends."""
+
+    def __init__(self, command: Sequence[str], room: Room, follower: Follower) -> None:
+        self.command = list(command)
+        self.is_ready = False
+        self._room = room
+        self._follower = follower
+        self._pipe: Pipe | None = None
+        self._is_stopping = False
+        self._over = asyncio.Event()
+        self._pause = FIRST_PAUSE_SECONDS
+        self._held: deque[tuple[Batch, Awaitable[None] | None]] = deque()
+        self._handing_out: asyncio.Task[None] | None = None
+        self._restarting: asyncio.Task[None] | None = None
+        self._freed: asyncio.Event = asyncio.Event()
+
+    @property
+    def in_flight(self) -> int:
+        """How many lines are owed a reply."""
+        return len(self._pipe.owed) if self._pipe else 0
+
+    @property
+    def pid(self) -> int | None:
+        """The number of the process, where there is one."""
+        return None if self._pipe is None or self._pipe.is_over else self._pipe.pid
+
+    def has_room(self) -> bool:
+        """Whether a line more may be on its way."""
+        pipe = self._pipe
+        return pipe is None or (len(pipe.owed) < self._room.lines and pipe.bytes_owed < self._room.bytes)
+
+    async def room(self) -> None:
+        """Waits until a line more may be on its way."""
+        while not self.has_room():
+            self._freed.clear()
+            await self._freed.wait()
+
+    async def ask(self, line: bytes) -> bytes:
+        """The reply to a line that is not blank, both without line feeds. `Behind` where too much waits, `Ended` where
+        the engine is gone."""
+        if not self.has_room():
+            raise Behind()
+        awaited = Awaited()
+        self.send(line, awaited)
+        return await awaited.reply()
+
+    def send(self, line: bytes, sink: Sink) -> None:
+        """Takes a line on its way, whose reply goes to the sink; `Ended` where the engine is gone."""
+        if self._pipe is None or self._pipe.is_over:
+            raise Ended("the engine is not there now, and is started again")
+        self._pipe.send(Owed(line, sink, time.perf_counter()))
+
+    async def start(self) -> None:
+        """Starts the engine, and waits until it answers; `Ended` where its first life ends before that."""
+        await self._begin()
+        await self._prove()
+
+    async def _begin(self) -> None:
+        """Begins a life."""
+        pipe = Pipe(self._hear, self._follower.told, self._end)
+        await pipe.start(self.command)
+        self._pipe = pipe
+
+    async def _prove(self) -> None:
+        """Waits for a first reply, which comes once all is replayed."""
+        awaited = Awaited()
+        self.send(b'{"op":"count"}', awaited)
+        await awaited.reply()
+        self.is_ready = True
+        self._pause = FIRST_PAUSE_SECONDS
+
+    async def stop(self) -> None:
+        """Ends it with its input: what it owes is answered first. Kills it where that takes too long."""
+        self._is_stopping = True
+        if self._restarting:
+            self._restarting.cancel()
+        if self._pipe is None or self._pipe.is_over:
+            return
+        self._pipe.close_input()
+        try:
+            await asyncio.wait_for(self._over.wait(), SECONDS_TO_END)
+        except asyncio.TimeoutError:
+            self._pipe.kill()
+            await self._over.wait()
+
+    def _hear(self, batch: list[tuple[Owed, bytes]]) -> None:
+        """Hands replies out in their order, behind what the follower wants done before."""
+        self._freed.set()
+        before = self._follower.follow(batch)
+        if before is None and not self._held:
+            hand_out(batch)
+            return
+        self._held.append((batch, before))
+        if self._handing_out is None:
+            self._handing_out = asyncio.get_running_loop().create_task(self._hand_out())
+
+    async def _hand_out(self) -> None:
+        try:
+            while self._held:
+                batch, before = self._held[0]
+                if before is not None:
+                    await before
+                hand_out(batch)
+                self._held.popleft()
+        finally:
+            self._handing_out = None
+
+    def _end(self, status: int) -> None:
+        """Fails what is owed, and starts another engine, unless this is the end that was asked for."""
+        assert self._pipe is not None
+        self.is_ready = False
+        for owed in self._pipe.owed:
+            owed.sink.fail(Ended(f"the engine ended with status {status}"))
+        self._pipe.owed.clear()
+        self._pipe.bytes_owed = 0
+        self._freed.set()
+        self._over.set()
+        if not self._is_stopping:
+            self._over.clear()
+            self._follower.ended(status)
+            self._restarting = asyncio.get_running_loop().create_task(self._restart())
+
+    async def _restart(self) -> None:
+        """Starts another engine, after a pause that grows while they end."""
+        pause, self._pause = self._pause, min(2 * self._pause, MOST_PAUSE_SECONDS)
+        await asyncio.sleep(pause)
+        try:
+            await self._begin()
+            await self._prove()
+        except Ended:
+            return
+
+
+def hand_out(batch: Batch) -> None:
+    """Gives each reply to whoever awaits it."""
+    for owed, reply in batch:
+        owed.sink.take(reply)
+
+
+Told = Callable[[str], None]

@@ -1,0 +1,98 @@
+"""`/queries`: registering, showing, listing and deleting."""
+
+from __future__ import annotations
+
+import asyncio
+from itertools import islice
+from typing import Any
+
+from aiohttp import web
+
+from .asking import ask
+from .bodies import object_of, with_members
+from .door import Door
+from .problems import Problem
+
+Json = dict[str, Any]
+MOST_LISTED = 1_000
+USUAL_LISTED = 100
+_SEARCHED_AT_ONCE = 5_000
+
+
+class Queries:
+    """The handlers."""
+
+    def __init__(self, door: Door) -> None:
+        self._door = door
+
+    async def put(self, request: web.Request) -> web.Response:
+        """Registers a query under an id, or replaces it."""
+        name = request.match_info["id"]
+        body = with_members(await object_of(self._door, request), {"query": str}, {"listener": str})
+        is_new = self._door.catalog.get(name) is None
+        await ask(self._door, {"op": "register", "queries": [{"id": name, **body}]})
+        return web.json_response({"id": name, **body}, status=201 if is_new else 200)
+
+    async def get(self, request: web.Request) -> web.Response:
+        """Shows the query under an id."""
+        name = request.match_info["id"]
+        shown = await ask(self._door, {"op": "show", "id": name})
+        if shown["query"] is None:
+            raise Problem("missing", "no query is under this id")
+        listing = self._door.catalog.get(name)
+        more = {} if listing is None or listing.listener is None else {"listener": listing.listener}
+        return web.json_response({"id": name, "query": shown["query"], **more})
+
+    async def delete(self, request: web.Request) -> web.Response:
+        """Deletes the query under an id."""
+        done = await ask(self._door, {"op": "delete", "ids": [request.match_info["id"]]})
+        if not done["deleted"]:
+            raise Problem("missing", "no query is under this id")
+        return web.json_response(done)
+
+    async def post(self, request: web.Request) -> web.Response:
+        """Registers many, all or none."""
+        body = with_members(await object_of(self._door, request), {"queries": list})
+        return web.json_response(await ask(self._door, {"op": "register", "queries": body["queries"]}))
+
+    async def clear(self, request: web.Request) -> web.Response:
+        """Deletes all."""
+        return web.json_response(await ask(self._door, {"op": "clear"}))
+
+    async def list(self, request: web.Request) -> web.Response:
+        """A page of the ids with their queries, in byte order: those behind `after`, that begin with `prefix`, and
+        whose id or text has `search` in any case."""
+        limit = limit_of(request, USUAL_LISTED, MOST_LISTED)
+        prefix, search = request.query.get("prefix", ""), request.query.get("search", "").casefold()
+        found: list[Json] = []
+        after = max(request.query.get("after", ""), prefix[:-1] if prefix else "")
+        for count, listing in enumerate(self._door.catalog.after(after), 1):
+            if count % _SEARCHED_AT_ONCE == 0:
+                await asyncio.sleep(0)
+            if prefix and not listing.id.startswith(prefix):
+                if listing.id > prefix:
+                    break
+                continue
+            if search in listing.id.casefold() or search in listing.query.casefold():
+                found.append(listing.document())
+                if len(found) > limit:
+                    break
+        more = {"next": found[limit - 1]["id"]} if len(found) > limit else {}
+        page = list(islice(found, limit))
+        return web.json_response({"count": len(self._door.catalog), "queries": page, **more})
+
+
+def limit_of(request: web.Request, usual: int, most: int) -> int:
+    """How many are asked for by `limit`."""
+    text = request.query.get("limit", str(usual))
+    if not text.isascii() or not text.isdigit() or not 1 <= int(text[:9]) <= most:
+        raise Problem("shape", f"limit is a number from 1 to {most}", member="limit")
+    return int(text)
+
+
+def routes(door: Door) -> list[web.RouteDef]:
+    """The routes of queries."""
+    queries = Queries(door)
+    return [web.put("/queries/{id}", queries.put), web.get("/queries/{id}", queries.get),
+            web.delete("/queries/{id}", queries.delete), web.get("/queries", queries.list),
+            web.post("/queries", queries.post), web.delete("/queries", queries.clear)]
