@@ -5,60 +5,100 @@ from __future__ import annotations
 import asyncio
 import json
 import secrets
-import subprocess
-from typing import Sequence
+import time
+from typing import Any, AsyncIterator, Coroutine, Sequence
 
 from aiohttp import web
 
 from pressclip_service.engine import command_of
+from pressclip_service.errors import EngineFailed
+from pressclip_service.journal import FILE
+from pressclip_service.lines import MOST_LINE_BYTES
 
-from . import alerts, articles, explain, health, lines, page, percolator, queries
+from . import alerts, articles, deliveries, explain, health, lines, openapi, page, percolator, queries
+from .broadcasting import Broadcaster
 from .catalog import Catalog
 from .door import Door
 from .engine import Engine, Room
 from .explaining import Explainer, explainer_command
 from .following import Following
-from .guard import middlewares
+from .guard import guarding, sign
 from .log import Log
 from .metrics import Metrics
 from .ring import Ring
 from .settings import Settings
+from .tokens import Token
 from .trial import Trial
 
-MODULES = (queries, articles, alerts, lines, explain, health, percolator, page)
+MODULES = (queries, articles, alerts, lines, explain, deliveries, health, openapi, percolator, page)
 _EMPTY_ARTICLE = b'{"op":"match","articles":[{"id":"empty","fields":{}}]}'
 
 
-def door_of(settings: Settings, command: Sequence[str]) -> Door:
-    """A door that is not started, over an engine's command."""
-    log, metrics, catalog = Log(), Metrics(), Catalog()
-    ring = Ring(secrets.token_hex(4), settings.limits.alerts_kept)
-    engine = Engine(command, Room(settings.limits.lines_in_flight), Following(catalog, ring, metrics, log))
-    trial = Trial([*command_of([], workers=0), "hits"])
-    return Door(settings, engine, Explainer(explainer_command()), trial, ring, catalog, metrics, log)
+async def dumped(command: Sequence[str]) -> AsyncIterator[bytes]:
+    """The lines that a command prints; `EngineFailed` where it ends with another status than 0."""
+    process = await asyncio.create_subprocess_exec(*command, stdin=asyncio.subprocess.DEVNULL,
+                                                   stdout=asyncio.subprocess.PIPE, limit=2 * MOST_LINE_BYTES)
+    assert process.stdout is not None
+    async for line in process.stdout:
+        yield line
+    status = await process.wait()
+    if status:
+        raise EngineFailed(f"{command[0]} could not dump the queries: status {status}")
 
 
-async def start(door: Door, dump: Sequence[str] | None) -> None:
-    """Starts what the door works with; the queries that are there already are those that a command dumps."""
-    if dump:
-        loaded = await asyncio.to_thread(subprocess.check_output, dump)
-        door.catalog.load(loaded.splitlines())
+def door_of(settings: Settings, command: Sequence[str], dump: Sequence[str] | None) -> Door:
+    """A door that is not started, over an engine's command; the queries that are there already are those that a
+    command dumps."""
+    log, metrics, catalog, limits = Log(), Metrics(), Catalog(), settings.limits
+    ring = Ring(secrets.token_hex(4), limits.alerts_kept, limits.alert_bytes_kept)
+    explainer = Explainer(explainer_command())
+    following = Following(catalog, ring, metrics, log, limits.articles_kept)
+
+    def load() -> Coroutine[Any, Any, None] | None:
+        is_there = dump and (settings.journal is None or (settings.journal / FILE).exists())
+        return catalog.load(dumped(dump)) if dump and is_there else None
+
+    engine = Engine(command, Room(limits.lines_in_flight), following, load)
+    plain, excerpted = (Broadcaster(ring, one, metrics, log, limits.unread_bytes, limits.unread_seconds)
+                        for one in (None, explainer))
+    courier = deliveries.courier_of(settings, explainer, metrics, log)
+    following.courier = courier
+    return Door(settings, engine, explainer, Trial([*command_of([], workers=0), "hits"]), ring, plain, excerpted,
+                catalog, following, metrics, log, courier)
+
+
+async def start(door: Door) -> None:
+    """Starts what the door works with. `EngineFailed` and `Ended` as of an engine."""
+    if door.courier:
+        await door.courier.start()
     await door.engine.start()
     await door.trial.start()
     reply = json.loads(await door.engine.ask(_EMPTY_ARTICLE))
     door.shows_hits = "hits" in reply["alerts"][0]
+    door.following.last_matches.clear()
 
 
 async def stop(door: Door) -> None:
-    """Ends what the door works with."""
+    """Ends what the door works with: the engine first, which still answers what it owes."""
     await door.engine.stop()
     await door.trial.stop()
+    if door.courier:
+        await door.courier.stop()
     await door.explainer.stop()
 
 
-def app_of(door: Door) -> web.Application:
+def app_of(door: Door, tokens: Sequence[Token]) -> web.Application:
     """The application."""
-    app = web.Application(middlewares=middlewares(door), client_max_size=door.settings.limits.body_bytes)
+    app = web.Application(middlewares=[guarding(door, tokens)], client_max_size=door.settings.limits.body_bytes)
     for module in MODULES:
         app.add_routes(module.routes(door))
+    app.on_response_prepare.append(sign)
+
+    async def drain(_: web.Application) -> None:
+        """Waits until what was accepted is answered, for some seconds."""
+        end = time.monotonic() + door.settings.limits.drain_seconds
+        while door.handled and time.monotonic() < end:
+            await asyncio.sleep(0.01)
+
+    app.on_shutdown.append(drain)
     return app

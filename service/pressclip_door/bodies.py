@@ -57,3 +57,19 @@ def with_members(value: Json, needed: dict[str, type], allowed: dict[str, type] 
         if not isinstance(member, kinds[name]):
             raise Problem("shape", f"the member {name} is of another type", member=name)
     return value
+
+
+def limit_of(request: web.Request, usual: int, most: int) -> int:
+    """How many are asked for by `limit`."""
+    text = request.query.get("limit", str(usual))
+    if not text.isascii() or not text.isdigit() or not 1 <= int(text[:9]) <= most:
+        raise Problem("shape", f"limit is a number from 1 to {most}", member="limit")
+    return int(text)
+
+
+def is_asked(request: web.Request, name: str) -> bool:
+    """Whether a member of the address is `true`; `Problem` where it is anything but `true` or `false`."""
+    text = request.query.get(name, "false")
+    if text not in ("true", "false"):
+        raise Problem("shape", f"{name} is true or false", member=name)
+    return text == "true"

@@ -4,7 +4,7 @@ from __future__ import annotations
 
 from bisect import bisect_left
 from dataclasses import dataclass
-from typing import Iterable, Iterator
+from typing import AsyncIterator, Iterator
 
 from pressclip_service.live import value_of
 
@@ -58,11 +58,11 @@ class Catalog:
             self._new.append(listing.id)
         self._by_id[listing.id] = listing
 
-    def load(self, lines: Iterable[bytes]) -> None:
+    async def load(self, lines: AsyncIterator[bytes]) -> None:
         """Takes register lines in place of all."""
         self._by_id.clear()
         self._ordered, self._new = [], []
-        for line in lines:
+        async for line in lines:
             self.take(line)
 
     def after(self, name: str) -> Iterator[Listing]:

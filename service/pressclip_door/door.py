@@ -2,33 +2,48 @@
 
 from __future__ import annotations
 
+import asyncio
 from dataclasses import dataclass, field
-from typing import Any
 
+from .broadcasting import Broadcaster
 from .catalog import Catalog
+from .courier import Courier
 from .engine import Engine
 from .explaining import Explainer
+from .following import Following
 from .log import Log
 from .metrics import Metrics
 from .ring import Ring
 from .settings import Settings
 from .trial import Trial
 
-Json = dict[str, Any]
-
 
 @dataclass
 class Door:
-    """One door. `shows_hits` says whether the engine's replies have hits; `is_draining` that the end has begun."""
+    """One door. `shows_hits` says whether the engine's replies have hits; `handled` counts the
+    requests that are worked on; `draining` is set once the end has begun."""
 
     settings: Settings
     engine: Engine
     explainer: Explainer
     trial: Trial
     ring: Ring
+    plain: Broadcaster
+    excerpted: Broadcaster
     catalog: Catalog
+    following: Following
     metrics: Metrics
     log: Log
+    courier: Courier | None = None
     shows_hits: bool = False
-    is_draining: bool = False
-    last_articles: list[bytes] = field(default_factory=list)
+    handled: int = 0
+    draining: asyncio.Event = field(default_factory=asyncio.Event)
+
+    @property
+    def is_draining(self) -> bool:
+        """Whether the end has begun."""
+        return self.draining.is_set()
+
+    def spool_has_room(self) -> bool:
+        """Whether alerts may come that have to be delivered."""
+        return self.courier is None or self.courier.has_room()

@@ -6,13 +6,17 @@ import asyncio
 import time
 from collections import deque
 from dataclasses import dataclass
-from typing import Awaitable, Callable, Protocol, Sequence
+from typing import Any, Awaitable, Callable, Coroutine, Protocol, Sequence
+
+from pressclip_service.errors import ServiceError
 
 from .pipe import Awaited, Ended, Owed, Pipe, Sink
 
 FIRST_PAUSE_SECONDS = 0.1
 MOST_PAUSE_SECONDS = 10.0
 SECONDS_TO_END = 60.0
+STUCK_SECONDS = 60.0
+_COUNT = b'{"op":"count"}'
 
 Batch = Sequence[tuple[Owed, bytes]]
 
@@ -43,15 +47,19 @@ class Room:
 
 
 class Engine:
-    """Lines in, reply lines out, in order. `start` it and `stop` it; between them it is started anew where it ends."""
+    """Lines in, reply lines out, in order. `start` it and `stop` it; between them it is started anew where it ends.
+    What `beside` gives is done at each start, beside the replay."""
 
-    def __init__(self, command: Sequence[str], room: Room, follower: Follower) -> None:
-        self.command = list(command)
+    def __init__(self, command: Sequence[str], room: Room, follower: Follower,
+                 beside: Callable[[], Coroutine[Any, Any, None] | None] = lambda: None) -> None:
         self.is_ready = False
+        self._command = list(command)
+        self._beside = beside
         self._room = room
         self._follower = follower
         self._pipe: Pipe | None = None
         self._is_stopping = False
+        self._was_ready = False
         self._over = asyncio.Event()
         self._pause = FIRST_PAUSE_SECONDS
         self._held: deque[tuple[Batch, Awaitable[None] | None]] = deque()
@@ -69,16 +77,26 @@ class Engine:
         """The number of the process, where there is one."""
         return None if self._pipe is None or self._pipe.is_over else self._pipe.pid
 
+    def is_well(self) -> bool:
+        """Whether no reply is owed for a minute, except while all is replayed."""
+        pipe = self._pipe
+        is_owing = pipe is not None and self.is_ready and len(pipe.owed) > 0
+        return not is_owing or pipe is None or time.perf_counter() - pipe.owed[0].since < STUCK_SECONDS
+
     def has_room(self) -> bool:
         """Whether a line more may be on its way."""
         pipe = self._pipe
         return pipe is None or (len(pipe.owed) < self._room.lines and pipe.bytes_owed < self._room.bytes)
 
     async def room(self) -> None:
-        """Waits until a line more may be on its way."""
-        while not self.has_room():
+        """Waits until half of what may be on its way is free, so that streams leave the other half to others."""
+        while self._pipe is not None and not self._pipe.is_over and not self._is_half_free():
             self._freed.clear()
             await self._freed.wait()
+
+    def _is_half_free(self) -> bool:
+        pipe = self._pipe
+        return pipe is None or (2 * len(pipe.owed) < self._room.lines and 2 * pipe.bytes_owed < self._room.bytes)
 
     async def ask(self, line: bytes) -> bytes:
         """The reply to a line that is not blank, both without line feeds. `Behind` where too much waits, `Ended` where
@@ -90,27 +108,26 @@ class Engine:
         return await awaited.reply()
 
     def send(self, line: bytes, sink: Sink) -> None:
-        """Takes a line on its way, whose reply goes to the sink; `Ended` where the engine is gone."""
-        if self._pipe is None or self._pipe.is_over:
-            raise Ended("the engine is not there now, and is started again")
+        """Takes a line on its way, whose reply goes to the sink; `Ended` where the engine is gone, or not ready yet."""
+        if not self.is_ready or self._pipe is None:
+            raise Ended("the engine is not ready: it is started, and replays its journal")
         self._pipe.send(Owed(line, sink, time.perf_counter()))
 
     async def start(self) -> None:
-        """Starts the engine, and waits until it answers; `Ended` where its first life ends before that."""
+        """Starts the engine, and waits until it answers; `Ended` where its first life ends before that, `EngineFailed`
+        where it can't be started."""
         await self._begin()
-        await self._prove()
 
     async def _begin(self) -> None:
-        """Begins a life."""
+        """Begins a life, and waits for a first reply, which comes once all is replayed."""
+        beside = self._beside()
+        besides = [] if beside is None else [asyncio.create_task(beside)]
         pipe = Pipe(self._hear, self._follower.told, self._end)
-        await pipe.start(self.command)
+        await pipe.start(self._command)
         self._pipe = pipe
-
-    async def _prove(self) -> None:
-        """Waits for a first reply, which comes once all is replayed."""
         awaited = Awaited()
-        self.send(b'{"op":"count"}', awaited)
-        await awaited.reply()
+        pipe.send(Owed(_COUNT, awaited, time.perf_counter()))
+        await asyncio.gather(awaited.reply(), *besides)
         self.is_ready = True
         self._pause = FIRST_PAUSE_SECONDS
 
@@ -143,9 +160,13 @@ class Engine:
         try:
             while self._held:
                 batch, before = self._held[0]
-                if before is not None:
-                    await before
-                hand_out(batch)
+                try:
+                    if before is not None:
+                        await before
+                    hand_out(batch)
+                except Exception as error:
+                    for owed, _ in batch:
+                        owed.sink.fail(error)
                 self._held.popleft()
         finally:
             self._handing_out = None
@@ -153,33 +174,31 @@ class Engine:
     def _end(self, status: int) -> None:
         """Fails what is owed, and starts another engine, unless this is the end that was asked for."""
         assert self._pipe is not None
-        self.is_ready = False
+        self._was_ready, self.is_ready = self.is_ready, False
         for owed in self._pipe.owed:
             owed.sink.fail(Ended(f"the engine ended with status {status}"))
         self._pipe.owed.clear()
         self._pipe.bytes_owed = 0
         self._freed.set()
-        self._over.set()
-        if not self._is_stopping:
-            self._over.clear()
+        if self._is_stopping:
+            self._over.set()
+        elif self._was_ready:
             self._follower.ended(status)
             self._restarting = asyncio.get_running_loop().create_task(self._restart())
 
     async def _restart(self) -> None:
-        """Starts another engine, after a pause that grows while they end."""
-        pause, self._pause = self._pause, min(2 * self._pause, MOST_PAUSE_SECONDS)
-        await asyncio.sleep(pause)
-        try:
-            await self._begin()
-            await self._prove()
-        except Ended:
-            return
+        """Starts another engine, after pauses that grow while that is in vain."""
+        while True:
+            pause, self._pause = self._pause, min(2 * self._pause, MOST_PAUSE_SECONDS)
+            await asyncio.sleep(pause)
+            try:
+                await self._begin()
+                return
+            except (Ended, ServiceError, OSError) as error:
+                self._follower.told(str(error))
 
 
 def hand_out(batch: Batch) -> None:
     """Gives each reply to whoever awaits it."""
     for owed, reply in batch:
         owed.sink.take(reply)
-
-
-Told = Callable[[str], None]

@@ -2,10 +2,18 @@
 
 from __future__ import annotations
 
+from typing import Any
+
 from aiohttp import web
 
 from .bodies import object_of, with_members
 from .door import Door
+from .guard import needs
+from .marking import Marker, by_query
+from .problems import Problem
+from .tokens import Role
+
+Json = dict[str, Any]
 
 
 class Explaining:
@@ -14,18 +22,40 @@ class Explaining:
     def __init__(self, door: Door) -> None:
         self._door = door
 
+    @needs(Role.READ)
     async def explain(self, request: web.Request) -> web.Response:
         """How a query's text is read, or its fault."""
         body = with_members(await object_of(self._door, request), {"query": str})
         return web.json_response(await self._door.explainer.explain(body["query"]))
 
+    @needs(Role.READ)
     async def words(self, request: web.Request) -> web.Response:
         """The words of a text."""
         body = with_members(await object_of(self._door, request), {"text": str})
         return web.json_response(await self._door.explainer.words(body["text"]))
 
+    @needs(Role.READ)
+    async def attempt(self, request: web.Request) -> web.Response:
+        """Whether a query that is not registered holds of an article, and where."""
+        body = with_members(await object_of(self._door, request), {"query": str, "article": dict})
+        reply = await self._door.trial.hits(body["query"], [body["article"]])
+        if "refused" in reply:
+            raise await self._refusal(body["query"], reply)
+        alert = reply["alerts"][0]
+        marker = Marker(self._door.explainer, body["article"]["fields"])
+        marked = [one for query, hits in by_query(alert) for one in await marker.marked(query, hits)]
+        return web.json_response({"holds": bool(alert["queries"]), "marked": marked})
+
+    async def _refusal(self, query: str, reply: Json) -> Problem:
+        """The problem that a refusal of the query or of the article is."""
+        if reply["refused"] != "query":
+            return Problem(reply["refused"], member="article")
+        read = await self._door.explainer.explain(query)
+        return Problem("query", read.get("says", ""), fault=read.get("fault"), at=read.get("at"), member="query")
+
 
 def routes(door: Door) -> list[web.RouteDef]:
     """The routes of explaining."""
     explaining = Explaining(door)
-    return [web.post("/explain", explaining.explain), web.post("/words", explaining.words)]
+    return [web.post("/explain", explaining.explain), web.post("/words", explaining.words),
+            web.post("/try", explaining.attempt)]

@@ -5,73 +5,102 @@ from __future__ import annotations
 import json
 import re
 import time
+from collections import deque
 from typing import Any, Awaitable
 
 from pressclip_service.replies import CHANGES, Kind, kind_of
 
 from .catalog import Catalog
+from .courier import Courier, Raised
 from .engine import Batch
 from .log import Log
 from .metrics import Metrics
-from .ring import Alert, Ring
+from .ring import Ring
 
 Json = dict[str, Any]
+MOST_BYTES_OF_MATCHES = 8 << 20
 _MATCH = b'{"alerts":'
 # A quotation mark inside a text is written with a backslash, so this stands where an alert does and nowhere else.
 _ALERTED = b'"queries":["'
 _OPERATIONS = {Kind.REGISTERED: "register", Kind.DELETED: "delete", Kind.CLEARED: "clear", Kind.COUNTED: "count",
                Kind.REFUSED: "refused"}
 _REFUSED = re.compile(rb'"refused":"([a-z]+)"')
+_KEPT = re.compile(r"service/keep: (\d+) changes are kept")
 _REPLAYED = re.compile(r"replayed \d+ lines of the journal in (\d+\.\d+) s")
 _RESTARTED = "; it is started again"
 
 
 class Following:
-    """Hears each reply before whoever awaits it."""
+    """Hears each reply before whoever awaits it. `changes` counts those that are kept; None where nobody says how many
+    there were. `last_matches` are the last lines with articles."""
 
-    def __init__(self, catalog: Catalog, ring: Ring, metrics: Metrics, log: Log) -> None:
+    def __init__(self, catalog: Catalog, ring: Ring, metrics: Metrics, log: Log, articles_kept: int) -> None:
+        self.changes: int | None = None
+        self.last_matches: deque[bytes] = deque()
+        self.courier: Courier | None = None
         self._catalog = catalog
         self._ring = ring
         self._metrics = metrics
         self._log = log
+        self._articles_kept = articles_kept
+        self._bytes_of_matches = 0
         self._lines = {name: metrics.lines.labels(name)
                        for name in (*_OPERATIONS.values(), "match", "show", "purge")}
 
     def follow(self, batch: Batch) -> Awaitable[None] | None:
-        """Takes lines with their replies."""
+        """Takes lines with their replies. Alerts that are to be delivered are kept first."""
         now = time.perf_counter()
+        raised: list[Raised] = []
         for owed, reply in batch:
             self._metrics.seconds.observe(now - owed.since)
             if reply.startswith(_MATCH):
                 self._lines["match"].inc()
+                self._take_match(owed.line)
                 if _ALERTED in reply:
-                    self._take_alerts(owed.line, json.loads(reply)["alerts"])
-                continue
-            kind = kind_of(reply)
-            if kind in CHANGES:
-                self._catalog.take(owed.line)
-            if kind is Kind.REFUSED:
-                found = _REFUSED.search(reply)
-                self._metrics.refused.labels(found[1].decode() if found else "unknown").inc()
-            other = "purge" if reply.endswith(b',"purged":true}') else "show"
-            self._lines[_OPERATIONS.get(kind, other)].inc()
-        return None
+                    raised += self._alerts(owed.line, json.loads(reply)["alerts"])
+            else:
+                self._take_other(owed.line, reply)
+        for one in raised:
+            self._metrics.alerts.inc(len(one.queries))
+            self._ring.add(one.article, one.queries, one.fields, one.hits, one.at)
+        courier = self.courier
+        if courier is None:
+            return None
+        wanted = [one for one in raised if courier.is_wanted(one.queries)]
+        return courier.keep(wanted) if wanted else None
 
-    def _take_alerts(self, line: bytes, alerts: list[Json]) -> None:
-        """Takes the alerts of a match."""
-        articles = json.loads(line)["articles"]
+    def _take_other(self, line: bytes, reply: bytes) -> None:
+        """Takes what is no match."""
+        kind = kind_of(reply)
+        if kind in CHANGES:
+            self._catalog.take(line)
+            if self.changes is not None:
+                self.changes += 1
+        elif kind is Kind.REFUSED:
+            found = _REFUSED.search(reply)
+            self._metrics.refused.labels(found[1].decode() if found else "unknown").inc()
+        other = "purge" if reply.endswith(b',"purged":true}') else "show"
+        self._lines[_OPERATIONS.get(kind, other)].inc()
+
+    def _take_match(self, line: bytes) -> None:
+        """Keeps a line with articles, and lets the oldest go."""
+        kept = self.last_matches
+        kept.append(line)
+        self._bytes_of_matches += len(line)
+        while len(kept) > self._articles_kept or self._bytes_of_matches > MOST_BYTES_OF_MATCHES:
+            self._bytes_of_matches -= len(kept.popleft())
+
+    def _alerts(self, line: bytes, alerts: list[Json]) -> list[Raised]:
+        """The articles of a match of which queries hold."""
         now = time.time()
-        for article, alert in zip(articles, alerts):
-            queries = alert["queries"]
-            if queries:
-                self._metrics.alerts.inc(len(queries))
-                hits = tuple(alert["hits"]) if "hits" in alert else None
-                self._ring.add(Alert(self._ring.next_number, alert["article"], tuple(queries), article["fields"], hits,
-                                     now))
+        return [Raised(alert["article"], alert["queries"], article["fields"], alert.get("hits"), now)
+                for article, alert in zip(json.loads(line)["articles"], alerts) if alert["queries"]]
 
     def told(self, text: str) -> None:
         """Takes what the engine told on standard error into the log and the figures."""
         self._log.event("engine told", says=text)
+        if found := _KEPT.fullmatch(text):
+            self.changes = int(found[1])
         if found := _REPLAYED.search(text):
             self._metrics.replay_seconds.set(float(found[1]))
         if text.endswith(_RESTARTED):

@@ -19,6 +19,8 @@ class Metrics:
         self.problems = self._counter("pressclip_problems", "Requests that were refused", "word")
         self.restarts = self._counter("pressclip_engine_restarts", "Starts of the engine after the first")
         self.dropped = self._counter("pressclip_listeners_dropped", "Listeners that read too slowly")
+        self.deliveries = self._counter("pressclip_deliveries", "Parcels that were taken, and carriages that failed",
+                                        "route", "outcome")
         self.seconds = Histogram("pressclip_reply_seconds", "Seconds from a line to its reply", buckets=SECONDS,
                                  registry=self.registry)
         self.in_flight = Gauge("pressclip_lines_in_flight", "Lines that a reply is owed to", registry=self.registry)
@@ -27,6 +29,10 @@ class Metrics:
         self.replay_seconds = Gauge("pressclip_replay_seconds", "Seconds of the last replay of the journal",
                                     registry=self.registry)
         self.listeners = Gauge("pressclip_listeners", "Open streams of alerts", registry=self.registry)
+
+        self.waiting = Gauge("pressclip_deliveries_waiting", "Parcels that wait", ["route"], registry=self.registry)
+        self.waiting_seconds = Gauge("pressclip_deliveries_oldest_seconds", "For how long the oldest parcel waits",
+                                     ["route"], registry=self.registry)
 
     def _counter(self, name: str, says: str, *labels: str) -> Counter:
         return Counter(name, says, labels, registry=self.registry)

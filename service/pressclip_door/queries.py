@@ -9,9 +9,11 @@ from typing import Any
 from aiohttp import web
 
 from .asking import ask
-from .bodies import object_of, with_members
+from .bodies import limit_of, object_of, with_members
 from .door import Door
+from .guard import needs
 from .problems import Problem
+from .tokens import Role
 
 Json = dict[str, Any]
 MOST_LISTED = 1_000
@@ -55,6 +57,7 @@ class Queries:
         body = with_members(await object_of(self._door, request), {"queries": list})
         return web.json_response(await ask(self._door, {"op": "register", "queries": body["queries"]}))
 
+    @needs(Role.ADMIN)
     async def clear(self, request: web.Request) -> web.Response:
         """Deletes all."""
         return web.json_response(await ask(self._door, {"op": "clear"}))
@@ -80,14 +83,6 @@ class Queries:
         more = {"next": found[limit - 1]["id"]} if len(found) > limit else {}
         page = list(islice(found, limit))
         return web.json_response({"count": len(self._door.catalog), "queries": page, **more})
-
-
-def limit_of(request: web.Request, usual: int, most: int) -> int:
-    """How many are asked for by `limit`."""
-    text = request.query.get("limit", str(usual))
-    if not text.isascii() or not text.isdigit() or not 1 <= int(text[:9]) <= most:
-        raise Problem("shape", f"limit is a number from 1 to {most}", member="limit")
-    return int(text)
 
 
 def routes(door: Door) -> list[web.RouteDef]:

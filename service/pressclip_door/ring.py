@@ -1,58 +1,99 @@
-"""The last alerts, each with a number, and who listens to them as they come."""
+"""The last alerts, each with a number, so that who listens may go on where it was."""
 
 from __future__ import annotations
 
 import json
 from collections import deque
-from dataclasses import dataclass
-from typing import Any, Callable, Sequence
+from dataclasses import dataclass, field
+from typing import Any, Callable, Mapping, Sequence
 
 Json = dict[str, Any]
+# An article with more queries has several alerts.
+MOST_QUERIES = 1_000
+_BYTES_BESIDE = 500
 
 
-@dataclass(frozen=True)
+@dataclass
 class Alert:
-    """The queries that hold of an article, and the article's fields; hits where the engine shows them."""
+    """Queries that hold of an article, and the article's fields; their hits where the engine shows them. `excerpts` are
+    made where somebody asks for them."""
 
     number: int
     article: str
-    queries: tuple[str, ...]
-    fields: dict[str, str]
-    hits: tuple[Sequence[Json], ...] | None
+    queries: Sequence[str]
+    fields: Mapping[str, str]
+    hits: Sequence[Sequence[Json]] | None
     at: float
+    excerpts: list[Json] | None = field(default=None)
 
-    def document(self) -> Json:
-        """It as JSON, without the fields."""
-        return {"article": self.article, "queries": list(self.queries)}
+    def size(self) -> int:
+        """About how many bytes it takes."""
+        hits = 100 * sum(map(len, self.hits)) if self.hits else 0
+        return _BYTES_BESIDE + hits + sum(map(len, self.queries)) + sum(map(len, self.fields.values()))
 
-    def text(self) -> str:
-        """It as a line of JSON."""
-        return json.dumps(self.document(), ensure_ascii=False, separators=(",", ":"))
+    def document(self, prefix: str, with_excerpts: bool) -> Json | None:
+        """It as JSON, with the queries whose ids begin so alone; None where none does."""
+        queries = [query for query in self.queries if query.startswith(prefix)] if prefix else list(self.queries)
+        if not queries:
+            return None
+        said: Json = {"article": self.article, "queries": queries}
+        if with_excerpts:
+            named = set(queries)
+            said["excerpts"] = [one for one in self.excerpts or () if one["query"] in named]
+        return said
+
+
+def compact(value: Json) -> str:
+    """A value as a line of JSON."""
+    return json.dumps(value, ensure_ascii=False, separators=(",", ":"))
 
 
 class Ring:
-    """The last so many alerts. `epoch` names this life of the door, since numbers begin anew with each."""
+    """The last so many alerts, and so many bytes. `epoch` names this life of the door, as numbers begin anew in each."""
 
-    def __init__(self, epoch: str, most: int) -> None:
+    def __init__(self, epoch: str, most: int, most_bytes: int) -> None:
         self.epoch = epoch
         self.next_number = 1
-        self._alerts: deque[Alert] = deque(maxlen=most)
-        self.woken: list[Callable[[], None]] = []
+        self.wakes: list[Callable[[], None]] = []
+        self._alerts: deque[Alert] = deque()
+        self._sizes: deque[int] = deque()
+        self._bytes = 0
+        self._most = most
+        self._most_bytes = most_bytes
 
-    def add(self, alert: Alert) -> None:
-        """Takes the next alert, whose number is `next_number`, and wakes whoever listens."""
-        self._alerts.append(alert)
-        self.next_number += 1
-        for wake in self.woken:
+    def add(self, article: str, queries: Sequence[str], fields: Mapping[str, str],
+            hits: Sequence[Sequence[Json]] | None, at: float) -> None:
+        """Takes the next alert, and wakes whoever listens. The oldest go where there are too many."""
+        for start in range(0, len(queries), MOST_QUERIES):
+            part = slice(start, start + MOST_QUERIES)
+            alert = Alert(self.next_number, article, queries[part], fields, hits[part] if hits else None, at)
+            self.next_number += 1
+            self._alerts.append(alert)
+            self._sizes.append(alert.size())
+            self._bytes += self._sizes[-1]
+        while len(self._alerts) > self._most or (self._bytes > self._most_bytes and len(self._alerts) > 1):
+            self._alerts.popleft()
+            self._bytes -= self._sizes.popleft()
+        for wake in self.wakes:
             wake()
-
-    def after(self, number: int) -> list[Alert]:
-        """Those behind a number that are still there, in order."""
-        alerts = self._alerts
-        first = self.next_number - len(alerts)
-        return [alerts[place] for place in range(max(0, number + 1 - first), len(alerts))]
 
     @property
     def first_number(self) -> int:
         """The number of the oldest that is there, or the next where none is."""
         return self.next_number - len(self._alerts)
+
+    def after(self, number: int, most: int) -> list[Alert]:
+        """Those behind a number that are still there, in order, up to so many."""
+        start = max(0, number + 1 - self.first_number)
+        return [self._alerts[place] for place in range(start, min(start + most, len(self._alerts)))]
+
+    def name_of(self, number: int) -> str:
+        """How an alert is named to those who listen."""
+        return f"{self.epoch}-{number}"
+
+    def number_of(self, name: str) -> int | None:
+        """The number of an alert by its name; None where it was of another life, or is no name."""
+        epoch, _, number = name.partition("-")
+        if epoch != self.epoch or not number.isascii() or not number.isdigit():
+            return None
+        return int(number[:18])

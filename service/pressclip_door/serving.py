@@ -1,0 +1,128 @@
+"""The server below the application: what is no request is refused by name, and so is one that comes too slowly."""
+
+from __future__ import annotations
+
+import asyncio
+import json
+from http import HTTPStatus
+from typing import Any
+
+from aiohttp import web
+from aiohttp.web_protocol import RequestHandler
+
+from .log import Log
+from .metrics import Metrics
+from .problems import TYPE, Problem
+from .settings import Limits
+
+MOST_HEADER_BYTES = 64 << 10
+MOST_PIPELINED = 64
+
+
+class Connection(RequestHandler):
+    """One connection."""
+
+    __slots__ = ("_limits", "_log", "_metrics", "_slow", "_header_bytes")
+
+    def __init__(self, server: Server, **options: Any) -> None:
+        super().__init__(server, **options)
+        self._limits = server.limits
+        self._log = server.log
+        self._metrics = server.metrics
+        self._slow: asyncio.TimerHandle | None = None
+        self._header_bytes = 0
+
+    def connection_made(self, transport: asyncio.BaseTransport) -> None:
+        """Takes a connection, unless there are too many."""
+        super().connection_made(transport)
+        assert self._manager is not None
+        if len(self._manager.connections) > self._limits.connections:
+            self._refuse(Problem("connections"))
+        else:
+            self._wait_for_header()
+
+    def connection_lost(self, exc: BaseException | None) -> None:
+        """Lets it go."""
+        self._stop_waiting()
+        super().connection_lost(exc)
+
+    def data_received(self, data: bytes) -> None:
+        """Takes what came: a header in time and of some size, and no more requests than are soon answered."""
+        count = self._request_count
+        is_idle = self._current_request is None and not self._messages
+        super().data_received(data)
+        if self._request_count != count:
+            self._stop_waiting()
+            self._header_bytes = 0
+            if len(self._messages) > MOST_PIPELINED:
+                self._refuse(Problem("rate", "too many requests in a row on one connection"))
+        elif is_idle:
+            self._header_bytes += len(data)
+            if self._header_bytes > MOST_HEADER_BYTES:
+                self._refuse(Problem("headers", f"at most {MOST_HEADER_BYTES:,} bytes are taken"))
+            elif self._slow is None:
+                self._wait_for_header()
+
+    def _wait_for_header(self) -> None:
+        seconds = self._limits.header_seconds
+        problem = Problem("slow", f"the header did not come within {seconds:.0f} s")
+        self._slow = self._loop.call_later(seconds, self._refuse, problem)
+
+    def _stop_waiting(self) -> None:
+        if self._slow is not None:
+            self._slow.cancel()
+            self._slow = None
+
+    def _refuse(self, problem: Problem) -> None:
+        """Answers without a request, and closes."""
+        self._stop_waiting()
+        self._metrics.problems.labels(problem.word).inc()
+        if self.transport is None or self.transport.is_closing():
+            return
+        body = json.dumps(problem.document()).encode()
+        phrase = HTTPStatus(problem.status).phrase
+        head = (f"HTTP/1.1 {problem.status} {phrase}\r\nContent-Type: {TYPE}\r\nContent-Length: {len(body)}\r\n"
+                "Connection: close\r\n\r\n")
+        assert isinstance(self.transport, asyncio.Transport)
+        self.transport.write(head.encode() + body)
+        self.force_close()
+
+    def handle_error(self, request: web.BaseRequest, status: int = 500, exc: BaseException | None = None,
+                     message: str | None = None) -> web.StreamResponse:
+        """The answer to what is no request, or to a fault of our own."""
+        if request.writer.output_size > 0:
+            raise ConnectionError("the answer has begun already")
+        word = "request" if status == 400 else "fault"
+        self._log.event("no request" if status == 400 else "fault", error=repr(exc)[:500])
+        self._metrics.problems.labels(word).inc()
+        response = Problem(word).response()
+        response.force_close()
+        return response
+
+
+class Server(web.Server):
+    """Makes connections."""
+
+    def __init__(self, whole: web.Server, limits: Limits, metrics: Metrics, log: Log, **options: Any) -> None:
+        super().__init__(whole.request_handler, request_factory=whole.request_factory, **options)
+        self.limits = limits
+        self.metrics = metrics
+        self.log = log
+
+    def __call__(self) -> RequestHandler:
+        return Connection(self, loop=self._loop, **self._kwargs)
+
+
+class Runner(web.AppRunner):
+    """Runs the application over that server."""
+
+    def __init__(self, app: web.Application, limits: Limits, metrics: Metrics, log: Log) -> None:
+        super().__init__(app, access_log=None)
+        self._limits = limits
+        self._metrics = metrics
+        self._log = log
+
+    async def _make_server(self) -> Server:
+        whole = await super()._make_server()
+        return Server(whole, self._limits, self._metrics, self._log, access_log=None, auto_decompress=False,
+                      lingering_time=1.0)
