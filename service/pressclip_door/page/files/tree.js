@@ -1,0 +1,148 @@
+/** The tree of a query, as lists. */
+
+import { counted, element } from "./elements.js";
+
+/** @typedef {import("./types.js").Tree} Tree */
+/** @typedef {import("./types.js").Leaf} Leaf */
+/** @typedef {import("./types.js").Clause} Clause */
+/** @typedef {import("./types.js").RangeEnd} RangeEnd */
+
+const MOST_SHOWN = 120;
+const USUAL_FIELD = "text";
+
+/**
+ * A word of the query, as it is compared.
+ * @param {string} text
+ * @returns {HTMLElement}
+ */
+function word(text) {
+  return element("span", { class: "word" }, text);
+}
+
+/**
+ * What a leaf asks for.
+ * @param {Leaf} leaf
+ * @returns {(Node | string)[]}
+ */
+function asked({ term, prefix, phrase, range, ...other }) {
+  if (term) {
+    return [word(term.word)];
+  }
+  if (prefix) {
+    return ["a word that begins with ", word(prefix.front)];
+  }
+  if (phrase) {
+    return ["the phrase ", word(phrase.words.join(" "))];
+  }
+  if (range) {
+    return ["a word", ...end(range.low, " from ", " after "), ...end(range.high, " up to ", " before ")];
+  }
+  return [JSON.stringify(other)];
+}
+
+/**
+ * An end of a range.
+ * @param {RangeEnd} limit
+ * @param {string} included what is said where the end itself counts
+ * @param {string} excluded what is said where it does not
+ * @returns {(Node | string)[]}
+ */
+function end(limit, included, excluded) {
+  return limit ? [limit.included ? included : excluded, word(limit.text)] : [];
+}
+
+/**
+ * The fields that a tree names, each once.
+ * @param {Tree} tree
+ * @returns {string[]}
+ */
+export function fieldsOf(tree) {
+  /** @type {Set<string>} */
+  const found = new Set();
+  const walk = (/** @type {Tree} */ part) => {
+    if (Array.isArray(part)) {
+      part.forEach((clause) => walk(clause.tree));
+    } else if (part !== "all") {
+      Object.values(part).forEach((leaf) => leaf?.field && found.add(leaf.field));
+    }
+  };
+  walk(tree);
+  return [...found];
+}
+
+/** Makes the lists, up to so many parts. */
+class Branches {
+  #room = MOST_SHOWN;
+  left = 0;
+
+  /**
+   * What shows a part.
+   * @param {Tree} tree
+   * @returns {(Node | string)[]}
+   */
+  show(tree) {
+    if (Array.isArray(tree)) {
+      return this.#group(tree);
+    }
+    if (tree === "all") {
+      return [element("span", { class: "leaf" }, "anything at all")];
+    }
+    const field = Object.values(tree)[0]?.field ?? USUAL_FIELD;
+    const where = field === USUAL_FIELD ? [] : [element("span", { class: "where" }, ` in ${field}`)];
+    return [element("span", { class: "leaf" }, ...asked(tree), ...where)];
+  }
+
+  /**
+   * What shows a group: its clauses by how they count.
+   * @param {Clause[]} clauses
+   * @returns {Node[]}
+   */
+  #group(clauses) {
+    const of = (/** @type {string} */ occur) => clauses.filter((clause) => clause.occur === occur);
+    const [must, should, not] = [of("must"), of("should"), of("must_not")];
+    return [
+      this.#part(must, must.length > 1 ? "all of" : "", "must"),
+      this.#part(must.length ? [] : should, should.length > 1 ? "any of" : "", "should"),
+      this.#part(not, not.length > 1 ? "but none of" : "but not", "not"),
+      this.#part(must.length ? should : [], "without effect", "idle"),
+    ].flat();
+  }
+
+  /**
+   * What shows clauses that count in one way, below a word that says how.
+   * @param {Clause[]} clauses
+   * @param {string} says
+   * @param {string} kind
+   * @returns {Node[]}
+   */
+  #part(clauses, says, kind) {
+    if (clauses.length === 0) {
+      return [];
+    }
+    const list = element("ul", {});
+    for (const clause of clauses) {
+      if (this.#room === 0) {
+        this.left += 1;
+        continue;
+      }
+      this.#room -= 1;
+      list.append(element("li", {}, ...this.show(clause.tree)));
+    }
+    const label = says ? [element("span", { class: `how ${kind}` }, says)] : [];
+    return [element("div", { class: `branch ${kind}` }, ...label, list)];
+  }
+}
+
+/**
+ * The tree as elements; of a large one its beginning, and how much is left out.
+ * @param {Tree} tree
+ * @returns {(Node | string)[]}
+ */
+export function treeNodes(tree) {
+  const branches = new Branches();
+  const nodes = branches.show(tree);
+  if (branches.left > 0) {
+    nodes.push(element("p", { class: "quiet" }, `and ${counted(branches.left, "more part")}`));
+  }
+  return nodes;
+}
