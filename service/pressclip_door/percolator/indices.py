@@ -64,7 +64,9 @@ class Indices:
         self._seq = 0
 
     async def load(self) -> None:
-        """Reads what was kept, once."""
+        """Reads what was kept, once. `Problem` while the engine is started, since what it has is not known then."""
+        if not self.door.engine.is_ready:
+            raise Problem("ended", "the engine is started, and answers soon", {"Retry-After": "1"})
         if self._store is None:
             async with self._changing:
                 if self._store is None:

@@ -115,11 +115,13 @@ class Leaves:
 
 
 def whole(field: Field, value: Part) -> Node:
-    """The field, which is no text, has the value."""
+    """The field, which is no text, has the value; of a date, one of those that it names."""
     given = value.scalar()
     if isinstance(given, str):
         value.text()
     try:
+        if field.kind is Kind.DATE:
+            return span_of_dates(field, Bound(value, True), Bound(value, True))
         word = word_of_value(field, given)
     except Unfit as error:
         raise bad_query(f"failed to create query: {error} for field [{field.path}] of type [{field.type}] at"
