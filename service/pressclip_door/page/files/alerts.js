@@ -9,7 +9,7 @@ const MOST_SHOWN = 100;
 const MOST_QUERIES = 5;
 const SHOWN_EVERY = 250;
 const SPOKEN_AFTER = 2_000;
-const TIME = new Intl.DateTimeFormat(undefined, { hour: "2-digit", minute: "2-digit", second: "2-digit" });
+const TIME = new Intl.DateTimeFormat(undefined, { hour: "2-digit", minute: "2-digit" });
 
 /** The list of alerts, newest first. */
 export class Alerts {
@@ -106,7 +106,7 @@ export class Alerts {
     const rest = queries.length - shown.length;
     return element("li", {},
       element("p", { class: "from" },
-        element("span", { class: "headline" }, title || article),
+        element("span", { class: "headline" }, title || titleIn(excerpts) || article),
         element("time", { datetime: when.toISOString() }, TIME.format(when))),
       ...shown.map((query) => this.#queryNode(query, article, excerpts.filter((one) => one.query === query))),
       ...(rest > 0 ? [element("p", { class: "quiet" }, `and ${counted(rest, "more query", "more queries")}`)] : []));
@@ -128,6 +128,15 @@ export class Alerts {
       element("p", { class: "excerpt", "data-field": field }, ...markedNodes(pieces)));
     return element("div", { class: "of-query" }, button, ...texts);
   }
+}
+
+/**
+ * The title, where a query holds in it.
+ * @param {Marked[]} excerpts
+ * @returns {string | undefined}
+ */
+function titleIn(excerpts) {
+  return excerpts.find(({ field }) => field === "title")?.pieces.join("");
 }
 
 /**

@@ -104,8 +104,12 @@ export async function call(method, address, body, signal) {
  * The address of a registered query.
  * @param {string} id
  * @returns {URL}
+ * @throws {Refused} where the id has no address
  */
 export function addressOfQuery(id) {
+  if (id === "." || id === "..") {
+    throw new Refused(0, "A name that is only dots has no address: choose another one.");
+  }
   return addressOf(`queries/${encodeURIComponent(id)}`);
 }
 

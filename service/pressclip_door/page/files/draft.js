@@ -31,7 +31,10 @@ export class Draft {
     });
     find("delete-query", HTMLButtonElement).addEventListener("click", () => this.remove());
     this.#id.addEventListener("input", () => this.#say(""));
-    box.onChange(() => this.#say(""));
+    box.onChange(() => {
+      this.#say("");
+      this.#note();
+    });
   }
 
   /** Whether leaving it would lose what was written. */
@@ -86,9 +89,15 @@ export class Draft {
   #head() {
     const id = this.#opened?.id ?? null;
     find("write-heading", HTMLElement).textContent = id ?? NEW_HEADING;
-    find("write-note", HTMLElement).textContent = id === null ? NEW_NOTE : "Saved";
     find("delete-query", HTMLButtonElement).hidden = id === null;
+    this.#note();
     this.changed(id);
+  }
+
+  /** Shows whether it is saved. */
+  #note() {
+    const saved = this.#isUnsaved ? "Changed, and not saved yet" : "Saved";
+    find("write-note", HTMLElement).textContent = this.#opened === null ? NEW_NOTE : saved;
   }
 
   /** Saves the query under the name in the form. */

@@ -122,7 +122,7 @@ export class AlertStream {
     if (event.event === "alert") {
       this.#last = event.id || this.#last;
       this.hearer.alert(JSON.parse(event.data));
-    } else if (event.event === "lost" || event.event === "dropped") {
+    } else if (event.event === "lost") {
       this.hearer.gap();
     }
   }

@@ -26,34 +26,51 @@ function queryBox() {
   });
 }
 
-/** Starts the page. */
-function start() {
-  const panes = new Panes();
-  const box = queryBox();
-  const trying = new Trying(box);
-  const reading = new Reading(box, (fields, isReadable) => trying.hear(fields, isReadable));
-  const queries = new Queries((id) => open(id));
-  const draft = new Draft(box, (id) => queries.mark(id), () => queries.load());
-  const alerts = new Alerts((query, article) => open(query, article), (count) => panes.came(count));
-  const standing = new Standing(() => queries.load());
-  const stream = new AlertStream({
-    alert: (alert) => alerts.take(alert),
-    gap: () => alerts.take(null),
-    state: (state, why) => standing.hear(state, why),
+/** The parts of the page, which hear of each other here. */
+class Page {
+  #panes = new Panes();
+  #box = queryBox();
+  #trying = new Trying(this.#box);
+  #reading = new Reading(this.#box, (fields, isReadable) => this.#trying.hear(fields, isReadable));
+  #queries = new Queries((id) => this.#open(id));
+  #draft = new Draft(this.#box, (id) => this.#queries.mark(id), () => this.#queries.load());
+  #alerts = new Alerts((query, article) => this.#open(query, article), (count) => this.#panes.came(count));
+  #standing = new Standing(() => this.#queries.refresh());
+  #stream = new AlertStream({
+    alert: (alert) => this.#alerts.take(alert),
+    gap: () => this.#alerts.take(null),
+    state: (state, why) => this.#standing.hear(state, why),
   });
 
-  /**
-   * Opens a query, with one of the last articles or without.
-   * @param {string} id
-   * @param {string} [article]
-   */
-  async function open(id, article) {
-    if (await draft.open(id)) {
-      panes.show("write");
-      box.focus();
-      if (article !== undefined) {
-        await trying.open(article);
-      }
+  /** Begins to show and to hear. */
+  start() {
+    const begin = this.#goTo("write", () => this.#draft.begin());
+    find("new-query", HTMLButtonElement).addEventListener("click", begin);
+    find("sign-in", HTMLButtonElement).addEventListener("click", () => this.#signIn());
+    new Keys([
+      { key: "n", says: "begin a new query", act: begin },
+      { key: "e", says: "go to the query's box", act: this.#goTo("write", () => this.#box.focus()) },
+      { key: "t", says: "go to the article's text", act: this.#goTo("write", () => this.#trying.focus()) },
+      { key: "/", says: "search the queries", act: this.#goTo("queries", () => this.#queries.focus()) },
+      { key: "a", says: "go to the alerts", act: this.#goTo("alerts", () => this.#alerts.focus()) },
+      { key: "p", says: "hold alerts back, or go on", act: () => this.#alerts.toggle() },
+    ], { save: () => this.#draft.save(), next: () => this.#reading.next() });
+    this.#load();
+    this.#standing.run();
+    this.#stream.run();
+  }
+
+  /** Loads what is registered, and what came last. */
+  #load() {
+    this.#queries.load();
+    this.#trying.load();
+  }
+
+  /** Asks for a token, and tries again with it. */
+  async #signIn() {
+    if (await askToken(true)) {
+      this.#stream.retry();
+      this.#load();
     }
   }
 
@@ -63,31 +80,33 @@ function start() {
    * @param {() => void} act
    * @returns {() => void}
    */
-  const goTo = (pane, act) => () => {
-    panes.show(pane);
-    act();
-  };
-  const begin = goTo("write", () => draft.begin());
-  find("new-query", HTMLButtonElement).addEventListener("click", begin);
-  find("sign-in", HTMLButtonElement).addEventListener("click", async () => {
-    if (await askToken(true)) {
-      stream.retry();
-      queries.load();
-      trying.load();
+  #goTo(pane, act) {
+    return () => {
+      this.#panes.show(pane);
+      act();
+    };
+  }
+
+  /**
+   * Opens a query, with one of the last articles or without.
+   * @param {string} id
+   * @param {string} [article]
+   */
+  async #open(id, article) {
+    if (await this.#draft.open(id)) {
+      this.#panes.show("write");
+      this.#box.focus();
+      if (article !== undefined) {
+        await this.#trying.open(article);
+      }
     }
-  });
-  new Keys([
-    { key: "n", says: "begin a new query", act: begin },
-    { key: "e", says: "go to the query's box", act: goTo("write", () => box.focus()) },
-    { key: "t", says: "go to the article's text", act: goTo("write", () => trying.focus()) },
-    { key: "/", says: "search the queries", act: goTo("queries", () => queries.focus()) },
-    { key: "a", says: "go to the alerts", act: goTo("alerts", () => alerts.focus()) },
-    { key: "p", says: "hold alerts back, or go on", act: () => alerts.toggle() },
-  ], { save: () => draft.save(), next: () => reading.next() });
-  queries.load();
-  trying.load();
-  standing.run();
-  stream.run();
+  }
 }
 
-start();
+if ("CodeMirror" in window) {
+  new Page().start();
+} else {
+  const fault = find("fault", HTMLElement);
+  fault.hidden = false;
+  fault.textContent = "The service has no box to write in: its machine lacks the package libjs-codemirror.";
+}

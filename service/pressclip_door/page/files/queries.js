@@ -38,6 +38,14 @@ export class Queries {
     await this.#page("", (rows) => this.#list.replaceChildren(...rows));
   }
 
+  /** Loads the list anew, unless someone goes through it. */
+  async refresh() {
+    const isGoneThrough = this.#list.contains(document.activeElement) || this.#list.children.length > Number(PAGE);
+    if (!isGoneThrough) {
+      await this.load();
+    }
+  }
+
   /** Loads the next page, and goes on at its first query. */
   async #more() {
     const before = this.#list.children.length;

@@ -1,4 +1,4 @@
-/** How the service stands: whether alerts are heard, and how many queries there are. */
+/** How the service stands: whether alerts are heard, whether the engine answers, and whether queries changed. */
 
 import { Refused, addressOf, call } from "./api.js";
 import { find } from "./elements.js";
@@ -11,9 +11,9 @@ export class Standing {
   /** @type {"live" | "waiting" | "locked"} */
   #stream = "waiting";
   #isReady = true;
-  #queries = -1;
+  #changes = -1;
 
-  /** @param {() => void} changed hears that the number of queries is another one */
+  /** @param {() => void} changed hears that queries were registered or deleted, here or elsewhere */
   constructor(changed) {
     this.changed = changed;
   }
@@ -35,10 +35,10 @@ export class Standing {
     try {
       const said = await call("GET", addressOf("readyz"));
       this.#isReady = said.is_ready;
-      if (this.#queries !== said.queries && this.#queries >= 0) {
+      if (this.#changes !== said.changes && this.#changes >= 0) {
         this.changed();
       }
-      this.#queries = said.queries;
+      this.#changes = said.changes;
     } catch (error) {
       if (!(error instanceof Refused)) {
         throw error;

@@ -29,10 +29,10 @@ function asked({ term, prefix, phrase, range, ...other }) {
     return [word(term.word)];
   }
   if (prefix) {
-    return ["a word that begins with ", word(prefix.front)];
+    return [element("span", { class: "unseen" }, "a word that begins with "), word(`${prefix.front}…`)];
   }
   if (phrase) {
-    return ["the phrase ", word(phrase.words.join(" "))];
+    return [element("span", { class: "unseen" }, "the phrase "), word(`“${phrase.words.join(" ")}”`)];
   }
   if (range) {
     return ["a word", ...end(range.low, " from ", " after "), ...end(range.high, " up to ", " before ")];
@@ -70,6 +70,24 @@ export function fieldsOf(tree) {
   return [...found];
 }
 
+/**
+ * The parts of a group: its clauses by how they count, and what is said before one of them, and before several.
+ * @param {Clause[]} clauses
+ * @returns {{kind: string, clauses: Clause[], says: string}[]}
+ */
+function partsOf(clauses) {
+  const of = (/** @type {string} */ occur) => clauses.filter((clause) => clause.occur === occur);
+  const [must, should, not] = [of("must"), of("should"), of("must_not")];
+  const parts = [
+    { kind: "must", clauses: must, one: "must have", more: "all of" },
+    { kind: "should", clauses: must.length ? [] : should, one: "must have", more: "any of" },
+    { kind: "not", clauses: not, one: "but not", more: "but none of" },
+    { kind: "idle", clauses: must.length ? should : [], one: "without effect", more: "without effect" },
+  ];
+  return parts.filter((part) => part.clauses.length > 0).map(({ kind, clauses: own, one, more }) => (
+    { kind, clauses: own, says: own.length > 1 ? more : one }));
+}
+
 /** Makes the lists, up to so many parts. */
 class Branches {
   #room = MOST_SHOWN;
@@ -78,11 +96,11 @@ class Branches {
   /**
    * What shows a part.
    * @param {Tree} tree
-   * @returns {(Node | string)[]}
+   * @returns {Node[]}
    */
   show(tree) {
     if (Array.isArray(tree)) {
-      return this.#group(tree);
+      return partsOf(tree).map(({ kind, clauses, says }) => this.#part(kind, clauses, says));
     }
     if (tree === "all") {
       return [element("span", { class: "leaf" }, "anything at all")];
@@ -93,31 +111,17 @@ class Branches {
   }
 
   /**
-   * What shows a group: its clauses by how they count.
-   * @param {Clause[]} clauses
-   * @returns {Node[]}
-   */
-  #group(clauses) {
-    const of = (/** @type {string} */ occur) => clauses.filter((clause) => clause.occur === occur);
-    const [must, should, not] = [of("must"), of("should"), of("must_not")];
-    return [
-      this.#part(must, must.length > 1 ? "all of" : "", "must"),
-      this.#part(must.length ? [] : should, should.length > 1 ? "any of" : "", "should"),
-      this.#part(not, not.length > 1 ? "but none of" : "but not", "not"),
-      this.#part(must.length ? should : [], "without effect", "idle"),
-    ].flat();
-  }
-
-  /**
-   * What shows clauses that count in one way, below a word that says how.
+   * What shows clauses that count in one way, behind words that say how. A group that is alone in it is told in one go.
+   * @param {string} kind
    * @param {Clause[]} clauses
    * @param {string} says
-   * @param {string} kind
-   * @returns {Node[]}
+   * @returns {HTMLElement}
    */
-  #part(clauses, says, kind) {
-    if (clauses.length === 0) {
-      return [];
+  #part(kind, clauses, says) {
+    const only = clauses.length === 1 ? clauses[0].tree : null;
+    const parts = Array.isArray(only) ? partsOf(only) : [];
+    if (parts.length === 1 && parts[0].kind !== "not") {
+      return this.#part(kind, parts[0].clauses, `${says} ${parts[0].says.replace(/^must have ?/u, "")}`.trim());
     }
     const list = element("ul", {});
     for (const clause of clauses) {
@@ -126,10 +130,9 @@ class Branches {
         continue;
       }
       this.#room -= 1;
-      list.append(element("li", {}, ...this.show(clause.tree)));
+      list.append(element("li", { class: Array.isArray(clause.tree) ? "group" : "" }, ...this.show(clause.tree)));
     }
-    const label = says ? [element("span", { class: `how ${kind}` }, says)] : [];
-    return [element("div", { class: `branch ${kind}` }, ...label, list)];
+    return element("div", { class: `branch ${kind}` }, element("span", { class: "how" }, says), list);
   }
 }
 
