@@ -1,5 +1,5 @@
-"""Tests of the percolator's address of `service/door`, by Debian's client of Elasticsearch, by curl, and by a judge of what
-Elasticsearch's queries mean."""
+"""Tests of the percolator's address of `service/door`, by Debian's client of Elasticsearch, by curl, and by a judge of
+what Elasticsearch's queries mean."""
 
 from __future__ import annotations
 
@@ -22,7 +22,8 @@ Json = dict[str, Any]
 CLIENT = Path(__file__).with_name("percolator_client.py")
 BASE = "/elasticsearch"
 NDJSON = {"Content-Type": "application/x-ndjson"}
-SIGNS = "aZé\u00df\u0130\u4e00\u3042\ud55c\u0e01\u0301\u200d'\".,:;_-*?~^/\\+!(){}[]|& \t\u3000\u05d0\U0001f375\ufb01\u01490"
+SIGNS = ("aZé\u00df\u0130\u4e00\u3042\ud55c\u0e01\u0301\u200d'\".,:;_-*?~^/\\+!(){}[]|& \t\u3000\u05d0"
+         "\U0001f375\ufb01\u01490")
 MAPPINGS: Json = {"properties": {"query": {"type": "percolator"}, **FIELDS}}
 RANDOM_QUERIES, RANDOM_TEXTS, RANDOM_DOCUMENTS = 1_200, 400, 60
 
@@ -81,52 +82,64 @@ def slots_of(hits: Sequence[Json]) -> dict[str, list[int]]:
     return {hit["_id"]: hit["fields"]["_percolator_document_slot"] for hit in hits}
 
 
-def clients_percolate() -> None:
-    """As Elasticsearch's documentation shows it: an index, queries, documents, slots, marked words, and all gone."""
+NEWS: Json = {"message": {"type": "text"}, "query": {"type": "percolator"}, "user": {"type": "keyword"}}
+BONSAI: Json = {"query": {"match": {"message": "bonsai tree"}}, "user": "ann"}
+TEA: Json = {"bool": {"must": {"match": {"message": "tea"}}, "must_not": [{"term": {"message": "spam"}}]}}
+PERCOLATE: Json = {"percolate": {"field": "query", "documents": [
+    {"message": "A new bonsai tree, and Tea."}, {"message": "spam of tea"}, {"message": "a tree"}]}}
+
+
+def clients_make_indices_and_documents() -> None:
+    """By Debian's client: an index, queries one by one and many, what is kept, and all gone."""
     door = shared()
-    properties = {"message": {"type": "text"}, "query": {"type": "percolator"}, "user": {"type": "keyword"}}
-    tea = {"bool": {"must": {"match": {"message": "tea"}}, "must_not": [{"term": {"message": "spam"}}]}}
-    bonsai = {"query": {"match": {"message": "bonsai tree"}}, "user": "ann"}
-    documents = [{"message": "A new bonsai tree, and Tea."}, {"message": "spam of tea"}, {"message": "a tree"}]
-    percolate = {"percolate": {"field": "query", "documents": documents}}
     came = called(door, [
-        ("indices.create", {"index": "news", "body": {"mappings": {"properties": properties}}}),
-        ("indices.create", {"index": "news", "body": {"mappings": {"properties": properties}}}),
-        ("index", {"index": "news", "id": "1", "body": bonsai, "refresh": "wait_for"}),
-        ("index", {"index": "news", "id": "1", "body": bonsai}),
-        ("helpers.bulk", {"actions": [{"_index": "news", "_id": "2", "query": tea, "user": "bob"},
+        ("info", {}), ("indices.create", {"index": "news", "body": {"mappings": {"properties": NEWS}}}),
+        ("indices.create", {"index": "news", "body": {"mappings": {"properties": NEWS}}}),
+        ("index", {"index": "news", "id": "1", "body": BONSAI, "refresh": "wait_for"}),
+        ("index", {"index": "news", "id": "1", "body": BONSAI}),
+        ("helpers.bulk", {"actions": [{"_index": "news", "_id": "2", "query": TEA, "user": "bob"},
                                       {"_index": "news", "_id": "bad", "query": {"geo_distance": {}}}]}),
-        ("search", {"index": "news", "body": {"query": percolate, "highlight": {"fields": {"message": {}}}}}),
-        ("search", {"index": "news", "body": {"query": {"bool": {"filter": [percolate, {"term": {"user": "bob"}}]}}}}),
-        ("search", {"index": "news", "body": {"query": {"constant_score": {"filter": percolate}}, "size": 1, "from": 1,
-                                              "_source": False}}),
         ("count", {"index": "news"}), ("get", {"index": "news", "id": "2"}), ("exists", {"index": "news", "id": "3"}),
         ("delete", {"index": "news", "id": "2"}), ("delete", {"index": "news", "id": "2"}),
-        ("indices.refresh", {"index": "news"}), ("indices.get_mapping", {"index": "news"}), ("info", {}),
+        ("indices.refresh", {"index": "news"}), ("indices.get_mapping", {"index": "news"}),
         ("indices.delete", {"index": "news"}), ("indices.exists", {"index": "news"}), ("count", {"index": "news"})])
-    need(came[0]["gave"] == {"acknowledged": True, "shards_acknowledged": True, "index": "news"}, f"{came[0]}")
-    need(came[1]["refused"]["error"]["type"] == "resource_already_exists_exception", f"{came[1]}")
-    need([one["gave"]["result"] for one in came[2:4]] == ["created", "updated"], f"{came[2:4]}")
-    need(came[3]["gave"]["_version"] == 2, f"{came[3]}")
-    need(came[4][0] == 1 and came[4][1][0]["index"]["status"] == 400, f"{came[4]}")
-    hits = came[5]["gave"]["hits"]
+    need(came[0]["gave"]["tagline"] == "You Know, for Search", f"{came[0]}")
+    need(came[1]["gave"] == {"acknowledged": True, "shards_acknowledged": True, "index": "news"}, f"{came[1]}")
+    need(came[2]["refused"]["error"]["type"] == "resource_already_exists_exception", f"{came[2]}")
+    need([one["gave"]["result"] for one in came[3:5]] == ["created", "updated"], f"{came[3:5]}")
+    need(came[4]["gave"]["_version"] == 2, f"{came[4]}")
+    need(came[5][0] == 1 and came[5][1][0]["index"]["status"] == 400, f"{came[5]}")
+    need(came[6]["gave"]["count"] == 2 and came[7]["gave"]["_source"] == {"query": TEA, "user": "bob"}, f"{came[6:8]}")
+    need(came[8]["gave"] is False and came[9]["gave"]["result"] == "deleted", f"{came[8:10]}")
+    need(came[10]["status"] == 404 and came[10]["refused"]["result"] == "not_found", f"{came[10]}")
+    need(came[12]["gave"] == {"news": {"mappings": {"properties": NEWS}}}, f"{came[12]}")
+    need(came[13]["gave"] == {"acknowledged": True} and came[14]["gave"] is False, f"{came[13:15]}")
+    need(came[15]["refused"]["error"]["type"] == "index_not_found_exception", f"{came[15]}")
+    need(door.ask("GET", "/queries").value["count"] == 0, "a query of the index is left")
+
+
+def clients_percolate() -> None:
+    """By Debian's client: documents, their slots, marked words, filters, and a part of the hits."""
+    door = shared()
+    emptied(door, "news", {"properties": NEWS})
+    came = called(door, [
+        ("index", {"index": "news", "id": "1", "body": BONSAI}),
+        ("index", {"index": "news", "id": "2", "body": {"query": TEA, "user": "bob"}}),
+        ("search", {"index": "news", "body": {"query": PERCOLATE, "highlight": {"fields": {"message": {}}}}}),
+        ("search", {"index": "news", "body": {"query": {"bool": {"filter": [PERCOLATE, {"term": {"user": "bob"}}]}}}}),
+        ("search", {"index": "news", "body": {"query": {"constant_score": {"filter": PERCOLATE}}, "size": 1, "from": 1,
+                                              "_source": False}})])
+    hits = came[2]["gave"]["hits"]
     need(hits["total"] == {"value": 2, "relation": "eq"}, f"{hits}")
     need(slots_of(hits["hits"]) == {"1": [0, 2], "2": [0]}, f"{hits}")
-    need(hits["hits"][0]["_source"] == bonsai, f"{hits}")
+    need(hits["hits"][0]["_source"] == BONSAI, f"{hits}")
     need([hit["highlight"] for hit in hits["hits"]] == [
         {"0_message": ["A new <em>bonsai</em> <em>tree</em>, and Tea."], "2_message": ["a <em>tree</em>"]},
         {"0_message": ["A new bonsai tree, and <em>Tea</em>."]}], f"{hits}")
-    need(slots_of(came[6]["gave"]["hits"]["hits"]) == {"2": [0]}, f"{came[6]}")
-    shown = came[7]["gave"]["hits"]
+    need(slots_of(came[3]["gave"]["hits"]["hits"]) == {"2": [0]}, f"{came[3]}")
+    shown = came[4]["gave"]["hits"]
     need(shown["total"]["value"] == 2 and [hit["_id"] for hit in shown["hits"]] == ["2"], f"{shown}")
     need("_source" not in shown["hits"][0], f"{shown}")
-    need(came[8]["gave"]["count"] == 2 and came[9]["gave"]["_source"] == {"query": tea, "user": "bob"}, f"{came[8:10]}")
-    need(came[10]["gave"] is False and came[11]["gave"]["result"] == "deleted", f"{came[10:12]}")
-    need(came[12]["status"] == 404 and came[12]["refused"]["result"] == "not_found", f"{came[12]}")
-    need(came[14]["gave"] == {"news": {"mappings": {"properties": properties}}}, f"{came[14]}")
-    need(came[16]["gave"] == {"acknowledged": True} and came[17]["gave"] is False, f"{came[16:18]}")
-    need(came[18]["refused"]["error"]["type"] == "index_not_found_exception", f"{came[18]}")
-    need(door.ask("GET", "/queries").value["count"] == 0, "a query of the index is left")
 
 
 def differing(door: Door, queries: Sequence[Json], judges: Sequence[Judge], documents: Sequence[Json]) -> Iterator[str]:
@@ -156,7 +169,7 @@ def queries_mean_what_elasticsearch_says() -> None:
     wrong = list(differing(door, queries, judges, documents))
     need(not wrong, f"{len(wrong)} of {RANDOM_QUERIES}: {wrong[:1]}")
     held = [sum(judge(document) for document in documents) for judge in judges]
-    need(sum(0 < count < RANDOM_DOCUMENTS for count in held) > RANDOM_QUERIES // 3, "most queries hold of all or of none")
+    need(sum(0 < count < RANDOM_DOCUMENTS for count in held) > RANDOM_QUERIES // 3, "most hold of all or of none")
 
 
 def texts_of_operators_mean_what_lucene_says() -> None:
@@ -248,7 +261,7 @@ REFUSALS: tuple[tuple[Json, tuple[str, ...]], ...] = (
     ({"match": {"text": {"query": "tea", "fuzziness": "AUTO"}}}, ("[fuzziness]", "body.query.match.text.fuzziness")),
     ({"match": {"text": {"query": "tea", "boost": 2}}}, ("[boost]", "scored")),
     ({"match": {"text": {"query": "tea", "analyzer": "english"}}}, ("[analyzer]", "standard")),
-    ({"bool": {"must": [{"match_all": {}}, {"fuzzy": {"text": "tea"}}]}}, ("[fuzzy]", "[body.query.bool.must[1].fuzzy]")),
+    ({"bool": {"must": [{"match_all": {}}, {"fuzzy": {"text": "tea"}}]}}, ("[fuzzy]", "body.query.bool.must[1].fuzzy")),
     ({"regexp": {"text": "t.*"}}, ("[regexp]",)), ({"wildcard": {"text": "t*a"}}, ("[wildcard]", "prefix")),
     ({"nested": {"path": "by", "query": {"match_all": {}}}}, ("[nested]",)), ({"script": {}}, ("[script]",)),
     ({"function_score": {"query": {"match_all": {}}}}, ("[function_score]", "scored")),
@@ -279,7 +292,8 @@ REFUSALS: tuple[tuple[Json, tuple[str, ...]], ...] = (
      ("[minimum_should_match]", "15 of 30")),
     ({"bool": {"mustnt": []}}, ("[mustnt]",)), ({"ids": {"values": ["1"]}}, ("[ids]",)),
     ({"percolate": {}}, ("[percolate]",)), ({"match": {"text": "\U00010600"}}, ("[\U00010600]",)),
-    ({"match": {"text": "\ud800"}}, ("surrogate",)), ({"dis_max": {"queries": [], "tie_breaker": 0.5}}, ("[tie_breaker]",)))
+    ({"match": {"text": "\ud800"}}, ("surrogate",)),
+    ({"dis_max": {"queries": [], "tie_breaker": 0.5}}, ("[tie_breaker]",)))
 
 
 def what_has_no_meaning_is_refused() -> None:
@@ -299,17 +313,22 @@ def what_has_no_meaning_is_refused() -> None:
     long = {"query": {"match": {"text": " ".join(f"word{at}" for at in range(5_000))}}}
     refused(door.ask("PUT", f"{BASE}/strict/_doc/2", long), 400, "the engine refuses the query")
     need(asked(door, "GET", "/strict/_count")["count"] == 1, "a refused query is kept")
-    need(door.ask("GET", "/queries?prefix=strict/").value["queries"][0]["query"] == "text:tea", "the query is another")
+    shown = door.ask("GET", "/queries?prefix=strict/").value["queries"]
+    need([one["query"] for one in shown] == ["text:tea"], f"{shown}")
+
+
+def with_fields(**fields: Json) -> Json:
+    """A mapping with a percolator and fields."""
+    return {"properties": {"query": {"type": "percolator"}, **fields}}
 
 
 MAPPING_REFUSALS: tuple[tuple[Json, tuple[str, ...]], ...] = (
     ({}, ("[mappings.properties]",)), ({"properties": {"text": {"type": "text"}}}, ("[percolator]",)),
-    ({"properties": {"query": {"type": "percolator"}, "text": {"type": "text", "analyzer": "english"}}}, ("english",
-                                                                                                   "[text]")),
-    ({"properties": {"query": {"type": "percolator"}, "place": {"type": "geo_point"}}}, ("[geo_point]", "[place]")),
-    ({"properties": {"query": {"type": "percolator"}, "by": {"type": "nested", "properties": {}}}}, ("[nested]",)),
-    ({"properties": {"query": {"type": "percolator"}, "day": {"type": "date", "format": "dd/MM"}}}, ("[dd/MM]",)),
-    ({"dynamic": "strict", "properties": {"query": {"type": "percolator"}}}, ("[dynamic: strict]",)))
+    (with_fields(text={"type": "text", "analyzer": "english"}), ("english", "[text]")),
+    (with_fields(place={"type": "geo_point"}), ("[geo_point]", "[place]")),
+    (with_fields(by={"type": "nested", "properties": {}}), ("[nested]",)),
+    (with_fields(day={"type": "date", "format": "dd/MM"}), ("[dd/MM]",)),
+    ({"dynamic": "strict", **with_fields()}, ("[dynamic: strict]",)))
 
 
 def what_the_mapping_can_not_have_is_refused() -> None:
@@ -319,8 +338,8 @@ def what_the_mapping_can_not_have_is_refused() -> None:
         refused(door.ask("PUT", f"{BASE}/shape", {"mappings": mappings}), 400, *words)
     refused(door.ask("PUT", f"{BASE}/Shape", {"mappings": MAPPINGS}), 400, "Invalid index name [Shape]")
     settings = {"index": {"analysis": {"analyzer": {"mine": {"type": "english"}}}}}
-    refused(door.ask("PUT", f"{BASE}/shape", {"mappings": MAPPINGS, "settings": settings}), 400, "[analysis.analyzer.mine")
-    emptied(door, "shape", {"properties": {"query": {"type": "percolator"}, "count": {"type": "byte"}}})
+    refused(door.ask("PUT", f"{BASE}/shape", {"mappings": MAPPINGS, "settings": settings}), 400, "[analysis.analyzer")
+    emptied(door, "shape", with_fields(count={"type": "byte"}))
     refused(door.ask("PUT", f"{BASE}/shape/_mapping", {"properties": {"count": {"type": "long"}}}), 400, "[count]")
     asked(door, "PUT", "/shape/_mapping", {"properties": {"a-b.c": {"type": "text"}, "a_x2db.c": {"type": "text"}}})
     asked(door, "PUT", "/shape/_doc/1", {"query": {"match": {"a-b.c": "tea"}}})
@@ -328,13 +347,10 @@ def what_the_mapping_can_not_have_is_refused() -> None:
     found = percolated(door, "shape", [{"a-b": {"c": "tea"}}, {"a_x2db": {"c": "tea"}}, {"count": "127"}])
     need(slots_of(found) == {"1": [0], "2": [2]}, f"{found}")
     for document, words in (({"count": 128}, ("[128] is out of range for a byte", "documents[0].count")),
-                            ({"count": "x"}, ("[count]",)), ({"count": {"x": 1}}, ())):
+                            ({"count": "x"}, ("[count]",)), ({"count": {"x": 1}}, ("[count]", "an object")),
+                            ({"a-b": 1}, ("[a-b]", "object"))):
         body = {"query": {"percolate": {"field": "query", "documents": [document]}}}
-        answer = door.ask("POST", f"{BASE}/shape/_search", body)
-        if words:
-            refused(answer, 400, *words)
-        else:
-            need(answer.status == 200 and not answer.value["hits"]["hits"], f"{answer}")
+        refused(door.ask("POST", f"{BASE}/shape/_search", body), 400, *words)
     for number in range(20):
         asked(door, "PUT", "/shape/_mapping", {"properties": {f"f{number}": {"type": "keyword"}}})
         answer = door.ask("PUT", f"{BASE}/shape/_doc/f{number}", {"query": {"term": {f"f{number}": "x"}}})
@@ -343,13 +359,14 @@ def what_the_mapping_can_not_have_is_refused() -> None:
 
 
 def marks_stand_where_queries_hold() -> None:
-    """In each value of a field apart, in whole values, around the first marks of a long text, and as it is asked for."""
+    """In each value of a field apart, in whole values, around the marks of a long text, and as it is asked for."""
     door = shared()
     emptied(door, "marked", MAPPINGS)
-    for name, query in (("1", {"match_phrase": {"text": "green tea"}}), ("2", {"terms": {"tag": ["dark red", "blue"]}})):
-        asked(door, "PUT", f"/marked/_doc/{name}", {"query": query})
+    queries: list[Json] = [{"match_phrase": {"text": "green tea"}}, {"terms": {"tag": ["dark red", "blue"]}}]
+    need(all("error" not in item for item in bulk(door, "marked", queries)), "some are refused")
     long = "word " * 60 + "green tea " + "word " * 60 + "Green Tea"
-    documents: list[Json] = [{"text": ["green", "tea, Green Tea! é"], "tag": ["dark red", "red"]}, {"text": long}, {"text": "green"}]
+    documents: list[Json] = [{"text": ["green", "tea, Green Tea! é"], "tag": ["dark red", "red"]}, {"text": long},
+                             {"text": "green"}]
     style = {"pre_tags": ["["], "post_tags": ["]"], "fields": {"te*": {"number_of_fragments": 0}, "tag": {}}}
     hits = percolated(door, "marked", documents, highlight=style)
     need([hit["highlight"] for hit in hits] == [
@@ -377,10 +394,11 @@ def curl_percolates() -> None:
     emptied(door, "curled", MAPPINGS)
     document = json.dumps({"query": {"match": {"text": "tea"}}})
     need(by_curl(door, "/")[1]["version"]["number"].startswith("7.17."), "it is not as Elasticsearch 7.17")
-    need(by_curl(door, "-X", "PUT", *kind, "-d", document, "/curled/_doc/a%2Fb?refresh=true")[0] == 201, "it is not put")
+    put = ("-X", "PUT", *kind, "-d", document)
+    need(by_curl(door, *put, "/curled/_doc/a%2Fb?refresh=true")[0] == 201, "it is not put")
     status, made = by_curl(door, *kind, "-d", document, "/curled/_doc")
     need(status == 201 and len(made["_id"]) == 20, f"{made}")
-    need(by_curl(door, "-X", "PUT", *kind, "-d", document, "/curled/_create/a%2Fb")[0] == 409, "it is made twice")
+    need(by_curl(door, *put, "/curled/_create/a%2Fb")[0] == 409, "it is made twice")
     need(by_curl(door, "/curled/_doc/a%2Fb")[1]["_source"] == json.loads(document), "it is not shown")
     need(by_curl(door, "-I", "/curled")[0] == 200, "there is no index")
     search = json.dumps({"query": {"percolate": {"field": "query", "document": {"text": "Tea"}}}})
@@ -391,9 +409,10 @@ def curl_percolates() -> None:
                            lines + document + "\n", "/curled/_bulk")
     need([next(iter(item.values()))["status"] for item in done["items"]] == [200, 404, 400, 201], f"{done}")
     need(done["errors"] is True and by_curl(door, "/curled/_count")[1]["count"] == 2, f"{done}")
-    for words, due in ((("-d", document, "/curled/_doc"), 406), (("/nowhere/_count",), 404), (("/curled/_forcemerge",), 400),
-                       ((*kind, "-d", "{", "/curled/_search"), 400), (("-X", "DELETE", "/*"), 404),
-                       (("/curled/_search?q=tea",), 400), ((*kind, "-d", "{}", "/_bulk"), 400)):
+    for words, due in ((("-d", document, "/curled/_doc"), 406), (("/nowhere/_count",), 404),
+                       (("/curled/_forcemerge",), 400), ((*kind, "-d", "{", "/curled/_search"), 400),
+                       (("-X", "DELETE", "/*"), 404), (("/curled/_search?q=tea",), 400),
+                       ((*kind, "-d", "{}", "/_bulk"), 400)):
         status, told = by_curl(door, *words)
         need(status == due and told["status"] == due and bool(told["error"]["reason"]), f"{words}: {status} {told}")
 
@@ -414,14 +433,15 @@ def searches_ask_for_what_is_served() -> None:
     need(ids({"bool": {"must": [percolate], "filter": [{"range": {"count": {"gte": 3}}}]}}) == ["3", "4", "5"], "range")
     need(ids({"bool": {"must": percolate, "must_not": {"term": {"tag": "t0"}}}}) == ["1", "3", "5"], "must_not")
     need(ids({"bool": {"must": percolate, "should": {"match": {"by.name": "bob"}}}}) == list("012345"), "should")
-    need(ids({"bool": {"must": percolate, "should": {"match": {"by.name": "bob"}}, "minimum_should_match": 1}}) == ["0"],
-         "minimum_should_match")
-    need(ids({"term": {"tag": "t1"}}) == ["1", "3", "5"] and ids({"match_all": {}}, size=2, **{"from": 3}) == ["3", "4"],
-         "without percolate")
-    shown = asked(door, "POST", "/kept/_search", {"size": 1, "_source": ["by.*", "count"]})["hits"]["hits"][0]["_source"]
-    need(shown == {"count": 0, "by": {"name": "Bob"}}, f"{shown}")
+    need(ids({"bool": {"must": percolate, "should": {"match": {"by.name": "bob"}}, "minimum_should_match": 1}})
+         == ["0"], "minimum_should_match")
+    need(ids({"term": {"tag": "t1"}}) == ["1", "3", "5"], "without percolate")
+    need(ids({"match_all": {}}, size=2, **{"from": 3}) == ["3", "4"], "of all")
+    shown = asked(door, "POST", "/kept/_search", {"size": 1, "_source": ["by.*", "count"]})["hits"]["hits"]
+    need(shown[0]["_source"] == {"count": 0, "by": {"name": "Bob"}}, f"{shown}")
     need(asked(door, "POST", "/kept/_count", {"query": {"term": {"tag": "t1"}}})["count"] == 3, "count")
-    for body, words in (({"aggs": {}}, ("[aggs]",)), ({"sort": ["count"]}, ("[sort]", "_doc")), ({"size": 10_001}, ("size",)),
+    for body, words in (({"aggs": {}}, ("[aggs]",)), ({"sort": ["count"]}, ("[sort]", "_doc")),
+                        ({"size": 10_001}, ("size",)),
                         ({"query": {"bool": {"should": [percolate]}}}, ("[percolate]", "should")),
                         ({"query": {"percolate": {"field": "text", "document": {}}}}, ("[text]",)),
                         ({"query": {"percolate": {"field": "query", "index": "a", "id": "1"}}}, ("[index]",)),
@@ -431,8 +451,8 @@ def searches_ask_for_what_is_served() -> None:
 
 
 def what_was_answered_is_kept() -> None:
-    """While the door is ended at once again and again: a document is there as it was answered last or sent after, and it
-    is found by just the query that it shows."""
+    """While the door is ended at once again and again: a document is there as it was answered last or sent after, and
+    it is found by just the query that it shows."""
     dice = Random("percolator")
     sent: dict[str, list[int | None]] = {}
     number = 0
@@ -481,7 +501,7 @@ def cut_off(door: Door, name: str, number: int) -> None:
 
 
 def judge_kept(door: Door, sent: dict[str, list[int | None]]) -> None:
-    """Each document is there as it was sent last, or as one of those that had no answer, and holds of its word alone."""
+    """Each document is there as it was sent last, or as one that had no answer, and holds of its word alone."""
     if not sent:
         return
     most = max(number for numbers in sent.values() for number in numbers if number)
@@ -513,7 +533,7 @@ def queries_changed_elsewhere_are_gone() -> None:
 
 
 TESTS: tuple[Callable[[], None], ...] = (
-    clients_percolate, queries_mean_what_elasticsearch_says, texts_of_operators_mean_what_lucene_says,
-    texts_are_read_as_by_hand, texts_of_any_signs_hold_of_themselves, what_has_no_meaning_is_refused, what_the_mapping_can_not_have_is_refused,
-    marks_stand_where_queries_hold, curl_percolates, searches_ask_for_what_is_served, what_was_answered_is_kept,
-    queries_changed_elsewhere_are_gone)
+    clients_make_indices_and_documents, clients_percolate, queries_mean_what_elasticsearch_says,
+    texts_of_operators_mean_what_lucene_says, texts_are_read_as_by_hand, texts_of_any_signs_hold_of_themselves,
+    what_has_no_meaning_is_refused, what_the_mapping_can_not_have_is_refused, marks_stand_where_queries_hold,
+    curl_percolates, searches_ask_for_what_is_served, what_was_answered_is_kept, queries_changed_elsewhere_are_gone)

@@ -14,7 +14,8 @@ TAGS = ["red", "Red", "dark red", "", "re", "rød", "blue"]
 PRICES = [-2.5, -1, 0, 0.1, 1, 2.5, 3, 1e9]
 COUNTS = [-3, 0, 1, 2, 10, 2_000_000_000]
 LEASTS: list[int | str] = [0, 1, 2, 3, "1", "-1", "50%", "-30%", "75%", "2<-1", "1<2 3<75%"]
-DAYS: list[int | str] = ["2020", "2020-02", "2020-02-29", "2020-02-29T12", "2020-02-29T12:30:45", "1969-12-31", 1582934400000]
+DAYS: list[int | str] = ["2020", "2020-02", "2020-02-29", "2020-02-29T12", "2020-02-29T12:30:45", "1969-12-31",
+                         1582934400000]
 
 
 class Source:
@@ -99,7 +100,8 @@ class Source:
 
     def begun(self) -> Json:
         """Words, the last of which may go on."""
-        return {"match_bool_prefix": {self.field(): {"query": self.text(3), "operator": self.dice.choice(["or", "and"])}}}
+        about = {"query": self.text(3), "operator": self.dice.choice(["or", "and"])}
+        return {"match_bool_prefix": {self.field(): about}}
 
     def many(self) -> Json:
         """A match in several fields."""

@@ -226,9 +226,9 @@ def in_field(document: Json, form: str, path: str, value: Any) -> bool:
 
 
 def joined(clauses_of_text: list[tuple[str, str, bool]], needs_all: bool) -> bool:
-    """Whether clauses of a text hold by their operators (AND, OR or none) and signs (+, - or none): AND makes the clause
-    on either side of it one that must hold, but for one that must not; where a blank is AND, OR makes both optional,
-    the one behind it last."""
+    """Whether clauses of a text hold by their operators (AND, OR or none) and signs (+, - or none): AND makes the
+    clause on either side of it one that must hold, but for one that must not; where a blank is AND, OR makes both
+    optional, the one behind it last."""
     kinds: list[str] = []
     for operator, sign, _ in clauses_of_text:
         if kinds and kinds[-1] != "-" and (operator == "AND" or operator == "OR" and needs_all):

@@ -1,6 +1,6 @@
 #!/usr/bin/python3
-"""Calls Debian's client of Elasticsearch: reads calls from standard input, each a name and its arguments, and prints what
-each gave, or how it was refused."""
+"""Calls Debian's client of Elasticsearch: reads calls from standard input, each a name and its arguments, and prints
+what each gave, or how it was refused."""
 
 from __future__ import annotations
 

@@ -33,7 +33,8 @@ def routes(door: Door) -> list[web.RouteDef]:
     found: list[web.RouteDef] = []
     for methods, path, handler in handlers:
         for method in methods.split():
-            found.append(web.route(method, PREFIX + path, asking(handler) if path.endswith(_ASKS) else handled(handler)))
+            answering = asking(handler) if path.endswith(_ASKS) else handled(handler)
+            found.append(web.route(method, PREFIX + path, answering))
     return found
 
 

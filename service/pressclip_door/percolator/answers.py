@@ -27,7 +27,8 @@ _ALWAYS = {"pretty", "human", "error_trace", "format", "refresh", "timeout", "ma
            "include_type_name", "local", "flat_settings", "include_defaults", "realtime", "require_alias", "force",
            "wait_if_ongoing", "allow_mapping_change", "write_index_only"}
 _KINDS = {"behind": "es_rejected_execution_exception", "rate": "es_rejected_execution_exception",
-          "json": "json_parse_exception", "full": "cluster_block_exception", "ended": "process_cluster_event_timeout_exception"}
+          "json": "json_parse_exception", "full": "cluster_block_exception",
+          "ended": "process_cluster_event_timeout_exception"}
 
 
 def answer(request: web.Request, value: Json, status: int = 200) -> web.Response:
@@ -78,11 +79,26 @@ async def object_of(door: Door, request: web.Request, place: str, is_needed: boo
 
 
 def value_of(text: bytes, place: str) -> Any:
-    """The value of a JSON text."""
+    """The value of a JSON text, in whose objects each name stands once."""
     try:
-        return json.loads(text)
+        return json.loads(text, object_pairs_hook=object_with, parse_constant=no_number)
     except (ValueError, RecursionError) as error:
         raise Trouble("json_parse_exception", f"[{place}] is no JSON: {error}") from None
+
+
+def object_with(members: list[tuple[str, Any]]) -> Json:
+    """The object of these members; `ValueError` where one is there twice."""
+    found: Json = {}
+    for name, value in members:
+        if name in found:
+            raise ValueError(f"the member {name} is there twice")
+        found[name] = value
+    return found
+
+
+def no_number(text: str) -> Any:
+    """Refuses what is no number of JSON."""
+    raise ValueError(f"{text} is no number")
 
 
 def handled(handler: Handler) -> Handler:
@@ -104,6 +120,8 @@ def trouble_of(error: Exception) -> Trouble | None:
     """An error as Elasticsearch tells it; None where it is not one of those that are expected."""
     if isinstance(error, Trouble):
         return error
+    if isinstance(error, RecursionError):
+        return Trouble("json_parse_exception", "objects and lists stand in each other too deep")
     if isinstance(error, Behind):
         error = Problem("behind")
     elif isinstance(error, Ended):

@@ -118,7 +118,7 @@ def percolating_of(part: Part, fields: FieldMap) -> Percolating:
 
 @dataclass(frozen=True)
 class Source:
-    """Which parts of the source of a hit are shown: those that fit one of `included`, if any, and none of `excluded`."""
+    """Which parts of a source are shown: those that fit one of `included`, if any, and none of `excluded`."""
 
     is_shown: bool = True
     included: tuple[str, ...] = ()

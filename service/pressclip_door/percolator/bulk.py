@@ -70,8 +70,8 @@ def action_of(part: Part, usual_index: str | None) -> Action:
     """The action of a line."""
     name, about = part.only()
     if name not in _ACTIONS:
-        raise Trouble("illegal_argument_exception", f"Malformed action/metadata line at [{part.place}]: [{name}] is none"
-                                                    f" of {', '.join(_ACTIONS)}")
+        raise Trouble("illegal_argument_exception", f"Malformed action/metadata line at [{part.place}]: [{name}] is"
+                                                    f" none of {', '.join(_ACTIONS)}")
     members = about.members()
     for member, one in members.items():
         if member not in _MEMBERS:

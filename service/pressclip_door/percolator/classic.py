@@ -20,7 +20,8 @@ _TOKENS = tuple((name, re.compile(pattern)) for name, pattern in (
     ("WILD", rf"(?:{_START}|[*?])(?:{_START}|[+\-*?])*"), ("REGEXP", r"/(?:[^/\\]|\\[\s\S])*/"),
     ("RANGE", rf"[\[{{]\s*(?P<low>{_END})\s+TO\s+(?P<high>{_END})\s*[\]}}]")))
 _WHITE = re.compile(r"[ \t\n\r\u3000]+")
-_WHY = {"^": "boosts have no meaning here, nothing is scored", "~": "words are compared whole, and phrases have no slop",
+_WHY = {"^": "boosts have no meaning here, nothing is scored",
+        "~": "words are compared whole, and phrases have no slop",
         "WILD": "a * stands at the end of a word alone, and ? nowhere", "REGEXP": "regular expressions are not served"}
 # What may not follow a word that is read in one piece with the one before it.
 _ENDS_RUN = (":", "*", "~", "^", "AND", "OR")
@@ -133,7 +134,8 @@ def tokens_of(text: str) -> list[Token]:
 
 def plain(text: str) -> str:
     """A text with each escaped character as itself."""
-    return re.sub(r"\\u([0-9A-Fa-f]{4})|\\([\s\S])", lambda found: chr(int(found[1], 16)) if found[1] else found[2], text)
+    return re.sub(r"\\u([0-9A-Fa-f]{4})|\\([\s\S])",
+                  lambda found: chr(int(found[1], 16)) if found[1] else found[2], text)
 
 
 class Parser:

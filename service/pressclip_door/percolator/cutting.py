@@ -28,7 +28,7 @@ class ExplainerCutter:
             return known
         told = await self._explainer.words(text)
         if "words" not in told:
-            raise Trouble("illegal_argument_exception", f"a text can't be cut into words: {told.get('says', 'no reason')}")
+            raise Trouble("illegal_argument_exception", f"a text can't be cut into words: {told.get('says', told)}")
         cuts = tuple(Cut(one["word"], one["start"], one["end"]) for one in told["words"])
         if len(text) <= MOST_REMEMBERED_CHARACTERS:
             self._known[text] = cuts

@@ -6,7 +6,7 @@ from dataclasses import dataclass, field
 from typing import Any, Iterable, Iterator
 
 from .leaves import text_of_value, word_of_value
-from .mapping import PRESENT, Field, FieldMap, Kind
+from .mapping import PRESENT, Field, FieldMap, Kind, above
 from .part import Part
 from .trouble import Trouble
 from .values import Unfit, decimal_of, integer_word, keyword_word, within
@@ -36,32 +36,34 @@ def document_of(fields: FieldMap, part: Part) -> Document:
     """The fields of a document that the mapping has; `Trouble` where a value is none of its field's type."""
     found = Document()
     part.members()
-    for path, value in _values(part, "", 0):
-        if path == fields.query:
-            continue
+    for path, value in _values(part, fields, "", 0):
         if path in fields.objects:
             raise unfit(path, "object", value, "a value stands where an object has to")
         for one in fields.by_source.get(path, ()):
-            _take(found, fields, one, value)
+            _take(found, one, value)
     return found
 
 
-def _values(part: Part, path: str, depth: int) -> Iterator[tuple[str, Part]]:
+def _values(part: Part, fields: FieldMap, path: str, depth: int) -> Iterator[tuple[str, Part]]:
     """Each value that is no object and not null, with the path of its field."""
     if isinstance(part.value, list):
         for one in part.items():
-            yield from _values(one, path, depth)
+            yield from _values(one, fields, path, depth)
+    elif path == fields.query:
+        return
     elif isinstance(part.value, dict):
+        if path in fields.by_source:
+            raise unfit(path, fields.by_source[path][0].type, part, "an object stands where a value has to")
         if depth > MOST_DEPTH:
             raise Trouble("mapper_parsing_exception", f"[{part.place}]: objects stand in each other {MOST_DEPTH} deep"
                                                       " at most")
         for name, one in part.members().items():
-            yield from _values(one, f"{path}.{name}" if path else name, depth + 1)
+            yield from _values(one, fields, f"{path}.{name}" if path else name, depth + 1)
     elif part.value is not None:
         yield path, part
 
 
-def _take(found: Document, fields: FieldMap, one: Field, value: Part) -> None:
+def _take(found: Document, one: Field, value: Part) -> None:
     """Takes a value of a field."""
     try:
         written = written_value(one, value.scalar())
@@ -73,9 +75,7 @@ def _take(found: Document, fields: FieldMap, one: Field, value: Part) -> None:
         return
     found.values.setdefault(one.path, []).append(written)
     found.present.add(one.path)
-    names = one.source.split(".")
-    found.present.update(path for path in (".".join(names[:end]) for end in range(1, len(names)))
-                         if path in fields.objects)
+    found.present.update(above(one.source))
 
 
 def written_value(one: Field, value: Any) -> str | None:

@@ -16,7 +16,7 @@ Json = dict[str, Any]
 MOST_ENGINE_FIELDS = 16
 MOST_ID_BYTES = 256
 _BAD_NAME = re.compile(r'[\\/*?"<>| ,#:A-Z]')
-_TEXT_MAPPING = {"dynamic": ("true", "false", True, False), "date_detection": (True, False),
+_FREE_OPTIONS = {"dynamic": ("true", "false", True, False), "date_detection": (True, False),
                  "numeric_detection": (True, False)}
 
 
@@ -82,8 +82,9 @@ class Index:
         """`Trouble` where queries would look at more of the engine's fields than an article has."""
         looked_at = {*self.looked_at, *fields}
         if len(looked_at) > MOST_ENGINE_FIELDS:
-            raise Trouble("illegal_argument_exception", f"the queries of an index look at {MOST_ENGINE_FIELDS} fields at"
-                                                        f" most, and here they are {', '.join(sorted(looked_at))}")
+            raise Trouble("illegal_argument_exception",
+                          f"the queries of an index look at {MOST_ENGINE_FIELDS} fields at most, and here they are"
+                          f" {', '.join(sorted(looked_at))}")
 
     def described(self) -> Json:
         """It as it is shown."""
@@ -97,8 +98,8 @@ def checked_name(name: str) -> str:
     """The name of an index, which has to be one; `Trouble` else."""
     if not name or _BAD_NAME.search(name) or name[0] in "-_+." or len(name.encode(errors="replace")) > 200:
         raise Trouble("invalid_index_name_exception",
-                      f"Invalid index name [{name}], must be lowercase, without \\, /, *, ?, \", <, >, |, space, comma, #"
-                      " and :, begin with none of -, _, + and ., and have 200 bytes at most", index=name)
+                      f"Invalid index name [{name}], must be lowercase, without \\, /, *, ?, \", <, >, |, space, comma,"
+                      " # and :, begin with none of -, _, + and ., and have 200 bytes at most", index=name)
     return name
 
 
@@ -106,12 +107,13 @@ def checked_body(body: Json) -> tuple[Json, FieldMap]:
     """The body of an index with all its parts, and its fields."""
     for name in body:
         if name not in ("mappings", "settings"):
-            raise Trouble("parse_exception", f"unknown key [{name}] for create index: [mappings] and [settings] are served")
+            raise Trouble("parse_exception", f"unknown key [{name}] for create index: [mappings] and [settings] are"
+                                             " served")
     mappings, settings = body.get("mappings"), body.get("settings", {})
     if not isinstance(mappings, dict) or not isinstance(mappings.get("properties"), dict):
         raise mapper("[mappings.properties] is asked for, with a field of type [percolator]")
     for name, value in mappings.items():
-        if name not in ("properties", "_meta") and value not in _TEXT_MAPPING.get(name, ()):
+        if name not in ("properties", "_meta") and value not in _FREE_OPTIONS.get(name, ()):
             raise mapper(f"[{name}: {value}] at [mappings.{name}] is not served")
     if not isinstance(settings, dict):
         raise Trouble("parse_exception", "[settings] is an object")

@@ -75,7 +75,8 @@ class Indices:
     def _loaded(self) -> Store:
         """The store, from which the indices are read. Of the documents under an id the last counts whose query the
         engine has."""
-        store = Store(self.door.settings.journal)
+        settings = self.door.settings
+        store = Store(settings.journal or (settings.spool.parent if settings.spool else None))
         for row in store.indices():
             body, fields = checked_body(json.loads(row.body))
             self._indices[row.name] = Index(row, body, fields)
@@ -164,8 +165,8 @@ class Indices:
         members = source.members()
         query = members.get(index.fields.query)
         if query is None or query.value is None:
-            raise Trouble("mapper_parsing_exception", f"a document without a query in [{index.fields.query}] is not kept"
-                                                      " here")
+            raise Trouble("mapper_parsing_exception",
+                          f"a document without a query in [{index.fields.query}] is not kept here")
         tree = await Reader(index.fields, self.cutter).read(query)
         text = json.dumps(source.value, ensure_ascii=False)
         return Wanted(name, source.written(text), text_of(tree), tuple(sorted(fields_of(tree))))

@@ -21,10 +21,10 @@ MOST_FIELDS = 1_000
 _USUAL_OPTIONS: Mapping[str, tuple[object, ...]] = {
     "index": (True,), "coerce": (True,), "ignore_malformed": (False,), "analyzer": ("standard",),
     "search_analyzer": ("standard",), "search_quote_analyzer": ("standard",), "null_value": (None,), "copy_to": (),
-    "split_queries_on_whitespace": (False,), "index_options": ("positions", "offsets"), "normalizer": ()}
+    "position_increment_gap": (100,), "split_queries_on_whitespace": (False,), "index_options": ("positions", "offsets"), "normalizer": ()}
 # Options that change nothing of what a query finds.
 _FREE_OPTIONS = {"store", "doc_values", "norms", "eager_global_ordinals", "fielddata", "fielddata_frequency_filter",
-                 "index_prefixes", "index_phrases", "term_vector", "similarity", "meta", "position_increment_gap"}
+                 "index_prefixes", "index_phrases", "term_vector", "similarity", "meta"}
 
 
 class Kind(Enum):
@@ -95,14 +95,23 @@ def field_map(properties: Json, place: str) -> FieldMap:
                 raise mapper(f"[{path}] at [{part.place}] is not served: one field of type [percolator], at the top")
             found.query = path
             continue
+        found.objects.update(above(path))
         _add(found, path, path, part)
         for name, inner in part.at("fields", part.value.get("fields") or {}).members().items():
             _add(found, f"{path}.{name}", path, inner)
     if not found.query:
         raise mapper(f"[{place}] needs a field of type [percolator], which is what an index is for here")
+    for path in found.objects & found.fields.keys():
+        raise mapper(f"[{path}] at [{place}] is a field, and has fields")
     if len(found.fields) > MOST_FIELDS:
         raise mapper(f"Limit of total fields [{MOST_FIELDS}] has been exceeded")
     return found
+
+
+def above(path: str) -> list[str]:
+    """The paths of the objects that a field stands in."""
+    names = path.split(".")
+    return [".".join(names[:end]) for end in range(1, len(names))]
 
 
 def _flat(part: Part, before: str, found: FieldMap) -> Iterator[tuple[str, Part]]:
@@ -113,6 +122,8 @@ def _flat(part: Part, before: str, found: FieldMap) -> Iterator[tuple[str, Part]
         if "properties" in described:
             if described.get("type", Part("object", "")).value != "object":
                 raise mapper(f"[{path}] of type [{one.value['type']}] is not served")
+            for option in described.keys() - {"type", "properties", "dynamic"}:
+                raise mapper(f"[{option}] of [{path}] at [{one.place}] is not served")
             found.objects.add(path)
             yield from _flat(described["properties"], f"{path}.", found)
         else:

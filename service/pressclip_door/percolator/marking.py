@@ -12,6 +12,8 @@ from .trouble import not_served
 from .words import BETWEEN, Cut, Cutter
 
 Json = dict[str, Any]
+# From a byte of a text to another.
+Stretch = tuple[int, int]
 USUAL_SIZE, USUAL_COUNT = 100, 5
 _PASSED_OVER = ("type", "order", "fragmenter", "boundary_scanner", "boundary_scanner_locale", "boundary_chars",
                 "boundary_max_scan", "phrase_limit", "max_analyzed_offset", "force_source", "require_field_match")
@@ -123,12 +125,12 @@ def value_edge(whole: bytes, at: int, step: int) -> int:
     return edge + len(gap) if step < 0 else edge
 
 
-def windows(whole: bytes, value: tuple[int, int], marked: Sequence[tuple[int, int]], size: int) -> list[tuple[int, int]]:
+def windows(whole: bytes, value: Stretch, marked: Sequence[Stretch], size: int) -> list[Stretch]:
     """Pieces of about so many bytes around marks, cut at blanks; the whole value where it is no longer than one."""
     start, end = value
     if end - start <= size:
         return [value]
-    found: list[tuple[int, int]] = []
+    found: list[Stretch] = []
     for first, last in marked:
         if found and last <= found[-1][1]:
             continue
@@ -146,7 +148,7 @@ def blank_from(whole: bytes, low: int, first: int) -> int:
     return first if blank < 0 else blank + 1
 
 
-def with_marks(whole: bytes, piece: tuple[int, int], marked: Sequence[tuple[int, int]], style: Style) -> str:
+def with_marks(whole: bytes, piece: Stretch, marked: Sequence[Stretch], style: Style) -> str:
     """A piece of a text with its marks."""
     at, end = piece
     found: list[bytes] = []

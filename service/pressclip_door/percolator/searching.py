@@ -108,7 +108,6 @@ class Searcher:
             if count % _TRIED_AT_ONCE == 0:
                 await asyncio.sleep(0)
             source = json.loads(self._indices.store.source(hit.held.row.seq))
-            source.pop(index.fields.query, None)
             document = document_of(index.fields, Part(source, "_source"))
             if holds(node, await self._words(index, document, looked_at)):
                 found.append(hit)
