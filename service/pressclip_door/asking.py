@@ -7,19 +7,20 @@ from typing import Any
 
 from .door import Door
 from .engine import Behind
-from .pipe import Ended
+from .pipe import Ended, Question
 from .problems import WORDS, Problem
 from .trial import line_of
 
 Json = dict[str, Any]
 
 
-async def ask(door: Door, value: Json) -> Json:
-    """The engine's reply to a request of the protocol, without its line's number. `Problem` where it is refused, with
-    the reason and the place; where the engine is behind; and where it ended."""
+async def ask(door: Door, value: Json, is_quiet: bool = False) -> Json:
+    """The engine's reply to a request of the protocol, without its line's number; of a quiet one nobody else hears the
+    alerts. `Problem` where it is refused, with the reason and the place; where the engine is behind; and where it
+    ended."""
     line = line_of(value)
     try:
-        reply: Json = json.loads(await door.engine.ask(line))
+        reply: Json = json.loads(await (asked_quietly(door, line) if is_quiet else door.engine.ask(line)))
     except Behind:
         raise Problem("behind", headers={"Retry-After": "1"}) from None
     except Ended as error:
@@ -28,6 +29,15 @@ async def ask(door: Door, value: Json) -> Json:
     if "refused" in reply:
         raise await refusal(door, line, reply)
     return reply
+
+
+async def asked_quietly(door: Door, line: bytes) -> bytes:
+    """The reply to a line that is only a question. `Behind` and `Ended` as of an engine."""
+    if not door.engine.has_room():
+        raise Behind()
+    question = Question()
+    door.engine.send(line, question)
+    return await question.reply()
 
 
 async def refusal(door: Door, line: bytes, reply: Json) -> Problem:

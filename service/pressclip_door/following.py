@@ -15,6 +15,7 @@ from .courier import Courier, Raised
 from .engine import Batch
 from .log import Log
 from .metrics import Metrics
+from .pipe import Question
 from .ring import Ring
 
 Json = dict[str, Any]
@@ -55,6 +56,8 @@ class Following:
             self._metrics.seconds.observe(now - owed.since)
             if reply.startswith(_MATCH):
                 self._lines["match"].inc()
+                if isinstance(owed.sink, Question):
+                    continue
                 self._take_match(owed.line)
                 if _ALERTED in reply:
                     raised += self._alerts(owed.line, json.loads(reply)["alerts"])

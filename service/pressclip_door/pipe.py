@@ -62,6 +62,12 @@ class Awaited:
         return await self._future
 
 
+class Question(Awaited):
+    """A sink whose articles only ask which queries hold of them: nobody else hears of their alerts."""
+
+    __slots__ = ()
+
+
 class Pipe(asyncio.SubprocessProtocol):
     """One life of the program. What it replies goes to `heard` in batches, what it tells on standard error to `told` by
     the line, and its end, after all that, to `ended` with its status."""

@@ -11,7 +11,7 @@ from pathlib import Path
 from random import Random
 from typing import Any, Callable, Iterator, Sequence
 
-from .door_runs import Answer, Door, shared
+from .door_runs import Answer, Door, Events, shared
 from .elasticsearch_inputs import Judge, Source
 from .elasticsearch_judge import FIELDS, holds
 from .grid_runs import DEBIAN_PYTHON
@@ -532,8 +532,23 @@ def queries_changed_elsewhere_are_gone() -> None:
     need(len(percolated(door, "else", [{"text": "tea"}])) == 1, "it does not hold")
 
 
+def percolated_documents_are_no_articles() -> None:
+    """They raise no alert, and are not among the last articles."""
+    door = shared()
+    emptied(door, "quiet", MAPPINGS)
+    need(bulk(door, "quiet", [{"match": {"text": "tea"}}])[0]["status"] == 201, "it is not put")
+    with Events(door) as events:
+        need(len(percolated(door, "quiet", [{"text": "tea of nobody"}])) == 1, "it does not hold")
+        door.match("a1", "tea of all")
+        heard = events.next()
+    need(heard["data"] == {"article": "a1", "queries": ["quiet/0"]}, f"{heard}")
+    last = door.ask("GET", "/articles").value["articles"]
+    need(not any("nobody" in article["fields"].get("text", "") for article in last), f"{last}")
+
+
 TESTS: tuple[Callable[[], None], ...] = (
     clients_make_indices_and_documents, clients_percolate, queries_mean_what_elasticsearch_says,
     texts_of_operators_mean_what_lucene_says, texts_are_read_as_by_hand, texts_of_any_signs_hold_of_themselves,
     what_has_no_meaning_is_refused, what_the_mapping_can_not_have_is_refused, marks_stand_where_queries_hold,
-    curl_percolates, searches_ask_for_what_is_served, what_was_answered_is_kept, queries_changed_elsewhere_are_gone)
+    curl_percolates, searches_ask_for_what_is_served, what_was_answered_is_kept, queries_changed_elsewhere_are_gone,
+    percolated_documents_are_no_articles)

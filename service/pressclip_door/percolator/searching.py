@@ -91,7 +91,7 @@ class Searcher:
         slots: dict[str, list[int]] = {}
         front = index.engine_id("")
         for part in parts_of(articles):
-            reply = await ask(self._door, {"op": "match", "articles": part})
+            reply = await ask(self._door, {"op": "match", "articles": part}, is_quiet=True)
             for alert in reply["alerts"]:
                 for name in alert["queries"]:
                     if name.startswith(front):
