@@ -6,13 +6,14 @@ import asyncio
 
 from aiohttp import WSCloseCode, web
 
-from .bodies import is_asked
+from .bodies import is_asked, limit_of
 from .broadcasting import MOST_AT_ONCE, Broadcaster, Form, Listener, Wish, fill, told, written
 from .door import Door
 from .problems import Problem
 
 HEADERS = {"Content-Type": "text/event-stream", "Cache-Control": "no-store", "X-Accel-Buffering": "no"}
 MOST_HEARD_BYTES = 1_024
+MOST_LAST = 1_000
 BEAT_SECONDS = 30.0
 
 
@@ -23,7 +24,7 @@ class Alerts:
         self._door = door
 
     async def get(self, request: web.Request) -> web.StreamResponse:
-        """Streams alerts behind `Last-Event-ID`, or from now on."""
+        """Streams alerts behind `Last-Event-ID`, or the last so many, or from now on."""
         if len(self._door.plain) + len(self._door.excerpted) >= self._door.settings.limits.alert_streams:
             raise Problem("streams", headers={"Retry-After": "10"})
         if request.headers.get("Upgrade", "").lower() == "websocket":
@@ -79,7 +80,9 @@ class Alerts:
         broadcaster, ring = self._of(wish), self._door.ring
         last = request.headers.get("Last-Event-ID") or request.query.get("last_event_id")
         number = broadcaster.sent
-        if last is not None:
+        if last is None:
+            number = max(ring.first_number - 1, number - last_of(request))
+        else:
             known = ring.number_of(last)
             number = ring.first_number - 1 if known is None or known < ring.first_number - 1 else known
             number = min(number, ring.next_number - 1)
@@ -109,8 +112,14 @@ class Alerts:
             await asyncio.sleep(0.02)
 
 
+def last_of(request: web.Request) -> int:
+    """How many of the alerts before it a request asks for; `Problem` where that is no number."""
+    return limit_of(request, 0, MOST_LAST, "last")
+
+
 def wish_of(request: web.Request, form: Form) -> Wish:
-    """What a request asks for."""
+    """What a request asks for; `Problem` where it can't be had."""
+    last_of(request)
     return Wish(form, request.query.get("prefix", ""), is_asked(request, "excerpts"))
 
 

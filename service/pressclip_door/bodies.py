@@ -59,11 +59,13 @@ def with_members(value: Json, needed: dict[str, type], allowed: dict[str, type] 
     return value
 
 
-def limit_of(request: web.Request, usual: int, most: int) -> int:
-    """How many are asked for by `limit`."""
-    text = request.query.get("limit", str(usual))
+def limit_of(request: web.Request, usual: int, most: int, name: str = "limit") -> int:
+    """How many are asked for by a member of the address; as many as usual where it is left out."""
+    text = request.query.get(name)
+    if text is None:
+        return usual
     if not text.isascii() or not text.isdigit() or not 1 <= int(text[:9]) <= most:
-        raise Problem("shape", f"limit is a number from 1 to {most}", member="limit")
+        raise Problem("shape", f"{name} is a number from 1 to {most}", member=name)
     return int(text)
 
 

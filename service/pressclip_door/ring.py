@@ -11,6 +11,7 @@ Json = dict[str, Any]
 # An article with more queries has several alerts.
 MOST_QUERIES = 1_000
 _BYTES_BESIDE = 500
+_MOST_TITLE = 200
 
 
 @dataclass
@@ -32,7 +33,8 @@ class Alert:
         return _BYTES_BESIDE + hits + sum(map(len, self.queries)) + sum(map(len, self.fields.values()))
 
     def document(self, prefix: str, with_excerpts: bool) -> Json | None:
-        """It as JSON, with the queries whose ids begin so alone; None where none does."""
+        """It as JSON, with the queries whose ids begin so alone; None where none does. With excerpts it has its time
+        too, in seconds of the epoch, and the field `title` where there is one."""
         queries = [query for query in self.queries if query.startswith(prefix)] if prefix else list(self.queries)
         if not queries:
             return None
@@ -40,6 +42,9 @@ class Alert:
         if with_excerpts:
             named = set(queries)
             said["excerpts"] = [one for one in self.excerpts or () if one["query"] in named]
+            said["at"] = round(self.at, 3)
+            if "title" in self.fields:
+                said["title"] = self.fields["title"][:_MOST_TITLE]
         return said
 
 
