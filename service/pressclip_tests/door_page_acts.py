@@ -85,7 +85,7 @@ def remarks_and_faults_are_marked_at_their_places(browser: Browser, door: Door) 
     need(browser.find("#query-box .caret.at-fault").get_attribute("title") == MISSING, "no caret at the end")
     need(browser.find("#query-box [role=textbox]").get_attribute("aria-invalid") == "true", "the box is not invalid")
     need(not browser.find("#sentence").is_displayed(), "a text that is no query has a meaning")
-    write(browser, "tea AND OR 🍵")
+    browser.fill(QUERY, '"🍵 tea" AND OR tea')
     browser.until(lambda: browser.texts(".at-fault") == ["OR"], "the fault is not at OR")
 
 

@@ -131,6 +131,10 @@ class Browser:
             document.activeElement.dispatchEvent(
               new ClipboardEvent("paste", {clipboardData: data, bubbles: true, cancelable: true}))""", text)
 
+    def fill(self, selector: str, text: str) -> None:
+        """Puts a text into a box in one go."""
+        self.run("document.querySelector(arguments[0]).CodeMirror.setValue(arguments[1])", selector, text)
+
     def pick(self, selector: str, text: str) -> None:
         """Picks what shows a text from a list to pick from, once it is there."""
         self.until(lambda: text in self.texts(f"{selector} option"), f"{text!r} can't be picked")

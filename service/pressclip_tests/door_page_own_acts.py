@@ -5,7 +5,7 @@ from __future__ import annotations
 from pathlib import Path
 from typing import TYPE_CHECKING, Any, Callable
 
-from .door_page_acts import ARTICLES, write
+from .door_page_acts import ARTICLES, QUERY, write
 from .door_runs import Door
 from .judge import folder, need
 
@@ -200,20 +200,20 @@ def states(browser: Browser, door: Door) -> list[tuple[str, Callable[[], None]]]
 
     def long() -> None:
         show("write")
-        write(browser, 'Siemens Energy AND (title:"green tea" OR [a TO b}) -' + "x" * 80)
+        browser.fill(QUERY, 'Siemens Energy AND (title:"green tea" OR [a TO b}) -' + "x" * 80)
         browser.has("#sentence", "must have")
 
     def tried() -> None:
         browser.pick("#pick", "Tea prices rise")
-        write(browser, "tea -spam")
+        browser.fill(QUERY, "tea -spam")
         browser.has("#verdict", "Holds")
 
     def refused() -> None:
-        write(browser, "tea AND")
+        browser.fill(QUERY, "tea AND")
         browser.has("#fault", "missing")
 
     def never() -> None:
-        write(browser, "-spam")
+        browser.fill(QUERY, "-spam")
         browser.has("#flags", "No article")
 
     def alerted() -> None:

@@ -34,7 +34,10 @@ class Page {
   #reading = new Reading(this.#box, (fields, isReadable) => this.#trying.hear(fields, isReadable));
   #queries = new Queries((id) => this.#open(id));
   #draft = new Draft(this.#box, (id) => this.#queries.mark(id), () => this.#queries.load());
-  #alerts = new Alerts((query, article) => this.#open(query, article), (count) => this.#panes.came(count));
+  #alerts = new Alerts((query, article) => this.#open(query, article), (count) => {
+    this.#panes.came(count);
+    this.#trying.refresh();
+  });
   #standing = new Standing(() => this.#queries.refresh());
   #stream = new AlertStream({
     alert: (alert) => this.#alerts.take(alert),

@@ -10,6 +10,7 @@ import { spansOf } from "./places.js";
 /** @typedef {import("./types.js").Marked} Marked */
 
 const QUIET_MILLISECONDS = 250;
+const REFRESHED_AFTER = 1_000;
 const LAST_ARTICLES = "20";
 const MOST_LABEL = 70;
 const MOST_FIELDS = 16;
@@ -36,6 +37,7 @@ export class Trying {
   #last = [];
   #newest = new Newest();
   #isReadable = false;
+  #timer = 0;
   #pick = find("pick", HTMLSelectElement);
   #later = later(QUIET_MILLISECONDS, () => this.#ask());
 
@@ -85,6 +87,16 @@ export class Trying {
       });
       this.#boxes.set(name, box);
     }
+  }
+
+  /** Loads soon which articles came last, unless one is picked just now. */
+  refresh() {
+    this.#timer ||= setTimeout(() => {
+      this.#timer = 0;
+      if (document.activeElement !== this.#pick) {
+        this.load();
+      }
+    }, REFRESHED_AFTER);
   }
 
   /** Loads which articles came last; the chosen one stays chosen. */
