@@ -83,6 +83,22 @@ def alerts_that_came_before_are_shown(browser: Browser) -> None:
                       "not the last twenty are shown")
 
 
+def a_page_that_nobody_sees_keeps_no_connection(browser: Browser) -> None:
+    """And hears what it missed once it is seen again, each alert once."""
+    with Door() as door:
+        door.put("tea", "tea")
+        browser.open(door.address)
+        door.match("a1", "tea")
+        browser.until(lambda: browser.texts("#alert-list .headline") == ["a1"], "no alert")
+        for is_hidden, count in ((True, 0), (False, 1)):
+            browser.run("""Object.defineProperty(document, "hidden", {value: arguments[0], configurable: true});
+                document.dispatchEvent(new Event("visibilitychange"))""", is_hidden)
+            door.match(f"more-{count}", "tea")
+            browser.until(lambda: f"pressclip_listeners {count}.0" in door.ask("GET", "/metrics").text.decode(),
+                          f"there are not {count} listeners")
+        browser.until(lambda: browser.texts("#alert-list .headline") == ["more-1", "more-0", "a1"], "alerts are missing")
+
+
 def the_page_goes_on_where_the_door_was_ended(browser: Browser) -> None:
     """It says so, hears the alerts of the next door at the same address, and tells that some may be missing."""
     with folder() as name:
@@ -332,6 +348,7 @@ def the_keyboard_goes_through_all(browser: Browser) -> None:
 
 OWN_ACTS: tuple[OwnAct, ...] = (
     alerts_are_shown_as_they_come, many_alerts_are_shown_within_bounds, alerts_that_came_before_are_shown,
-    texts_of_others_stay_texts, the_page_goes_on_where_the_door_was_ended, the_page_asks_for_a_token,
+    texts_of_others_stay_texts, a_page_that_nobody_sees_keeps_no_connection, the_page_goes_on_where_the_door_was_ended,
+    the_page_asks_for_a_token,
     all_is_done_by_keys, single_keys_can_be_turned_off, everyone_can_read_and_work_the_page,
     the_checks_see_what_is_broken, the_keyboard_goes_through_all)

@@ -49,16 +49,27 @@ export class EventCutter {
   }
 }
 
-/** Listens for as long as the page is there, and goes on behind the last alert that it heard. */
+/**
+ * Listens for as long as the page is to be seen, and goes on behind the last alert that it heard. A browser has few
+ * connections to one host, so pages that nobody sees keep none.
+ */
 export class AlertStream {
   #last = "";
   #pause = FIRST_PAUSE;
+  #controller = new AbortController();
   /** @type {(() => void) | null} */
   #wake = null;
 
   /** @param {Hearer} hearer */
   constructor(hearer) {
     this.hearer = hearer;
+    document.addEventListener("visibilitychange", () => {
+      if (document.hidden) {
+        this.#controller.abort();
+      } else {
+        this.retry();
+      }
+    });
   }
 
   /** Listens, again and again. */
@@ -85,7 +96,9 @@ export class AlertStream {
   async #rest() {
     await new Promise((resolve) => {
       this.#wake = () => resolve(undefined);
-      setTimeout(this.#wake, this.#pause);
+      if (!document.hidden) {
+        setTimeout(this.#wake, this.#pause);
+      }
     });
     this.#wake = null;
     this.#pause = Math.min(this.#pause * 2, MOST_PAUSE);
@@ -94,6 +107,7 @@ export class AlertStream {
   /** Listens once, until the stream ends or is silent for too long. */
   async #listen() {
     const controller = new AbortController();
+    this.#controller = controller;
     const headers = this.#last ? { "Last-Event-ID": this.#last } : undefined;
     const parameters = { excerpts: "true", ...(this.#last ? {} : { last: SHOWN_AT_FIRST }) };
     const answer = await send(addressOf("alerts", parameters), { headers, signal: controller.signal });

@@ -60,10 +60,13 @@ export class Keys {
    * @param {KeyboardEvent} event
    */
   #press(event) {
+    const isCommand = (event.ctrlKey || event.metaKey) && !event.altKey && event.key.toLowerCase() === "s";
+    if (isCommand) {
+      event.preventDefault();
+    }
     if (document.querySelector("dialog[open]")) {
       return;
     }
-    const isCommand = (event.ctrlKey || event.metaKey) && !event.altKey && event.key.toLowerCase() === "s";
     if (isCommand || event.key === "F8") {
       event.preventDefault();
       (isCommand ? this.everywhere.save : this.everywhere.next)();

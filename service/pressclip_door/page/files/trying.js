@@ -51,14 +51,30 @@ export class Trying {
   }
 
   /**
-   * Hears how the query is read now: it is tried again, and the fields that it names get boxes.
+   * Hears how the query is read now: it is tried again, and the fields that it names have boxes.
    * @param {string[]} fields
    * @param {boolean} isReadable
    */
   hear(fields, isReadable) {
     this.#isReadable = isReadable;
-    this.#ensure(fields);
+    if (isReadable) {
+      this.#drop(fields);
+      this.#ensure(fields);
+    }
     this.#later();
+  }
+
+  /**
+   * Takes the empty boxes of other fields away.
+   * @param {string[]} names
+   */
+  #drop(names) {
+    this.#boxes.forEach((box, name) => {
+      if (box.text === "" && !USUAL_FIELDS.includes(name) && !names.includes(name)) {
+        find("article", HTMLElement).querySelector(`[data-field="${name}"]`)?.remove();
+        this.#boxes.delete(name);
+      }
+    });
   }
 
   /** Puts the keyboard into the article's text. */
