@@ -3,7 +3,6 @@
 from __future__ import annotations
 
 import asyncio
-import json
 import secrets
 import time
 from typing import Any, AsyncIterator, Coroutine, Sequence
@@ -31,7 +30,6 @@ from .tokens import Token
 from .trial import Trial
 
 MODULES = (queries, articles, alerts, lines, explain, deliveries, health, openapi, percolator, page)
-_EMPTY_ARTICLE = b'{"op":"match","articles":[{"id":"empty","fields":{}}]}'
 
 
 async def dumped(command: Sequence[str]) -> AsyncIterator[bytes]:
@@ -71,11 +69,8 @@ async def start(door: Door) -> None:
     """Starts what the door works with. `EngineFailed` and `Ended` as of an engine."""
     if door.courier:
         await door.courier.start()
-    await door.engine.start()
     await door.trial.start()
-    reply = json.loads(await door.engine.ask(_EMPTY_ARTICLE))
-    door.shows_hits = "hits" in reply["alerts"][0]
-    door.following.last_matches.clear()
+    await door.engine.start()
 
 
 async def stop(door: Door) -> None:

@@ -20,8 +20,7 @@ from .trial import Trial
 
 @dataclass
 class Door:
-    """One door. `shows_hits` says whether the engine's replies have hits; `handled` counts the
-    requests that are worked on; `draining` is set once the end has begun."""
+    """One door. `handled` counts the requests that are worked on; `draining` is set once the end has begun."""
 
     settings: Settings
     engine: Engine
@@ -35,9 +34,13 @@ class Door:
     metrics: Metrics
     log: Log
     courier: Courier | None = None
-    shows_hits: bool = False
     handled: int = 0
     draining: asyncio.Event = field(default_factory=asyncio.Event)
+
+    @property
+    def shows_hits(self) -> bool:
+        """Whether the engine's replies to matches have hits."""
+        return self.engine.shows_hits
 
     @property
     def is_draining(self) -> bool:

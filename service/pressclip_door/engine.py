@@ -8,7 +8,8 @@ from collections import deque
 from dataclasses import dataclass
 from typing import Any, Awaitable, Callable, Coroutine, Protocol, Sequence
 
-from pressclip_service.errors import ServiceError
+from pressclip_service.errors import EngineFailed, ServiceError
+from pressclip_service.replies import number_of
 
 from .pipe import Awaited, Ended, Owed, Pipe, Sink
 
@@ -16,7 +17,8 @@ FIRST_PAUSE_SECONDS = 0.1
 MOST_PAUSE_SECONDS = 10.0
 SECONDS_TO_END = 60.0
 STUCK_SECONDS = 60.0
-_COUNT = b'{"op":"count"}'
+_FIRST = b'{"op":"match","articles":[{"id":"a","fields":{}}]}'
+_SHOWS_HITS = b'{"alerts":[{"article":"a","hits":'
 
 Batch = Sequence[tuple[Owed, bytes]]
 
@@ -48,11 +50,13 @@ class Room:
 
 class Engine:
     """Lines in, reply lines out, in order. `start` it and `stop` it; between them it is started anew where it ends.
+    `shows_hits` says whether its replies to matches have hits.
     What `beside` gives is done at each start, beside the replay."""
 
     def __init__(self, command: Sequence[str], room: Room, follower: Follower,
                  beside: Callable[[], Coroutine[Any, Any, None] | None] = lambda: None) -> None:
         self.is_ready = False
+        self.shows_hits = False
         self._command = list(command)
         self._beside = beside
         self._room = room
@@ -60,6 +64,7 @@ class Engine:
         self._pipe: Pipe | None = None
         self._is_stopping = False
         self._was_ready = False
+        self._answered = 0
         self._over = asyncio.Event()
         self._pause = FIRST_PAUSE_SECONDS
         self._held: deque[tuple[Batch, Awaitable[None] | None]] = deque()
@@ -125,9 +130,11 @@ class Engine:
         pipe = Pipe(self._hear, self._follower.told, self._end)
         await pipe.start(self._command)
         self._pipe = pipe
+        self._answered = 0
         awaited = Awaited()
-        pipe.send(Owed(_COUNT, awaited, time.perf_counter()))
-        await asyncio.gather(awaited.reply(), *besides)
+        pipe.send(Owed(_FIRST, awaited, time.perf_counter()))
+        reply, *_ = await asyncio.gather(awaited.reply(), *besides)
+        self.shows_hits = reply.startswith(_SHOWS_HITS)
         self.is_ready = True
         self._pause = FIRST_PAUSE_SECONDS
 
@@ -148,6 +155,13 @@ class Engine:
     def _hear(self, batch: list[tuple[Owed, bytes]]) -> None:
         """Hands replies out in their order, behind what the follower wants done before."""
         self._freed.set()
+        for _, reply in batch:
+            self._answered += 1
+            if number_of(reply) != self._answered:
+                raise EngineFailed(f"the engine answered out of turn: {reply[:200]!r}")
+        if not self.is_ready:
+            hand_out(batch)
+            return
         before = self._follower.follow(batch)
         if before is None and not self._held:
             hand_out(batch)

@@ -153,8 +153,13 @@ class Pipe(asyncio.SubprocessProtocol):
             owed = self.owed.popleft()
             self.bytes_owed -= len(owed.line)
             batch.append((owed, reply))
-        if batch:
-            self._heard(batch)
+        try:
+            if batch:
+                self._heard(batch)
+        except EngineFailed as error:
+            self.owed.extendleft(owed for owed, _ in reversed(batch))
+            self._told(str(error))
+            self.kill()
 
     def connection_lost(self, error: Exception | None) -> None:
         """Sees the end: all pipes are read to theirs, and the process is gone."""
