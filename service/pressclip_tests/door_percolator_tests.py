@@ -6,6 +6,7 @@ from __future__ import annotations
 import json
 import signal
 import subprocess
+import time
 from functools import partial
 from pathlib import Path
 from random import Random
@@ -317,6 +318,34 @@ def what_has_no_meaning_is_refused() -> None:
     need([one["query"] for one in shown] == ["text:tea"], f"{shown}")
 
 
+COSTLY: tuple[Json, ...] = (
+    {"bool": {"must": [{"bool": {"should": [{"match": {"text": f"w{at}"}} for at in range(12)],
+                                 "minimum_should_match": 4}}] * 3_000}},
+    {"match": {"text": {"query": "w " * 30_000, "minimum_should_match": 15_000}}},
+    {"terms": {"tag": [str(at) for at in range(100_000)]}},
+    {"bool": {"should": [{"term": {"tag": "x"}}] * 50_000}},
+    {"query_string": {"query": "(" * 60_000, "default_field": "text"}},
+    {"query_string": {"query": "a " * 30_000, "default_field": "text"}},
+    {"query_string": {"query": "[\t" + "\t" * 60_000, "default_field": "text"}},
+    {"simple_query_string": {"query": "(\"" * 30_000, "fields": ["text"]}},
+    {"simple_query_string": {"query": "a|b+" * 16_000, "fields": ["text"]}})
+MOST_SECONDS_OF_COSTLY = 5.0
+
+
+def costly_queries_are_refused_soon() -> None:
+    """Those that would be written out too long, and texts of signs alone, before they take long."""
+    door = shared()
+    emptied(door, "costly", MAPPINGS)
+    for query in COSTLY:
+        start = time.monotonic()
+        refused(door.ask("PUT", f"{BASE}/costly/_doc/1", {"query": query}), 400)
+        took = time.monotonic() - start
+        need(took < MOST_SECONDS_OF_COSTLY, f"{str(query)[:100]} took {took:.1f} s")
+    deep = b'{"query":' + b'{"bool":{"must":' * 900 + b"{}" + b"}}" * 900 + b"}"
+    refused(door.ask("PUT", f"{BASE}/costly/_doc/1", deep), 400)
+    need(asked(door, "GET", "/costly/_count")["count"] == 0, "one is kept")
+
+
 def with_fields(**fields: Json) -> Json:
     """A mapping with a percolator and fields."""
     return {"properties": {"query": {"type": "percolator"}, **fields}}
@@ -550,5 +579,5 @@ TESTS: tuple[Callable[[], None], ...] = (
     clients_make_indices_and_documents, clients_percolate, queries_mean_what_elasticsearch_says,
     texts_of_operators_mean_what_lucene_says, texts_are_read_as_by_hand, texts_of_any_signs_hold_of_themselves,
     what_has_no_meaning_is_refused, what_the_mapping_can_not_have_is_refused, marks_stand_where_queries_hold,
-    curl_percolates, searches_ask_for_what_is_served, what_was_answered_is_kept, queries_changed_elsewhere_are_gone,
+    costly_queries_are_refused_soon, curl_percolates, searches_ask_for_what_is_served, what_was_answered_is_kept, queries_changed_elsewhere_are_gone,
     percolated_documents_are_no_articles)

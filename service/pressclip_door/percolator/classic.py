@@ -5,20 +5,26 @@ from __future__ import annotations
 import re
 from dataclasses import dataclass
 from enum import Enum
-from typing import Sequence, Union
+from typing import Mapping, Sequence, Union
 
 MOST_OPEN = 60
+MOST_TOKENS = 20_000
 _ESCAPED = r"\\(?:u[0-9A-Fa-f]{4}|(?!u)[\s\S])"
 _START = rf"(?:[^ \t\n\r\u3000+\-!():^\[\]\"{{}}~*?\\/]|{_ESCAPED})"
 _TERM = rf"{_START}(?:{_START}|[+\-])*"
 _END = r"\"(?:[^\"\\]|\\[\s\S])+\"|[^\s\]}\"]+"
-# Of two tokens of one length the first of this list is taken.
-_TOKENS = tuple((name, re.compile(pattern)) for name, pattern in (
-    ("AND", r"AND|&&"), ("OR", r"OR|\|\|"), ("NOT", r"NOT|!"), ("+", r"\+"), ("-", r"-"),
-    ("BARE", r"[+\-!][ \t\n\r\u3000]"), ("(", r"\("), (")", r"\)"), (":", r":"), ("*", r"\*"), ("^", r"\^[0-9.]*"),
-    ("QUOTED", rf'"(?:[^"\\]|{_ESCAPED})*"'), ("TERM", _TERM), ("~", r"~[0-9.]*"), ("PREFIX", rf"{_TERM}\*"),
-    ("WILD", rf"(?:{_START}|[*?])(?:{_START}|[+\-*?])*"), ("REGEXP", r"/(?:[^/\\]|\\[\s\S])*/"),
-    ("RANGE", rf"[\[{{]\s*(?P<low>{_END})\s+TO\s+(?P<high>{_END})\s*[\]}}]")))
+# What may begin with a character; of two tokens of one length the first is taken.
+_WORDS = (("AND", r"AND|&&"), ("OR", r"OR|\|\|"), ("NOT", r"NOT"), ("TERM", _TERM), ("PREFIX", rf"{_TERM}\*"),
+          ("WILD", rf"(?:{_START}|[*?])(?:{_START}|[+\-*?])*"))
+_BARE = ("BARE", r"[+\-!][ \t\n\r\u3000]")
+_RANGE = ("RANGE", rf"[\[{{]\s*(?P<low>{_END})\s+TO\s+(?P<high>{_END})\s*[\]}}]")
+_BY_FRONT: Mapping[str, Sequence[tuple[str, str]]] = {
+    "+": (("+", r"\+"), _BARE), "-": (("-", r"-"), _BARE), "!": (("NOT", r"!"), _BARE), "(": (("(", r"\("),),
+    ")": ((")", r"\)"),), ":": ((":", r":"),), "*": (("*", r"\*"), _WORDS[-1]), "^": (("^", r"\^[0-9.]*"),),
+    '"': (("QUOTED", rf'"(?:[^"\\]|{_ESCAPED})*"'),), "~": (("~", r"~[0-9.]*"),), "[": (_RANGE,), "{": (_RANGE,),
+    "/": (("REGEXP", r"/(?:[^/\\]|\\[\s\S])*/"),)}
+_COMPILED = {front: [(name, re.compile(pattern)) for name, pattern in tokens] for front, tokens in _BY_FRONT.items()}
+_COMPILED_WORDS = [(name, re.compile(pattern)) for name, pattern in _WORDS]
 _WHITE = re.compile(r"[ \t\n\r\u3000]+")
 _WHY = {"^": "boosts have no meaning here, nothing is scored",
         "~": "words are compared whole, and phrases have no slop",
@@ -120,7 +126,8 @@ def tokens_of(text: str) -> list[Token]:
         if white:
             at = white.end()
             continue
-        fits = [(match.end(), name, match) for name, pattern in _TOKENS if (match := pattern.match(text, at))]
+        patterns = _COMPILED.get(text[at], _COMPILED_WORDS)
+        fits = [(match.end(), name, match) for name, pattern in patterns if (match := pattern.match(text, at))]
         if not fits:
             raise Unreadable(f"character {at} can't be read")
         end = max(length for length, _, _ in fits)
@@ -129,6 +136,8 @@ def tokens_of(text: str) -> list[Token]:
             raise Unreadable(f"[{match[0]}] at character {at} is not served: {_WHY[kind]}")
         found.append(Token(kind, match[0], at, match))
         at = end
+        if len(found) > MOST_TOKENS:
+            raise Unreadable(f"it has over {MOST_TOKENS:,} words and signs")
     return [*found, Token("END", "", at)]
 
 

@@ -9,7 +9,7 @@ from typing import Sequence
 
 from .part import Part
 from .tree import Never, Node, both, either, size
-from .trouble import malformed, not_served
+from .trouble import Trouble, malformed, not_served
 
 # A query of the engine has at most 4,096 parts.
 MOST_PARTS = 4_000
@@ -44,6 +44,11 @@ def simple(spec: Part, text: str, count: int) -> int:
     return max(0, count + number if number < 0 else number)
 
 
+def too_long(least: int, count: int, place: str) -> Trouble:
+    """That a count of clauses can't be said."""
+    return not_served("minimum_should_match", place, f"{least} of {count} is too long to be said by and and or")
+
+
 def at_least(least: int, nodes: Sequence[Node], place: str) -> Node:
     """At least so many of the nodes hold, one at least; by all and one alone, in the shorter of two ways."""
     count = len(nodes)
@@ -53,11 +58,13 @@ def at_least(least: int, nodes: Sequence[Node], place: str) -> Node:
         return both(nodes)
     if least <= 1:
         return either(nodes)
+    if count > MOST_PARTS:
+        raise too_long(least, count, place)
     largest = max(size(node) for node in nodes)
     ways = comb(count, least) * (least * largest + 1)
     gaps = comb(count, least - 1) * ((count - least + 1) * largest + 1)
     if min(ways, gaps) > MOST_PARTS:
-        raise not_served("minimum_should_match", place, f"{least} of {count} is too long to be said by and and or")
+        raise too_long(least, count, place)
     if ways <= gaps:
         return either([both(chosen) for chosen in combinations(nodes, least)])
     return both([either(chosen) for chosen in combinations(nodes, count - least + 1)])

@@ -8,7 +8,7 @@ from .dates import known_format
 from .leaves import Bound
 from .mapping import Field, Kind
 from .part import Options, Part
-from .reader import Reader, form
+from .reader import MOST_PARTS, Reader, form, too_large
 from .trouble import malformed, not_served
 from .tree import Node, either
 
@@ -46,6 +46,8 @@ async def terms(reader: Reader, part: Part) -> Node:
         raise not_served("terms", values.place, "terms of another document are not looked up: list them")
     if not isinstance(values.value, list):
         raise malformed(values.place, "[terms] needs a list")
+    if len(values.value) > MOST_PARTS:
+        raise too_large("terms", values)
     field = reader.field(part.at(named[0], named[0]))
     return either([await reader.leaves.term(field, value) for value in values.items()])
 

@@ -81,7 +81,7 @@ class OfIndices:
         await self._indices.load()
         index = self._indices.get(request.match_info["index"])
         body = await object_of(self._door, request, "body")
-        await self._indices.extend(index.name, body.value)
+        await self._indices.extend(index.name, body)
         return answer(request, {"acknowledged": True})
 
     async def refresh(self, request: web.Request) -> web.Response:

@@ -124,13 +124,14 @@ class Indices:
             self._indices[name] = Index(row, whole, fields)
             return self._indices[name]
 
-    async def extend(self, name: str, mappings: Json) -> None:
+    async def extend(self, name: str, mappings: Part) -> None:
         """Adds fields to the mapping of an index."""
         async with self._changing:
             index = self.get(name)
             before = index.body["mappings"]
-            properties = merged(before["properties"], mappings.get("properties") or {}, "properties")
-            body, fields = checked_body({**index.body, "mappings": {**before, **mappings, "properties": properties}})
+            more = mappings.at("properties", mappings.value.get("properties") or {})
+            whole = {**before, **mappings.value, "properties": merged(before["properties"], more)}
+            body, fields = checked_body({**index.body, "mappings": whole})
             row = IndexRow(name, json.dumps(body), index.row.uuid, index.row.made)
             await asyncio.to_thread(self.store.put_index, row)
             index.row, index.body, index.fields = row, body, fields

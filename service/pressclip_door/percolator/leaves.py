@@ -15,6 +15,10 @@ from .values import (Unfit, decimal_of, floating, floating_word, integer_word, k
 from .words import BETWEEN, Cut, Cutter, lowered
 
 
+MOST_TEXTS = 4_096
+MOST_CHARACTERS = 65_536
+
+
 @dataclass(frozen=True)
 class Bound:
     """An end of a range as a query gives it."""
@@ -50,10 +54,18 @@ class Leaves:
 
     def __init__(self, cutter: Cutter) -> None:
         self._cutter = cutter
+        self._texts = 0
 
     async def words(self, text: Part) -> list[str]:
-        """The words of a text that is asked for."""
-        return [named(cut, text) for cut in await self._cutter.cut(text.written(text_of_value(text.scalar())))]
+        """The words of a text that is asked for; `Trouble` where the query has too many texts, or this one too much."""
+        return [named(cut, text) for cut in await self._cuts(text, text_of_value(text.scalar()))]
+
+    async def _cuts(self, part: Part, text: str) -> Sequence[Cut]:
+        self._texts += 1
+        if self._texts > MOST_TEXTS or len(text) > MOST_CHARACTERS:
+            raise not_served("query", part.place, f"a query has {MOST_TEXTS:,} texts at most, and each of them"
+                                                  f" {MOST_CHARACTERS:,} characters")
+        return await self._cutter.cut(part.written(text))
 
     async def term(self, field: Field, value: Part, any_case: bool = False) -> Node:
         """The field has the value as it stands, uncut; of a text, the word."""
@@ -65,7 +77,7 @@ class Leaves:
         text = ascii_lowered(text) if any_case else text
         if lowered(text) != text:
             return Never()
-        cuts = await self._cutter.cut(text)
+        cuts = await self._cuts(value, text)
         if len(cuts) != 1 or (cuts[0].start, cuts[0].end) != (0, len(text.encode())):
             return Never()
         return Word(field.engine, named(cuts[0], value))

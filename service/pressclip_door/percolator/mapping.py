@@ -21,7 +21,8 @@ MOST_FIELDS = 1_000
 _USUAL_OPTIONS: Mapping[str, tuple[object, ...]] = {
     "index": (True,), "coerce": (True,), "ignore_malformed": (False,), "analyzer": ("standard",),
     "search_analyzer": ("standard",), "search_quote_analyzer": ("standard",), "null_value": (None,), "copy_to": (),
-    "position_increment_gap": (100,), "split_queries_on_whitespace": (False,), "index_options": ("positions", "offsets"), "normalizer": ()}
+    "position_increment_gap": (100,),
+    "split_queries_on_whitespace": (False,), "index_options": ("positions", "offsets"), "normalizer": ()}
 # Options that change nothing of what a query finds.
 _FREE_OPTIONS = {"store", "doc_values", "norms", "eager_global_ordinals", "fielddata", "fielddata_frequency_filter",
                  "index_prefixes", "index_phrases", "term_vector", "similarity", "meta"}
@@ -161,21 +162,21 @@ def _refuse_unusual(path: str, name: str, option: Part) -> None:
         raise mapper(f"[{name}: {option.value}] of [{path}] at [{option.place}] is not served: {why}")
 
 
-def merged(old: Json, new: Json, place: str) -> Json:
+def merged(old: Json, new: Part) -> Json:
     """The properties of an index with more fields, of which none may change."""
     result = dict(old)
-    for name, one in new.items():
-        there = result.get(name)
-        if isinstance(there, dict) and isinstance(one, dict) and "properties" in there and "properties" in one:
-            below = merged(there["properties"], one["properties"], f"{place}.{name}.properties")
-            result[name] = {**there, "properties": below}
-        elif isinstance(there, dict) and isinstance(one, dict) and there.get("type") == one.get("type"):
-            fields = {**there.get("fields", {}), **one.get("fields", {})}
-            result[name] = {**one, **({"fields": fields} if fields else {})}
-        elif there is not None:
-            raise Trouble("illegal_argument_exception", f"mapper [{name}] at [{place}] cannot be changed")
+    for name, part in new.members().items():
+        there, one = result.get(name), part.members()
+        if there is None:
+            result[name] = part.value
+        elif "properties" in there and "properties" in one:
+            result[name] = {**there, "properties": merged(there["properties"], one["properties"])}
+        elif "properties" in there or there.get("type") != part.value.get("type"):
+            raise Trouble("illegal_argument_exception", f"mapper [{name}] at [{part.place}] cannot be changed")
         else:
-            result[name] = one
+            fields = {**(there.get("fields") or {}), **part.at("fields", part.value.get("fields") or {}).members()}
+            inner = {path: field.value if isinstance(field, Part) else field for path, field in fields.items()}
+            result[name] = {**part.value, **({"fields": inner} if inner else {})}
     return result
 
 

@@ -79,10 +79,15 @@ def style_of(options: Options, usual: Style, is_last: bool = False) -> Style:
         options.take(name)
     if is_last:
         options.end()
-    return Style(usual.before if before is None else before.items()[0].text(),
-                 usual.behind if behind is None else behind.items()[0].text(),
+    return Style(tag_of(before, usual.before), tag_of(behind, usual.behind),
                  usual.size if size is None else size.number(0, 1 << 30),
                  usual.count if count is None else count.number(0, 1_000))
+
+
+def tag_of(part: Part | None, usual: str) -> str:
+    """The first of the tags that are asked for, or the usual one."""
+    tags = [] if part is None else [tag.text() for tag in part.items()]
+    return tags[0] if tags else usual
 
 
 def text_pieces(text: str, cuts: Sequence[Cut], places: set[int], style: Style) -> list[str]:

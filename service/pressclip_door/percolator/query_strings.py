@@ -7,7 +7,7 @@ from typing import Sequence
 
 from . import classic, simple
 from .full_text import Matching, check_lenient, is_and, matched
-from .leaves import Bound
+from .leaves import MOST_CHARACTERS, Bound
 from .mapping import Field, Kind
 from .part import Options, Part
 from .reader import Reader, form
@@ -16,7 +16,6 @@ from .tree import All, Group, Never, Node, Word, both, either, without
 from .trouble import bad_query, not_served
 from .words import lowered
 
-MOST_CHARACTERS = 65_536
 _EXISTS = "_exists_"
 
 

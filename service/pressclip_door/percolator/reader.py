@@ -7,11 +7,14 @@ from typing import Awaitable, Callable, Mapping
 from .leaves import Leaves
 from .mapping import Field, FieldMap, Kind
 from .part import Options, Part
-from .tree import Node
-from .trouble import bad_query, malformed, not_served
+from .tree import Node, size
+from .trouble import Trouble, bad_query, malformed, not_served
 from .words import Cutter
 
 MOST_NESTING = 30
+# As many as a query of the engine has; those of a part count again for each query that it stands in.
+MOST_PARTS = 4_096
+MOST_QUERIES = 4 * MOST_PARTS
 _SCORES = "nothing is scored here, a query holds or does not"
 _PARENTS = "a document is one, and has no parts that are searched by themselves"
 _PLACES = "words have no other places than next to each other: write match_phrase, or must"
@@ -45,6 +48,11 @@ def form(name: str) -> Callable[[Form], Form]:
     return take
 
 
+def too_large(name: str, part: Part) -> Trouble:
+    """That a query is larger than the engine takes."""
+    return not_served(name, part.place, f"the whole query has over {MOST_PARTS:,} parts")
+
+
 class Reader:
     """Reads queries over one mapping."""
 
@@ -52,6 +60,8 @@ class Reader:
         self.fields = fields
         self.leaves = Leaves(cutter)
         self._depth = 0
+        self._parts = 0
+        self._queries = 0
 
     async def read(self, part: Part) -> Node:
         """The meaning of a query; `Trouble` names the place that is not served."""
@@ -64,10 +74,17 @@ class Reader:
         if self._depth == MOST_NESTING:
             raise not_served(name, below.place, f"queries stand in each other {MOST_NESTING} deep at most")
         self._depth += 1
+        self._queries += 1
+        if self._queries > MOST_QUERIES:
+            raise too_large(name, below)
         try:
-            return await read(self, below)
+            node = await read(self, below)
         finally:
             self._depth -= 1
+        self._parts += size(node)
+        if self._parts > MOST_NESTING * MOST_PARTS:
+            raise too_large(name, below)
+        return node
 
     def field(self, path: Part) -> Field:
         """The field that is named; a boost or a pattern is refused."""

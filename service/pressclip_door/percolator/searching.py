@@ -62,10 +62,12 @@ class Searcher:
     async def search(self, names: str, search: Search) -> Json:
         """The answer to a search."""
         start = time.monotonic()
-        found = [await self._hits(index, search.query) for index in self._indices.named(names)]
+        indices = self._indices.named(names)
+        markers = {index.name: marker_of(search.highlight, index.fields) for index in indices}
+        found = [await self._hits(index, search.query) for index in indices]
         all_hits = [(hit, hits) for hits in found for hit in hits.hits]
         score = None if search.is_sorted else found[0].found.score if found else 1.0
-        shown = [await self._shown(hit, hits, search, score)
+        shown = [await self._shown(hit, hits, (search, score, markers[hit.index.name]))
                  for hit, hits in all_hits[search.first:search.first + search.size]]
         return {"took": int(1e3 * (time.monotonic() - start)), "timed_out": False, "_shards": SHARDS,
                 "hits": {"total": {"value": len(all_hits), "relation": "eq"}, "max_score": score if all_hits else None,
@@ -120,14 +122,14 @@ class Searcher:
         return {name: [cut.word for cut in await self._indices.cutter.cut(text)] if name in of_texts else text.split()
                 for name, text in texts.items()}
 
-    async def _shown(self, hit: Hit, hits: Hits, search: Search, score: float | None) -> Json:
-        """A hit as it is shown."""
+    async def _shown(self, hit: Hit, hits: Hits, way: tuple[Search, float | None, Marker | None]) -> Json:
+        """A hit as a search shows it, with its score and its marks."""
+        search, score, marker = way
         shown: Json = {"_index": hit.index.name, "_type": "_doc", "_id": hit.id, "_score": score}
         if search.source.is_shown:
             shown["_source"] = search.source.of(json.loads(self._indices.store.source(hit.held.row.seq)))
         if hits.found.percolating is not None:
             shown["fields"] = {hits.found.percolating.slots: list(hit.slots)}
-            marker = marker_of(search.highlight, hit.index.fields)
             if marker is not None and (marked := await self._marked(hit, hits, marker)):
                 shown["highlight"] = marked
         return shown

@@ -39,7 +39,7 @@ class Joined:
     """Parts, put together."""
 
     operator: Operator
-    parts: tuple[Tree, ...]
+    parts: list[Tree]
 
 
 Tree = Union[Text, Not, Joined]
@@ -146,6 +146,7 @@ class Branches:
         self.operator: Operator | None = None
         self._usual = usual
         self._before: Operator | None = None
+        self._turns = 0
 
     def operate(self, operator: Operator) -> None:
         """Takes an operator; the first of several counts, and none where nothing stands before it."""
@@ -162,8 +163,13 @@ class Branches:
             self.top = branch
         else:
             operator = self.operator or self._usual
-            parts = top.parts if isinstance(top, Joined) and self._before is operator else (top,)
-            self.top = Joined(operator, (*parts, branch))
+            if isinstance(top, Joined) and self._before is operator:
+                top.parts.append(branch)
+            else:
+                self._turns += 1
+                self.top = Joined(operator, [top, branch])
+            if self._turns > MOST_OPEN:
+                raise Unreadable(f"its operators alternate over {MOST_OPEN} times")
             self._before = operator
         self.operator = None
 
