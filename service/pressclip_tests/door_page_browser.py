@@ -137,6 +137,7 @@ class Browser:
 
     def pick(self, selector: str, text: str) -> None:
         """Picks what shows a text from a list to pick from, once it is there."""
+        self.run("document.querySelector(arguments[0]).focus()", selector)
         self.until(lambda: text in self.texts(f"{selector} option"), f"{text!r} can't be picked")
         Select(self.find(selector)).select_by_visible_text(text)
 

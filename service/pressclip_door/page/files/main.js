@@ -34,10 +34,7 @@ class Page {
   #reading = new Reading(this.#box, (fields, isReadable) => this.#trying.hear(fields, isReadable));
   #queries = new Queries((id) => this.#open(id));
   #draft = new Draft(this.#box, (id) => this.#queries.mark(id), () => this.#queries.load());
-  #alerts = new Alerts((query, article) => this.#open(query, article), (count) => {
-    this.#panes.came(count);
-    this.#trying.refresh();
-  });
+  #alerts = new Alerts((query, article) => this.#open(query, article), (count) => this.#panes.came(count));
   #standing = new Standing(() => this.#queries.refresh());
   #stream = new AlertStream({
     alert: (alert) => this.#alerts.take(alert),

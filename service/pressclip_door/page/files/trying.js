@@ -1,6 +1,6 @@
 /** Tries the query in the box on an article, without saving it. */
 
-import { Newest, Refused, addressOf, call } from "./api.js";
+import { Newest, Refused, addressOf } from "./api.js";
 import { Box } from "./box.js";
 import { announce, counted, element, find, later } from "./elements.js";
 import { spansOf } from "./places.js";
@@ -10,7 +10,6 @@ import { spansOf } from "./places.js";
 /** @typedef {import("./types.js").Marked} Marked */
 
 const QUIET_MILLISECONDS = 250;
-const REFRESHED_AFTER = 1_000;
 const LAST_ARTICLES = "20";
 const MOST_LABEL = 70;
 const MOST_FIELDS = 16;
@@ -36,8 +35,8 @@ export class Trying {
   /** @type {Article[]} */
   #last = [];
   #newest = new Newest();
+  #list = new Newest();
   #isReadable = false;
-  #timer = 0;
   #pick = find("pick", HTMLSelectElement);
   #later = later(QUIET_MILLISECONDS, () => this.#ask());
 
@@ -46,7 +45,9 @@ export class Trying {
     this.query = query;
     this.#ensure(USUAL_FIELDS);
     this.#pick.addEventListener("change", () => this.#picked());
-    this.#pick.addEventListener("focus", () => this.load());
+    for (const intent of ["pointerenter", "focus"]) {
+      this.#pick.addEventListener(intent, () => this.load());
+    }
     this.#show("nothing", "");
   }
 
@@ -105,33 +106,47 @@ export class Trying {
     }
   }
 
-  /** Loads soon which articles came last, unless one is picked just now. */
-  refresh() {
-    this.#timer ||= setTimeout(() => {
-      this.#timer = 0;
-      if (document.activeElement !== this.#pick) {
-        this.load();
-      }
-    }, REFRESHED_AFTER);
-  }
-
-  /** Loads which articles came last; the chosen one stays chosen. */
+  /** Loads which articles came last. */
   async load() {
     try {
-      const { articles } = await call("GET", addressOf("articles", { limit: LAST_ARTICLES }));
-      this.#last = articles;
-      const chosen = this.#pick.value;
-      const options = this.#last.map((article, place) =>
-        element("option", { value: `${place}:${article.id}` }, labelOf(article)));
-      const group = element("optgroup", { label: "Last articles" }, ...options);
-      this.#pick.replaceChildren(element("option", { value: "" }, "Paste a text"), ...(options.length ? [group] : []));
-      const again = options.find((option) => afterPlace(option.value) === afterPlace(chosen));
-      this.#pick.value = chosen && again ? again.value : "";
+      const answer = await this.#list.ask("GET", addressOf("articles", { limit: LAST_ARTICLES }));
+      if (answer) {
+        this.#offer(answer.articles);
+      }
     } catch (error) {
       if (!(error instanceof Refused)) {
         throw error;
       }
     }
+  }
+
+  /**
+   * Offers articles to pick from; the picked one stays picked. Nothing is done where they are those that are offered
+   * already, since the list may be open.
+   * @param {Article[]} articles
+   */
+  #offer(articles) {
+    const ids = JSON.stringify(articles.map(({ id }) => id));
+    if (ids === JSON.stringify(this.#last.map(({ id }) => id))) {
+      return;
+    }
+    const picked = this.#last[parseInt(this.#pick.value, 10)];
+    this.#last = articles;
+    const options = articles.map((article, place) => element("option", { value: String(place) }, labelOf(article)));
+    const group = element("optgroup", { label: "Last articles" }, ...options);
+    this.#pick.replaceChildren(element("option", { value: "" }, "Paste a text"), ...(options.length ? [group] : []));
+    this.#choose(picked?.id);
+  }
+
+  /**
+   * Shows which article is picked.
+   * @param {string} [id] none where it is no article of the list
+   * @returns {Article | undefined} the article, where the list has it
+   */
+  #choose(id) {
+    const place = this.#last.findIndex((article) => article.id === id);
+    this.#pick.value = place >= 0 ? String(place) : "";
+    return this.#last[place];
   }
 
   /** Takes the article that was picked into the boxes. */
@@ -149,10 +164,9 @@ export class Trying {
    */
   async open(id) {
     await this.load();
-    const place = this.#last.findIndex((article) => article.id === id);
-    if (place >= 0) {
-      this.#pick.value = `${place}:${id}`;
-      this.#take(this.#last[place].fields);
+    const article = this.#choose(id);
+    if (article) {
+      this.#take(article.fields);
     }
   }
 
@@ -236,13 +250,4 @@ export class Trying {
       box.mark(spans.map(([from, to]) => ({ from, to, kind: "hit" })));
     });
   }
-}
-
-/**
- * What stands behind the place in an option's value.
- * @param {string} value
- * @returns {string}
- */
-function afterPlace(value) {
-  return value.slice(value.indexOf(":") + 1);
 }
