@@ -40,9 +40,20 @@ async def object_of(door: Door, request: web.Request) -> Json:
         value = json.loads(text)
     except (ValueError, RecursionError) as error:
         raise Problem("json", str(error)) from None
+    if b"\\ud" in text.lower() and not is_whole(value):
+        raise Problem("json", "half of a surrogate pair")
     if not isinstance(value, dict):
         raise Problem("shape", "a JSON object is asked for")
     return value
+
+
+def is_whole(value: object) -> bool:
+    """Whether the texts in a value have no half of a surrogate pair."""
+    try:
+        json.dumps(value, ensure_ascii=False).encode()
+    except UnicodeEncodeError:
+        return False
+    return True
 
 
 def with_members(value: Json, needed: dict[str, type], allowed: dict[str, type] | None = None) -> Json:

@@ -26,13 +26,13 @@ class Explaining:
     async def explain(self, request: web.Request) -> web.Response:
         """How a query's text is read, or its fault."""
         body = with_members(await object_of(self._door, request), {"query": str})
-        return web.json_response(await self._door.explainer.explain(body["query"]))
+        return told(await self._door.explainer.explain(body["query"]))
 
     @needs(Role.READ)
     async def words(self, request: web.Request) -> web.Response:
         """The words of a text."""
         body = with_members(await object_of(self._door, request), {"text": str})
-        return web.json_response(await self._door.explainer.words(body["text"]))
+        return told(await self._door.explainer.words(body["text"]))
 
     @needs(Role.READ)
     async def attempt(self, request: web.Request) -> web.Response:
@@ -52,6 +52,13 @@ class Explaining:
             return Problem(reply["refused"], member="article")
         read = await self._door.explainer.explain(query)
         return Problem("query", read.get("says", ""), fault=read.get("fault"), at=read.get("at"), member="query")
+
+
+def told(said: Json) -> web.Response:
+    """What the explaining program said; `Problem` where it refused the line itself, as one that is too long."""
+    if "refused" in said:
+        raise Problem(said["refused"], said.get("says", ""))
+    return web.json_response(said)
 
 
 def routes(door: Door) -> list[web.RouteDef]:

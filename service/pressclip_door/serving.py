@@ -7,7 +7,8 @@ import json
 from http import HTTPStatus
 from typing import Any
 
-from aiohttp import web
+from aiohttp import HttpVersion10, HttpVersion11, web
+from aiohttp.streams import StreamReader
 from aiohttp.web_protocol import RequestHandler
 
 from .log import Log
@@ -17,12 +18,13 @@ from .settings import Limits
 
 MOST_HEADER_BYTES = 64 << 10
 MOST_PIPELINED = 64
+_VERSIONS = (HttpVersion11, HttpVersion10)
 
 
 class Connection(RequestHandler):
     """One connection."""
 
-    __slots__ = ("_limits", "_log", "_metrics", "_slow", "_header_bytes")
+    __slots__ = ("_limits", "_log", "_metrics", "_slow", "_header_bytes", "_body")
 
     def __init__(self, server: Server, **options: Any) -> None:
         super().__init__(server, **options)
@@ -31,6 +33,8 @@ class Connection(RequestHandler):
         self._metrics = server.metrics
         self._slow: asyncio.TimerHandle | None = None
         self._header_bytes = 0
+        # The body of the last request whose header came.
+        self._body: StreamReader | None = None
 
     def connection_made(self, transport: asyncio.BaseTransport) -> None:
         """Takes a connection, unless there are too many."""
@@ -49,14 +53,17 @@ class Connection(RequestHandler):
     def data_received(self, data: bytes) -> None:
         """Takes what came: a header in time and of some size, and no more requests than are soon answered."""
         count = self._request_count
-        is_idle = self._current_request is None and not self._messages
+        is_of_body = self._body is not None and not self._body.is_eof()
         super().data_received(data)
         if self._request_count != count:
             self._stop_waiting()
             self._header_bytes = 0
-            if len(self._messages) > MOST_PIPELINED:
+            self._body = self._messages[-1][1] if self._messages else None
+            if any(getattr(message, "version", _VERSIONS[0]) not in _VERSIONS for message, _ in self._messages):
+                self._refuse(Problem("request", "HTTP 1.1 is spoken here"))
+            elif len(self._messages) > MOST_PIPELINED:
                 self._refuse(Problem("rate", "too many requests in a row on one connection"))
-        elif is_idle:
+        elif not is_of_body:
             self._header_bytes += len(data)
             if self._header_bytes > MOST_HEADER_BYTES:
                 self._refuse(Problem("headers", f"at most {MOST_HEADER_BYTES:,} bytes are taken"))

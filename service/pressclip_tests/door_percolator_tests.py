@@ -29,10 +29,11 @@ MAPPINGS: Json = {"properties": {"query": {"type": "percolator"}, **FIELDS}}
 RANDOM_QUERIES, RANDOM_TEXTS, RANDOM_DOCUMENTS = 1_200, 400, 60
 
 
-def called(door: Door, calls: Sequence[tuple[str, Json]]) -> list[Any]:
-    """What Debian's client gives for calls."""
-    done = subprocess.run([DEBIAN_PYTHON, "-B", str(CLIENT), door.address + BASE], input=json.dumps(calls).encode(),
-                          stdout=subprocess.PIPE, check=True, timeout=PATIENCE_SECONDS)
+def called(door: Door, calls: Sequence[tuple[str, Json]], *token: str) -> list[Any]:
+    """What Debian's client gives for calls, with a token where one is given."""
+    command = [DEBIAN_PYTHON, "-B", str(CLIENT), door.address + BASE, *token]
+    done = subprocess.run(command, input=json.dumps(calls).encode(), stdout=subprocess.PIPE, check=True,
+                          timeout=PATIENCE_SECONDS)
     found: list[Any] = json.loads(done.stdout)
     return found
 
@@ -104,6 +105,8 @@ def clients_make_indices_and_documents() -> None:
         ("delete", {"index": "news", "id": "2"}), ("delete", {"index": "news", "id": "2"}),
         ("indices.refresh", {"index": "news"}), ("indices.get_mapping", {"index": "news"}),
         ("indices.delete", {"index": "news"}), ("indices.exists", {"index": "news"}), ("count", {"index": "news"})])
+    well = called(door, [("ping", {}), ("cluster.health", {"wait_for_status": "yellow"})])
+    need(well[0]["gave"] is True and well[1]["gave"]["status"] == "green", f"{well}")
     need(came[0]["gave"]["tagline"] == "You Know, for Search", f"{came[0]}")
     need(came[1]["gave"] == {"acknowledged": True, "shards_acknowledged": True, "index": "news"}, f"{came[1]}")
     need(came[2]["refused"]["error"]["type"] == "resource_already_exists_exception", f"{came[2]}")
@@ -575,9 +578,30 @@ def percolated_documents_are_no_articles() -> None:
     need(not any("nobody" in article["fields"].get("text", "") for article in last), f"{last}")
 
 
+def roles_are_asked_for() -> None:
+    """Searching needs a token that may read, writing one that may write, and dropping an index one of an administrator;
+    without a token nothing is told."""
+    calls: list[tuple[str, Json]] = [
+        ("indices.create", {"index": "roles", "body": {"mappings": MAPPINGS}}),
+        ("index", {"index": "roles", "id": "1", "body": {"query": {"match_all": {}}}}),
+        ("search", {"index": "roles", "body": {"query": {"percolate": {"field": "query", "document": {}}}}}),
+        ("indices.delete", {"index": "roles"})]
+    due = {"admin": [True, True, True, True], "write": [True, True, True, False], "read": [False, False, True, False]}
+    with folder() as name:
+        path = Path(name) / "tokens"
+        path.write_text("".join(f"{role} {role}er {role[0] * 20}\n" for role in due))
+        path.chmod(0o600)
+        with Door("--tokens", str(path)) as door:
+            for role, allowed in due.items():
+                came = called(door, calls, role[0] * 20)
+                need(["gave" in one for one in came] == allowed, f"{role}: {came}")
+                need(all(one["status"] == 403 for one in came if "gave" not in one), f"{role}: {came}")
+            need(door.ask("GET", f"{BASE}/roles/_count").status == 401, "it is told without a token")
+
+
 TESTS: tuple[Callable[[], None], ...] = (
     clients_make_indices_and_documents, clients_percolate, queries_mean_what_elasticsearch_says,
     texts_of_operators_mean_what_lucene_says, texts_are_read_as_by_hand, texts_of_any_signs_hold_of_themselves,
     what_has_no_meaning_is_refused, what_the_mapping_can_not_have_is_refused, marks_stand_where_queries_hold,
-    costly_queries_are_refused_soon, curl_percolates, searches_ask_for_what_is_served, what_was_answered_is_kept, queries_changed_elsewhere_are_gone,
-    percolated_documents_are_no_articles)
+    costly_queries_are_refused_soon, curl_percolates, searches_ask_for_what_is_served, what_was_answered_is_kept,
+    queries_changed_elsewhere_are_gone, percolated_documents_are_no_articles, roles_are_asked_for)

@@ -6,6 +6,7 @@ import atexit
 import http.client
 import json
 import os
+import re
 import signal
 import socket
 import subprocess
@@ -144,10 +145,13 @@ class Door:
         return said
 
     def talk(self, text: bytes, seconds: float = 5.0) -> bytes:
-        """What comes back for bytes as they are, until the connection is closed or for so long."""
+        """The first answer to bytes as they are sent; what came of it within so many seconds."""
         with socket.create_connection(("127.0.0.1", self.port), timeout=seconds) as connection:
-            connection.sendall(text)
-            return all_of(connection, seconds)
+            try:
+                connection.sendall(text)
+            except ConnectionError:
+                pass
+            return first_of(connection, seconds)
 
 
 _SHARED: list[Door] = []
@@ -161,6 +165,25 @@ def shared() -> Door:
         _SHARED[0].__enter__()
     need(_SHARED[0].ask("DELETE", "/queries").status == 200, "the queries can't be cleared")
     return _SHARED[0]
+
+
+def first_of(connection: socket.socket, seconds: float) -> bytes:
+    """The first answer that a connection brings, as far as it comes within so many seconds."""
+    found, end = b"", time.monotonic() + seconds
+    while (left := end - time.monotonic()) > 0:
+        head, mark, body = found.partition(b"\r\n\r\n")
+        length = re.search(rb"\r\nContent-Length: (\d+)", head)
+        if mark and length and len(body) >= int(length[1]):
+            break
+        connection.settimeout(left)
+        try:
+            block = connection.recv(1 << 16)
+        except (TimeoutError, ConnectionError):
+            break
+        if not block:
+            break
+        found += block
+    return found
 
 
 def all_of(connection: socket.socket, seconds: float) -> bytes:
@@ -207,6 +230,56 @@ class Events:
             if name and not line.startswith(b":"):
                 found[name] = json.loads(text) if name == "data" else text
         return {}
+
+
+class Stream:
+    """A client of `POST /lines` that sends line by line, and knows which replies came."""
+
+    def __init__(self, door: Door) -> None:
+        self.connection = socket.create_connection(("127.0.0.1", door.port), timeout=PATIENCE_SECONDS)
+        self.connection.sendall(f"POST /lines HTTP/1.1\r\nHost: 127.0.0.1\r\nContent-Type: {LINES}\r\n"
+                                "Transfer-Encoding: chunked\r\n\r\n".encode())
+        self.got = self.connection.makefile("rb")
+        status = self.got.readline()
+        need(b" 200 " in status, f"{status!r}")
+        self.changes = 0
+        while (line := self.got.readline()) not in (b"\r\n", b""):
+            name, _, value = line.decode().partition(": ")
+            self.changes = int(value) if name == "Pressclip-Changes" else self.changes
+
+    def send(self, line: bytes) -> None:
+        """Sends a line; what can't be sent any more is lost."""
+        try:
+            self.connection.sendall(b"%x\r\n%b\n\r\n" % (len(line) + 1, line))
+        except ConnectionError:
+            pass
+
+    def end(self) -> None:
+        """Ends the body."""
+        self.connection.sendall(b"0\r\n\r\n")
+
+    def blocks(self) -> list[bytes]:
+        """The next block of replies; none once the stream is over, or broken off."""
+        try:
+            size = self.got.readline()
+            if not size.strip() or int(size, 16) == 0:
+                return []
+            block = self.got.read(int(size, 16) + 2)
+        except ConnectionError:
+            return []
+        return block[:-2].splitlines() if len(block) == int(size, 16) + 2 else block.splitlines(keepends=False)[:-1]
+
+    def close(self) -> None:
+        """Lets go of the connection."""
+        self.got.close()
+        self.connection.close()
+
+
+def with_settings(folder_name: str, limits: str, engine: Sequence[str] | None = None, more: str = "") -> str:
+    """The path of a file of settings with these limits."""
+    path = Path(folder_name) / "door.toml"
+    path.write_text(f"engine = {json.dumps(engine or without_hits())}\n{more}\n[limits]\n{limits}\n")
+    return str(path)
 
 
 def without_hits() -> list[str]:

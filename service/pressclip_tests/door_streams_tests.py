@@ -13,7 +13,7 @@ from pathlib import Path
 from random import Random
 from typing import Callable
 
-from .door_runs import LINES, Door, Events, by_aiohttp, shared, without_hits
+from .door_runs import LINES, Door, Events, Stream, by_aiohttp, shared, with_settings, without_hits
 from .inputs import Source, joined, with_long_lines
 from .judge import Due, folder, need, replies_of_engine, same
 from .keep_runs import changes_in
@@ -22,19 +22,6 @@ from .processes import ENDED, PATIENCE_SECONDS, engine_of
 ENGINE_KILLS = 12
 KEEP_KILLS = 6
 DOOR_KILLS = 6
-DOOR_TOML = """
-port = 0
-engine = {engine}
-[limits]
-{limits}
-"""
-
-
-def settings(folder_name: str, limits: str, engine: list[str] | None = None) -> str:
-    """A file of settings with these limits, and its path."""
-    path = Path(folder_name) / "door.toml"
-    path.write_text(DOOR_TOML.format(engine=json.dumps(engine or without_hits()), limits=limits))
-    return str(path)
 
 
 def posted(door: Door, text: bytes) -> bytes:
@@ -64,49 +51,6 @@ def lines_are_answered_as_by_the_engine() -> None:
             thread.join()
         for number in range(4):
             same(found[number], replies_of_engine(others[number]), f"stream {number}")
-
-
-class Stream:
-    """A client of `POST /lines` that sends line by line, and knows which replies came."""
-
-    def __init__(self, door: Door) -> None:
-        self.connection = socket.create_connection(("127.0.0.1", door.port), timeout=PATIENCE_SECONDS)
-        self.connection.sendall(f"POST /lines HTTP/1.1\r\nHost: 127.0.0.1\r\nContent-Type: {LINES}\r\n"
-                                "Transfer-Encoding: chunked\r\n\r\n".encode())
-        self.got = self.connection.makefile("rb")
-        status = self.got.readline()
-        need(b" 200 " in status, f"{status!r}")
-        self.changes = 0
-        while (line := self.got.readline()) not in (b"\r\n", b""):
-            name, _, value = line.decode().partition(": ")
-            self.changes = int(value) if name == "Pressclip-Changes" else self.changes
-
-    def send(self, line: bytes) -> None:
-        """Sends a line; what can't be sent any more is lost."""
-        try:
-            self.connection.sendall(b"%x\r\n%b\n\r\n" % (len(line) + 1, line))
-        except ConnectionError:
-            pass
-
-    def end(self) -> None:
-        """Ends the body."""
-        self.connection.sendall(b"0\r\n\r\n")
-
-    def blocks(self) -> list[bytes]:
-        """The next block of replies; none once the stream is over, or broken off."""
-        try:
-            size = self.got.readline()
-            if not size.strip() or int(size, 16) == 0:
-                return []
-            block = self.got.read(int(size, 16) + 2)
-        except ConnectionError:
-            return []
-        return block[:-2].splitlines() if len(block) == int(size, 16) + 2 else block.splitlines(keepends=False)[:-1]
-
-    def close(self) -> None:
-        """Lets go of the connection."""
-        self.got.close()
-        self.connection.close()
 
 
 class Client:
@@ -240,7 +184,7 @@ def what_was_accepted_is_answered_at_the_end() -> None:
 
 def alerts_go_on_behind_the_last() -> None:
     """By server-sent events: what was missed first, in order and once each; what is no longer there is told."""
-    with folder() as name, Door(settings(name, "alerts_kept = 30")) as door:
+    with folder() as name, Door(with_settings(name, "alerts_kept = 30")) as door:
         door.put("desk%2Ftea", "tea")
         door.put("rain", "rain")
         with Events(door) as events, Events(door, "/alerts?prefix=desk/") as desk:
@@ -285,7 +229,7 @@ def alerts_come_by_websocket_and_with_excerpts() -> None:
 def a_slow_listener_is_let_go() -> None:
     """It is told behind which alert to go on; others hear all meanwhile."""
     limits = "unread_bytes = 20000\nunread_seconds = 20"
-    with folder() as name, Door(settings(name, limits)) as door:
+    with folder() as name, Door(with_settings(name, limits)) as door:
         queries = [{"id": f"{'q' * 200}{number}", "query": "tea"} for number in range(200)]
         door.ask("POST", "/queries", {"queries": queries})
         slow = socket.socket()
@@ -313,14 +257,15 @@ def a_slow_listener_is_let_go() -> None:
 
 def where_the_engine_is_behind_more_is_put_off() -> None:
     """With 429 and after how long to try again; what was accepted is answered."""
-    engine = ["sh", "-c", 'read first; echo "{\\"line\\":1,\\"refused\\":\\"shape\\"}"; sleep 3; cat > /dev/null']
-    with folder() as name, Door(settings(name, "lines_in_flight = 4", engine)) as door:
+    engine = ["sh", "-c", 'read first; echo "{\\"line\\":1,\\"refused\\":\\"shape\\"}"; exec cat > /dev/null']
+    with folder() as name, Door(with_settings(name, "lines_in_flight = 4", engine)) as door:
         threads = [threading.Thread(target=door.ask, args=("GET", "/queries/q1")) for _ in range(4)]
         for thread in threads:
             thread.start()
         start = time.monotonic()
         while (answer := door.ask("GET", "/metrics")) and b"pressclip_lines_in_flight 4.0" not in answer.text:
-            need(time.monotonic() - start < 2.5, "the lines are not in flight")
+            need(time.monotonic() - start < PATIENCE_SECONDS, f"the lines are not in flight: {answer.text.decode()}")
+            time.sleep(0.02)
         answer = door.ask("GET", "/queries/q1")
         answer.refused(429, "behind")
         need(answer.headers["Retry-After"] == "1", f"{answer.headers}")
