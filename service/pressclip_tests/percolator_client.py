@@ -26,12 +26,12 @@ def called(client: Elasticsearch, name: str, arguments: dict[str, Any]) -> objec
         return {"status": error.status_code, "refused": error.info}
 
 
-def main(address: str) -> None:
-    """Makes all calls in turn."""
+def main(address: str, *token: str) -> None:
+    """Makes all calls in turn, with a token where one is given."""
     warnings.simplefilter("ignore")
-    client = Elasticsearch(address)
+    client = Elasticsearch(address, headers={"Authorization": f"Bearer {token[0]}"} if token else None)
     print(json.dumps([called(client, *one) for one in json.load(sys.stdin)]))
 
 
 if __name__ == "__main__":
-    main(sys.argv[1])
+    main(*sys.argv[1:])

@@ -12,32 +12,32 @@ from .handlers import OfDocuments, OfIndices, OfSearches
 from .indices import Indices
 
 PREFIX = "/elasticsearch"
-_ASKS = ("/_search", "/_count", "/_refresh")
+INDEX = "/{index:[^_/][^/]*}"
 
 
 def routes(door: Door) -> list[web.RouteDef]:
-    """Its routes."""
+    """Its routes, each with the role that its callers need, where that is not told by its method."""
     indices = Indices(door)
     of_indices, of_documents, of_searches = OfIndices(indices), OfDocuments(indices), OfSearches(indices)
-    handlers: list[tuple[str, str, Handler]] = [
-        ("GET", "", of_indices.about), ("GET", "/", of_indices.about),
-        ("POST PUT", "/_bulk", of_documents.bulk), ("POST PUT", "/{index}/_bulk", of_documents.bulk),
-        ("GET POST", "/_refresh", of_indices.refresh), ("GET POST", "/{index}/_refresh", of_indices.refresh),
-        ("GET POST", "/{index}/_search", of_searches.search), ("GET POST", "/{index}/_count", of_searches.count),
-        ("GET", "/{index}/_mapping", of_indices.mapping), ("PUT POST", "/{index}/_mapping", of_indices.extend),
-        ("POST", "/{index}/_doc", of_documents.put), ("PUT POST", "/{index}/_doc/{id}", of_documents.put),
-        ("PUT POST", "/{index}/_create/{id}", of_documents.put), ("GET", "/{index}/_doc/{id}", of_documents.get),
-        ("DELETE", "/{index}/_doc/{id}", of_documents.delete), ("GET", "/{index}/_source/{id}", of_documents.source),
-        ("PUT", "/{index:[^_/][^/]*}", of_indices.create), ("GET", "/{index:[^_/][^/]*}", of_indices.get),
-        ("DELETE", "/{index:[^_/][^/]*}", of_indices.drop), ("*", "/{rest:.*}", of_indices.unknown)]
+    handlers: list[tuple[str, str, Handler, Role | None]] = [
+        ("GET", "", of_indices.about, None), ("GET", "/", of_indices.about, None),
+        ("GET", "/_cluster/health", of_indices.health, None),
+        ("POST PUT", "/_bulk", of_documents.bulk, None), ("POST PUT", "/{index}/_bulk", of_documents.bulk, None),
+        ("GET POST", "/_refresh", of_indices.refresh, Role.READ),
+        ("GET POST", "/{index}/_refresh", of_indices.refresh, Role.READ),
+        ("GET POST", "/{index}/_search", of_searches.search, Role.READ),
+        ("GET POST", "/{index}/_count", of_searches.count, Role.READ),
+        ("GET", "/{index}/_mapping", of_indices.mapping, None),
+        ("PUT POST", "/{index}/_mapping", of_indices.extend, None),
+        ("POST", "/{index}/_doc", of_documents.put, None), ("PUT POST", "/{index}/_doc/{id}", of_documents.put, None),
+        ("PUT POST", "/{index}/_create/{id}", of_documents.put, None),
+        ("GET", "/{index}/_doc/{id}", of_documents.get, None),
+        ("DELETE", "/{index}/_doc/{id}", of_documents.delete, None),
+        ("GET", "/{index}/_source/{id}", of_documents.source, None), ("PUT", INDEX, of_indices.create, None),
+        ("GET", INDEX, of_indices.get, None), ("DELETE", INDEX, of_indices.drop, Role.ADMIN),
+        ("*", "/{rest:.*}", of_indices.unknown, None)]
     found: list[web.RouteDef] = []
-    for methods, path, handler in handlers:
-        for method in methods.split():
-            answering = asking(handler) if path.endswith(_ASKS) else handled(handler)
-            found.append(web.route(method, PREFIX + path, answering))
+    for methods, path, handler, role in handlers:
+        answering = handled(handler) if role is None else needs(role)(handled(handler))
+        found += [web.route(method, PREFIX + path, answering) for method in methods.split()]
     return found
-
-
-def asking(handler: Handler) -> Handler:
-    """A handler that changes nothing, whatever its method is."""
-    return needs(Role.READ)(handled(handler))

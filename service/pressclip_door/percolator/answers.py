@@ -3,6 +3,7 @@
 from __future__ import annotations
 
 import json
+import sqlite3
 from typing import Any, Awaitable, Callable, Iterable
 
 from aiohttp import web
@@ -120,6 +121,9 @@ def trouble_of(error: Exception) -> Trouble | None:
     """An error as Elasticsearch tells it; None where it is not one of those that are expected."""
     if isinstance(error, Trouble):
         return error
+    if isinstance(error, sqlite3.Error):
+        return Trouble("cluster_block_exception", f"what is kept beside the queries can't be read or written: {error}",
+                       503)
     if isinstance(error, RecursionError):
         return Trouble("json_parse_exception", "objects and lists stand in each other too deep")
     if isinstance(error, Behind):

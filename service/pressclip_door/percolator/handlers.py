@@ -27,6 +27,10 @@ ABOUT: Json = {
                 "build_date": "1970-01-01T00:00:00Z", "build_snapshot": False, "lucene_version": "8.11.1",
                 "minimum_wire_compatibility_version": "6.8.0", "minimum_index_compatibility_version": "6.0.0-beta1"},
     "tagline": "You Know, for Search"}
+HEALTH: Json = {
+    "cluster_name": "pressclip", "status": "green", "timed_out": False, "number_of_nodes": 1, "number_of_data_nodes": 1,
+    "active_primary_shards": 1, "active_shards": 1, "relocating_shards": 0, "initializing_shards": 0,
+    "unassigned_shards": 0, "number_of_pending_tasks": 0, "active_shards_percent_as_number": 100.0}
 
 
 class OfIndices:
@@ -40,6 +44,12 @@ class OfIndices:
         """What this is, in the words that clients look for."""
         checked(request)
         return answer(request, ABOUT)
+
+    async def health(self, request: web.Request) -> web.Response:
+        """That it is well, which clients wait for."""
+        checked(request, ("wait_for_status",))
+        await self._indices.load()
+        return answer(request, HEALTH)
 
     async def create(self, request: web.Request) -> web.Response:
         """Makes an index with a percolator's mapping."""

@@ -21,7 +21,7 @@ create index if not exists by_engine on documents (engine);
 """
 
 
-class OtherForm(Exception):
+class OtherForm(sqlite3.DatabaseError):
     """The file is of another form than this program writes."""
 
 
@@ -47,7 +47,8 @@ class IndexRow:
 
 
 class Store:
-    """The file, or memory where there is no folder. Its calls block, and are made one at a time."""
+    """The file, or memory where there is no folder. Its calls block, and are made one at a time, but for `source`. Each
+    raises `sqlite3.Error` where the file can't be read or written, and then changes nothing."""
 
     def __init__(self, folder: Path | None) -> None:
         if folder is not None:
@@ -62,6 +63,8 @@ class Store:
             raise OtherForm(f"{FILE} is of form {form}, and {FORM} is what is read here")
         self._file.executescript(_TABLES)
         self._file.execute(f"pragma user_version = {FORM}")
+        # Reads wait for no write.
+        self._reads = self._file if folder is None else sqlite3.connect(path, check_same_thread=False)
         self._stale: list[int] = []
 
     def indices(self) -> list[IndexRow]:
@@ -101,14 +104,10 @@ class Store:
 
     def source(self, seq: int) -> str:
         """The source of a document that is kept."""
-        found: str = self._file.execute("select source from documents where seq = ?", (seq,)).fetchone()[0]
+        found: str = self._reads.execute("select source from documents where seq = ?", (seq,)).fetchone()[0]
         return found
 
     def last_seq(self) -> int:
         """The greatest number of a document."""
         found: int = self._file.execute("select coalesce(max(seq), 0) from documents").fetchone()[0]
         return found
-
-    def close(self) -> None:
-        """Closes the file."""
-        self._file.close()
