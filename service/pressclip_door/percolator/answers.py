@@ -112,7 +112,10 @@ def handled(handler: Handler) -> Handler:
             trouble = trouble_of(error)
             if trouble is None:
                 raise
-            return answer(request, trouble.document(), trouble.status)
+            response = answer(request, trouble.document(), trouble.status)
+            if trouble.status in (429, 503):
+                response.headers["Retry-After"] = "1"
+            return response
 
     return handle
 
