@@ -218,6 +218,20 @@ def refusals_are_shown(browser: Browser, door: Door) -> None:
     browser.has("#said", "256 bytes")
 
 
+def large_texts_are_read_and_marked_within_bounds(browser: Browser, door: Door) -> None:
+    """A query of 4,000 words, and an article in which a word stands 50,000 times."""
+    browser.open(door.address)
+    words = [f"word{number}" for number in range(4_000)]
+    browser.fill(QUERY, " ".join(words))
+    browser.has("#sentence", '"word1" in text; "word2" in text')
+    browser.has("#tree", "and 3,880 more parts")
+    need(len(browser.texts("#sentence")[0]) < 2_000, "the sentence is not cut")
+    need(len(browser.all(".at-hint")) <= 200, "all remarks are marked")
+    browser.fill(QUERY, "tea")
+    browser.fill(TEXT, "tea " * 50_000)
+    browser.shows("#verdict", "Holds at 50,000 words (tea); the first 1,000 are marked.")
+
+
 def the_page_asks_no_other_host(browser: Browser, door: Door) -> None:
     """All that it loads comes from the door, and it keeps nothing but what it says."""
     browser.open(door.address)
@@ -230,4 +244,5 @@ def the_page_asks_no_other_host(browser: Browser, door: Door) -> None:
 SHARED_ACTS: tuple[Act, ...] = (
     a_query_is_read_as_it_is_written, remarks_and_faults_are_marked_at_their_places, what_costs_or_never_holds_is_told,
     a_query_is_tried_on_an_article, queries_are_saved_found_changed_and_deleted,
-    what_others_change_meanwhile_is_not_lost, refusals_are_shown, the_page_asks_no_other_host)
+    what_others_change_meanwhile_is_not_lost, refusals_are_shown, large_texts_are_read_and_marked_within_bounds,
+    the_page_asks_no_other_host)

@@ -17,23 +17,32 @@ function bytesOf(code) {
   return code < 0x10000 ? 3 : 4;
 }
 
-/**
- * The index in a text of what stands at a byte of it; the text's length where the byte is behind it.
- * @param {string} text
- * @param {number} at
- * @returns {number}
- */
-export function indexOfByte(text, at) {
-  let bytes = 0;
-  let index = 0;
-  for (const character of text) {
-    if (bytes >= at) {
-      return index;
+/** Which index of a text stands at which byte of it. Cost: linear in the text once, and constant for each byte. */
+export class ByteIndex {
+  #indices;
+  #bytes = 0;
+
+  /** @param {string} text */
+  constructor(text) {
+    this.text = text;
+    this.#indices = new Uint32Array(3 * text.length);
+    let index = 0;
+    for (const character of text) {
+      const next = this.#bytes + bytesOf(character.codePointAt(0) ?? 0);
+      this.#indices.fill(index, this.#bytes, next);
+      this.#bytes = next;
+      index += character.length;
     }
-    bytes += bytesOf(character.codePointAt(0) ?? 0);
-    index += character.length;
   }
-  return index;
+
+  /**
+   * The index of the character that a byte is of; the text's length behind its end.
+   * @param {number} byte
+   * @returns {number}
+   */
+  of(byte) {
+    return byte < this.#bytes ? this.#indices[byte] : this.text.length;
+  }
 }
 
 /**

@@ -2,7 +2,7 @@
 
 import { Newest, addressOf } from "./api.js";
 import { announce, counted, element, find, later } from "./elements.js";
-import { endOfPart, indexOfByte } from "./places.js";
+import { ByteIndex, endOfPart } from "./places.js";
 import { fieldsOf, treeNodes } from "./tree.js";
 
 /** @typedef {import("./types.js").Explained} Explained */
@@ -13,6 +13,8 @@ import { fieldsOf, treeNodes } from "./tree.js";
 const QUIET_MILLISECONDS = 120;
 const SPOKEN_AFTER_MILLISECONDS = 900;
 const REMARKS_SHOWN = 5;
+const MOST_REMARKS = 200;
+const MOST_SENTENCE = 1_500;
 const LEVELS = { warning: "Warning", notice: "Note", hint: "Hint" };
 const EXAMPLES = [
   ["tea coffee", "one of the two words"],
@@ -31,6 +33,7 @@ export class Reading {
   /** @type {Place[]} */
   #places = [];
   #atPlace = -1;
+  #bytes = new ByteIndex("");
   /** @type {Remark[]} */
   #remarks = [];
 
@@ -97,15 +100,16 @@ export class Reading {
     find("examples", HTMLElement).hidden = explained !== null;
     this.#remarks = [];
     this.#areAllShown = false;
+    this.#bytes = new ByteIndex(text);
     const isFault = explained !== null && "fault" in explained;
     if (isFault) {
       this.#showFault(explained.says);
-      this.#places = [placeOf(text, explained.at, "at-fault", explained.says)];
+      this.#places = [this.#placeOf(explained.at, "at-fault", explained.says)];
     } else {
       this.#showMeaning(explained);
-      this.#remarks = (explained?.remarks ?? []).slice().sort(byLevel);
+      this.#remarks = (explained?.remarks ?? []).slice().sort(byLevel).slice(0, MOST_REMARKS);
       this.#places = this.#remarks.filter(hasPlace).map((remark) =>
-        placeOf(text, remark.at, `at-${remark.level}`, remark.says));
+        this.#placeOf(remark.at, `at-${remark.level}`, remark.says));
     }
     this.#showRemarks();
     this.box.mark(this.#places.slice().reverse());
@@ -122,13 +126,14 @@ export class Reading {
     const [fault, sentence, tree] = ["fault", "sentence", "tree"].map((id) => find(id, HTMLElement));
     fault.hidden = true;
     sentence.hidden = tree.hidden = meaning === null;
-    sentence.textContent = meaning?.says ?? "";
+    const says = meaning?.says ?? "";
+    sentence.textContent = says.length > MOST_SENTENCE ? `${says.slice(0, MOST_SENTENCE)} …` : says;
     tree.replaceChildren(...(meaning ? treeNodes(meaning.tree) : []));
     const flags = meaning ? flagsOf(meaning) : [];
     const list = find("flags", HTMLElement);
     list.hidden = flags.length === 0;
     list.replaceChildren(...flags.map(([kind, says]) => element("li", { class: kind }, says)));
-    this.#say([meaning?.says ?? "", ...flags.map(([, says]) => says)].join(" "));
+    this.#say([sentence.textContent, ...flags.map(([, says]) => says)].join(" "));
   }
 
   /**
@@ -171,14 +176,25 @@ export class Reading {
    * @returns {HTMLElement}
    */
   #remarkNode(remark) {
-    const text = this.box.text;
-    const place = placeOf(text, remark.at, "", "");
-    const part = text.slice(place.from, place.to);
+    const place = this.#placeOf(remark.at, "", "");
+    const part = this.#bytes.text.slice(place.from, place.to);
     const lead = hasPlace(remark) && part
       ? [element("button", { type: "button", class: "part", onclick: () => this.box.select(place) }, part), " "]
       : [];
     return element("li", { class: remark.level },
       element("span", { class: "level" }, LEVELS[remark.level]), element("span", {}, ...lead, remark.says));
+  }
+
+  /**
+   * The place that is spoken of by the byte at which it begins.
+   * @param {number} at
+   * @param {string} kind
+   * @param {string} says
+   * @returns {Place}
+   */
+  #placeOf(at, kind, says) {
+    const from = this.#bytes.of(at);
+    return { from, to: endOfPart(this.#bytes.text, from), kind, says };
   }
 
   /** Puts the cursor at the next place that is marked. */
@@ -209,19 +225,6 @@ function hasPlace(remark) {
 function byLevel(one, other) {
   const order = Object.keys(LEVELS);
   return order.indexOf(one.level) - order.indexOf(other.level) || one.at - other.at;
-}
-
-/**
- * The place of a text that is spoken of by the byte at which it begins.
- * @param {string} text
- * @param {number} at
- * @param {string} kind
- * @param {string} says
- * @returns {Place}
- */
-function placeOf(text, at, kind, says) {
-  const from = indexOfByte(text, at);
-  return { from, to: endOfPart(text, from), kind, says };
 }
 
 /**

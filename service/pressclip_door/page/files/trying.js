@@ -14,6 +14,7 @@ const LAST_ARTICLES = "20";
 const MOST_LABEL = 70;
 const MOST_FIELDS = 16;
 const MOST_WORDS_NAMED = 8;
+const MOST_MARKED = 1_000;
 const USUAL_FIELDS = ["title", "text"];
 /** @type {Record<string, string>} */
 const PLACEHOLDERS = { title: "A headline", text: "Paste an article here, or pick one of the last" };
@@ -222,7 +223,12 @@ export class Trying {
     const words = marked.flatMap(({ pieces }) => pieces.filter((_, place) => place % 2 === 1));
     const named = [...new Set(words)];
     const list = named.slice(0, MOST_WORDS_NAMED).join(", ") + (named.length > MOST_WORDS_NAMED ? ", …" : "");
-    this.#show("yes", words.length ? `Holds: ${counted(words.length, "word")} marked (${list}).` : "Holds.");
+    const count = counted(words.length, "word");
+    if (words.length > MOST_MARKED) {
+      this.#show("yes", `Holds at ${count} (${list}); the first ${MOST_MARKED.toLocaleString("en")} are marked.`);
+    } else {
+      this.#show("yes", words.length ? `Holds: ${count} marked (${list}).` : "Holds.");
+    }
   }
 
   /**
@@ -241,13 +247,15 @@ export class Trying {
   }
 
   /**
-   * Marks words in the boxes.
+   * Marks words in the boxes, the first of them where there are very many.
    * @param {Marked[]} marked
    */
   #mark(marked) {
+    let room = MOST_MARKED;
     this.#boxes.forEach((box, name) => {
       const spans = marked.filter(({ field }) => field === name).flatMap(({ pieces }) => spansOf(pieces));
-      box.mark(spans.map(([from, to]) => ({ from, to, kind: "hit" })));
+      box.mark(spans.slice(0, room).map(([from, to]) => ({ from, to, kind: "hit" })));
+      room -= Math.min(room, spans.length);
     });
   }
 }
