@@ -130,7 +130,7 @@ class Guard:
             raise Problem("request", "the address is not of UTF-8") from None
 
     def _look_at_names(self, request: web.Request) -> None:
-        """Refuses names of others, and pages of others."""
+        """Refuses names of others, and pages of others; a link of theirs may lead to what needs no token."""
         hosts: list[str] = request.headers.getall(hdrs.HOST, [])
         if len(hosts) != 1:
             raise Problem("request", "a request has one Host")
@@ -139,7 +139,8 @@ class Guard:
             raise Problem("host", f"the names of this service are {', '.join(sorted(self._names))}")
         origin = request.headers.get(hdrs.ORIGIN)
         is_foreign = origin is not None and urlsplit(origin).netloc.lower() != hosts[0].lower()
-        if is_foreign or request.headers.get("Sec-Fetch-Site") == "cross-site":
+        is_visit = request.headers.get("Sec-Fetch-Mode") == "navigate" and role_of(request) is Role.OPEN
+        if is_foreign or (request.headers.get("Sec-Fetch-Site") == "cross-site" and not is_visit):
             raise Problem("origin")
 
     def _token_of(self, request: web.Request) -> Token | None:

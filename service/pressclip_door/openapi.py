@@ -130,6 +130,7 @@ PATHS: Json = {
                            ("shape", "streams"), None,
                            [asked("Last-Event-ID", "the last that was heard", place="header"),
                             asked("last_event_id", "the last that was heard, where no header can be sent"),
+                            asked("last", "how many of the last alerts to begin with", NUMBER),
                             asked("prefix", "how the ids of the queries begin"),
                             asked("excerpts", "whether to show marked excerpts", BOOLEAN)])},
     "/explain": {"post": act("Says how a query is read, or its fault", {200: answered("the reading", READING)},

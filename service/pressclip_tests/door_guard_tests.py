@@ -3,6 +3,7 @@
 from __future__ import annotations
 
 import json
+import os
 import shutil
 import socket
 import subprocess
@@ -267,15 +268,19 @@ def it_stands_behind_nginx() -> None:
             server = page_server().replace("443", str(port)).replace("8080", str(door.port)).replace(
                 "/etc/pressclip/tls", name).replace("alerts.example", "localhost")
             (Path(name) / "nginx.conf").write_text(NGINX.format(folder=name, server=server))
-            nginx = subprocess.Popen([shutil.which("nginx", path="/usr/sbin:/usr/bin") or "nginx", "-e", "stderr", "-c",
-                                      f"{name}/nginx.conf"], stderr=subprocess.DEVNULL)
+            proxy = subprocess.Popen([nginx(), "-e", "stderr", "-c", f"{name}/nginx.conf"], stderr=subprocess.DEVNULL)
             try:
                 curl = ["curl", "-sS", "--cacert", f"{name}/door.crt", "--retry-connrefused", "--retry", "20", "-H",
                         "Authorization: Bearer " + "t" * 20]
                 through(curl, f"https://localhost:{port}", name)
             finally:
-                nginx.terminate()
-                nginx.wait(PATIENCE_SECONDS)
+                proxy.terminate()
+                proxy.wait(PATIENCE_SECONDS)
+
+
+def nginx() -> str:
+    """The program, which Debian has off the path of users."""
+    return shutil.which("nginx", path=f"/usr/sbin:{os.environ['PATH']}") or "nginx"
 
 
 def page_server() -> str:

@@ -119,6 +119,16 @@ def the_page_goes_on_where_the_door_was_ended(browser: Browser) -> None:
                 need(len(browser.all("#alert-list .gap")) == 1, "nobody says that alerts may be missing")
 
 
+def a_link_of_another_site_leads_to_the_page(browser: Browser) -> None:
+    """And to nothing else of the door."""
+    with Door() as door:
+        for path, text in (("/", "Write"), ("/queries", "a page of another origin may not do this")):
+            browser.driver.get(f"data:text/html,<a href='{door.address}{path}'>go</a>")
+            browser.click("a")
+            browser.until(lambda: browser.run("return location.pathname") == path, "the link leads nowhere")
+            browser.has("body", text)
+
+
 def the_page_asks_for_a_token(browser: Browser) -> None:
     """Once, keeps it in the tab alone, asks again where it is a wrong one, and says what a token may not do."""
     with folder() as name:
@@ -349,6 +359,6 @@ def the_keyboard_goes_through_all(browser: Browser) -> None:
 OWN_ACTS: tuple[OwnAct, ...] = (
     alerts_are_shown_as_they_come, many_alerts_are_shown_within_bounds, alerts_that_came_before_are_shown,
     texts_of_others_stay_texts, a_page_that_nobody_sees_keeps_no_connection, the_page_goes_on_where_the_door_was_ended,
-    the_page_asks_for_a_token,
+    a_link_of_another_site_leads_to_the_page, the_page_asks_for_a_token,
     all_is_done_by_keys, single_keys_can_be_turned_off, everyone_can_read_and_work_the_page,
     the_checks_see_what_is_broken, the_keyboard_goes_through_all)

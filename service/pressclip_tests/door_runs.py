@@ -58,7 +58,9 @@ class Door:
         self._told = tempfile.TemporaryFile()
         self.options = options
         engine = engine or [*command_of([], workers=2), "hits"]
-        words = [DEBIAN_PYTHON, str(DOOR), *options, "--port", str(port), "--", *engine]
+        words = [DEBIAN_PYTHON, str(DOOR), "--port", str(port), *options]
+        if not any(option.endswith(".toml") for option in options):
+            words += ["--", *engine]
         self.process = subprocess.Popen(words, stdin=subprocess.DEVNULL, stdout=subprocess.DEVNULL, stderr=self._told,
                                         env={**os.environ, **(environment or {})})
         self.port = 0
