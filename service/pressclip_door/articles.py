@@ -8,7 +8,7 @@ from typing import Any
 from aiohttp import web
 
 from .asking import ask
-from .bodies import is_asked, limit_of, object_of, with_members
+from .bodies import is_asked, limit_of, object_of, of_json, with_members
 from .door import Door
 from .marking import Marker, by_query, size_of
 from .problems import Problem
@@ -39,7 +39,7 @@ class Articles:
         if not wants_hits and self._door.shows_hits:
             for alert in reply["alerts"]:
                 del alert["hits"]
-        return web.json_response(reply)
+        return of_json(reply)
 
     async def _mark(self, articles: list[Json], alerts: list[Json]) -> None:
         """Puts marked texts beside the alerts; `Problem` where these are too large to be held."""
@@ -62,7 +62,7 @@ class Articles:
             found += reversed(json.loads(line)["articles"])
             if len(found) >= limit:
                 break
-        return web.json_response({"articles": found[:limit]})
+        return of_json({"articles": found[:limit]})
 
 
 def routes(door: Door) -> list[web.RouteDef]:

@@ -56,6 +56,11 @@ def is_whole(value: object) -> bool:
     return True
 
 
+def of_json(value: Json, status: int = 200) -> web.Response:
+    """An answer of JSON, in one line."""
+    return web.Response(text=json.dumps(value, ensure_ascii=False) + "\n", status=status, content_type=JSON_TYPES[0])
+
+
 def with_members(value: Json, needed: dict[str, type], allowed: dict[str, type] | None = None) -> Json:
     """The value, which has these members of these types and no others; `Problem` else."""
     kinds = {**needed, **(allowed or {})}

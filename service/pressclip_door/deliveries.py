@@ -6,6 +6,7 @@ import time
 
 from aiohttp import web
 
+from .bodies import of_json
 from .courier import Courier, Pauses, Route
 from .door import Door
 from .explaining import Explainer
@@ -50,7 +51,7 @@ class Deliveries:
         """How many alerts wait on each route, since when, and why the last was not taken."""
         courier = self._door.courier
         if courier is None:
-            return web.json_response({"deliveries": []})
+            return of_json({"deliveries": []})
         counts = await courier.counts()
         told = []
         for carriage in courier.carriages:
@@ -58,7 +59,7 @@ class Deliveries:
             told.append({"name": carriage.route.name, "prefix": carriage.route.prefix, "waiting": count,
                          "oldest_seconds": None if oldest is None else round(time.time() - oldest, 1),
                          "failure": carriage.last_failure})
-        return web.json_response({"deliveries": told})
+        return of_json({"deliveries": told})
 
 
 def routes(door: Door) -> list[web.RouteDef]:

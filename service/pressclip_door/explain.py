@@ -6,7 +6,7 @@ from typing import Any
 
 from aiohttp import web
 
-from .bodies import object_of, with_members
+from .bodies import object_of, of_json, with_members
 from .door import Door
 from .guard import needs
 from .marking import Marker, by_query
@@ -44,7 +44,7 @@ class Explaining:
         alert = reply["alerts"][0]
         marker = Marker(self._door.explainer, body["article"]["fields"])
         marked = [one for query, hits in by_query(alert) for one in await marker.marked(query, hits)]
-        return web.json_response({"holds": bool(alert["queries"]), "marked": marked})
+        return of_json({"holds": bool(alert["queries"]), "marked": marked})
 
     async def _refusal(self, query: str, reply: Json) -> Problem:
         """The problem that a refusal of the query or of the article is."""
@@ -58,7 +58,7 @@ def told(said: Json) -> web.Response:
     """What the explaining program said; `Problem` where it refused the line itself, as one that is too long."""
     if "refused" in said:
         raise Problem(said["refused"], said.get("says", ""))
-    return web.json_response(said)
+    return of_json(said)
 
 
 def routes(door: Door) -> list[web.RouteDef]:

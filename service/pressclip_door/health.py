@@ -10,6 +10,7 @@ from prometheus_client import CONTENT_TYPE_LATEST, generate_latest
 
 from pressclip_service.journal import FILE
 
+from .bodies import of_json
 from .door import Door
 from .guard import needs
 from .tokens import Role
@@ -24,7 +25,7 @@ class Health:
     @needs(Role.OPEN)
     async def health(self, request: web.Request) -> web.Response:
         """That the door lives."""
-        return web.json_response({"is_alive": True})
+        return of_json({"is_alive": True})
 
     @needs(Role.OPEN)
     async def ready(self, request: web.Request) -> web.Response:
@@ -32,7 +33,7 @@ class Health:
         is_ready = self._door.engine.is_ready and not self._door.is_draining
         said = {"is_ready": is_ready, "queries": len(self._door.catalog), "shows_hits": self._door.shows_hits,
                 "changes": self._door.following.changes}
-        return web.json_response(said, status=200 if is_ready else 503)
+        return of_json(said, status=200 if is_ready else 503)
 
     async def metrics(self, request: web.Request) -> web.Response:
         """The figures."""

@@ -8,6 +8,7 @@ from aiohttp import web
 
 from pressclip_service import VERSION
 
+from .bodies import of_json
 from .door import Door
 from .guard import needs
 from .problems import TYPE, WORDS
@@ -131,6 +132,7 @@ PATHS: Json = {
                            [asked("Last-Event-ID", "the last that was heard", place="header"),
                             asked("last_event_id", "the last that was heard, where no header can be sent"),
                             asked("last", "how many of the last alerts to begin with", NUMBER),
+                            asked("last", "how many of those before it come first", NUMBER),
                             asked("prefix", "how the ids of the queries begin"),
                             asked("excerpts", "whether to show marked excerpts", BOOLEAN)])},
     "/explain": {"post": act("Says how a query is read, or its fault", {200: answered("the reading", READING)},
@@ -163,7 +165,7 @@ DOCUMENT: Json = {
 @needs(Role.OPEN)
 async def document(request: web.Request) -> web.Response:
     """Gives the document."""
-    return web.json_response(DOCUMENT)
+    return of_json(DOCUMENT)
 
 
 def routes(door: Door) -> list[web.RouteDef]:

@@ -72,5 +72,5 @@ class Problem(Exception):
 
     def response(self) -> web.Response:
         """The answer."""
-        text = json.dumps(self.document(), ensure_ascii=False)
+        text = json.dumps(self.document(), ensure_ascii=False) + "\n"
         return web.Response(text=text, status=self.status, content_type=TYPE, headers=self.headers)

@@ -9,7 +9,7 @@ from typing import Any
 from aiohttp import web
 
 from .asking import ask
-from .bodies import limit_of, object_of, with_members
+from .bodies import limit_of, object_of, of_json, with_members
 from .door import Door
 from .guard import needs
 from .problems import Problem
@@ -33,7 +33,7 @@ class Queries:
         body = with_members(await object_of(self._door, request), {"query": str}, {"listener": str})
         is_new = self._door.catalog.get(name) is None
         await ask(self._door, {"op": "register", "queries": [{"id": name, **body}]})
-        return web.json_response({"id": name, **body}, status=201 if is_new else 200)
+        return of_json({"id": name, **body}, status=201 if is_new else 200)
 
     async def get(self, request: web.Request) -> web.Response:
         """Shows the query under an id."""
@@ -43,24 +43,24 @@ class Queries:
             raise Problem("missing", "no query is under this id")
         listing = self._door.catalog.get(name)
         more = {} if listing is None or listing.listener is None else {"listener": listing.listener}
-        return web.json_response({"id": name, "query": shown["query"], **more})
+        return of_json({"id": name, "query": shown["query"], **more})
 
     async def delete(self, request: web.Request) -> web.Response:
         """Deletes the query under an id."""
         done = await ask(self._door, {"op": "delete", "ids": [request.match_info["id"]]})
         if not done["deleted"]:
             raise Problem("missing", "no query is under this id")
-        return web.json_response(done)
+        return of_json(done)
 
     async def post(self, request: web.Request) -> web.Response:
         """Registers many, all or none."""
         body = with_members(await object_of(self._door, request), {"queries": list})
-        return web.json_response(await ask(self._door, {"op": "register", "queries": body["queries"]}))
+        return of_json(await ask(self._door, {"op": "register", "queries": body["queries"]}))
 
     @needs(Role.ADMIN)
     async def clear(self, request: web.Request) -> web.Response:
         """Deletes all."""
-        return web.json_response(await ask(self._door, {"op": "clear"}))
+        return of_json(await ask(self._door, {"op": "clear"}))
 
     async def list(self, request: web.Request) -> web.Response:
         """A page of the ids with their queries, in byte order: those behind `after`, that begin with `prefix`, and
@@ -82,7 +82,7 @@ class Queries:
                     break
         more = {"next": found[limit - 1]["id"]} if len(found) > limit else {}
         page = list(islice(found, limit))
-        return web.json_response({"count": len(self._door.catalog), "queries": page, **more})
+        return of_json({"count": len(self._door.catalog), "queries": page, **more})
 
 
 def routes(door: Door) -> list[web.RouteDef]:

@@ -257,8 +257,11 @@ class Stream:
             pass
 
     def end(self) -> None:
-        """Ends the body."""
-        self.connection.sendall(b"0\r\n\r\n")
+        """Ends the body, where the connection is not broken off."""
+        try:
+            self.connection.sendall(b"0\r\n\r\n")
+        except ConnectionError:
+            pass
 
     def blocks(self) -> list[bytes]:
         """The next block of replies; none once the stream is over, or broken off."""

@@ -13,15 +13,15 @@ from pathlib import Path
 from random import Random
 from typing import Callable
 
-from .door_runs import LINES, Door, Events, Stream, by_aiohttp, shared, with_settings, without_hits
+from .door_runs import LINES, Answer, Door, Events, Stream, by_aiohttp, shared, with_settings, without_hits
 from .inputs import Source, joined, with_long_lines
 from .judge import Due, folder, need, replies_of_engine, same
 from .keep_runs import changes_in
 from .processes import ENDED, PATIENCE_SECONDS, engine_of
 
 ENGINE_KILLS = 12
-KEEP_KILLS = 6
-DOOR_KILLS = 6
+KEEP_KILLS = 4
+DOOR_KILLS = 4
 
 
 def posted(door: Door, text: bytes) -> bytes:
@@ -77,12 +77,10 @@ class Client:
             if sent in kills:
                 replies += stream.blocks()
                 end_engine(door)
-        if kill is None:
-            stream.end()
-        elif self.dice.random() < 0.7:
-            replies += stream.blocks()
         if kill is not None:
+            replies += stream.blocks() if self.dice.random() < 0.7 else []
             kill()
+        stream.end()
         while block := stream.blocks():
             replies += block
         stream.close()
@@ -256,22 +254,25 @@ def a_slow_listener_is_let_go() -> None:
 
 
 def where_the_engine_is_behind_more_is_put_off() -> None:
-    """With 429 and after how long to try again; what was accepted is answered."""
+    """With 429 and after how long to try again; where the engine ends, what it owes is refused by name."""
     engine = ["sh", "-c", 'read first; echo "{\\"line\\":1,\\"refused\\":\\"shape\\"}"; exec cat > /dev/null']
     with folder() as name, Door(with_settings(name, "lines_in_flight = 4", engine)) as door:
-        threads = [threading.Thread(target=door.ask, args=("GET", "/queries/q1")) for _ in range(4)]
+        answers: list[Answer] = []
+        threads = [threading.Thread(target=lambda: answers.append(door.ask("GET", "/queries/q1"))) for _ in range(4)]
         for thread in threads:
             thread.start()
         start = time.monotonic()
-        while (answer := door.ask("GET", "/metrics")) and b"pressclip_lines_in_flight 4.0" not in answer.text:
-            need(time.monotonic() - start < PATIENCE_SECONDS, f"the lines are not in flight: {answer.text.decode()}")
+        while (figures := door.ask("GET", "/metrics").text) and b"pressclip_lines_in_flight 4.0" not in figures:
+            need(time.monotonic() - start < PATIENCE_SECONDS, f"the lines are not in flight: {figures.decode()}")
             time.sleep(0.02)
         answer = door.ask("GET", "/queries/q1")
         answer.refused(429, "behind")
         need(answer.headers["Retry-After"] == "1", f"{answer.headers}")
-        door.process.kill()
+        os.kill(door.child("cat"), signal.SIGKILL)
         for thread in threads:
             thread.join()
+        for answer in answers:
+            answer.refused(503, "ended")
 
 
 TESTS: tuple[Callable[[], None], ...] = (
