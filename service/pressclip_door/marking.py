@@ -59,15 +59,30 @@ def excerpt(marked: Sequence[str]) -> list[str]:
 
 def cut(text: str, is_first: bool, is_last: bool) -> str:
     """A piece of plain text, shortened on the side that is far from a mark, or in the middle where marks are around."""
-    if is_first and is_last:
-        return text if len(text) <= 2 * MOST_AROUND else text[:2 * MOST_AROUND].rstrip() + ELLIPSIS
-    if is_first:
-        return text if len(text) <= MOST_AROUND else ELLIPSIS + text[-MOST_AROUND:].lstrip()
-    if is_last:
-        return text if len(text) <= MOST_AROUND else text[:MOST_AROUND].rstrip() + ELLIPSIS
-    if len(text) <= 2 * MOST_AROUND:
+    most = MOST_AROUND if is_first != is_last else 2 * MOST_AROUND
+    if len(text) <= most:
         return text
-    return f"{text[:MOST_AROUND].rstrip()} {ELLIPSIS} {text[-MOST_AROUND:].lstrip()}"
+    if is_first and is_last:
+        return beginning(text, most) + ELLIPSIS
+    if is_first:
+        return ELLIPSIS + ending(text, most)
+    if is_last:
+        return beginning(text, most) + ELLIPSIS
+    return f"{beginning(text, MOST_AROUND)} {ELLIPSIS} {ending(text, MOST_AROUND)}"
+
+
+def beginning(text: str, most: int) -> str:
+    """The first so many characters, up to a blank where one is in their second half."""
+    kept = text[:most]
+    front, blank, _ = text[:most + 1].rpartition(" ")
+    return (front if blank and len(front) >= most // 2 else kept).rstrip()
+
+
+def ending(text: str, most: int) -> str:
+    """The last so many characters, from a blank on where one is in their first half."""
+    kept = text[-most:]
+    _, blank, back = text[-most - 1:].partition(" ")
+    return (back if blank and len(back) >= most // 2 else kept).lstrip()
 
 
 def size_of(marked: Sequence[Json]) -> int:

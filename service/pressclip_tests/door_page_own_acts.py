@@ -45,6 +45,16 @@ def alerts_are_shown_as_they_come(browser: Browser) -> None:
         browser.shows("#verdict", "Holds: 3 words marked (Tea, prices, tea).")
 
 
+def excerpts_end_with_whole_words(browser: Browser) -> None:
+    """Of the 60 characters behind the word that holds, the six whole words of nine."""
+    with Door() as door:
+        door.put("tea", "tea")
+        browser.open(door.address)
+        door.match("a1", "abcdefgh " * 20 + "tea" + " abcdefgh" * 20)
+        due = "…" + "abcdefgh " * 6 + "tea" + " abcdefgh" * 6 + "…"
+        browser.until(lambda: browser.texts("#alert-list .excerpt") == [due], f"the excerpt is not {due}")
+
+
 def many_alerts_are_shown_within_bounds(browser: Browser) -> None:
     """A thousand that come at once leave the newest hundred."""
     with Door() as door:
@@ -357,8 +367,8 @@ def the_keyboard_goes_through_all(browser: Browser) -> None:
 
 
 OWN_ACTS: tuple[OwnAct, ...] = (
-    alerts_are_shown_as_they_come, many_alerts_are_shown_within_bounds, alerts_that_came_before_are_shown,
-    texts_of_others_stay_texts, a_page_that_nobody_sees_keeps_no_connection, the_page_goes_on_where_the_door_was_ended,
-    a_link_of_another_site_leads_to_the_page, the_page_asks_for_a_token,
+    alerts_are_shown_as_they_come, excerpts_end_with_whole_words, many_alerts_are_shown_within_bounds,
+    alerts_that_came_before_are_shown, texts_of_others_stay_texts, a_page_that_nobody_sees_keeps_no_connection,
+    the_page_goes_on_where_the_door_was_ended, a_link_of_another_site_leads_to_the_page, the_page_asks_for_a_token,
     all_is_done_by_keys, single_keys_can_be_turned_off, everyone_can_read_and_work_the_page,
     the_checks_see_what_is_broken, the_keyboard_goes_through_all)

@@ -23,7 +23,7 @@ from pressclip_tests.door_page_browser import Browser
 from pressclip_tests.door_runs import Door
 from pressclip_tests.judge import need
 
-HEIGHT = 900
+HEIGHT = 960
 COLOURS = 256
 QUERIES = {
     "acme-takeover": "acme AND (merger OR takeover)",
