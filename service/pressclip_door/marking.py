@@ -11,6 +11,8 @@ Json = dict[str, Any]
 MOST_MARKS = 4
 MOST_AROUND = 60
 ELLIPSIS = "…"
+# What an excerpt does not end with, before the ellipsis.
+_ENDS = " \t\r\n.,;:"
 
 
 class Marker:
@@ -75,7 +77,7 @@ def beginning(text: str, most: int) -> str:
     """The first so many characters, up to a blank where one is in their second half."""
     kept = text[:most]
     front, blank, _ = text[:most + 1].rpartition(" ")
-    return (front if blank and len(front) >= most // 2 else kept).rstrip()
+    return (front if blank and len(front) >= most // 2 else kept).rstrip(_ENDS)
 
 
 def ending(text: str, most: int) -> str:

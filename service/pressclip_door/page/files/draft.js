@@ -57,12 +57,12 @@ export class Draft {
   }
 
   /**
-   * Opens a registered query.
+   * Opens a registered query. One that is open and was changed here stays as it is.
    * @param {string} id
-   * @returns {Promise<boolean>} whether it was opened
+   * @returns {Promise<boolean>} whether it is open now
    */
   async open(id) {
-    if (this.#opened?.id === id && !this.#isUnsaved) {
+    if (this.#opened?.id === id && this.#isUnsaved) {
       return true;
     }
     if (!(await this.#mayGo())) {

@@ -75,14 +75,21 @@ export class AlertStream {
   /** Listens, again and again. */
   async run() {
     for (;;) {
-      try {
-        await this.#listen();
-        this.hearer.state("waiting");
-      } catch (error) {
-        const isLocked = error instanceof Refused && (error.status === 401 || error.status === 403);
-        this.hearer.state(isLocked ? "locked" : "waiting", error instanceof Refused ? error.message : undefined);
+      if (!document.hidden) {
+        await this.#try();
       }
       await this.#rest();
+    }
+  }
+
+  /** Listens once, and says how that ended. */
+  async #try() {
+    try {
+      await this.#listen();
+      this.hearer.state("waiting");
+    } catch (error) {
+      const isLocked = error instanceof Refused && (error.status === 401 || error.status === 403);
+      this.hearer.state(isLocked ? "locked" : "waiting", error instanceof Refused ? error.message : undefined);
     }
   }
 
@@ -104,7 +111,7 @@ export class AlertStream {
     this.#pause = Math.min(this.#pause * 2, MOST_PAUSE);
   }
 
-  /** Listens once, until the stream ends or is silent for too long. */
+  /** Listens until the stream ends or is silent for too long. */
   async #listen() {
     const controller = new AbortController();
     this.#controller = controller;
