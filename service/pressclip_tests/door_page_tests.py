@@ -17,6 +17,8 @@ from .grid_runs import DEBIAN_PYTHON
 from .judge import SERVICE, need
 
 FILES = SERVICE / "pressclip_door" / "page" / "files"
+CODEMIRROR = Path("/usr/share/javascript/codemirror")
+PROGRAMS = ("/usr/bin/chromium", "/usr/bin/chromedriver")
 CHILD = Path(__file__).with_name("door_page_child.py")
 SHOTS = Path(__file__).with_name("out") / "door_page"
 MOST_LINES = 300
