@@ -195,7 +195,8 @@ class _Reader:
         self._tell_next(lexeme, tree)
         if load.exact:
             return _changed(tree, lambda term: replace(term, exact=True))
-        made = _changed(tree, lambda term: replace(term, field=load.name) if term.field == TEXT else term)
+        name = load.name
+        made = _changed(tree, lambda term: replace(term, field=name) if term.field == TEXT else term)
         return replace(made, place=Place(lexeme.place.start, made.place.end))
 
     def _tell_next(self, lexeme: Lexeme, tree: Tree) -> None:
@@ -274,7 +275,7 @@ class _Blanks:
     def _any(self, parts: list[Tree]) -> Tree:
         """A blank is OR: what has a sign must hold, or must not; without a plus any of the others."""
         must = [part for part, chunk in zip(parts, self._chunks) if self._reader.is_must(chunk[0])]
-        nots = [part for part in parts if isinstance(part, Not)]
+        nots: list[Tree] = [part for part in parts if isinstance(part, Not)]
         rest = [part for part in parts if part not in must and part not in nots]
         if len(rest) > 1:
             self._reader.tell_blank(rest[0], rest[1], "A blank is OR: one of the two is enough.")
