@@ -54,3 +54,6 @@ class Lexeme:
     place: Place
     text: str
     load: Load = None
+
+    def __str__(self) -> str:
+        return self.text
