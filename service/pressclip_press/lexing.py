@@ -14,6 +14,8 @@ from .tree import (WILD_MANY, WILD_ONE, Every, Has, Level, Place, Range, Refused
 
 MOST_BYTES = 65_536
 MOST_WORDS_NEAR = 1_000
+# How many of a list, where all of it is asked for.
+MOST_OF = 1_000_000
 _RUN = re.compile(r"""(?: \\. | (?<=[\u05d0-\u05ea])"(?=[\u05d0-\u05ea]) | (?<=\d)[,](?=\d) | &(?!&)
                       | (?<=\w)[{](?=\w) | [^\s()\[\]{}",;|&\\] )+""", re.VERBOSE | re.DOTALL)
 _NAMED = re.compile(r"([A-Za-z_][A-Za-z0-9_.-]*):(?!//)")
@@ -22,11 +24,15 @@ _SPREAD = re.compile(r"([^\s()\"]+?)\.\.([^\s()\"]+)")
 _VALUE = re.compile(r'"[^"]*"|[^\s()"]+')
 _RANGE = re.compile(r"""([\[{]) \s* ("[^"]*"|\S+?) \s+ (?:TO|to|-) \s+ ("[^"]*"|[^\s\]}]+) \s* ([\]}])""", re.VERBOSE)
 _PLACES = re.compile(r"(?i:at\s?least|atl)\s?(\d{1,4})(?=\s*[(\s])")
-_OF = re.compile(r"(?i:(?:at\s+least|minimum|min|any)\s+)?(\d{1,3})\s+of\s*(?=\()", re.IGNORECASE)
-_AROUND = re.compile(r"(AROUND|NEAR|ONEAR|WITHIN)\s?\(\s?(\d{1,6})\s?\)", re.IGNORECASE)
+_OF = re.compile(r"(?:(?:at\s?least|minimum|min|any)\s+)?(\d{1,3}|any|all)\s+of\s*(?=\()", re.IGNORECASE)
+_AROUND = re.compile(r"(AROUND|NEAR|ONEAR|WITHIN|ADJ)(?:\s?\(\s?(\d{1,6})\s?\)|\s+(\d{1,4})(?=\s+\S))")
+_SHARE = re.compile(r"\d+(?:[.,]\d+)*\s+%(?=[\s)]|$)")
+_ENTITY = re.compile(r"&(?:amp|quot|lt|gt|nbsp|#\d+|#x[0-9a-f]+);", re.IGNORECASE)
 _WITHIN_WORDS = re.compile(r"within\s+(\d{1,6})(?:\s+words?(?:\s+of)?)?(?=[\s(\"])", re.IGNORECASE)
 _SLOP = re.compile(r"~(\d{0,6})")
 _BOOST = re.compile(r"\^\d+(?:\.\d+)?")
+_EXPRESSION = re.compile(r"/(?:[^/\\\s]|\\.)+/(?=[\s)]|$)")
+_WITHIN_QUOTES = re.compile(r"\b(?:AND|OR|NOT|O?NEAR/\d+)\b")
 _CUT_SHORT = re.compile(r"[^\W\d_]{3,}\$\d?")
 _DATE_BOUNDS = {"before": "<", "until": "<=", "after": ">", "since": ">="}
 
@@ -47,6 +53,9 @@ class Lexer:
         """The lexemes. `Refused` where the query has what is none, or is too long."""
         if len(self.query.encode(errors="replace")) > MOST_BYTES:
             raise Refused(Place(0, 1), "long", f"A query has at most {MOST_BYTES:,} bytes.")
+        if entity := _ENTITY.search(self.plain):
+            self.at = entity.end()
+            raise self.refuse(entity.start(), "entity", f"{entity[0]} is a sign of HTML: write the sign itself.")
         while self._skip_blanks():
             self._next()
         return settled(self)
@@ -72,6 +81,10 @@ class Lexer:
         sign = self.plain[self.at]
         if self._operator_phrase():
             return
+        if sign == "/" and (found := _EXPRESSION.match(self.plain, self.at)):
+            start, self.at = self.at, found.end()
+            raise self.refuse(start, "regular_expression",
+                              "Regular expressions can't be said: * and ? stand for letters.")
         if sign in "(),;|":
             self._sign(sign)
         elif sign == QUOTE or sign in SINGLE_QUOTES and self._has_single_quotes():
@@ -101,7 +114,8 @@ class Lexer:
         last = self.lexemes[-1] if self.lexemes else None
         if last and last.kind is Kind.ITEM and last.place.end == start and last.place.start in self.bare:
             raise self.refuse(last.place.start, "parenthesis_in_word",
-                              "A parenthesis stands within a word: write both spellings, with OR between.")
+                              "A parenthesis stands within a word: write both spellings with OR between, or before it"
+                              " a field that is known.")
 
     def _prefix(self, sign: str) -> bool:
         """Takes a sign before an item; False where it belongs to a word."""
@@ -129,15 +143,15 @@ class Lexer:
         start = self.at
         if start and (self.plain[start - 1].isalnum() or self.plain[start - 1] in "_:"):
             return False
-        if found := _PLACES.match(self.plain, start):
+        if found := _OF.match(self.plain, start):
+            self.at = found.end()
+            self.push(Kind.OF, start, {"any": 1, "all": MOST_OF}.get(found[1].lower()) or int(found[1]))
+        elif found := _PLACES.match(self.plain, start):
             self.at = found.end()
             self.push(Kind.PLACES, start, int(found[1]))
-        elif found := _OF.match(self.plain, start):
-            self.at = found.end()
-            self.push(Kind.OF, start, int(found[1]))
         elif found := _AROUND.match(self.plain, start):
             self.at = found.end()
-            self._within(start, Within(int(found[2]), ordered=found[1].upper() in NEAR_ORDERED))
+            self._within(start, Within(int(found[2] or found[3]), ordered=found[1] in NEAR_ORDERED))
         elif self.lexemes and (found := _WITHIN_WORDS.match(self.plain, start)):
             self.at = found.end()
             self._within(start, Within(int(found[1])))
@@ -180,9 +194,13 @@ class Lexer:
         self.at = end + 1
         raw, plain = self.query[start + 1:end], self.plain[start + 1:end]
         exact = self.choices.exact_quotes
+        if found := _WITHIN_QUOTES.search(plain):
+            self.remark(start, Level.NOTICE, "operator_in_quotes", f"Within quotes {found[0]} is a word.")
         if (named := _NAMED.match(plain)) and named[1].lower() in EXACT:
             raw, plain, exact = raw[named.end():], plain[named.end():], True
         text = self._unescaped(raw, plain)
+        if not text.strip():
+            raise self.refuse(start, "empty_quotes", "Nothing stands between these quotes.")
         if self.plain.startswith("*", self.at):
             self.at += 1
             text += WILD_MANY
@@ -259,6 +277,13 @@ class Lexer:
         named = _NAMED.match(self.plain, start)
         if named and not self.plain.startswith("*:*", start) and self._field(named):
             return
+        if share := _SHARE.match(self.plain, start):
+            self.at = share.end()
+            self._bare_word(start, share[0])
+            return
+        if self.plain.startswith('\\"', start):
+            self.at += 2
+            raise self.refuse(start, "escaped_quote", "A backslash makes a sign of this quote: take it away.")
         run = _RUN.match(self.plain, start)
         if not run:
             self.at += 2 if self.plain.startswith("&&", start) else 1
@@ -307,7 +332,7 @@ class Lexer:
         self.at = named.end()
         if small in EXACT:
             self.push(Kind.FIELD, start, FieldOf("", exact=True))
-        elif small == "has":
+        elif small in ("has", "_exists_"):
             self._has(start)
         elif small in _DATE_BOUNDS and self.plain[self.at:self.at + 1].isdigit():
             self._bound(start, "date", _DATE_BOUNDS[small])
@@ -322,7 +347,10 @@ class Lexer:
 
     def _unknown_field(self, start: int, written: str) -> str:
         """A name that the profile doesn't know: taken where it is written as one, with a remark."""
-        if written != written.lower() or not re.fullmatch(r"[a-z_][a-z0-9_]{0,63}", written):
+        after = self.plain[self.at:self.at + 1]
+        if after in ("<", ">"):
+            raise self.refuse(start, "unknown_field", f"{written} is no number and no day in the profile's [kinds].")
+        if after in ("", " ") or not re.fullmatch(r"[a-z_][a-z0-9_]{0,63}", written):
             raise self.refuse(start, "unknown_field",
                               f"{written} is no field that is known: write \\: for a colon in a word, or quotes.")
         self.remark(start, Level.WARNING, "unknown_field",
@@ -433,8 +461,6 @@ class Lexer:
                               " * is any one word.")
         if re.search(r"(?<!\\)~\d*(?:\.\d+)?$", run) or run.startswith("~"):
             raise self.refuse(start, "fuzzy", "Words like another can't be said: write their spellings with OR.")
-        if len(run) > 2 and run.startswith("/") and run.endswith("/"):
-            raise self.refuse(start, "regular_expression", "Regular expressions can't be said: * and ? stand for letters.")
         if _CUT_SHORT.fullmatch(run):
             raise self.refuse(start, "cut_short", "$ cuts no word short: * stands for any letters.")
         if boost := re.search(r"(?<!\\)\^\d+(?:\.\d+)?$", run):

@@ -15,7 +15,7 @@ from lark.lexer import Lexer as LarkLexer
 
 from .choices import Blank, Choices
 from .lexemes import FieldOf, Kind, Lexeme, Within
-from .lexing import Lexer
+from .lexing import MOST_OF, Lexer
 from .tree import (TEXT, All, AtLeast, Every, Has, Level, Near, Not, Often, Place, Range, Refused, Remark, Same, Slop,
                    Some, Term, Tree)
 
@@ -231,6 +231,8 @@ class _Reader:
         assert isinstance(lexeme.load, int)
         parts = self._several(children[1])
         self._need_count(lexeme)
+        if lexeme.load == MOST_OF:
+            return _all(parts)
         if lexeme.load > len(parts):
             raise Refused(lexeme.place, "count", f"There are {len(parts)} of which {lexeme.load} have to hold.")
         return AtLeast(Place(lexeme.place.start, parts[-1].place.end), lexeme.load, tuple(parts))

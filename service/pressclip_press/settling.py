@@ -5,7 +5,7 @@ from __future__ import annotations
 from typing import TYPE_CHECKING
 
 from .lexemes import Kind, Lexeme
-from .signs import COMPANY_FORMS, ENGLISH, JOINING, LOWER_CASE, NEARNESS, Word
+from .signs import COMPANY_FORMS, ENGLISH, JOINING, LOWER_CASE, NEAR_AS_WORD, NEARNESS, Word
 from .tree import Level, Place, Refused, Remark
 
 if TYPE_CHECKING:
@@ -34,6 +34,8 @@ def _with_operators(lexer: Lexer, lexemes: list[Lexeme]) -> list[Lexeme]:
         if written is None:
             _tell_other_language(lexer, lexeme)
             made.append(lexeme)
+        elif written.lower() == "but" and is_after and after and after.text.lower() == "not":
+            continue
         elif (word := LOWER_CASE.get(written)) and lexer.choices.lower_case_operators and (
                 is_after or word is Word.NOT and after):
             made += _operators(lexer, lexeme, word)
@@ -64,7 +66,7 @@ def _tell_joining(lexer: Lexer, lexeme: Lexeme, written: str) -> None:
     if written.lower() in JOINING:
         says = f"{written} is looked for as a word: AND, OR and NOT in capitals are operators."
         lexer.remarks.append(Remark(lexeme.place, Level.NOTICE, "joining_word", says))
-    elif written.lower() in NEARNESS:
+    elif written.lower() in NEARNESS or NEAR_AS_WORD.fullmatch(written):
         says = f"{written} is looked for as a word: NEAR/10 has both within ten words."
         lexer.remarks.append(Remark(lexeme.place, Level.NOTICE, "nearness_word", says))
 

@@ -13,6 +13,8 @@ QUOTES = "\"“”„‟«»「」『』〝〞〟″＂❝❞"
 # What opens a row in single quotes, and what closes it.
 SINGLE_QUOTES: Mapping[str, str] = {"'": "'", "‘": "’", "‚": "‘’", "‹": "›", "›": "‹"}
 DASHES = "–—−"
+# Signs of direction and blanks of no width, as they come with what is pasted.
+_UNSEEN = "\u200b\u200e\u200f\u202a\u202b\u202c\u202d\u202e\u2060\u2066\u2067\u2068\u2069\ufeff"
 _WIDE_SIGNS = "（）［］｛｝：，；｜＆＋－＊？！～／＠＃＜＞＝"
 _LIKE: Mapping[str, str] = {"、": ",", "；": ";", "‐": "-", "\u2011": "-", "﹣": "-", "【": "(", "】": ")"}
 
@@ -22,7 +24,7 @@ def _one_to_one() -> dict[int, str]:
     table.update({ord(sign): unicodedata.normalize("NFKC", sign) for sign in _WIDE_SIGNS})
     table.update({ord(sign): like for sign, like in _LIKE.items()})
     table.update({place: " " for place in range(0x110000) if chr(place).isspace()})
-    table.update({ord(sign): " " for sign in "\u200b\u2060\ufeff"})
+    table.update({ord(sign): " " for sign in _UNSEEN})
     return table
 
 
@@ -62,6 +64,8 @@ COMPANY_FORMS = frozenset(("inc", "ltd", "llc", "corp", "co", "plc", "ag", "se",
 EXACT = frozenset(("exact", "raw", "case", "casesensitive"))
 NEAR_WORD = re.compile(
     r"(?i:(?P<word>ONEAR|NEAR|WITHIN|AROUND|ADJ|PRE|BEFORE|NEXT|W|N|P)?)(?P<mark>[/:]?)(?P<number>\d{1,6})(?P<forward>[fF]?)")
+# Words that are nearness in other tools and words here, since companies and roads have such names.
+NEAR_AS_WORD = re.compile(r"[NW]\d{1,2}|(?:PRE|AROUND|WITHIN)\d{1,2}")
 NEAR_ORDERED = frozenset(("ONEAR", "PRE", "BEFORE", "ADJ", "NEXT", "P"))
 NEAR_ALONE = frozenset(("NEAR", "ONEAR", "ADJ"))
 SAME_WORD = re.compile(r"(?i:(?P<word>W|PRE|NEAR|IN)?)/(?P<unit>s|p|S|P|sent|para|SENT|PARA|sentence|paragraph)")

@@ -20,6 +20,7 @@ from .tree import (BODY, TEXT, TITLE, WILD_MANY, All, AtLeast, Every, Has, Level
 
 _MARKS = {TEXT: "marks", TITLE: "title_marks"}
 _STOPPED = re.compile(r"[^\W\d_]+(?:\.[^\W\d_]+)+")
+_SIGN_IN_WORD = re.compile(r"[a-z]{3,}[+&][a-z]{3,}")
 _PART_OF_DATE = re.compile(r"(\d{4})(?:-(\d{2}))?")
 _FIELD_IN_QUERY = re.compile(r"(?:^|[\s(+-])([A-Za-z_][A-Za-z0-9_]*):")
 
@@ -166,6 +167,9 @@ class _Planner:
             return
         if any(map(str.isupper, tree.text)) and not self.choices.exact_capitals:
             self._hint(tree.place, "capitals", f"Capitals don't count: exact:{tree.text} finds it as it is written.")
+        if _SIGN_IN_WORD.fullmatch(tree.text):
+            self.remarks.append(Remark(tree.place, Level.NOTICE, "sign_in_word",
+                                       "The sign within the word is part of it: blanks around make an operator."))
         if not is_wild(tree.text):
             self._hint(tree.place, "whole_words",
                        f"Words are found whole, with no other endings: {tree.text}* finds all that begin so.")
@@ -203,6 +207,10 @@ class _Planner:
         kind = self.preparer.profile.kind(tree.field)
         if kind not in (Kind.DATE, Kind.NUMBER):
             low, high = (None if end is None else self._end(tree, end) for end in (tree.low, tree.high))
+            if (low or "")[:1].isdigit() or (high or "")[:1].isdigit():
+                self.remarks.append(Remark(tree.place, Level.WARNING, "numbers_as_words",
+                                           f"Numbers of {tree.field} are compared letter by letter: [kinds] in the profile"
+                                           " says which fields are numbers and days."))
             return Between(tree.field, low, high, tree.with_low, tree.with_high, is_made=False)
         low = self._bound(tree, tree.low, "0" if tree.with_low else "9")
         high = self._bound(tree, tree.high, "9" if tree.with_high else "0")
