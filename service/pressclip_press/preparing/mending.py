@@ -25,8 +25,9 @@ _BLOCKS_OF_FORMS = ((0xAA, 0xBB), (0x132, 0x134), (0x149, 0x14A), (0x1C4, 0x1CD)
                     (0x1F170, 0x1F18A))
 _APOSTROPHES = "'’‘‛ʼʻʽ′‵´`＇՚׳"
 _APOSTROPHE = re.compile(f"[{_APOSTROPHES}]")
-_QUOTE_IN_HEBREW = re.compile("(?<=[\u0590-\u05ff])[\"״]")
-_LINE_END = re.compile("(?<=[^\\s!-/:-@[-^`{-~])[-\u00ad\u2010]+[ \t\r\u00ad]*\n[ \t]*(?=\\w)")
+_QUOTE_IN_HEBREW = re.compile("[\"״](?<=[\u0590-\u05ff].)")
+_LINE_END = re.compile("[-\u00ad\u2010]+[ \t\r\u00ad]*\n[ \t]*(?=\\w)")
+_LINE_END_OF_ASCII = re.compile(r"-+[ \t\r]*\n[ \t]*(?=\w)")
 _SOFT_AT_LINE_END = re.compile("\u00ad+(?=[ \t\r]*\n)")
 _WORDS_AROUND = 3
 _CHARACTERS_AROUND = 120
@@ -104,7 +105,9 @@ def with_joined_lines(text: str) -> str:
         stood.append(around)
         return ""
 
-    made = _SOFT_AT_LINE_END.sub("", _LINE_END.sub(joined, text))
+    made = (_LINE_END_OF_ASCII if text.isascii() else _LINE_END).sub(joined, text)
+    if "\u00ad" in made:
+        made = _SOFT_AT_LINE_END.sub("", made)
     return "\n\n".join((made, *stood))
 
 
