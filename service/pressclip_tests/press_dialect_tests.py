@@ -1,0 +1,130 @@
+"""Tests of the dialect: rows of queries as desks write them, with articles of which they hold and of which not."""
+
+from __future__ import annotations
+
+from collections.abc import Callable, Mapping
+from random import Random
+from typing import Any
+
+from pressclip_press.choices import Choices
+from pressclip_press.reading import read
+from pressclip_press.sources import Source, source_in, with_source
+from pressclip_press.tree import (All, AtLeast, Has, Near, Not, Often, Place, Range, Refused, Same, Slop, Some, Term,
+                                  Tree, Unit)
+
+from .judge import need
+from .press_runs import asked, explained, rows_of
+
+# Of the rows of press desks: those that can't be said, with the byte, and those whose other sense is told, by the rule.
+REFUSED: Mapping[str, int] = {"wind AND OR solar": 5, "roam~": 0, "wind – solar": 5, "(tea OR coffee": 0, "tea OR": 4}
+TOLD: Mapping[str, str] = {"Orange": "capitals", "Umwelt": "whole_words"}
+PIECES = ["tea", "Title", "wi-fi", "é", "日本", " ", " ", " ", "+", "-", "!", "(", ")", "\"", "*", "*:*", "title:", ":",
+          "AND", "OR", "NOT", "&&", "||", "&", "|", "[", "]", "{", "}", "[a TO b]", "\\", "~", "^2", "NEAR/3", "w/5",
+          "/s", "/", "?", ".", "'", "\t", "\u3000", "“", "„", "«", ",", ";", "atleast2(", "2 of (", "exact:", "date:2026",
+          "#", "C++", "❤", "–", "has:author", "site:", "near", "and", "or", "not", "\u200f", "<", ">", "=", "\ud83d"]
+RANDOM_QUERIES = 6_000
+KNOWN = frozenset(("text", "title", "body", "author", "date", "reach", "url", "host", "language", "country", "source"))
+
+
+def each_row_of_press_desks() -> None:
+    """As it is meant, but for those that are refused at their place, and two whose other sense is told."""
+    rows = rows_of("queries_of_press_desks.jsonl")
+    found = asked([(row["query"], [article["fields"] for article in row["articles"]]) for row in rows])
+    for row, told, held in zip(rows, explained([row["query"] for row in rows]), found):
+        query = row["query"]
+        need((held is None) == (query in REFUSED) == ("fault" in told), f"{query} is {told}")
+        if held is None:
+            need(told["at"] == REFUSED[query], f"{query} is refused at {told['at']}")
+            continue
+        due = [article["holds"] for article in row["articles"]]
+        if query in TOLD:
+            need(any(remark["rule"] == TOLD[query] and remark["at"] == 0 for remark in told["remarks"]),
+                 f"{query} is not told: {told['remarks']}")
+            continue
+        need(held == due, f"{query} holds {held} of {row['articles']}: {told}")
+
+
+def each_row_of_media_tools() -> None:
+    """Queries in the habits of tools: articles of which they hold and of which not, refusals and notices at places."""
+    rows = rows_of("queries_of_media_tools.jsonl")
+    found = asked([(row["query"], [*row.get("holds", []), *row.get("not", [])]) for row in rows])
+    for row, told, held in zip(rows, explained([row["query"] for row in rows]), found):
+        query = row["query"]
+        if "refused" in row:
+            first, last = (len(query[:end].encode()) for end in row["refused"])
+            need("fault" in told and first <= told["at"] < max(last, first + 1), f"{query} is {told}")
+            continue
+        need(held == [True] * len(row.get("holds", [])) + [False] * len(row.get("not", [])),
+             f"{query} holds {held} of {row}: {told}")
+        spoken = {remark["at"] for remark in told["remarks"] if remark["level"] != "hint"}
+        places = {len(query[:place].encode()) for place in row.get("told", [])}
+        need(places <= spoken, f"{query}: told at {sorted(spoken)}, and {sorted(places)} is due")
+
+
+def word(text: str, start: int, **more: Any) -> Term:
+    """A word where it stands."""
+    return Term(Place(start, start + len(text)), text, **more)
+
+
+TREES: tuple[tuple[str, Tree], ...] = (
+    ("a OR b AND c", Some(Place(0, 12), (word("a", 0), All(Place(5, 12), (word("b", 5), word("c", 11)))))),
+    ("a NOT b", All(Place(0, 7), (word("a", 0), Not(Place(2, 7), word("b", 6))))),
+    ("a w/5 b", Near(Place(0, 7), word("a", 0), word("b", 6), 5)),
+    ("a pre/5 b", Near(Place(0, 9), word("a", 0), word("b", 8), 5, ordered=True)),
+    ("a NOT NEAR/5 b", Near(Place(0, 14), word("a", 0), word("b", 13), 5, unless=True)),
+    ("a /s b", Same(Place(0, 6), word("a", 0), word("b", 5), Unit.SENTENCE)),
+    ("a /p b", Same(Place(0, 6), word("a", 0), word("b", 5), Unit.PARAGRAPH)),
+    ("2 of (a, b)", AtLeast(Place(0, 10), 2, (word("a", 6), word("b", 9)))),
+    ("atleast3(a)", Often(Place(0, 10), 3, word("a", 9))),
+    ('"a b"~4', Slop(Place(0, 7), Term(Place(0, 5), "a b", quoted=True), 4)),
+    ("has:author", Has(Place(0, 10), "author")),
+    ("reach:>5", Range(Place(0, 8), "reach", "5", None, False, False)),
+    ("date:[2026-01-01 TO *]", Range(Place(5, 22), "date", "2026-01-01", None, True, True)),
+    ("headline:a", Term(Place(0, 10), "a", field="title")),
+)
+
+
+def each_form_is_its_tree() -> None:
+    """Forms of the grammar, each with the tree that it is, by hand."""
+    for query, due in TREES:
+        tree = read(query, Choices(), KNOWN).tree
+        need(tree == due, f"{query} is {tree}")
+
+
+def blanks_are_as_the_profile_says() -> None:
+    """A bare blank is AND, OR, or joins names of capitals."""
+    for blank, due in (("and", All), ("or", Some), ("phrase", Term)):
+        tree = read("Siemens Energy", Choices.of({"blank": blank}), KNOWN).tree
+        need(type(tree) is due, f"with {blank} it is {tree}")
+    tree = read("Siemens Energy wins", Choices.of({"blank": "phrase"}), KNOWN).tree
+    need(isinstance(tree, All) and tree.parts[0] == Term(Place(0, 14), "Siemens Energy"), f"the name is {tree}")
+
+
+def any_text_is_read_or_refused() -> None:
+    """A text of random pieces is read, or refused at a place within it; nothing else comes."""
+    dice = Random("press")
+    texts = ["".join(dice.choices(PIECES, k=dice.randint(1, 9))) for _ in range(RANDOM_QUERIES)]
+    refused = 0
+    for text in texts:
+        try:
+            read(text, Choices(), KNOWN)
+        except Refused as why:
+            refused += 1
+            need(0 <= why.place.start < why.place.end <= max(len(text), 1), f"{text!r} is refused at {why.place}")
+            need(len(why.says.split()) > 3, f"{text!r} is refused without a sentence")
+    need(RANDOM_QUERIES // 10 < refused < RANDOM_QUERIES, f"{refused} are refused")
+
+
+def a_source_is_in_its_query() -> None:
+    """What a desk wrote comes back from the engine's query, whatever it was."""
+    for text in ("tea", "z zz zzz", "\"x\" press:nab", "日本 (Nestlé)", "\u0000\U0010ffff\\", ""):
+        for heard in (True, False):
+            source = Source(text, heard)
+            need(source_in(with_source("(+a +b)", source)) == source, f"{text!r} comes back as another")
+    for query in ("tea", "+tea press:q", "+tea press:nz", "tea press:nab", "+tea press:nz4", "+tea press:nzff"):
+        need(source_in(query) is None, f"{query} has no source")
+
+
+TESTS: tuple[Callable[[], None], ...] = (
+    each_form_is_its_tree, blanks_are_as_the_profile_says, a_source_is_in_its_query, any_text_is_read_or_refused,
+    each_row_of_press_desks, each_row_of_media_tools)
