@@ -100,6 +100,9 @@ class Runner:
             self._waiting += [(owed.number, owed.line) for owed in self.input.take()]
         self._ask_waiting()
         self._answer()
+        while self._waiting and not self._owed:
+            self._ask_waiting()
+            self._answer()
         self.engine.push()
 
     def _ready(self) -> set[int]:
