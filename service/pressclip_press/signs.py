@@ -13,6 +13,8 @@ QUOTES = "\"“”„‟«»「」『』〝〞〟″＂❝❞"
 # What opens a row in single quotes, and what closes it.
 SINGLE_QUOTES: Mapping[str, str] = {"'": "'", "‘": "’", "‚": "‘’", "‹": "›", "›": "‹"}
 DASHES = "–—−"
+_BLANKS = ("\t\n\v\f\r\x1c\x1d\x1e\x1f\x85\xa0\u1680\u2000\u2001\u2002\u2003\u2004\u2005\u2006\u2007\u2008\u2009\u200a"
+           "\u2028\u2029\u202f\u205f\u3000")
 # Signs of direction and blanks of no width, as they come with what is pasted.
 _UNSEEN = "\u200b\u200e\u200f\u202a\u202b\u202c\u202d\u202e\u2060\u2066\u2067\u2068\u2069\ufeff"
 _WIDE_SIGNS = "（）［］｛｝：，；｜＆＋－＊？！～／＠＃＜＞＝"
@@ -23,7 +25,7 @@ def _one_to_one() -> dict[int, str]:
     table = {ord(quote): QUOTE for quote in QUOTES}
     table.update({ord(sign): unicodedata.normalize("NFKC", sign) for sign in _WIDE_SIGNS})
     table.update({ord(sign): like for sign, like in _LIKE.items()})
-    table.update({place: " " for place in range(0x110000) if chr(place).isspace()})
+    table.update({ord(sign): " " for sign in _BLANKS})
     table.update({ord(sign): " " for sign in _UNSEEN})
     return table
 

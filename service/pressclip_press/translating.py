@@ -5,7 +5,7 @@ from __future__ import annotations
 import re
 from collections.abc import Callable
 from dataclasses import dataclass
-from functools import cached_property
+from functools import cached_property, lru_cache
 
 from .filtering import (AnyOf, AnyPlaced, Beginning, Between, Coded, Each, Everything, Filter, InRow, Moved, NearEach,
                         NotHeld, Part, Placed, SameUnit, Times)
@@ -13,7 +13,8 @@ from .kinds import Kind
 from .preparing import Preparer
 from .preparing.preparer import HOST
 from .profile_query import EVERY
-from .reading import read
+from .profile import Profile
+from .reading import Reading, read
 from .terms import Row, Slot, is_wild, row_of
 from .tree import (BODY, TEXT, TITLE, WILD_MANY, All, AtLeast, Every, Has, Level, Near, Not, Often, Place, Range,
                    Refused, Remark, Same, Slop, Some, Term, Tree)
@@ -44,9 +45,7 @@ class Translated:
 
 def translate(source: str, preparer: Preparer) -> Translated:
     """What the engine is asked for a query. `Refused` where the query can't be said."""
-    profile = preparer.profile
-    known = frozenset((TEXT, TITLE, BODY, *profile.choices.aliases.values(), *profile.kinds))
-    reading = read(source, profile.choices, known)
+    reading = _read(source, preparer)
     planner = _Planner(preparer)
     part = planner.part(reading.tree)
     wide = part.wide
@@ -56,6 +55,26 @@ def translate(source: str, preparer: Preparer) -> Translated:
                               "No word narrows the query: each article is compared with it."))
     remarks.sort(key=lambda remark: remark.place.start)
     return Translated(source, wide.query or EVERY, None if wide.is_exact else Filter(part), tuple(remarks))
+
+
+def part_of(source: str, preparer: Preparer) -> Part:
+    """What decides of a query by itself, of any article. `Refused` where the query can't be said."""
+    return _Planner(preparer).part(_read(source, preparer).tree)
+
+
+def _read(source: str, preparer: Preparer) -> Reading:
+    profile = preparer.profile
+    return read(source, profile.choices, _known(profile))
+
+
+@lru_cache(maxsize=8)
+def _known_of(aliases: frozenset[str], kinds: frozenset[str]) -> frozenset[str]:
+    return aliases | kinds | {TEXT, TITLE, BODY}
+
+
+def _known(profile: Profile) -> frozenset[str]:
+    """The fields that a profile knows."""
+    return _known_of(frozenset(profile.choices.aliases.values()), frozenset(profile.kinds))
 
 
 class _Planner:

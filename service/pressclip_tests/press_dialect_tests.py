@@ -2,7 +2,9 @@
 
 from __future__ import annotations
 
+import re
 from collections.abc import Callable, Mapping
+from pathlib import Path
 from random import Random
 from typing import Any
 
@@ -18,6 +20,7 @@ from .press_runs import asked, explained, rows_of
 # Of the rows of press desks: those that can't be said, with the byte, and those whose other sense is told, by the rule.
 REFUSED: Mapping[str, int] = {"wind AND OR solar": 5, "roam~": 0, "wind – solar": 5, "(tea OR coffee": 0, "tea OR": 4}
 TOLD: Mapping[str, str] = {"Orange": "capitals", "Umwelt": "whole_words"}
+PAGE = Path(__file__).resolve().parents[2] / "docs" / "QUERIES.md"
 PIECES = ["tea", "Title", "wi-fi", "é", "日本", " ", " ", " ", "+", "-", "!", "(", ")", "\"", "*", "*:*", "title:", ":",
           "AND", "OR", "NOT", "&&", "||", "&", "|", "[", "]", "{", "}", "[a TO b]", "\\", "~", "^2", "NEAR/3", "w/5",
           "/s", "/", "?", ".", "'", "\t", "\u3000", "“", "„", "«", ",", ";", "atleast2(", "2 of (", "exact:", "date:2026",
@@ -59,6 +62,19 @@ def each_row_of_media_tools() -> None:
         spoken = {remark["at"] for remark in told["remarks"] if remark["level"] != "hint"}
         places = {len(query[:place].encode()) for place in row.get("told", [])}
         need(places <= spoken, f"{query}: told at {sorted(spoken)}, and {sorted(places)} is due")
+
+
+def each_row_of_the_page() -> None:
+    """The first query of each row of docs/QUERIES.md holds of the text beside it, and not of what it passes over."""
+    rows: list[tuple[str, list[dict[str, str]]]] = []
+    for line in PAGE.read_text().splitlines():
+        row = [re.findall(r"`([^`]+)`", cell) for cell in re.split(r"(?<!\\)\|", line.strip().strip("|"))]
+        if line.startswith("| ") and len(row) in (3, 4) and row[len(row) - 3] and row[len(row) - 2 + (len(row) == 3)]:
+            articles = [{"text": cell[0]} for cell in row[2:] if cell]
+            rows.append((row[len(row) - 3][0].replace("\\|", "|"), articles))
+    need(len(rows) >= 35, f"the page has {len(rows)} rows")
+    for (query, articles), held in zip(rows, asked(rows)):
+        need(held == [True, False][:len(articles)], f"{query} holds {held} of {articles}")
 
 
 def word(text: str, start: int, **more: Any) -> Term:
@@ -127,4 +143,4 @@ def a_source_is_in_its_query() -> None:
 
 TESTS: tuple[Callable[[], None], ...] = (
     each_form_is_its_tree, blanks_are_as_the_profile_says, a_source_is_in_its_query, any_text_is_read_or_refused,
-    each_row_of_press_desks, each_row_of_media_tools)
+    each_row_of_press_desks, each_row_of_media_tools, each_row_of_the_page)
