@@ -16,6 +16,10 @@ import regex  # type: ignore[import]
 _BINDINGS = Path(__file__).resolve().parents[2] / "bindings" / "python"
 _CUT = regex.compile(r"(?w)\b", regex.V1)
 _IS_WORD = regex.compile(r"[\p{Alphabetic}\p{N}]")
+# Texts of Latin, Greek and Cyrillic, whose words an expression of the standard library cuts much faster.
+_COMMON = re.compile("[\0-\x7f\xa0-\xa9\xab\xac\xae-\xb1\xb4-\xb6\xb8\xbb\xbf-\u02af\u0388-\u0481\u048a-\u052f\u1e00-\u1eff"
+                     "\u2010-\u2017\u201a-\u201f\u2022\u2026\u2030\u20ac\u2122]*")
+_COMMON_WORD = re.compile(r"(?=_*[^\W_])\w+(?:(?<=[^\W\d_])[:.'](?=[^\W\d_])\w+|(?<=\d)[,;.'](?=\d)\w+)*")
 _PARAGRAPH = re.compile(r"\n[ \t\r]*\n|\n[ \t\u3000]+(?=\S)|(?<=[.!?…。！？:])[\"'”’»)]*[ \t]*\n")
 _SENTENCE = re.compile(r"[.!?…]+[\"'”’»)\]]*\s+(?=[^\s])|[。！？]+[」』”）]*|\n[ \t\r]*\n")
 # Words whose full stop ends no sentence.
@@ -26,6 +30,8 @@ ABBREVIATIONS = frozenset("""mr mrs ms dr prof st jr sr inc ltd co corp vs etc n
 
 def _spans_by_expression(text: str) -> list[tuple[int, int]]:
     """Where the words stand, by the word boundaries of the annex as the `regex` package has them."""
+    if _COMMON.fullmatch(text):
+        return [found.span() for found in _COMMON_WORD.finditer(text)]
     cuts = [found.start() for found in _CUT.finditer(text)]
     return [(start, end) for start, end in zip(cuts, cuts[1:]) if _IS_WORD.search(text, start, end)]
 
