@@ -52,6 +52,7 @@ class Judge:
     def __init__(self, preparer: Preparer, cut: Cut) -> None:
         self._preparer = preparer
         self._cut = cut
+        self._rows: dict[Term, list[Page]] = {}
 
     def article(self, given: Mapping[str, str]) -> Hearing:
         """An article, of which trees are judged."""
@@ -78,6 +79,12 @@ class Judge:
     def mended(self, text: str) -> str:
         """A text with its words parted and joined."""
         return self._preparer.mend(text)
+
+    def rows(self, term: Term) -> list[Page]:
+        """The words of a term, in each of its spellings."""
+        if term not in self._rows:
+            self._rows[term] = [row for row in map(self.page, self.terms(term)) if row.words]
+        return self._rows[term]
 
     def terms(self, term: Term) -> list[str]:
         """A term and how else it is spelled, mended."""
@@ -186,10 +193,9 @@ class Hearing:
         """Where the words of a term stand in a row, in one of its spellings."""
         page = self.page(term.field)
         found: set[Span] = set()
-        for spelled in self._judge.terms(term):
-            row = self._judge.page(spelled)
+        for row in self._judge.rows(term):
             count = len(row.words)
-            for start in range(len(page.words) - count + 1 if count else 0):
+            for start in range(len(page.words) - count + 1):
                 if self._stands(page, row, start, term.exact):
                     found.add((start, start + count - 1))
         return sorted(found)

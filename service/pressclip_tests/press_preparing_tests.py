@@ -19,7 +19,7 @@ from pressclip_press.preparing import SEPARATOR, Preparer
 from pressclip_press.preparing.folding import FOLDING
 from pressclip_press.preparing.marks import mark_word, mark_words
 from pressclip_press.preparing.mending import MENDING
-from pressclip_press.preparing.steps import Scripts, Step
+from pressclip_press.preparing.steps import Step
 from pressclip_press.preparing.values import date_word, host_words, number_word
 from pressclip_press.profile import DEFAULT, Profile
 
@@ -78,7 +78,7 @@ LINES: tuple[tuple[str, str, str], ...] = (
 
 
 def each_step_does_as_its_table_says() -> None:
-    """Its cases, twice as once; it has a rule of a sentence; and of a text of too few scripts it changes nothing."""
+    """Its cases, twice as once; it has a rule of a sentence; and it needs a character of each text that it changes."""
     names = [step.name for step in STEPS]
     need(len(set(names)) == len(names), f"steps with the same name: {names}")
     for step in STEPS:
@@ -88,7 +88,7 @@ def each_step_does_as_its_table_says() -> None:
             got = step.change(given)
             need(got == due, f"{step.name} makes {got!r} of {given!r}, and {due!r} is due")
             need(step.change(got) == got, f"{step.name} changes {got!r} again")
-            need(got == given or Scripts.of(given) >= step.least, f"{step.name} is not tried on {given!r}")
+            need(got == given or any(map(step.needs, given)), f"{step.name} is not tried on {given!r}")
 
 
 def the_usual_profile_says_each_rule() -> None:

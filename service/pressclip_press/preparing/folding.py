@@ -6,7 +6,7 @@ import re
 import unicodedata
 from functools import lru_cache
 from .letters import word_class
-from .steps import Scripts, Step
+from .steps import Step, one_of
 from .tables import Table
 
 _LETTERS_SPELLED = dict(zip("ßẞøØłŁđĐðÐþÞæÆœŒħĦŧŦıĸ", "ss SS o O l L d D d D th TH ae AE oe OE h H t T i k".split()))
@@ -87,18 +87,27 @@ def in_common_digits(text: str) -> str:
     return _digits().replaced(text)
 
 
+def _may_have_accent(char: str) -> bool:
+    return char in _without_accent() or _ACCENT.match(char) is not None or not unicodedata.is_normalized("NFC", char)
+
+
+def _may_be_spelled(char: str) -> bool:
+    """Whether the letter, with its accent off, is spelled out."""
+    return unicodedata.normalize("NFD", char)[0] in _LETTERS_SPELLED
+
+
 FOLDING: tuple[Step, ...] = (
     Step("accents", "Accents of Latin and Greek letters are taken off.", without_accents,
          (("Nestlé", "Nestle"), ("TÜRKİYE", "TURKIYE"), ("i\u0307", "i"), ("Όλοι", "Ολοι"), ("Việt", "Viet"),
-          ("हिन्दी", "हिन्दी"), ("ガ", "ガ"), (" \u0301", " \u0301")), Scripts.LATIN),
+          ("हिन्दी", "हिन्दी"), ("ガ", "ガ"), (" \u0301", " \u0301")), _may_have_accent),
     Step("spelled", "Letters that keyboards lack are spelled out.", with_letters_spelled,
-         (("Straße", "Strasse"), ("Ærø", "AEro"), ("Łódź", "Lódź"), ("ılık", "ilik")), Scripts.LATIN),
+         (("Straße", "Strasse"), ("Ærø", "AEro"), ("Łódź", "Lódź"), ("ılık", "ilik"), ("ǿ", "ǿ")), _may_be_spelled),
     Step("stress", "Stress and the dots of ё are taken off.", without_stress,
-         (("за\u0301мок", "замок"), ("Алёна", "Алена"), ("мой", "мой"), ("їжак", "їжак")), Scripts.ALL),
-    Step("points", "Points of Hebrew are taken off.", without_points, (("שָׁלוֹם", "שלום"),), Scripts.ALL),
+         (("за\u0301мок", "замок"), ("Алёна", "Алена"), ("мой", "мой"), ("їжак", "їжак")), one_of("".join(_CYRILLIC) + "\u0300\u0301\u0308")),
+    Step("points", "Points of Hebrew are taken off.", without_points, (("שָׁלוֹם", "שלום"),), one_of("\u0591-\u05c7")),
     Step("arabic", "Vowels and stretching of Arabic are taken off, and alef, yeh and kaf have one form.",
          in_one_arabic, (("أرامكو", "ارامكو"), ("مُحَمَّد", "محمد"), ("كتـــاب", "كتاب"), ("ایران", "ايران")),
-         Scripts.ALL),
+         one_of("".join(_ARABIC) + "\u0640-\u0670")),
     Step("digits", "Digits of all scripts are 0 to 9.", in_common_digits,
-         (("٢٠٢٦", "2026"), ("२०२६", "2026"), ("五", "五")), Scripts.ALL),
+         (("٢٠٢٦", "2026"), ("२०२६", "2026"), ("五", "五")), lambda char: char in _digits()),
 )

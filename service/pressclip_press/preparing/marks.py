@@ -4,12 +4,12 @@ from __future__ import annotations
 
 import re
 from dataclasses import dataclass
-from typing import Any, Iterator
+from typing import Iterator
 
 import regex  # type: ignore[import]
 
 from .folding import FOLDING
-from .mending import in_plain_forms
+from .mending import with_plain_letters
 
 _CURRENCIES = {"$": "dollar", "€": "euro", "£": "pound", "¥": "yen", "₹": "rupee", "₩": "won", "₽": "ruble"}
 _NAMES = {**_CURRENCIES, "#": "hash", "@": "at", "&": "amp", "+": "plus", "%": "pct", "!": "bang", ".": "dot",
@@ -58,9 +58,9 @@ class Mark:
 def marks_of(text: str) -> list[Mark]:
     """The marks of a text, in order; places are of the text in plain forms."""
     if text.isascii():
-        return list(_found(text, _OF_ASCII))
-    text = in_plain_forms(text)
-    made = list(_found(text, _OF_ALL))
+        return list(_found(text))
+    text = with_plain_letters(text)
+    made = list(_found(text))
     if _MAY_BE_EMOJI.search(text):
         made += [Mark(match.start(), match.end(), (_emoji(match[0]),)) for match in _EMOJI.finditer(text)]
         made.sort(key=lambda mark: mark.start)
@@ -69,7 +69,7 @@ def marks_of(text: str) -> list[Mark]:
 
 def mark_word(token: str) -> str | None:
     """The word that codes a token; None where the text is not one token with a sign."""
-    text = token if token.isascii() else in_plain_forms(token)
+    text = token if token.isascii() else with_plain_letters(token)
     made = [mark for mark in marks_of(text) if mark.start == 0 and mark.end == len(text)]
     return made[0].words[0] if made else None
 
@@ -79,13 +79,14 @@ def mark_words(text: str) -> str:
     return " ".join(word for mark in marks_of(text) for word in mark.words)
 
 
-def _found(text: str, tokens: Any) -> Iterator[Mark]:
+def _found(text: str) -> Iterator[Mark]:
     """The marks but emoji: tokens are looked for where a sign is, and nowhere else."""
     done = 0
     for sign in _SIGN.finditer(text):
         if sign.start() < done or not _may_mark(text, sign.start()):
             continue
         start, done = _reach(text, sign.start(), done)
+        tokens = _OF_ASCII if text[start:done].isascii() else _OF_ALL
         for match in tokens.finditer(text, start, done):
             words = _words(match.lastgroup, match[0])
             if words:
@@ -120,7 +121,7 @@ def _reach(text: str, place: int, least: int) -> tuple[int, int]:
 def _words(kind: str, token: str) -> tuple[str, ...]:
     """The words that code a token; of a chain as `A&B&C` also those of its neighbours."""
     parts = _PART.findall(token.replace(" ", ""))
-    if kind == "stopped" and len(token) > _MOST_STOPPED:
+    if kind == "stopped" and (len(token) > _MOST_STOPPED or all(len(label) > 1 for label in token.split("."))):
         return ()
     if kind == "tag" and parts[0] == "$":
         return ("cash_" + _coded(parts[1:]),)

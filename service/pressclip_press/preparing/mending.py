@@ -12,12 +12,12 @@ from functools import lru_cache
 
 from .letters import (before, behind, ends_word, is_hebrew, is_letter, joins_letters, letter_before, letter_behind,
                       starts_word, word_class)
-from .steps import Scripts, Step
-from .tables import Table, has_beyond
+from .steps import Step, one_of
+from .tables import Table
 
-_INVISIBLE = re.compile("[\u034f\u061c\u180b-\u180e\u200c-\u200f\u202a-\u202e\u2060-\u2064\u2066-\u206f\ufe00-\ufe0f"
-                        "\ufeff]|\u00ad(?!\u00ad*[ \t\r]*\n)")
-_INVISIBLE_BEYOND = re.compile("[\U000e0001-\U000e007f\U000e0100-\U000e01ef]")
+_UNSEEN = ("\u034f\u061c\u180b-\u180e\u200c-\u200f\u202a-\u202e\u2060-\u2064\u2066-\u206f\ufe00-\ufe0f\ufeff"
+           "\U000e0001-\U000e007f\U000e0100-\U000e01ef")
+_INVISIBLE = re.compile(f"[{_UNSEEN}]|\u00ad(?!\u00ad*[ \t\r]*\n)")
 # Where ligatures, letters in circles, of mathematics, of Arabic's contexts, and full and half widths stand.
 _BLOCKS_OF_FORMS = ((0xAA, 0xBB), (0x132, 0x134), (0x149, 0x14A), (0x1C4, 0x1CD), (0x1F1, 0x1F4), (0x2100, 0x2150), (0x2160, 0x2180),
                     (0x24B6, 0x24EA), (0x32D0, 0x3358), (0xFB00, 0xFB18), (0xFB50, 0xFDFC), (0xFE70, 0xFEFD),
@@ -27,14 +27,14 @@ _APOSTROPHES = "'’‘‛ʼʻʽ′‵´`＇՚׳"
 _APOSTROPHE = re.compile(f"[{_APOSTROPHES}]")
 _QUOTE_IN_HEBREW = re.compile("[\"״](?<=[\u0590-\u05ff].)")
 _LINE_END = re.compile("[-\u00ad\u2010]+[ \t\r\u00ad]*\n[ \t]*(?=\\w)")
-_LINE_END_OF_ASCII = re.compile(r"-+[ \t\r]*\n[ \t]*(?=\w)")
+_PLAIN_LINE_END = re.compile(r"-+[ \t\r]*\n[ \t]*(?=\w)")
 _SOFT_AT_LINE_END = re.compile("\u00ad+(?=[ \t\r]*\n)")
 _WORDS_AROUND = 3
 _CHARACTERS_AROUND = 120
 _STOPS = re.compile(r"\.(?<![\s\d_]\.)[^\W\d_](?:\.[^\W\d_])*(?:\.(?![^\W\d_]))?")
-_INNER = re.compile("[:·․‧﹒﹕](?=[^\\W\\d_])")
+_MIDDLE = ":·․‧﹒﹕"
+_INNER = re.compile(f"[{_MIDDLE}](?=[^\\W\\d_])")
 _SET_APART = "\u30a1-\u30fa\u30fc-\u30ff\u31f0-\u31ff\uac00-\ud7a3"
-_TO_SET_APART = re.compile(f"[{_SET_APART}]")
 _RUN_APART = re.compile(f"[{_SET_APART}]{{2,}}")
 _OTHER_OF_WORD = f"[^\\W{_SET_APART}\U00010330\U00010331]"
 _MEETING = re.compile(f"[{_SET_APART}](?={_OTHER_OF_WORD})|{_OTHER_OF_WORD}(?=[{_SET_APART}])")
@@ -44,8 +44,7 @@ _AMPERSAND = re.compile(r"(?<=[^\s&]) & (?=[^\s&])")
 
 def without_invisible(text: str) -> str:
     """Takes out what can't be seen within words."""
-    text = _INVISIBLE.sub("", text)
-    return _INVISIBLE_BEYOND.sub("", text) if has_beyond(text) else text
+    return _INVISIBLE.sub("", text)
 
 
 @lru_cache(1)
@@ -60,9 +59,14 @@ def _forms() -> Table:
     return Table(made)
 
 
+def with_plain_letters(text: str) -> str:
+    """Writes letters and signs in their usual form."""
+    return _forms().replaced(text)
+
+
 def in_plain_forms(text: str) -> str:
     """Writes letters and signs in their usual form, and an accent with its letter as one character."""
-    return unicodedata.normalize("NFC", _forms().replaced(text))
+    return unicodedata.normalize("NFC", with_plain_letters(text))
 
 
 def without_apostrophes(text: str) -> str:
@@ -105,7 +109,8 @@ def with_joined_lines(text: str) -> str:
         stood.append(around)
         return ""
 
-    made = (_LINE_END_OF_ASCII if text.isascii() else _LINE_END).sub(joined, text)
+    is_plain = "\u00ad" not in text and "\u2010" not in text
+    made = (_PLAIN_LINE_END if is_plain else _LINE_END).sub(joined, text)
     if "\u00ad" in made:
         made = _SOFT_AT_LINE_END.sub("", made)
     return "\n\n".join((made, *stood))
@@ -142,7 +147,7 @@ def with_parted_stops(text: str) -> str:
     """Sets a blank at stops within words, and takes those of single letters out."""
     if "." in text:
         text = _STOPS.sub(_stops, text)
-    return _INNER.sub(_inner, text)
+    return _INNER.sub(_inner, text) if any(sign in text for sign in _MIDDLE) else text
 
 
 def _stops(match: re.Match[str]) -> str:
@@ -182,8 +187,6 @@ def _inner(match: re.Match[str]) -> str:
 
 def with_characters_apart(text: str) -> str:
     """Sets Katakana and Hangul apart, so that each character is a word as those of Han and Hiragana are."""
-    if not _TO_SET_APART.search(text):
-        return text
     made = _RUN_APART.sub(lambda match: " ".join(match[0]), text)
     return _OVER_ACCENTS.sub(_apart_over_accents, _MEETING.sub(r"\g<0> ", made))
 
@@ -197,31 +200,37 @@ def with_ampersands_said(text: str) -> str:
     return _AMPERSAND.sub(" and ", text) if " & " in text else text
 
 
+def _needs_form(char: str) -> bool:
+    """Whether the character has another form, or may be one with the one before it."""
+    return (char in _forms() or unicodedata.category(char).startswith("M") or "\u1100" <= char <= "\u11ff"
+            or not unicodedata.is_normalized("NFC", char))
+
+
 # In the order in which they are taken: a later one makes nothing that an earlier one would change.
 MENDING: tuple[Step, ...] = (
     Step("invisible", "Soft hyphens, joiners and marks of direction within words are taken out.", without_invisible,
          (("Über\u00adraschung", "Überraschung"), ("\ufeffTea", "Tea"), ("می\u200cخواهم", "میخواهم"),
-          ("a\u200bb", "a\u200bb")), Scripts.LATIN),
+          ("a\u200bb", "a\u200bb")), one_of(f"{_UNSEEN}\u00ad")),
     Step("forms", "Full and half widths, ligatures and letters in circles are the letters that they stand for.",
          in_plain_forms, (("Ｓａｍｓｕｎｇ", "Samsung"), ("ｿﾆｰ", "ソニー"), ("ﬁne", "fine"), ("Acme™", "Acme™"),
-                          ("e\u0301", "é"), ("m²", "m²"), ("𝗕𝗿𝗲𝗮𝗸", "Break")), Scripts.LATIN),
+                          ("e\u0301", "é"), ("m²", "m²"), ("𝗕𝗿𝗲𝗮𝗸", "Break")), _needs_form, makes_more=True),
     Step("apostrophes", "An apostrophe of any kind is a blank, and in words of Hebrew nothing.", without_apostrophes,
          (("l'Oréal", "l Oréal"), ("l’Oréal", "l Oréal"), ("dell'Enel", "dell Enel"), ("McDonald´s", "McDonald s"),
-          ("O'Brien", "O Brien"), ("צה\"ל", "צהל"), ("צה״ל", "צהל"), ("ג'ורג'", "גורג "), ("\"tea\"", "\"tea\""))),
+          ("O'Brien", "O Brien"), ("צה\"ל", "צהל"), ("צה״ל", "צהל"), ("ג'ורג'", "גורג "), ("\"tea\"", "\"tea\"")), one_of(f"{_APOSTROPHES}״\u05d0-\u05ea")),
     Step("line_ends", "A word that a hyphen cuts at a line's end is joined, and the place as it stood follows the text.",
          with_joined_lines,
          (("die Über-\nraschung kam", "die Überraschung kam\n\ndie Über- raschung kam"),
           ("Jean-\nPaul", "Jean-Paul"), ("e-\nmobility", "e-mobility"), ("COVID-\n19", "COVID-19"),
           ("Über\u00ad\nraschung", "Überraschung\n\nÜber raschung"), ("tea -\nmilk", "tea -\nmilk"),
-          ("tea\nmilk", "tea\nmilk"))),
+          ("tea\nmilk", "tea\nmilk")), one_of("\u00ad\u2010-")),
     Step("stops", "A stop, colon or middle dot within a word parts it, and single letters with stops are one word.",
          with_parted_stops,
          (("the end.Then", "the end. Then"), ("E.ON said", "E ON said"), ("www.example.com", "www example com"),
           ("the U.S. Senate", "the US  Senate"), ("3.14", "3.14"), ("Merkel:Wir", "Merkel: Wir"),
-          ("col·lecció", "collecció"), ("The end.", "The end."), ("т.е.", "те "), ("v2.0", "v2.0"))),
+          ("col·lecció", "collecció"), ("The end.", "The end."), ("т.е.", "те "), ("v2.0", "v2.0")), one_of(f".{_MIDDLE}")),
     Step("characters", "Characters of Katakana and Hangul stand apart.", with_characters_apart,
          (("ソニーグループ", "ソ ニ ー グ ル ー プ"), ("삼성전자", "삼 성 전 자"), ("LG전자", "LG 전 자"), ("日本", "日本"),
-          ("삼성\U00010330", "삼 성\U00010330")), Scripts.ALL),
+          ("삼성\U00010330", "삼 성\U00010330")), one_of(_SET_APART)),
     Step("ampersands", "An ampersand between blanks is read as and.", with_ampersands_said,
-         (("Procter & Gamble", "Procter and Gamble"), ("AT&T", "AT&T"), ("a &b", "a &b"))),
+         (("Procter & Gamble", "Procter and Gamble"), ("AT&T", "AT&T"), ("a &b", "a &b")), one_of("&")),
 )

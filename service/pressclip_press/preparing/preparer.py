@@ -3,14 +3,14 @@
 from __future__ import annotations
 
 from collections.abc import Collection, Iterable, Mapping
-from typing import TYPE_CHECKING, Callable
+from typing import TYPE_CHECKING
 
 from ..kinds import Kind
 from .folding import FOLDING
 from .marks import mark_word, mark_words
 from .mending import MENDING
 from .spellings import spellings
-from .steps import Scripts, Step
+from .steps import Change, Steps
 from .values import date_word, host_word, host_words, number_word, url_words
 
 if TYPE_CHECKING:
@@ -27,7 +27,6 @@ MADE = (BODY, MARKS, TITLE_MARKS, HAS, HOST)
 # A word that stands between title and text, so that no phrase runs from one into the other.
 SEPARATOR = "zzendoftitlezz"
 _BETWEEN = f"\n\n{SEPARATOR}\n\n"
-_Change = Callable[[str], str]
 
 
 class Preparer:
@@ -35,8 +34,8 @@ class Preparer:
 
     def __init__(self, profile: Profile) -> None:
         self.profile = profile
-        self._mending = _chosen(MENDING, profile.steps)
-        self._folding = _chosen(FOLDING, profile.steps)
+        self._mending = Steps(MENDING, profile.steps)
+        self._folding = Steps(FOLDING, profile.steps)
 
     def mend(self, text: str) -> str:
         """The text with its words parted and joined as the profile says; capitals, accents and marks stay."""
@@ -108,7 +107,7 @@ class Prepared:
     def _folded(self, field: str) -> str:
         return self._preparer.fold(self.written(field))
 
-    def _of_parts(self, field: str, part: _Change, made: _Change) -> str:
+    def _of_parts(self, field: str, part: Change, made: Change) -> str:
         """The field by what is made of its text; of `text` both its parts, with a word between that no query has."""
         if field == TEXT and TITLE in self.given:
             title, body = part(TITLE), part(BODY)
@@ -145,16 +144,3 @@ class Prepared:
 
     def _urls(self) -> Iterable[str]:
         return (text for name, text in self.given.items() if self._preparer.profile.kind(name) is Kind.URL)
-
-
-def _chosen(steps: Iterable[Step], names: Collection[str]) -> _Change:
-    """The steps of these names one after the other, without those that change no text of its scripts."""
-    chosen = [step for step in steps if step.name in names]
-    by_scripts = {scripts: [step.change for step in chosen if step.least <= scripts] for scripts in Scripts}
-
-    def change(text: str) -> str:
-        for one in by_scripts[Scripts.of(text)]:
-            text = one(text)
-        return text
-
-    return change

@@ -21,6 +21,9 @@ class Table:
         self._near = _found([char for char in made if char < "\U00010000"])
         self._beyond = _found([char for char in made if char > "\uffff"])
 
+    def __contains__(self, char: object) -> bool:
+        return char in self._made
+
     def replaced(self, text: str) -> str:
         """The text with each of the characters replaced; one search for each plane where there is none."""
         text = self._near.sub(self._one, text)
