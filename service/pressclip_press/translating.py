@@ -4,7 +4,7 @@ from __future__ import annotations
 
 import re
 from collections.abc import Callable
-from dataclasses import dataclass
+from dataclasses import dataclass, replace
 from functools import cached_property, lru_cache
 
 from .filtering import (AnyOf, AnyPlaced, Beginning, Between, Coded, Each, Everything, Filter, InRow, Moved, NearEach,
@@ -15,12 +15,11 @@ from .preparing.preparer import HOST
 from .profile_query import EVERY
 from .profile import Profile
 from .reading import Reading, read
+from .spelled import MARKS_OF, terms_of
 from .terms import Row, Slot, is_wild, row_of
 from .tree import (BODY, TEXT, TITLE, WILD_MANY, All, AtLeast, Every, Has, Level, Near, Not, Often, Place, Range,
                    Refused, Remark, Same, Slop, Some, Term, Tree)
 
-_MARKS = {TEXT: "marks", TITLE: "title_marks"}
-_STOPPED = re.compile(r"[^\W\d_]+(?:\.[^\W\d_]+)+")
 _SIGN_IN_WORD = re.compile(r"[a-z]{3,}[+&][a-z]{3,}")
 _PART_OF_DATE = re.compile(r"(\d{4})(?:-(\d{2}))?")
 _FIELD_IN_QUERY = re.compile(r"(?:^|[\s(+-])([A-Za-z_][A-Za-z0-9_]*):")
@@ -83,6 +82,7 @@ class _Planner:
     def __init__(self, preparer: Preparer) -> None:
         self.preparer = preparer
         self.choices = preparer.profile.choices
+        self.terms = terms_of(preparer)
         self.remarks: list[Remark] = []
         self._makers: dict[type, Callable[..., Part]] = {
             Term: self._term, Every: lambda _: Everything(), Has: lambda tree: Coded("has", (tree.field,)),
@@ -136,49 +136,22 @@ class _Planner:
             return Coded(tree.field, (self._value(tree.place, tree.field, tree.text),))
         if kind is Kind.URL:
             return self._url(tree)
-        code = self._code(tree)
+        code = self.terms.code(tree)
         if code is None:
             return self._row_term(tree, with_codes=False)
-        held = Coded(_MARKS[tree.field], (code,))
-        spaced = tree.text.replace("&", " & ")
-        if spaced == tree.text or tree.exact:
+        held = Coded(MARKS_OF[tree.field], (code,))
+        if "&" not in tree.text:
             return held
-        return AnyOf((held, self._rows(tree, (self.preparer.mend(spaced),))))
-
-    def _code(self, tree: Term) -> str | None:
-        """The word that codes a term that is one token with a sign; None where it is found by its words."""
-        text = tree.text.strip()
-        if tree.field not in _MARKS or is_wild(text) or tree.exact:
-            return None
-        code = self.preparer.mark_word(text)
-        if code is None or not _STOPPED.fullmatch(text):
-            return code
-        is_name = any(len(label) == 1 for label in text.split(".")) and " " in self.preparer.mend(text).strip()
-        return code if is_name else None
+        said = self.preparer.mend(tree.text.replace("&", " & "))
+        return AnyOf((held, self._row_term(replace(tree, text=said, quoted=True), with_codes=False)))
 
     def _row_term(self, tree: Term, with_codes: bool) -> Placed:
         """A term by its words. With codes, where it is one token with a sign, the article has to have that too."""
-        if tree.exact:
-            mended: tuple[str, ...] = (self.preparer.mend(tree.text),)
-        else:
-            mended = self.preparer.spellings(tree.text, fronts=self.choices.prefixes)
-            if " & " in tree.text and tree.field in _MARKS:
-                mended += (self.preparer.mend(tree.text.replace(" & ", "&")),)
-        code = self._code(tree) if with_codes else None
-        codes = ((_MARKS[tree.field], code),) if code is not None else ()
-        self._tell(tree, mended)
-        return self._rows(tree, mended, codes)
-
-    def _rows(self, tree: Term, mended: tuple[str, ...], codes: tuple[tuple[str, str], ...] = ()) -> Placed:
-        exact = tree.exact or self.choices.exact_capitals and not tree.quoted and tree.text != tree.text.lower()
-        rows = [row for one in dict.fromkeys(mended) if (row := row_of(one, exact, self.preparer)) is not None]
-        rows = [row for row in rows if not all(slot.is_any for slot in row.slots)]
-        if not rows:
+        spelled = self.terms.spelled(tree, with_codes)
+        if spelled.part is None:
             raise Refused(tree.place, "no_words", "This has no letter and no digit, and is no sign that is known.")
-        parts = tuple(InRow(row, tree.field, codes) for row in rows)
-        if len(parts) == 1:
-            return parts[0]
-        return AnyPlaced(parts)
+        self._tell(tree, spelled.mended)
+        return spelled.part
 
     def _tell(self, tree: Term, mended: tuple[str, ...]) -> None:
         """Hints on what a word without quotes does not find."""
