@@ -90,6 +90,8 @@ class Rewriter:
 
     def __init__(self, preparer: Preparer) -> None:
         self._preparer = preparer
+        # Fields of days and numbers whose text was none, each once, until they are told.
+        self.unread: dict[str, str] = {}
 
     def rewritten(self, line: bytes, fields: Collection[str] | None) -> Register | Match | Delete | Passed | TooLong:
         """The line for the engine, its articles with the fields that are asked for, or with all."""
@@ -131,6 +133,9 @@ class Rewriter:
 
     def _match(self, articles: Sequence[dict[str, Any]], fields: Collection[str] | None) -> Match | TooLong:
         prepared = [self._preparer.prepared(article["fields"]) for article in articles]
+        for article, one in zip(articles, prepared):
+            for name in one.unread():
+                self.unread.setdefault(name, article["id"])
         written = [text_of({"id": article["id"], "fields": fields_of(one, fields)})
                    for article, one in zip(articles, prepared)]
         front, back = b'{"op":"match","articles":[', b"]}"

@@ -3,6 +3,9 @@
 from __future__ import annotations
 
 from collections.abc import Collection, Iterable, Sequence
+from functools import lru_cache
+
+from pressclip_service.errors import EngineFailed
 
 from .filtering import Filter
 from .lines import Listed
@@ -12,17 +15,23 @@ from .translating import translate
 from .tree import Refused
 
 
+_MOST_FILTERS = 1 << 16
+
+
 class Registry:
-    """The filters of queries by their ids, the ids that have a listener, and the fields that queries ask for."""
+    """The queries that have a filter, the ids that have a listener, and the fields that queries ask for.
+
+    Of a query with a filter its text is kept; filters are made when they decide, and those of late are kept too.
+    """
 
     def __init__(self, preparer: Preparer) -> None:
-        self.filters: dict[str, Filter] = {}
+        self._filtered: dict[str, str] = {}
+        self._filter_of = lru_cache(maxsize=_MOST_FILTERS)(lambda source: translate(source, preparer).filter)
         self.heard: set[str] = set()
         # Whether each query that the engine has was registered here; else ids that are known are listed.
         self.is_whole = True
         self._known: set[str] = set()
         self._fields: set[str] = set()
-        self._preparer = preparer
 
     @property
     def fields(self) -> Collection[str] | None:
@@ -32,7 +41,12 @@ class Registry:
     @property
     def has_filters(self) -> bool:
         """Whether a filter may decide on an alert."""
-        return bool(self.filters) or not self.is_whole
+        return bool(self._filtered) or not self.is_whole
+
+    def filter(self, id: str) -> Filter | None:
+        """What decides on a query beside the engine, if anything."""
+        source = self._filtered.get(id)
+        return None if source is None else self._filter_of(source)
 
     def has_others(self) -> None:
         """The engine has queries that were not registered here."""
@@ -51,23 +65,23 @@ class Registry:
     def register(self, queries: Iterable[Listed]) -> None:
         """Queries were registered, in order."""
         for listed in queries:
-            self._take(listed.id, listed.filter, listed.source.has_listener)
+            self._take(listed.id, listed.source if listed.filter else None, listed.source.has_listener)
 
     def learn(self, id: str, source: Source | None) -> None:
         """A query was registered before this process was, as that source, or without the dialect."""
-        found: Filter | None = None
+        is_filtered = False
         if source:
             try:
-                found = translate(source.query, self._preparer).filter
-            except Refused:
-                found = None
-        self._take(id, found, bool(source and source.has_listener))
+                is_filtered = self._filter_of(source.query) is not None
+            except Refused as why:
+                raise EngineFailed(f"query {id!r} was registered by another profile: {why.says}") from None
+        self._take(id, source if is_filtered else None, bool(source and source.has_listener))
 
-    def _take(self, id: str, filter: Filter | None, is_heard: bool) -> None:
-        if filter:
-            self.filters[id] = filter
+    def _take(self, id: str, filtered: Source | None, is_heard: bool) -> None:
+        if filtered:
+            self._filtered[id] = filtered.query
         else:
-            self.filters.pop(id, None)
+            self._filtered.pop(id, None)
         if is_heard:
             self.heard.add(id)
         else:
@@ -78,13 +92,13 @@ class Registry:
     def delete(self, ids: Sequence[str]) -> None:
         """Queries were taken out."""
         for id in ids:
-            self.filters.pop(id, None)
+            self._filtered.pop(id, None)
             self.heard.discard(id)
             self._known.discard(id)
 
     def clear(self) -> None:
         """All queries were taken out: from here on all that are registered are known."""
-        self.filters.clear()
+        self._filtered.clear()
         self.heard.clear()
         self._known.clear()
         self.is_whole = True

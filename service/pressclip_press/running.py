@@ -61,6 +61,7 @@ class Runner:
         self._bytes = 0
         self._waiting: deque[tuple[int, bytes]] = deque()
         self._asked_for: set[str] = set()
+        self._unread: set[str] = set()
 
     def begin(self) -> None:
         """Asks the engine how many queries it has from before."""
@@ -143,6 +144,7 @@ class Runner:
         if not self._owed:
             self.patience.begin()
         made = self._rewriter.rewritten(line, self.registry.fields)
+        self._tell_unread()
         asked = Asked(number, made, len(line))
         self._owed.append(asked)
         self._bytes += asked.size
@@ -156,6 +158,13 @@ class Runner:
         for one in lines:
             self.engine.send(one)
             self._expected.append(asked)
+
+    def _tell_unread(self) -> None:
+        """Tells of each field of days or numbers whose text was none, the first time."""
+        for name, article in self._rewriter.unread.items():
+            if name not in self._unread:
+                self._unread.add(name)
+                tell(NAME, f"article {article!r}: {name} is no value of its kind, and left out, here and wherever it is so")
 
     def _take_replies(self) -> None:
         """Takes what the engine answered, each reply to what it is of."""
@@ -276,8 +285,7 @@ class Runner:
 
     def _kept(self, ids: Sequence[str], pages: Pages) -> list[bool]:
         """Whether each query holds by its filter."""
-        filters = self.registry.filters
-        return [(found := filters.get(id)) is None or found.holds_of(pages) for id in ids]
+        return [(found := self.registry.filter(id)) is None or found.holds_of(pages) for id in ids]
 
     def _notes_of_kept(self, alerts: Sequence[Mapping[str, Any]], kept: Sequence[Sequence[bool]],
                        notes: Sequence[str]) -> list[str]:
