@@ -14,6 +14,7 @@ from math import comb
 from typing import Protocol
 
 from .near import Gaps, Span, away, near_holds, near_spans, slop_spans
+from .preparing import SEPARATOR
 from .profile_query import EVERY, Wide, between, every, front, phrase, some, word
 from .terms import Row, Slot
 from .tree import TEXT, WILD_MANY, WILD_ONE, Unit
@@ -186,11 +187,12 @@ class Between:
 
     @cached_property
     def wide(self) -> Wide:
-        return Wide(between(self.field, self.low, self.high, self.with_low, self.with_high), is_exact=True)
+        asked = between(self.field, self.low, self.high, self.with_low, self.with_high)
+        return Wide(asked, is_exact=self.is_made or not self._has(SEPARATOR))
 
     def holds(self, pages: Pages) -> bool:
         held = pages.engine_words(self.field) if self.is_made else pages.words(self.field).folded
-        return any(map(self._has, held))
+        return any(self._has(one) and one != SEPARATOR for one in held)
 
     def _has(self, one: str) -> bool:
         if self.low is not None and not (self.low < one or self.with_low and self.low == one):
@@ -393,8 +395,7 @@ class Moved:
     def spans(self, pages: Pages) -> list[Span]:
         words = pages.words(self.field)
         places = [slot.positions(words) for slot in self.row.slots]
-        held = [slot.word for slot in self.row.slots]
-        return slop_spans(places, [held.index(one) for one in held], self.slop)
+        return slop_spans(places, self.slop)
 
     def holds(self, pages: Pages) -> bool:
         return bool(self.spans(pages))

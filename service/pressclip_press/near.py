@@ -61,24 +61,36 @@ def _followed(earlier: Sequence[Span], later: Sequence[Span], within: int, gaps:
             for place in range(bisect_right(starts, gaps.place(end)), bisect_right(starts, gaps.place(end) + within))]
 
 
-def slop_spans(places: Sequence[Sequence[int]], names: Sequence[int], slop: int) -> list[Span]:
-    """Where words stand near each other as Lucene counts it. `places` has the positions of each word in turn, and
-    `names` is equal for words that are equal, which take different positions. Each word's position less its number in
-    the row is at most `slop` above the least of them."""
+def slop_spans(places: Sequence[Sequence[int]], slop: int) -> list[Span]:
+    """Where words stand near each other as Lucene counts it. `places` has the positions of each word in turn, in
+    ascending order. Each takes a position of its own, and the position less the word's number in the row is at most
+    `slop` above the least of them."""
     starts = sorted({position - number for number, held in enumerate(places) for position in held})
-    chosen = (_chosen(places, names, start, slop) for start in starts)
+    chosen = (_chosen(places, start, slop) for start in starts)
     return sorted({(min(held), max(held)) for held in chosen if held})
 
 
-def _chosen(places: Sequence[Sequence[int]], names: Sequence[int], start: int, slop: int) -> list[int] | None:
-    """A position for each word, each between its number after the start and so many further; the earliest for each."""
-    taken: dict[int, int] = {}
-    chosen: list[int] = []
+def _chosen(places: Sequence[Sequence[int]], start: int, slop: int) -> list[int] | None:
+    """A position for each word, each between its number after the start and so many further, or None."""
+    allowed: list[Sequence[int]] = []
     for number, held in enumerate(places):
-        least = max(start + number, taken.get(names[number], -1) + 1)
-        place = bisect_left(held, least)
-        if place == len(held) or held[place] > start + number + slop:
+        allowed.append(held[bisect_left(held, start + number):bisect_right(held, start + number + slop)])
+        if not allowed[-1]:
             return None
-        taken[names[number]] = held[place]
-        chosen.append(held[place])
-    return chosen
+    taken: dict[int, int] = {}
+    for number in range(len(allowed)):
+        if not _take(number, allowed, taken, set()):
+            return None
+    return list(taken)
+
+
+def _take(number: int, allowed: Sequence[Sequence[int]], taken: dict[int, int], tried: set[int]) -> bool:
+    """Gives a word a position of its own, and another word another one where it has to."""
+    for position in allowed[number]:
+        if position in tried:
+            continue
+        tried.add(position)
+        if position not in taken or _take(taken[position], allowed, taken, tried):
+            taken[position] = number
+            return True
+    return False

@@ -14,6 +14,7 @@ from .tree import TEXT, TITLE, Term
 # The fields of the engine that have the marks of a field.
 MARKS_OF = {TEXT: "marks", TITLE: "title_marks"}
 _STOPPED = re.compile(r"[^\W\d_]+(?:\.[^\W\d_]+)+")
+_TIGHT = re.compile(r"(?<=\w)&(?=\w)")
 _MOST_KEPT = 100_000
 
 
@@ -59,16 +60,26 @@ class Terms:
             mended: tuple[str, ...] = (self._preparer.mend(term.text),)
         else:
             mended = self._preparer.spellings(term.text, fronts=self._choices.prefixes)
-            if " & " in term.text and term.field in MARKS_OF:
+            if " & " in term.text:
                 mended += (self._preparer.mend(term.text.replace(" & ", "&")),)
         code = self.code(term) if with_codes else None
         codes = ((MARKS_OF[term.field], code),) if code is not None else ()
+        parts = [*self._rows(term, mended, codes), *self._rows(term, self._with_blanks(term), ())]
+        if len(parts) > 1:
+            return Spelled(AnyPlaced(tuple(parts)), mended)
+        return Spelled(parts[0] if parts else None, mended)
+
+    def _with_blanks(self, term: Term) -> tuple[str, ...]:
+        """The term with blanks around an ampersand, where it has one between letters."""
+        if term.exact or not _TIGHT.search(term.text):
+            return ()
+        return (self._preparer.mend(_TIGHT.sub(" & ", term.text)),)
+
+    def _rows(self, term: Term, mended: tuple[str, ...], codes: tuple[tuple[str, str], ...]) -> list[Placed]:
+        """The term by each of these spellings that has words."""
         exact = term.exact or self._choices.exact_capitals and not term.quoted and term.text != term.text.lower()
         rows = [row for one in dict.fromkeys(mended) if (row := row_of(one, exact, self._preparer)) is not None]
-        parts = tuple(InRow(row, term.field, codes) for row in rows if not all(slot.is_any for slot in row.slots))
-        if len(parts) > 1:
-            return Spelled(AnyPlaced(parts), mended)
-        return Spelled(parts[0] if parts else None, mended)
+        return [InRow(row, term.field, codes) for row in rows if not all(slot.is_any for slot in row.slots)]
 
 
 @lru_cache(maxsize=8)

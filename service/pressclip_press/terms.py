@@ -11,6 +11,7 @@ from typing import Protocol
 import regex  # type: ignore[import]
 
 from .near import Span
+from .preparing import SEPARATOR
 from .tree import WILD_MANY, WILD_ONE
 from .words import Words, spans_of
 
@@ -82,7 +83,9 @@ class Slot:
 
     def holds(self, word: str) -> bool:
         """Whether it stands for a folded word."""
-        return bool(self._expression.fullmatch(word)) if self.is_wild else word == self.word
+        if not self.is_wild:
+            return word == self.word
+        return word != SEPARATOR and bool(self._expression.fullmatch(word))
 
     def is_written(self, word: str) -> bool:
         """Whether it stands for a word as that is written."""
@@ -120,7 +123,9 @@ class Row:
         if len(self.slots) > 1:
             return not any(slot.is_wild for slot in self.slots)
         word = self.slots[0].word
-        return not is_wild(word) or len(word) > 1 and not is_wild(word[:-1]) and word[-1] == WILD_MANY
+        if not is_wild(word):
+            return True
+        return word[-1] == WILD_MANY and not is_wild(word[:-1]) and not SEPARATOR.startswith(word[:-1])
 
     def spans(self, words: Words, written: Callable[[], Words]) -> list[Span]:
         """From where to where it stands, in ascending order."""

@@ -22,6 +22,7 @@ _COMMON = re.compile("[\0-\x7f\xa0-\xa9\xab\xac\xae-\xb1\xb4-\xb6\xb8\xbb\xbf-\u
 _COMMON_WORD = re.compile(r"(?=_*[^\W_])\w+(?:(?<=[^\W\d_])[:.'](?=[^\W\d_])\w+|(?<=\d)[,;.'](?=\d)\w+)*")
 _PARAGRAPH = re.compile(r"\n[ \t\r]*\n|\n[ \t\u3000]+(?=\S)|(?<=[.!?…。！？:])[\"'”’»)]*[ \t]*\n")
 _SENTENCE = re.compile(r"[.!?…]+[\"'”’»)\]]*\s+(?=[^\s])|[。！？]+[」』”）]*|\n[ \t\r]*\n")
+_BLANK_LINE = re.compile(r"\n[ \t\r]*\n")
 # Words whose full stop ends no sentence.
 ABBREVIATIONS = frozenset("""mr mrs ms dr prof st jr sr inc ltd co corp vs etc no art fig dept approx gen col lt sgt rev hon
     z.b d.h u.a bzw ca nr bd hr fr str mio mrd tel vgl m mme mlle p.ex cf sig sra dott ing e.g i.e u.s u.k u.n a.m p.m
@@ -96,7 +97,7 @@ class Words:
 
     def _is_end(self, found: re.Match[str]) -> bool:
         after = self.text[found.end():found.end() + 1]
-        if "\n" in found[0] and not found[0].strip():
+        if _BLANK_LINE.search(found[0]):
             return True
         if after.islower():
             return False
