@@ -9,19 +9,20 @@ from __future__ import annotations
 from collections.abc import Collection, Mapping, Sequence
 from dataclasses import dataclass
 from functools import cached_property
-from itertools import combinations, groupby
+from itertools import combinations, groupby, product
 from math import comb
 from typing import Protocol
 
-from .near import Gaps, Span, away, near_holds, near_spans, slop_spans
+from .near import Gaps, Span, away, near_holds, near_spans, proved_near, slop_spans
 from .preparing import SEPARATOR
 from .profile_query import EVERY, Wide, between, every, front, phrase, some, word
 from .terms import Row, Slot
 from .tree import TEXT, WILD_MANY, WILD_ONE, Unit
-from .words import Words
+from .words import Words, with_ends_as_words
 
 BACKWARDS = "backwards"
 _MOST_COMBINATIONS = 64
+_MOST_PAIRS = 4
 
 
 class Article(Protocol):
@@ -45,6 +46,7 @@ class Pages:
         self.article = article
         self._words: dict[str, Words] = {}
         self._written: dict[str, Words] = {}
+        self._with_ends: dict[str, str] = {}
 
     def words(self, field: str) -> Words:
         """The folded words of a field."""
@@ -57,6 +59,12 @@ class Pages:
         if field not in self._written:
             self._written[field] = Words.of(self.article.written(field))
         return self._written[field]
+
+    def with_ends(self, field: str) -> str:
+        """The text of a field with a word at the end of each sentence, as nearness counts it."""
+        if field not in self._with_ends:
+            self._with_ends[field] = with_ends_as_words(self.article.fields((field,)).get(field, ""))
+        return self._with_ends[field]
 
     def engine_words(self, field: str) -> Sequence[str]:
         """The words of a field that is made for the engine alone."""
@@ -304,6 +312,18 @@ class Times:
         return len(self.part.spans(pages)) >= self.count
 
 
+def _plain_queries(part: Part) -> list[str]:
+    """The part as queries of the engine on its field of text, of which one has to hold: each a word, words in a row or
+    the beginning of a word. None where one can't be said so."""
+    if isinstance(part, AnyPlaced):
+        queries = [_plain_queries(one) for one in part.parts]
+        return [query for held in queries for query in held] if all(queries) else []
+    if not isinstance(part, InRow) or part.codes or not part.row.is_plain:
+        return []
+    words = [slot.word for slot in part.row.slots]
+    return [front(TEXT, words[0][:-1]) if part.row.slots[0].is_wild else phrase(TEXT, words)]
+
+
 def _both(left: Part, right: Part, unless: bool) -> Wide:
     """What the engine is asked for two parts that stand near each other."""
     asked = [part.wide.query for part in ((left,) if unless else (left, right)) if part.wide.query]
@@ -334,7 +354,16 @@ class NearEach:
         gaps = Gaps(pages.words(self.field).sentences)
         return (away if self.unless else near_spans)(left, right, self.within, self.ordered, gaps)
 
+    @cached_property
+    def _pairs(self) -> Sequence[tuple[str, str]]:
+        """The pairs of queries that are to be near, where the library can judge them; else none."""
+        pairs = list(product(_plain_queries(self.left), _plain_queries(self.right)))
+        return [] if self.unless or len(pairs) > _MOST_PAIRS else pairs
+
     def holds(self, pages: Pages) -> bool:
+        if proved_near and self._pairs:
+            fields = {TEXT: pages.with_ends(self.field)}
+            return any(proved_near(left, right, self.within - 1, self.ordered, fields) for left, right in self._pairs)
         left, right = self.left.spans(pages), self.right.spans(pages)
         if not left:
             return False

@@ -300,9 +300,12 @@ class Lexer:
         start = self.at
         found = _COMPARED.match(self.plain, start)
         name = self._field_name(found[1]) if found else None
-        if not found or name is None:
+        if not found:
             return False
         self.at = found.end()
+        if name is None:
+            raise self.refuse(start, "unknown_field",
+                              f"{found[1]} is no field that is known: write \\ before the sign in a word, or quotes.")
         sign = found[2].strip().lstrip(":").strip()
         if sign == "=":
             self.push(Kind.FIELD, start, FieldOf(name))
@@ -461,6 +464,8 @@ class Lexer:
                               " * is any one word.")
         if re.search(r"(?<!\\)~\d*(?:\.\d+)?$", run) or run.startswith("~"):
             raise self.refuse(start, "fuzzy", "Words like another can't be said: write their spellings with OR.")
+        if re.fullmatch(r"\W?\d[\d.,]*\.\.\W?\d[\d.,]*", run):
+            raise self.refuse(start, "spread", "A range of numbers has a field before it, as in reach:1000..5000.")
         if _CUT_SHORT.fullmatch(run):
             raise self.refuse(start, "cut_short", "$ cuts no word short: * stands for any letters.")
         if boost := re.search(r"(?<!\\)\^\d+(?:\.\d+)?$", run):

@@ -3,10 +3,17 @@
 from __future__ import annotations
 
 from bisect import bisect_left, bisect_right
-from collections.abc import Sequence
+from collections.abc import Callable, Sequence
+
+from .library import LIBRARY
 
 # The positions of a row's first and last word.
 Span = tuple[int, int]
+
+
+# The library's proved nearness, `(first, second, between, ordered, fields)`, of two queries of the engine, each a word,
+# words in a row or the beginning of a word; None where the library isn't built.
+proved_near: Callable[[str, str, int, bool, dict[str, str]], bool] | None = getattr(LIBRARY, "near_holds", None)
 
 
 class Gaps:

@@ -36,7 +36,7 @@ def _with_operators(lexer: Lexer, lexemes: list[Lexeme]) -> list[Lexeme]:
             made.append(lexeme)
         elif written.lower() == "but" and is_after and after and after.text.lower() == "not":
             continue
-        elif (word := LOWER_CASE.get(written)) and lexer.choices.lower_case_operators and (
+        elif (word := LOWER_CASE.get(written.lower())) and lexer.choices.lower_case_operators and (
                 is_after or word is Word.NOT and after):
             made += _operators(lexer, lexeme, word)
         else:

@@ -17,8 +17,8 @@ _BLANKS = ("\t\n\v\f\r\x1c\x1d\x1e\x1f\x85\xa0\u1680\u2000\u2001\u2002\u2003\u20
            "\u2028\u2029\u202f\u205f\u3000")
 # Signs of direction and blanks of no width, as they come with what is pasted.
 _UNSEEN = "\u200b\u200e\u200f\u202a\u202b\u202c\u202d\u202e\u2060\u2066\u2067\u2068\u2069\ufeff"
-_WIDE_SIGNS = "（）［］｛｝：，；｜＆＋－＊？！～／＠＃＜＞＝"
-_LIKE: Mapping[str, str] = {"、": ",", "；": ";", "‐": "-", "\u2011": "-", "﹣": "-", "【": "(", "】": ")"}
+_WIDE_SIGNS = "".join(map(chr, range(0xff01, 0xff5f)))
+_LIKE: Mapping[str, str] = {"、": ",", "،": ",", "؛": ";", "‐": "-", "\u2011": "-", "﹣": "-", "【": "(", "】": ")"}
 
 
 def _one_to_one() -> dict[int, str]:

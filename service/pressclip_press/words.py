@@ -3,17 +3,15 @@
 from __future__ import annotations
 
 import re
-import sys
 from collections.abc import Callable, Sequence
 from dataclasses import dataclass
 from functools import cached_property
-from importlib import import_module
-from pathlib import Path
-from typing import Any
 
 import regex  # type: ignore[import]
 
-_BINDINGS = Path(__file__).resolve().parents[2] / "bindings" / "python"
+from .library import LIBRARY
+from .preparing import SEPARATOR
+
 _CUT = regex.compile(r"(?w)\b", regex.V1)
 _IS_WORD = regex.compile(r"[\p{Alphabetic}\p{N}]")
 # Texts of Latin, Greek and Cyrillic, whose words an expression of the standard library cuts much faster.
@@ -22,6 +20,7 @@ _COMMON = re.compile("[\0-\x7f\xa0-\xa9\xab\xac\xae-\xb1\xb4-\xb6\xb8\xbb\xbf-\u
 _COMMON_WORD = re.compile(r"(?=_*[^\W_])\w+(?:(?<=[^\W\d_])[:.'](?=[^\W\d_])\w+|(?<=\d)[,;.'](?=\d)\w+)*")
 _PARAGRAPH = re.compile(r"\n[ \t\r]*\n|\n[ \t\u3000]+(?=\S)|(?<=[.!?…。！？:])[\"'”’»)]*[ \t]*\n")
 _SENTENCE = re.compile(r"[.!?…]+[\"'”’»)\]]*\s+(?=[^\s])|[。！？]+[」』”）]*|\n[ \t\r]*\n")
+_LETTERS_WITH_STOPS = re.compile(r"(?:\w\.)+\w")
 _BLANK_LINE = re.compile(r"\n[ \t\r]*\n")
 # Words whose full stop ends no sentence.
 ABBREVIATIONS = frozenset("""mr mrs ms dr prof st jr sr inc ltd co corp vs etc no art fig dept approx gen col lt sgt rev hon
@@ -37,19 +36,39 @@ def _spans_by_expression(text: str) -> list[tuple[int, int]]:
     return [(start, end) for start, end in zip(cuts, cuts[1:]) if _IS_WORD.search(text, start, end)]
 
 
-def _cutter() -> Callable[[str], Sequence[tuple[int, int]]]:
+def _spans() -> Callable[[str], Sequence[tuple[int, int]]]:
     """What cuts texts: the library, and where it isn't built an expression."""
-    if str(_BINDINGS) not in sys.path:
-        sys.path.append(str(_BINDINGS))
-    try:
-        library: Any = import_module("pressclip")
-    except ImportError:
+    if LIBRARY is None:
         return _spans_by_expression
-    spans: Callable[[str], Sequence[tuple[int, int]]] = library.word_spans
+    spans: Callable[[str], Sequence[tuple[int, int]]] = LIBRARY.word_spans
     return spans
 
 
-spans_of = _cutter()
+spans_of = _spans()
+
+
+def sentence_ends(text: str) -> list[int]:
+    """Where sentences end. One ends at a blank line, and with a full stop, a question mark or an exclamation mark before
+    a blank, unless a small letter follows, or the stop is of an abbreviation or of a single letter."""
+    return [found.end() for found in _SENTENCE.finditer(text) if _is_end(text, found)]
+
+
+def _is_end(text: str, found: re.Match[str]) -> bool:
+    if _BLANK_LINE.search(found[0]):
+        return True
+    if text[found.end():found.end() + 1].islower():
+        return False
+    if found[0][0] != "." or found[0].startswith(".."):
+        return True
+    before = text[max(0, found.start() - 12):found.start()].split()
+    word = before[-1].lower().strip("(\"'“„«") if before else ""
+    return not (word in ABBREVIATIONS or len(word) == 1 and word.isalpha() or _LETTERS_WITH_STOPS.fullmatch(word))
+
+
+def with_ends_as_words(text: str) -> str:
+    """The text with a word that no query has at the end of each sentence."""
+    ends = sentence_ends(text)
+    return f" {SEPARATOR} ".join(text[start:end] for start, end in zip([0, *ends], [*ends, len(text)]))
 
 
 @dataclass(frozen=True)
@@ -91,21 +110,8 @@ class Words:
 
     @cached_property
     def sentences(self) -> list[int]:
-        """The number of each word's sentence. One ends with a full stop, a question mark or an exclamation mark before a
-        blank, unless a small letter follows, or the stop is of an abbreviation or of a single letter."""
-        return self._numbers([found.end() for found in _SENTENCE.finditer(self.text) if self._is_end(found)])
-
-    def _is_end(self, found: re.Match[str]) -> bool:
-        after = self.text[found.end():found.end() + 1]
-        if _BLANK_LINE.search(found[0]):
-            return True
-        if after.islower():
-            return False
-        if found[0][0] != "." or found[0].startswith(".."):
-            return True
-        before = self.text[max(0, found.start() - 12):found.start()].split()
-        word = before[-1].lower().strip("(\"'“„«") if before else ""
-        return not (word in ABBREVIATIONS or len(word) == 1 and word.isalpha() or re.fullmatch(r"(?:\w\.)+\w", word))
+        """The number of each word's sentence."""
+        return self._numbers(sentence_ends(self.text))
 
     def _numbers(self, ends: list[int]) -> list[int]:
         """For each word, how many of these places stand before its end."""
