@@ -4,13 +4,19 @@ from __future__ import annotations
 
 import re
 from collections.abc import Callable, Mapping
+from itertools import product
 from pathlib import Path
 from random import Random
 from typing import Any
 
 from pressclip_press.choices import Choices
+from pressclip_press.filtering import NearEach, Pages
+from pressclip_press.near import Gaps, Span, away, near_holds, near_spans, proved_near, slop_spans
+from pressclip_press.preparing import Preparer
+from pressclip_press.profile import Profile
 from pressclip_press.reading import read
 from pressclip_press.sources import Source, source_in, with_source
+from pressclip_press.translating import part_of
 from pressclip_press.tree import (All, AtLeast, Has, Near, Not, Often, Place, Range, Refused, Same, Slop, Some, Term,
                                   Tree, Unit)
 
@@ -26,6 +32,8 @@ PIECES = ["tea", "Title", "wi-fi", "é", "日本", " ", " ", " ", "+", "-", "!",
           "/s", "/", "?", ".", "'", "\t", "\u3000", "“", "„", "«", ",", ";", "atleast2(", "2 of (", "exact:", "date:2026",
           "#", "C++", "❤", "–", "has:author", "site:", "near", "and", "or", "not", "\u200f", "<", ">", "=", "\ud83d"]
 RANDOM_QUERIES = 6_000
+RANDOM_SPANS = 4_000
+RANDOM_TEXTS = 2_000
 KNOWN = frozenset(("text", "title", "body", "author", "date", "reach", "url", "host", "language", "country", "source"))
 
 
@@ -141,6 +149,57 @@ def a_source_is_in_its_query() -> None:
         need(source_in(query) is None, f"{query} has no source")
 
 
+def pair_is_near(one: Span, other: Span, within: int, ordered: bool, sentences: list[int]) -> bool:
+    """Whether two spans are near, by the definition."""
+    def gap(earlier: Span, later: Span) -> int:
+        return later[0] + sentences[later[0]] - earlier[1] - sentences[earlier[1]]
+
+    return 1 <= gap(one, other) <= within or not ordered and 1 <= gap(other, one) <= within
+
+
+def nearness_is_its_definition() -> None:
+    """Which spans are near, and which have none near, of random ones, pair by pair; and slop by each choice of places."""
+    dice = Random("near")
+    for _ in range(RANDOM_SPANS):
+        count = dice.randint(2, 14)
+        sentences = sorted(dice.randint(0, 2) for _ in range(count))
+        left, right = (sorted({(start, min(count - 1, start + dice.randint(0, 2)))
+                               for start in dice.choices(range(count), k=dice.randint(0, 4))}) for _ in range(2))
+        within, ordered = dice.randint(1, 5), dice.random() < 0.5
+        near = [(one, other) for one in left for other in right
+                if pair_is_near(one, other, within, ordered, sentences)]
+        gaps = Gaps(sentences)
+        need(near_holds(left, right, within, ordered, gaps) == bool(near), f"{left} {right} {within} {ordered}")
+        hulls = sorted({(min(one[0], other[0]), max(one[1], other[1])) for one, other in near})
+        need(near_spans(left, right, within, ordered, gaps) == hulls, f"{left} {right} {within} {ordered}")
+        alone = [one for one in left if one not in [first for first, _ in near]]
+        need(away(left, right, within, ordered, gaps) == alone, f"{left} {right} {within} {ordered}")
+        places = [sorted(set(dice.choices(range(9), k=dice.randint(1, 4)))) for _ in range(dice.randint(1, 3))]
+        chosen = [held for held in product(*places) if len(set(held)) == len(held)]
+        moves = [[place - number for number, place in enumerate(held)] for held in chosen]
+        is_near = any(max(moved) - min(moved) <= within for moved in moves)
+        need(bool(slop_spans(places, within)) == is_near, f"{places} with {within} moves")
+
+
+def nearness_is_the_librarys() -> None:
+    """What the library proves of two words, rows or beginnings is what is judged by places."""
+    dice = Random("library")
+    assert proved_near is not None
+    sides = ["tea", "milk", '"green tea"', "te*"]
+    preparer = Preparer(Profile.load(None))
+    for _ in range(RANDOM_TEXTS):
+        text = "".join(word + dice.choice([" ", " ", " ", ". ", ", ", "\n\n"])
+                       for word in dice.choices(["tea", "Tea", "milk", "green", "ten", "A"], k=dice.randint(0, 12)))
+        left, right = dice.choice(sides), dice.choice(sides)
+        operator = dice.choice(["NEAR/1", "NEAR/3", "ONEAR/2"])
+        part = part_of(f"{left} {operator} {right}", preparer)
+        assert isinstance(part, NearEach)
+        by_library = part.holds(Pages(preparer.prepared({"text": text})))
+        need(bool(part.spans(Pages(preparer.prepared({"text": text})))) == by_library, f"{left} {operator} {right}: {text!r}")
+
+
+# Where the library isn't built, nothing is judged by it.
+OF_THE_LIBRARY = (nearness_is_the_librarys,) if proved_near else ()
 TESTS: tuple[Callable[[], None], ...] = (
     each_form_is_its_tree, blanks_are_as_the_profile_says, a_source_is_in_its_query, any_text_is_read_or_refused,
-    each_row_of_press_desks, each_row_of_media_tools, each_row_of_the_page)
+    nearness_is_its_definition, *OF_THE_LIBRARY, each_row_of_press_desks, each_row_of_media_tools, each_row_of_the_page)
