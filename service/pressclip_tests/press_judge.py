@@ -281,9 +281,12 @@ def lies(tree: Range, value: object, read: Callable[[str], object]) -> bool:
 
 def field_of(tree: Tree) -> str:
     """The field in which a tree stands."""
-    while not isinstance(tree, Term):
-        tree = tree.parts[0] if isinstance(tree, Some) else tree.term if isinstance(tree, Slop) else tree.left  # type: ignore[union-attr]
-    return tree.field
+    if isinstance(tree, Term):
+        return tree.field
+    if isinstance(tree, Some):
+        return field_of(tree.parts[0])
+    assert isinstance(tree, (Near, Same))
+    return field_of(tree.left)
 
 
 def matches(wild: str, word: str) -> bool:
@@ -296,7 +299,7 @@ def matches(wild: str, word: str) -> bool:
 
 
 def has_signs(given: str, wanted: str, is_first: bool, is_last: bool) -> bool:
-    """Whether what stands between two words of an article has the signs of a term: directly beside the word, as there."""
+    """Whether what stands between two words of an article has the signs of a term, directly beside the word."""
     signs = "".join(sign for sign in wanted if sign in SIGNS)
     if not signs:
         return True

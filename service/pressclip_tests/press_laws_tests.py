@@ -50,7 +50,7 @@ def batch_of(maker: Maker, preparer: Preparer) -> Batch:
 
 
 def alerts_of(batches: Sequence[Batch], preparer: Preparer) -> list[list[set[int]]]:
-    """For each batch and each of its articles the numbers of the queries that the engine alerts and the filter keeps."""
+    """For each batch and each of its articles the numbers of the queries that the engine alerts."""
     lines: list[dict[str, object]] = []
     for batch in batches:
         queries = [{"id": str(number), "query": one.query} for number, one in enumerate(batch.translated)]
@@ -152,7 +152,8 @@ def a_translated_query_means_what_the_judge_says() -> None:
             decided += ruled_out
     for kind in KINDS:
         for due in (True, False):
-            need(counts[kind.__name__, due] >= LEAST_OF_KIND, f"{kind.__name__} is in {counts[kind.__name__, due]} cases")
+            count = counts[kind.__name__, due]
+            need(count >= LEAST_OF_KIND, f"{kind.__name__} is in {count} cases")
     need(decided >= LEAST_DECIDED, f"the filter decided {decided} cases")
 
 

@@ -28,9 +28,9 @@ class NoArticle(Exception):
 def add_arguments(parser: argparse.ArgumentParser) -> None:
     """The words of the command; the parser's own are the profile's alone."""
     parser.description = (
-        "Each line of the input is an article, {\"title\":\"..\",\"text\":\"..\"}, a JSON object of named texts, and the line "
-        "in its place has the fields that the engine gets of it. A line that is none is told on standard error and "
-        "refused in its place.")
+        "Each line of the input is an article, a JSON object of named texts, {\"title\":\"..\",\"text\":\"..\"}, and the line "
+        "in its place has the fields that the engine gets of it. One that is none is told on standard error and refused in "
+        "its place.")
 
 
 def main(options: argparse.Namespace) -> int:
@@ -64,7 +64,10 @@ class LinePreparer:
         if is_blank(line):
             return b""
         try:
-            article = self.preparer.prepared(fields_of(line))
+            given = fields_of(line)
+            if made_too := self.preparer.made_too(given):
+                raise NoArticle(f"{made_too[0]} is a field that is made, and an article can't have it")
+            article = self.preparer.prepared(given)
             made = article.fields()
         except NoArticle as why:
             tell(NAME, f"line {self.number} is refused: {why}")

@@ -9,7 +9,8 @@ from .letters import word_class
 from .steps import Step, one_of
 from .tables import Table
 
-_LETTERS_SPELLED = dict(zip("ßẞøØłŁđĐðÐþÞæÆœŒħĦŧŦıĸ", "ss SS o O l L d D d D th TH ae AE oe OE h H t T i k".split()))
+_LETTERS_SPELLED = dict(zip("ßẞøØłŁđĐðÐþÞæÆœŒħĦŧŦıĸ",
+                            "ss SS o O l L d D d D th TH ae AE oe OE h H t T i k".split()))
 _PAST_DIGITS = 0x20000
 _LATIN_AND_GREEK = "A-Za-z\u00c0-\u024f\u0370-\u03ff\u1e00-\u1fff"
 _ACCENTS = "".join(char for char in map(chr, range(0x300, 0x10000)) if unicodedata.combining(char))
@@ -106,7 +107,8 @@ FOLDING: tuple[Step, ...] = (
          (("за\u0301мок", "замок"), ("Алёна", "Алена"), ("мой", "мой"), ("їжак", "їжак")), one_of("".join(_CYRILLIC) + "\u0300\u0301\u0308")),
     Step("points", "Points of Hebrew are taken off.", without_points, (("שָׁלוֹם", "שלום"),), one_of("\u0591-\u05c7")),
     Step("arabic", "Vowels and stretching of Arabic are taken off, and alef, yeh and kaf have one form.",
-         in_one_arabic, (("أرامكو", "ارامكو"), ("مُحَمَّد", "محمد"), ("كتـــاب", "كتاب"), ("ایران", "ايران")),
+         in_one_arabic,
+         (("أرامكو", "ارامكو"), ("مُحَمَّد", "محمد"), ("كتـــاب", "كتاب"), ("ایران", "ايران")),
          one_of("".join(_ARABIC) + "\u0640-\u0670")),
     Step("digits", "Digits of all scripts are 0 to 9.", in_common_digits,
          (("٢٠٢٦", "2026"), ("२०२६", "2026"), ("五", "五")), lambda char: char in _digits()),

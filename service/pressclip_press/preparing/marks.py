@@ -17,7 +17,7 @@ _NAMES = {**_CURRENCIES, "#": "hash", "@": "at", "&": "amp", "+": "plus", "%": "
 _MONEY = re.escape("".join(_CURRENCIES))
 _NUMBER = r"\d+(?:[.,]\d+)*"
 _MOST_STOPPED = 12
-_MOST_CHARACTERS = 200
+_MOST_CHARACTERS = 100
 
 
 def _tokens(word: str, letter: str) -> str:
@@ -26,8 +26,8 @@ def _tokens(word: str, letter: str) -> str:
     return (rf"(?P<money>[{_MONEY}] ?{_NUMBER}(?!{one})|(?<![{word}.,]){_NUMBER} ?[{_MONEY}](?!{one}))"
             rf"|(?P<share>(?<![{word}.,]){_NUMBER} ?%)"
             rf"|(?P<tag>(?<![{word}&])[#@$]{many})"
-            rf"|(?P<joined>{many}(?:[&+]{many})+)"
-            rf"|(?P<ended>{many}(?:\+{{1,3}}(?![{word}+])|[#!](?!{one})))"
+            rf"|(?P<joined>(?<!{one}){many}(?:[&+]{many})+)"
+            rf"|(?P<ended>(?<!{one}){many}(?:\+{{1,3}}(?![{word}+])|[#!](?!{one})))"
             rf"|(?P<pointed>(?<![{word}.])\.{letter}{many})"
             rf"|(?P<stopped>(?<![{word}.]){letter}{many[:-1]}*(?:\.{letter}{many[:-1]}*)+)")
 

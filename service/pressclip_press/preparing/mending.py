@@ -17,18 +17,19 @@ from .tables import Table
 
 _UNSEEN = ("\u034f\u061c\u180b-\u180e\u200c-\u200f\u202a-\u202e\u2060-\u2064\u2066-\u206f\ufe00-\ufe0f\ufeff"
            "\U000e0001-\U000e007f\U000e0100-\U000e01ef")
-_INVISIBLE = re.compile(f"[{_UNSEEN}]|\u00ad(?!\u00ad*[ \t\r]*\n)")
+_INVISIBLE = re.compile(f"[{_UNSEEN}]|(?<!\u00ad)\u00ad++(?![ \t\r]*+\n)")
 # Where ligatures, letters in circles, of mathematics, of Arabic's contexts, and full and half widths stand.
-_BLOCKS_OF_FORMS = ((0xAA, 0xBB), (0x132, 0x134), (0x149, 0x14A), (0x1C4, 0x1CD), (0x1F1, 0x1F4), (0x2100, 0x2150), (0x2160, 0x2180),
-                    (0x24B6, 0x24EA), (0x32D0, 0x3358), (0xFB00, 0xFB18), (0xFB50, 0xFDFC), (0xFE70, 0xFEFD),
+_BLOCKS_OF_FORMS = ((0xAA, 0xBB), (0x132, 0x134), (0x149, 0x14A), (0x1C4, 0x1CD), (0x1F1, 0x1F4),
+                    (0x2100, 0x2150), (0x2160, 0x2180), (0x24B6, 0x24EA), (0x32D0, 0x3358), (0xFB00, 0xFB18),
+                    (0xFB50, 0xFDFC), (0xFE70, 0xFEFD),
                     (0xFF01, 0xFFA0), (0xFFA1, 0xFFE7), (0x1D400, 0x1D800), (0x1F130, 0x1F14A), (0x1F150, 0x1F16A),
                     (0x1F170, 0x1F18A))
 _APOSTROPHES = "'’‘‛ʼʻʽ′‵´`＇՚׳"
 _APOSTROPHE = re.compile(f"[{_APOSTROPHES}]")
 _QUOTE_IN_HEBREW = re.compile("[\"״](?<=[\u0590-\u05ff].)")
-_LINE_END = re.compile("[-\u00ad\u2010]+[ \t\r\u00ad]*\n[ \t]*(?=\\w)")
-_PLAIN_LINE_END = re.compile(r"-+[ \t\r]*\n[ \t]*(?=\w)")
-_SOFT_AT_LINE_END = re.compile("\u00ad+(?=[ \t\r]*\n)")
+_LINE_END = re.compile("(?<![-\u00ad\u2010])[-\u00ad\u2010]++[ \t\r\u00ad]*+\n[ \t]*+(?=\\w)")
+_PLAIN_LINE_END = re.compile(r"-(?<!--)-*+[ \t\r]*+\n[ \t]*+(?=\w)")
+_SOFT_AT_LINE_END = re.compile("(?<!\u00ad)\u00ad++(?=[ \t\r]*+\n)")
 _WORDS_AROUND = 3
 _CHARACTERS_AROUND = 120
 _STOPS = re.compile(r"\.(?<![\s\d_]\.)[^\W\d_](?:\.[^\W\d_])*(?:\.(?![^\W\d_]))?")
@@ -38,7 +39,8 @@ _SET_APART = "\u30a1-\u30fa\u30fc-\u30ff\u31f0-\u31ff\uac00-\ud7a3"
 _RUN_APART = re.compile(f"[{_SET_APART}]{{2,}}")
 _OTHER_OF_WORD = f"[^\\W{_SET_APART}\U00010330\U00010331]"
 _MEETING = re.compile(f"[{_SET_APART}](?={_OTHER_OF_WORD})|{_OTHER_OF_WORD}(?=[{_SET_APART}])")
-_OVER_ACCENTS = re.compile(f"(?<=[{_SET_APART}])[^\\w\\s\x00-\x7f]+(?=\\w)|(?<=\\w)[^\\w\\s\x00-\x7f]+(?=[{_SET_APART}])")
+_ACCENTS = "[^\\w\\s\x00-\x7f]++"
+_OVER_ACCENTS = re.compile(f"(?<=[{_SET_APART}]){_ACCENTS}(?=\\w)|(?<=\\w){_ACCENTS}(?=[{_SET_APART}])")
 _AMPERSAND = re.compile(r"(?<=[^\s&]) & (?=[^\s&])")
 
 
@@ -216,10 +218,12 @@ MENDING: tuple[Step, ...] = (
                           ("e\u0301", "é"), ("m²", "m²"), ("𝗕𝗿𝗲𝗮𝗸", "Break")), _needs_form, makes_more=True),
     Step("apostrophes", "An apostrophe of any kind is a blank, and in words of Hebrew nothing.", without_apostrophes,
          (("l'Oréal", "l Oréal"), ("l’Oréal", "l Oréal"), ("dell'Enel", "dell Enel"), ("McDonald´s", "McDonald s"),
-          ("O'Brien", "O Brien"), ("צה\"ל", "צהל"), ("צה״ל", "צהל"), ("ג'ורג'", "גורג "), ("\"tea\"", "\"tea\"")), one_of(f"{_APOSTROPHES}״\u05d0-\u05ea")),
-    Step("line_ends", "A word that a hyphen cuts at a line's end is joined, and the place as it stood follows the text.",
-         with_joined_lines,
-         (("die Über-\nraschung kam", "die Überraschung kam\n\ndie Über- raschung kam"),
+          ("O'Brien", "O Brien"), ("צה\"ל", "צהל"), ("צה״ל", "צהל"), ("ג'ורג'", "גורג "), ("\"tea\"", "\"tea\"")),
+         one_of(f"{_APOSTROPHES}״\u05d0-\u05ea")),
+    Step("line_ends",
+         "A word that a hyphen cuts at a line's end is joined, and the place as it stood follows the text.",
+         with_joined_lines, (
+          ("die Über-\nraschung kam", "die Überraschung kam\n\ndie Über- raschung kam"),
           ("Jean-\nPaul", "Jean-Paul"), ("e-\nmobility", "e-mobility"), ("COVID-\n19", "COVID-19"),
           ("Über\u00ad\nraschung", "Überraschung\n\nÜber raschung"), ("tea -\nmilk", "tea -\nmilk"),
           ("tea\nmilk", "tea\nmilk")), one_of("\u00ad\u2010-")),
@@ -227,7 +231,8 @@ MENDING: tuple[Step, ...] = (
          with_parted_stops,
          (("the end.Then", "the end. Then"), ("E.ON said", "E ON said"), ("www.example.com", "www example com"),
           ("the U.S. Senate", "the US  Senate"), ("3.14", "3.14"), ("Merkel:Wir", "Merkel: Wir"),
-          ("col·lecció", "collecció"), ("The end.", "The end."), ("т.е.", "те "), ("v2.0", "v2.0")), one_of(f".{_MIDDLE}")),
+          ("col·lecció", "collecció"), ("The end.", "The end."), ("т.е.", "те "), ("v2.0", "v2.0")),
+         one_of(f".{_MIDDLE}")),
     Step("characters", "Characters of Katakana and Hangul stand apart.", with_characters_apart,
          (("ソニーグループ", "ソ ニ ー グ ル ー プ"), ("삼성전자", "삼 성 전 자"), ("LG전자", "LG 전 자"), ("日本", "日本"),
           ("삼성\U00010330", "삼 성\U00010330")), one_of(_SET_APART)),

@@ -24,6 +24,7 @@ TITLE_MARKS = "title_marks"
 HAS = "has"
 HOST = "host"
 MADE = (BODY, MARKS, TITLE_MARKS, HAS, HOST)
+_MADE_ALONE = (MARKS, TITLE_MARKS, HAS)
 # A word that stands between title and text, so that no phrase runs from one into the other.
 SEPARATOR = "zzendoftitlezz"
 _BETWEEN = f"\n\n{SEPARATOR}\n\n"
@@ -52,6 +53,12 @@ class Preparer:
     def prepared(self, fields: Mapping[str, str]) -> Prepared:
         """An article's fields; each is prepared when it is asked for."""
         return Prepared(self, fields)
+
+    @staticmethod
+    def made_too(fields: Mapping[str, str]) -> list[str]:
+        """The fields of an article whose names are those of fields that are made, so that it can't have them. A `body`
+        is its text where it has no `text`."""
+        return [name for name in fields if name in _MADE_ALONE or name == BODY and TEXT in fields]
 
     def value(self, field: str, text: str) -> str | None:
         """The word that a value of a field of days, numbers or words is compared by; None where it is none."""
@@ -109,11 +116,16 @@ class Prepared:
 
     def _of_parts(self, field: str, part: Change, made: Change) -> str:
         """The field by what is made of its text; of `text` both its parts, with a word between that no query has."""
-        if field == TEXT and TITLE in self.given:
+        if field == TEXT and self.given.get(TITLE):
             title, body = part(TITLE), part(BODY)
             return f"{title}{_BETWEEN}{body}" if title and body else title or body
-        given = self.given.get(TEXT if field == BODY else field, "")
+        given = self._given(field)
         return made(given) if given else ""
+
+    def _given(self, field: str) -> str:
+        """A field as it was given; a body is the text, and the text the body."""
+        other = {BODY: TEXT, TEXT: BODY}.get(field, field)
+        return self.given.get(field, "") or self.given.get(other, "")
 
     def fields(self, names: Collection[str] | None = None) -> dict[str, str]:
         """The fields for the engine, by their names, or those of these names; none that is empty."""
@@ -131,11 +143,11 @@ class Prepared:
         """What the engine is given under a name; empty where there is nothing."""
         if name in (MARKS, TITLE_MARKS):
             parts = (TITLE,) if name == TITLE_MARKS else (TITLE, TEXT)
-            return " ".join(filter(None, (mark_words(self.given.get(part, "")) for part in parts)))
+            return " ".join(filter(None, (mark_words(self._given(part)) for part in parts)))
         if name == HAS:
             return " ".join(field for field, text in self.given.items() if text and not text.isspace())
         if name == HOST:
-            return " ".join(filter(None, map(host_words, self._urls())))
+            return " ".join(dict.fromkeys(filter(None, map(host_words, self._urls()))))
         kind = self._preparer.profile.kind(name)
         given = self.given.get(name, "")
         if kind in (Kind.DATE, Kind.NUMBER):
@@ -143,4 +155,5 @@ class Prepared:
         return self._preparer.fold(url_words(given)) if kind is Kind.URL else self.text(name)
 
     def _urls(self) -> Iterable[str]:
-        return (text for name, text in self.given.items() if self._preparer.profile.kind(name) is Kind.URL)
+        return (text for name, text in self.given.items()
+                if name == HOST or self._preparer.profile.kind(name) is Kind.URL)

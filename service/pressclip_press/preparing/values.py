@@ -25,13 +25,17 @@ _DIGITS = 24
 _SCALE = 10**_MOST_FRACTION
 _HOST = re.compile(r"(?:[a-z][a-z0-9+.-]*://)?(?:[^/@\s]*@)?((?:[^\W_](?:[\w-]*[^\W_])?\.)+[^\W\d_][\w-]*[^\W_])"
                    r"\.?(?::\d+)?(?:[/?#].*)?", re.IGNORECASE | re.DOTALL)
+_WRITTEN_HOST = re.compile(r"[a-z0-9_-]+(?:\.[a-z0-9_-]+)+")
 _MOST_HOST = 253
+_MOST_VALUE = 64
 _NO_WORD = re.compile(r"[\W_]+")
 
 
 def date_word(text: str) -> str | None:
     """A day as eight digits, of a text that names one without doubt; None of any other."""
     text = text.strip()
+    if len(text) > _MOST_VALUE:
+        return None
     if match := _YEAR_FIRST.fullmatch(text):
         return _day(int(match[1]), int(match[3]), int(match[4]))
     if match := _YEAR_LAST.fullmatch(text):
@@ -54,7 +58,7 @@ def _day(year: int, month: int, day: int) -> str | None:
 def number_word(text: str) -> str | None:
     """A number in a form that sorts by its bytes, to six decimals and below 10^18; None of a text that is none."""
     match = _NUMBER.fullmatch(text.strip())
-    if not match:
+    if not match or len(match[0]) > _MOST_VALUE:
         return None
     unit = match[4].lower() if match[4] else None
     whole = re.sub(r"\D", "", match[2])
@@ -69,9 +73,16 @@ def number_word(text: str) -> str | None:
 
 
 def host_of(text: str) -> str | None:
-    """The host of a URL or of its beginning, in small letters; None where it has none."""
+    """The host of a URL or of its beginning, in small letters of ASCII; None where it has none."""
     match = _HOST.fullmatch(text.strip())
-    return match[1].lower() if match and len(match[1]) <= _MOST_HOST else None
+    if not match or len(match[1]) > _MOST_HOST:
+        return None
+    host = match[1].lower()
+    try:
+        written = host.encode("idna").decode()
+    except UnicodeError:
+        return None
+    return written if _WRITTEN_HOST.fullmatch(written) else None
 
 
 def host_word(text: str) -> str | None:
@@ -90,9 +101,8 @@ def host_words(text: str) -> str:
 
 
 def _labels_as_word(labels: list[str]) -> str:
-    """Labels joined; a hyphen is two low lines, and other letters than ASCII's are written as hosts write them."""
-    written = [label if label.isascii() else label.encode("idna").decode() for label in labels]
-    return "_".join(written).replace("-", "__")
+    """Labels joined by low lines; a hyphen is two."""
+    return "_".join(labels).replace("-", "__")
 
 
 def url_words(text: str) -> str:
