@@ -37,6 +37,8 @@ class Translated:
     @cached_property
     def fields(self) -> frozenset[str]:
         """The fields that the engine is asked for."""
+        if ":" not in self.query:
+            return frozenset((TEXT,))
         outside = re.sub(r'"(?:\\.|[^"\\])*"|\\.', "x", self.query)
         named = frozenset(_FIELD_IN_QUERY.findall(outside))
         return named | {TEXT}
