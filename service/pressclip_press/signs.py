@@ -73,4 +73,9 @@ NEAR_ALONE = frozenset(("NEAR", "ONEAR", "ADJ"))
 SAME_WORD = re.compile(r"(?i:(?P<word>W|PRE|NEAR|IN)?)/(?P<unit>s|p|S|P|sent|para|SENT|PARA|sentence|paragraph)")
 SAME_ALONE = frozenset(("SAME",))
 SEGMENT_WORD = re.compile(r"(?i:W|PRE)/(?i:seg)")
+# Brands that are words of everyday language.
+BRANDS_THAT_ARE_WORDS = frozenset("""amazon apple bild boss brother caterpillar chrome coach continental discover dove
+    edge express focus free galaxy gap hunter jaguar kraft lush mango mars meta mini monster nature nest next oracle orange
+    patagonia puma sage seat shell sky slack smart spiegel sprint square stern stripe subway sun target tide total virgin
+    visa welt windows word zeit zoom""".split())
 HEBREW = re.compile(r"[\u05d0-\u05ea]")

@@ -15,6 +15,7 @@ from .preparing.preparer import HOST
 from .profile_query import EVERY
 from .profile import Profile
 from .reading import Reading, read
+from .signs import BRANDS_THAT_ARE_WORDS
 from .spelled import MARKS_OF, terms_of
 from .terms import Row, Slot, is_wild, row_of
 from .tree import (BODY, TEXT, TITLE, WILD_MANY, All, AtLeast, Every, Has, Level, Near, Not, Often, Place, Range,
@@ -160,7 +161,8 @@ class _Planner:
         if tree.exact or tree.quoted or tree.field not in (TEXT, TITLE, BODY):
             return
         if any(map(str.isupper, tree.text)) and not self.choices.exact_capitals:
-            self._hint(tree.place, "capitals", f"Capitals don't count: exact:{tree.text} finds it as it is written.")
+            level = Level.NOTICE if tree.text.lower() in BRANDS_THAT_ARE_WORDS else Level.HINT
+            self._hint(tree.place, "capitals", f"Capitals don't count: exact:{tree.text} finds it as it is written.", level)
         if _SIGN_IN_WORD.fullmatch(tree.text):
             self.remarks.append(Remark(tree.place, Level.NOTICE, "sign_in_word",
                                        "The sign within the word is part of it: blanks around make an operator."))
@@ -170,9 +172,9 @@ class _Planner:
         if len(mended) > 1:
             self._hint(tree.place, "spellings", f"Found too: {', '.join(mended[1:4])}.")
 
-    def _hint(self, place: Place, rule: str, says: str) -> None:
-        if not any(remark.rule == rule for remark in self.remarks):
-            self.remarks.append(Remark(place, Level.HINT, rule, says.replace(WILD_MANY, "*")))
+    def _hint(self, place: Place, rule: str, says: str, level: Level = Level.HINT) -> None:
+        if not any(remark.rule == rule and remark.level is level for remark in self.remarks):
+            self.remarks.append(Remark(place, level, rule, says.replace(WILD_MANY, "*")))
 
     def _slop(self, tree: Slop) -> Placed:
         if tree.term.exact:
