@@ -290,11 +290,27 @@ class Runner:
     def _notes_of_kept(self, alerts: Sequence[Mapping[str, Any]], kept: Sequence[Sequence[bool]],
                        notes: Sequence[str]) -> list[str]:
         """What the listeners said of the alerts that are kept."""
-        heard = [is_kept for alert, one in zip(alerts, kept) for id, is_kept in zip(alert["queries"], one)
-                 if id in self.registry.heard]
+        told = [(alert["article"], id, is_kept) for alert, one in zip(alerts, kept)
+                for id, is_kept in zip(alert["queries"], one)]
+        heard = [is_kept for _, id, is_kept in told if id in self.registry.heard]
+        if len(heard) != len(notes):
+            # Of queries that were registered without the dialect it is not known whether they have a listener.
+            heard = _heard_by_their_words(told, notes)
         if len(heard) != len(notes):
             raise EngineFailed(f"the engine gave {len(notes)} notes, and {len(heard)} alerts have a listener")
         return [note for note, is_kept in zip(notes, heard) if is_kept]
+
+
+def _heard_by_their_words(told: Sequence[tuple[str, str, bool]], notes: Sequence[str]) -> list[bool]:
+    """Of each note whether its alert is kept, by the words in which the program's listeners name query and article."""
+    left = iter(notes)
+    note = next(left, None)
+    found: list[bool] = []
+    for article, id, is_kept in told:
+        if note in (f"mail: {id} in {article}", f"feed {id}/{article}"):
+            found.append(is_kept)
+            note = next(left, None)
+    return found
 
 
 def _alerts_of(reply: bytes) -> Collection[Mapping[str, Any]]:
