@@ -4,7 +4,7 @@ from __future__ import annotations
 
 import json
 import re
-from collections.abc import Collection, Sequence
+from collections.abc import Collection, Mapping, Sequence
 from dataclasses import dataclass
 from typing import Any
 
@@ -74,10 +74,11 @@ class Passed:
 
 
 @dataclass(frozen=True)
-class TooLong:
-    """A line whose translation is longer than the engine takes."""
+class NotAsked:
+    """A line that the engine is not asked: the word of its refusal, and why."""
 
-    what: str
+    word: str
+    why: str
 
 
 def _no_constant(word: str) -> None:
@@ -93,7 +94,7 @@ class Rewriter:
         # Fields of days and numbers whose text was none, each once, until they are told.
         self.unread: dict[str, str] = {}
 
-    def rewritten(self, line: bytes, fields: Collection[str] | None) -> Register | Match | Delete | Passed | TooLong:
+    def rewritten(self, line: bytes, fields: Collection[str] | None) -> Register | Match | Delete | Passed | NotAsked:
         """The line for the engine, its articles with the fields that are asked for, or with all."""
         if len(line) > MOST_LINE_BYTES:
             return Passed(line, "")
@@ -115,12 +116,12 @@ class Rewriter:
             return Delete(line, value["ids"])
         return Passed(line, operation if isinstance(operation, str) else "")
 
-    def _register(self, listings: Sequence[dict[str, str]]) -> Register | TooLong:
+    def _register(self, listings: Sequence[dict[str, str]]) -> Register | NotAsked:
         queries = [self._listed(listing) for listing in listings]
         written = [{**listing, "query": _query_of(listed)} for listing, listed in zip(listings, queries)]
         line = text_of({"op": "register", "queries": written})
         if len(line) > MOST_LINE_BYTES:
-            return TooLong("the queries, translated,")
+            return NotAsked("long", "its queries, translated, are longer than a line may be")
         return Register(line, queries)
 
     def _listed(self, listing: dict[str, str]) -> Listed:
@@ -131,7 +132,15 @@ class Rewriter:
         except Refused as refused:
             return Listed(listing["id"], source, None, refused)
 
-    def _match(self, articles: Sequence[dict[str, Any]], fields: Collection[str] | None) -> Match | TooLong:
+    def _made_too(self, fields: Mapping[str, str]) -> str | None:
+        """The first field of an article that is made of others too."""
+        made = [*self._preparer.made_too(fields), *(name for name in fields if name.endswith(BACKWARDS))]
+        return made[0] if made else None
+
+    def _match(self, articles: Sequence[dict[str, Any]], fields: Collection[str] | None) -> Match | NotAsked:
+        for article in articles:
+            if made := self._made_too(article["fields"]):
+                return NotAsked("shape", f"article {article['id']!r} has a field {made}, which is made of others")
         prepared = [self._preparer.prepared(article["fields"]) for article in articles]
         for article, one in zip(articles, prepared):
             for name in one.unread():
@@ -144,7 +153,7 @@ class Rewriter:
         size = 0
         for item in written:
             if len(item) > room:
-                return TooLong("an article, prepared,")
+                return NotAsked("long", "an article, prepared, is longer than a line may be")
             if size + len(item) + 1 > room:
                 groups.append([])
                 size = 0

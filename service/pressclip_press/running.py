@@ -19,7 +19,7 @@ from pressclip_service.signals import Termination
 from pressclip_service.streams import INPUT, OUTPUT
 
 from .filtering import Pages
-from .lines import Delete, Match, Passed, Register, Rewriter, TooLong
+from .lines import Delete, Match, Passed, Register, Rewriter, NotAsked
 from .preparing import Preparer
 from .registry import Registry
 from .sources import source_in
@@ -37,7 +37,7 @@ class Asked:
     """A line of the input that is owed a reply, what it was made to, and what the engine answered to its parts."""
 
     number: int
-    made: Register | Match | Delete | Passed | TooLong
+    made: Register | Match | Delete | Passed | NotAsked
     size: int
     parts: int = 1
     replies: list[bytes] = field(default_factory=list)
@@ -151,7 +151,7 @@ class Runner:
         if isinstance(made, Match):
             lines = made.lines
         else:
-            lines = [] if isinstance(made, TooLong) else [made.line]
+            lines = [] if isinstance(made, NotAsked) else [made.line]
         if isinstance(made, Register):
             self.registry.expect(made.queries)
         asked.parts = len(lines)
@@ -215,9 +215,9 @@ class Runner:
     def _reply(self, asked: Asked) -> bytes:
         """The reply to a line, by the engine's to its parts."""
         made = asked.made
-        if isinstance(made, TooLong):
-            tell(NAME, f"line {asked.number} is refused: {made.what} are longer than a line may be")
-            return b'{"line":%d,"refused":"long"}' % asked.number
+        if isinstance(made, NotAsked):
+            tell(NAME, f"line {asked.number} is refused: {made.why}")
+            return text_of({"line": asked.number, "refused": made.word})
         reply = asked.replies[0]
         kind = kind_of(reply)
         if isinstance(made, Register):

@@ -104,6 +104,17 @@ def what_gets_too_long() -> None:
     need(told.count("longer than a line may be") == 2, f"told is {told}")
 
 
+def a_field_that_is_made_is_refused() -> None:
+    """An article can't bring a field that is made of others; one that is no value of its kind is left out and told."""
+    replies, told = run_press([register("has:author"), match({"text": "tea", "has": "author"}),
+                               match({"text": "tea", "backwards": "aet"}),
+                               match({"text": "tea", "author": "A", "date": "soon"})])
+    found = [json.loads(reply) for reply in replies]
+    need([one.get("refused") for one in found] == [None, "shape", "shape", None], f"the replies are {replies}")
+    need(found[3]["alerts"][0]["queries"] == ["0"], f"the last is {replies[3]!r}")
+    need("has a field has, which is made of others" in told and "date is no value of its kind" in told, f"told is {told}")
+
+
 def mixed(dice: Random, count: int) -> list[bytes]:
     """Lines with queries that need their filters, changes among matches."""
     words = ["tea", "milk", "green", "sugar"]
@@ -221,5 +232,6 @@ def many_queries() -> None:
 
 
 TESTS: tuple[Callable[[], None], ...] = (
-    it_alerts_by_the_dialect, a_refusal_has_its_reason, answers_as_the_engine, what_gets_too_long, it_ends_as_it_is_asked,
+    it_alerts_by_the_dialect, a_refusal_has_its_reason, answers_as_the_engine, what_gets_too_long,
+    a_field_that_is_made_is_refused, it_ends_as_it_is_asked,
     over_keep_and_below_it, many_queries)
