@@ -51,7 +51,8 @@ MARKS: tuple[tuple[str, str | None], ...] = (
 TEXTS_WITH_MARKS: tuple[tuple[str, str], ...] = (
     ("The #metoo debate, AT&T's and C++.", "hash_metoo at_amp_t c_plus_plus"),
     ("mail me@host", ""), ("Up 10 % (€5).", "10_pct euro_5"), ("A&B&C", "a_amp_b_amp_c a_amp_b b_amp_c"),
-    ("The end.The", ""), ("I ❤ NY & LA", "emoji_2764"), ("", ""))
+    ("The end.The", ""), ("I ❤ NY & LA", "emoji_2764"), ("", ""), ("米AT&Tは", "at_amp_t"), ("独E.ONは", "e_dot_on"),
+    ("日本の#metoo運動", "hash_metoou904bu52d5 hash_metoo"), ("@AT&T", "at_at at_amp_t"))
 DAYS: tuple[tuple[str, str | None], ...] = (
     ("2026-05-04", "20260504"), ("2026-05-04T10:00Z", "20260504"), ("20260504", "20260504"), ("04.05.2026", "20260504"),
     ("4 May 2026", "20260504"), ("May 4, 2026", "20260504"), ("4. März 2026", "20260304"), ("1er mai 2026", "20260501"),

@@ -20,20 +20,29 @@ _MOST_STOPPED = 12
 _MOST_CHARACTERS = 100
 
 
-def _tokens(word: str, letter: str) -> str:
-    """The pattern of a token, by what a character of a word is and what a letter is."""
+def _tokens(word: str, letter: str, tagged: str) -> str:
+    """The pattern of a token, by what a character of a word is, what a letter is, and what a tag has."""
     one, many = f"[{word}]", f"[{word}]+"
     return (rf"(?P<money>[{_MONEY}] ?{_NUMBER}(?!{one})|(?<![{word}.,]){_NUMBER} ?[{_MONEY}](?!{one}))"
             rf"|(?P<share>(?<![{word}.,]){_NUMBER} ?%)"
-            rf"|(?P<tag>(?<![{word}&])[#@$]{many})"
+            rf"|(?P<tag>(?<![{word}&])[#@$][{tagged}]+)"
             rf"|(?P<joined>(?<!{one}){many}(?:[&+]{many})+)"
             rf"|(?P<ended>(?<!{one}){many}(?:\+{{1,3}}(?![{word}+])|[#!](?!{one})))"
-            rf"|(?P<pointed>(?<![{word}.])\.{letter}{many})"
-            rf"|(?P<stopped>(?<![{word}.]){letter}{many[:-1]}*(?:\.{letter}{many[:-1]}*)+)")
+            rf"|(?P<pointed>(?<![{word}.])\.{letter}{many})")
 
 
-_OF_ASCII = re.compile(_tokens("A-Za-z0-9_", "[A-Za-z]"))
-_OF_ALL = regex.compile(_tokens(r"\w\p{M}", r"\p{L}"), regex.V1)
+def _stopped(word: str, letter: str) -> str:
+    """The pattern of letters with stops between."""
+    return rf"(?P<stopped>(?<![{word}.]){letter}[{word}]*(?:\.{letter}[{word}]*)+)"
+
+
+# Scripts whose words have no blanks between: a name of another script may stand right beside them.
+_UNPARTED = r"[\p{Han}\p{Hiragana}\p{Katakana}\p{Hangul}\p{Thai}\p{Lao}\p{Khmer}\p{Myanmar}ー々〆]"
+_WORD, _LETTER = rf"[\w\p{{M}}]--{_UNPARTED}", rf"[\p{{L}}--{_UNPARTED}]"
+_OF_ASCII = (re.compile(_tokens("A-Za-z0-9_", "[A-Za-z]", "A-Za-z0-9_")), re.compile(_stopped("A-Za-z0-9_", "[A-Za-z]")))
+_OF_ALL = (regex.compile(_tokens(_WORD, _LETTER, r"\w\p{M}"), regex.V1),
+           regex.compile(_stopped(_WORD, _LETTER), regex.V1))
+_FRONT = regex.compile(f"[{_WORD}]+", regex.V1)
 _SIGN = re.compile(rf"[#@&+!%.{_MONEY}]")
 _OF_TOKEN = re.compile(rf"[\w&+#@%!.,{_MONEY}\u0300-\u036f\u0900-\u0dff]")
 _MAY_BE_EMOJI = re.compile("[\u203c-\u2bff\u3030\u303d\u3297\u3299\U0001f000-\U0001faff]")
@@ -86,10 +95,12 @@ def _found(text: str) -> Iterator[Mark]:
         if sign.start() < done or not _may_mark(text, sign.start()):
             continue
         start, done = _reach(text, sign.start(), done)
-        tokens = _OF_ASCII if text[start:done].isascii() else _OF_ALL
-        for match in tokens.finditer(text, start, done):
-            words = _words(match.lastgroup, match[0])
-            if words:
+        tokens, stopped = _OF_ASCII if text[start:done].isascii() else _OF_ALL
+        matches = [*tokens.finditer(text, start, done), *stopped.finditer(text, start, done)]
+        # What a tag names may be such a token too, as in `@AT&T`.
+        inner = [tokens.match(text, match.start() + 1, done) for match in matches if match.lastgroup == "tag"]
+        for match in (*matches, *filter(None, inner)):
+            if words := _words(match.lastgroup, match[0]):
                 yield Mark(match.start(), match.end(), words)
 
 
@@ -123,8 +134,11 @@ def _words(kind: str, token: str) -> tuple[str, ...]:
     parts = _PART.findall(token.replace(" ", ""))
     if kind == "stopped" and (len(token) > _MOST_STOPPED or all(len(label) > 1 for label in token.split("."))):
         return ()
-    if kind == "tag" and parts[0] == "$":
-        return ("cash_" + _coded(parts[1:]),)
+    if kind == "tag":
+        sign = "cash" if parts[0] == "$" else _NAMES[parts[0]]
+        front = _FRONT.match(token, 1)
+        named = [token[1:], front[0]] if front and front[0] != token[1:] else [token[1:]]
+        return tuple(f"{sign}_{_plain(name)}" for name in named)
     if kind == "money" and parts[-1] in _CURRENCIES:
         return (_coded([parts[-1], *parts[:-1]]),)
     whole = _coded(parts)
