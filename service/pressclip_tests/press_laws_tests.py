@@ -1,5 +1,6 @@
-"""The law of the press dialect by random cases: a query that is translated, run by the engine and filtered holds of
-just the articles of which the judge says that the tree holds from which it was written."""
+"""The laws of the press dialect by random cases. A query that is translated, run by the engine and filtered holds of
+just the articles of which the judge says that the tree holds from which it was written. And it finds each word that the
+plain query finds in the article as it was given."""
 
 from __future__ import annotations
 
@@ -9,23 +10,27 @@ from collections import Counter
 from collections.abc import Callable, Iterator, Mapping, Sequence
 from concurrent.futures import ProcessPoolExecutor
 from dataclasses import dataclass, fields, is_dataclass
+from random import Random
 
 from pressclip_press.lines import fields_of
 from pressclip_press.preparing import Preparer
 from pressclip_press.profile import Profile
 from pressclip_press.translating import Translated, translate
 from pressclip_press.tree import (All, AtLeast, Has, Near, Not, Often, Place, Range, Same, Slop, Some, Term, Tree)
+from pressclip_press.words import spans_of
 
 from .explain_tests import told_of
 from .judge import need, replies_of_engine
 from .press_inputs import Maker
 from .press_judge import Judge, Span
+from .press_preparing_tests import APOSTROPHES, random_text, words_of
 
 CASES = 100_000
 CHUNKS = 20
 QUERIES, ARTICLES = 50, 10
 BATCHES = CASES // CHUNKS // QUERIES // ARTICLES
 LEVELS = 2
+TEXTS_OF_WORDS = 150
 LEAST_OF_KIND = 200
 LEAST_DECIDED = 1_000
 KINDS = (All, AtLeast, Has, Near, Not, Often, Range, Same, Slop, Some, Term)
@@ -141,6 +146,53 @@ def tried(chunk: int) -> tuple[list[str], Mapping[tuple[str, bool], int], int]:
     return differ, counts, ruled_out
 
 
+def lost(chunk: int) -> tuple[list[str], int]:
+    """The words of random texts that a query in quotes does not find, and how many were looked for."""
+    preparer = Preparer(Profile.load(None))
+    dice = Random(f"press words {chunk}")
+    texts = cut_alike([random_text(dice) for _ in range(TEXTS_OF_WORDS)], preparer)
+    batches: list[Batch] = []
+    words: list[list[str]] = []
+    for text, found in zip(texts, words_of(texts)):
+        asked = {one for pair in found for one in pair if one[0].isalnum() and one[0] not in APOSTROPHES}
+        words.append(sorted(one for one in asked if not set(one) & set('"\\') and has_word(preparer, one)))
+        translated = [translate(f'"{word}"', preparer) for word in words[-1]]
+        batches.append(Batch([], [], translated, [{"text": text}]))
+    missed: list[str] = []
+    for batch, asked_of, (alerted,) in zip(batches, words, alerts_of(batches, preparer)):
+        article = preparer.prepared(batch.articles[0])
+        for number, word in enumerate(asked_of):
+            asks = batch.translated[number].filter
+            if number not in alerted or asks is not None and not asks.holds(article):
+                missed.append(f"{word!r} of {batch.articles[0]}, by {batch.translated[number].query}")
+    return missed, sum(map(len, words))
+
+
+def cut_alike(texts: Sequence[str], preparer: Preparer) -> list[str]:
+    """The texts that the filter cuts into words as the engine does. Where the library isn't built it has an expression,
+    which cuts some texts with accents behind stops in another way."""
+    mended = [preparer.mend(text) for text in texts]
+    cut = cutter(mended)
+    alike = [text for text, one in zip(texts, mended) if [(start, end) for start, end in spans_of(one)] == cut(one)]
+    need(len(alike) > 0.8 * len(texts), f"{len(alike)} of {len(texts)} texts are cut alike")
+    return alike
+
+
+def has_word(preparer: Preparer, text: str) -> bool:
+    """Whether something is left of a text when it is prepared."""
+    return any(map(str.isalnum, preparer.plain(text)))
+
+
+def no_word_is_lost_by_translating() -> None:
+    """Each word of random texts in many scripts is found in its article, as it is written and in small letters."""
+    tried_in_all = 0
+    with ProcessPoolExecutor(os.cpu_count()) as pool:
+        for missed, count in pool.map(lost, range(CHUNKS)):
+            need(not missed, f"{len(missed)} words are lost, as {missed[:1]}")
+            tried_in_all += count
+    need(tried_in_all > CHUNKS * TEXTS_OF_WORDS, f"{tried_in_all} words were looked for")
+
+
 def a_translated_query_means_what_the_judge_says() -> None:
     """In 100,000 random cases, of which enough hold and enough do not, with each kind of part."""
     counts: Counter[tuple[str, bool]] = Counter()
@@ -157,4 +209,4 @@ def a_translated_query_means_what_the_judge_says() -> None:
     need(decided >= LEAST_DECIDED, f"the filter decided {decided} cases")
 
 
-TESTS: tuple[Callable[[], None], ...] = (a_translated_query_means_what_the_judge_says,)
+TESTS: tuple[Callable[[], None], ...] = (a_translated_query_means_what_the_judge_says, no_word_is_lost_by_translating)
