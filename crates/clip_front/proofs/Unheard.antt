@@ -1,5 +1,5 @@
 -- Alerts whose queries have no listener.
-use Rattle.std.proofs.Common.{◌≡◌, ℕ, suc, List, [], ◌∷◌, All, None, refl, sym, ap, ◌∙◌, arith}
+use Rattle.std.proofs.Common.{◌≡◌, suc, List, [], ◌∷◌, All, None, refl, sym, ap, ◌∙◌, arith}
 use Rattle.std.specs.List.{cons_option}
 use Rattle.clip_model.specs.Alerts.{Alert}
 use Rattle.clip_listen.specs.Heard.{Hearer, told_all, notes_of}

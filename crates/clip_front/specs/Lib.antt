@@ -1,3 +1,4 @@
 pub mod Devices
+pub mod Giving
 pub mod Outcome
 pub mod Steps

@@ -4,11 +4,13 @@ ghost use Rattle.std.specs.Arc.{arc_str_bytes};
 ghost use Rattle.std.specs.List.{All};
 ghost use Rattle.clip_standing.specs.Alerts.{alerts_value};
 ghost use Rattle.clip_listen.specs.Heard.{told_all, note_value, notes_of, alerts_of, HearsFront};
+ghost use Rattle.clip_front.specs.Giving.{GivesArticle, giving};
 ghost use Rattle.clip_front.specs.Outcome.{kept_rows, rows_of_article};
 ghost use Rattle.clip_stream.specs.Device.{AppendsFront, HandsOver};
 ghost use Rattle.clip_protocol.specs.Found.{found_value};
 ghost use Rattle.clip_protocol.specs.Reply.{alerts_data, article_data};
 ghost use Rattle.clip_protocol.specs.Steps.Flowing.{closing, item_text, opening};
+ghost use Rattle.clip_protocol.specs.Steps.Putting.{stand};
 ghost use Rattle.clip_protocol.specs.Steps.Views.{alerts_by_id};
 ghost use Rattle.clip_front.specs.Steps.Found.{IsFor, told_in, rows_in, found_text};
 
@@ -237,28 +239,14 @@ impl MatchReply {
     ) -> Result<(), RunFault>
         requires { IsFor books.old.settings found.now }
         ensures same_reference { flow.new.writer.ghost_name ≡ flow.old.writer.ghost_name }
-        ensures number { self.new.number ≡ self.old.number }
-        ensures notes { OnOk result (map note_value self.new.notes.items
-            ≡ map note_value self.old.notes.items
-            ++ notes_of (A.hearers audience.old) (found_value found.now).alerts) }
-        ensures later { OnOk result (self.new.has_article ≡ true) }
-        ensures heard { OnOk result (A.hearers audience.new
-            ≡ told_all (found_value found.now).alerts (A.hearers audience.old)) }
-        ensures rows { OnOk result (books.new.ledger ≡ books.old.ledger ++ kept_rows books.old.settings.keeps_rows
-            (rows_of_article (A.hearers audience.old) self.old.number (found_value found.now).alerts)) }
-        ensures settings { books.new.settings ≡ books.old.settings }
-        ensures moved { OnOk result (HandsOver (W.taken flow.old.writer.now)
-            (flow.old.outbox.now ++ item_text self.old.has_article
-            (alerts_data books.old.settings.form (alerts_by_id (found_value found.now))))
-            (W.taken flow.new.writer.now) flow.new.outbox.now) }
+        ensures gives { GivesArticle
+            (giving (A.hearers audience.old) books.old.ledger books.old.settings self.old
+            (stand W.taken W.has_failed flow.old.writer.now flow.old.outbox.now))
+            (giving (A.hearers audience.new) books.new.ledger books.new.settings self.new
+            (stand W.taken W.has_failed flow.new.writer.now flow.new.outbox.now)) (found_value found.now) result }
         ensures well { OnOk result (W.has_failed flow.new.writer.now ≡ W.has_failed flow.old.writer.now) }
         ensures fault { IfErr result (λ e. e ≢ RunFault.Read) }
         ensures write { result ≡ Err RunFault.Write → W.has_failed flow.new.writer.now ≡ true }
-        ensures err { OnErr result (HearsFront (found_value found.now).alerts
-            (A.hearers audience.old) (A.hearers audience.new)) }
-        ensures front { OnErr result (AppendsFront (W.taken flow.old.writer.now) (W.taken flow.new.writer.now)
-            (flow.old.outbox.now ++ item_text self.old.has_article
-            (alerts_data books.old.settings.form (alerts_by_id (found_value found.now))))) }
     {
         let settings = books.settings;
         let mut said = deliver_one(alloc, audience, books, self.number, found)?;

@@ -8,6 +8,9 @@ use Rattle.clip_standing.specs.Alerts.{AlertsValue}
 use Rattle.clip_match.specs.Alerts.{alerts_due}
 use Rattle.clip_protocol.specs.Found.{found_value}
 use Rattle.clip_protocol.specs.declared.found.Found.{Found}
+use Rattle.clip_stream.specs.declared.fault.RunFault.{RunFault}
+use Rattle.clip_registry.specs.RegistryState.{RegistryState}
+use Rattle.clip_front.specs.Giving.{GivesArticle, GivesDue, Giving}
 use Rattle.clip_front.specs.Steps.Found.{IsFor}
 use Rattle.clip_front.specs.declared.settings.Settings.{Settings}
 use Rattle.clip_run.specs.declared.batch.Batch.{Batch}
@@ -40,6 +43,25 @@ pub got : {X : Type 0} (xs : List X) (k : ℕ) (x : X) → k < length xs → x �
 got [] k x l e = absurd (omega (arith, l))
 got (y ∷ xs) zero x l e = ap Some (sym e)
 got (y ∷ xs) (suc k) x l e = got xs k x (omega (arith, l)) e
+
+-- what was given of an article is what is due to it
+pub gives_due : {T : Type 0} (view : RegistryState) (articles : List ArticleValue) (i : ℕ) (article : ArticleValue)
+    (v : AlertsValue) (old new : Giving) (result : Result T RunFault) → i < length articles
+    → article ≡ get_or articles i article → v ≡ alerts_due view article → GivesArticle old new v result
+    → GivesDue (map (alerts_due view) articles) i old new result
+gives_due view articles i article v old new result within is same given = record {
+  value = v;
+  here = get_mapped (alerts_due view) articles i article within ∙ ap (λ a. Some (alerts_due view a)) (sym is)
+      ∙ ap Some (sym same);
+  given = given;
+}
+
+-- what was given of an article by what was found of it
+pub gives_found : {T : Type 0} (settings : Settings) (due : List AlertsValue) (article : ℕ) (found : Found)
+    (old new : Giving) (result : Result T RunFault) → IsDue settings due article found
+    → GivesArticle old new (found_value found) result → GivesDue due article old new result
+gives_found settings due article found old new result is given =
+    record { value = found_value found; here = is.alerts; given = given }
 
 -- what is found of an article of a batch
 pub due_in : (settings : Settings) (batch : Batch) (article : ℕ) (draft : ArticleValue) (found : Found)

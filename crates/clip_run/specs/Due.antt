@@ -1,5 +1,5 @@
 -- What is due to articles that wait.
-use Rattle.std.specs.Prelude.{◌≡◌, ℕ, List, [], map, Option, Some, None, IfSome, Result, IfOk}
+use Rattle.std.specs.Prelude.{◌≡◌, ◌<◌, ℕ, List, [], map, vec_len, Option, Some, None, IfSome}
 use Rattle.std.specs.List.{All, slice_get}
 use Rattle.clip_standing.specs.Alerts.{AlertsValue}
 use Rattle.clip_match.specs.Alerts.{alerts_due}
@@ -7,10 +7,10 @@ use Rattle.clip_protocol.specs.Found.{found_value}
 use Rattle.clip_protocol.specs.declared.found.Found.{Found}
 use Rattle.clip_front.specs.Steps.Found.{IsFor}
 use Rattle.clip_front.specs.declared.settings.Settings.{Settings}
-use Rattle.clip_words.specs.declared.NoMemory.{NoMemory}
 use Rattle.clip_run.specs.declared.batch.Batch.{Batch}
 use Rattle.clip_run.specs.declared.batch.Pending.{Pending}
 use Rattle.clip_run.specs.declared.batch.Pending.TheVariants as pending
+use Rattle.clip_run.specs.declared.crew.Turn.{Turn}
 use Rattle.clip_run.specs.declared.group.Answer.{Answer}
 use Rattle.clip_run.specs.declared.helpers.Asked.{Asked}
 use Rattle.clip_run.specs.declared.helpers.Helper.{Helper}
@@ -56,11 +56,10 @@ AddsDue helper old new =
     (settings : Settings) (items : List Pending) → IsAskedFor settings items helper → AreDue settings items old
     → AreDue settings items new
 
--- At whatever lines the batch waits at this place, and whose answers these are, what was found of the article is due.
-abbrev pub FindsOne : Settings → ℕ → Batch → ℕ → List Answer → List Answer → Result Found NoMemory → Type 0
-FindsOne settings line batch article old new result =
-    (items : List Pending) → slice_get items line ≡ Some (pending.Waiting batch) → AreDue settings items old
-    → AreDue settings items new × IfOk result (IsDue settings (due_to batch) article)
+-- The article is one of the batch, and what was found of it is due.
+pub record IsTurn (settings : Settings) (turn : Turn) : Type 0 where
+  pub within : turn.article < vec_len turn.batch.now.drafts
+  pub due : IfSome turn.found (IsDue settings (due_to turn.batch.now) turn.article)
 
 -- At some lines, at which the batch waits at this place, the answers are due.
 pub record WaitsAt (settings : Settings) (line : ℕ) (batch : Batch) (answers : List Answer) : Type 0 where

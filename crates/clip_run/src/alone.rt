@@ -1,15 +1,15 @@
 //! A run on one thread: a registrar of its own, its books, and merge turns between the lines.
-ghost use Rattle.std.specs.Prelude.{◌≡◌, ◌≢◌, ◌++◌, map, true, Err, IfErr, IfOk, OnErr, OnOk};
-ghost use Rattle.clip_listen.specs.Heard.{HearsFront, note_value, notes_of, told_all};
+ghost use Rattle.std.specs.Prelude.{◌≡◌, ◌≢◌, ◌++◌, true, Err, IfErr, IfOk, OnErr, OnOk};
+ghost use Rattle.clip_listen.specs.Heard.{HearsFront};
 ghost use Rattle.clip_stream.specs.Device.{AppendsFront, HandsOver};
 ghost use Rattle.clip_stream.specs.Lines.{OfInput, OfLinesRead};
 ghost use Rattle.clip_front.specs.Devices.{AreFresh, IsHonest, devices_at};
 ghost use Rattle.clip_protocol.specs.LineMeaning.{matching};
-ghost use Rattle.clip_protocol.specs.Reply.{alerts_data, alerts_of_all, reply};
-ghost use Rattle.clip_protocol.specs.Steps.Flowing.{item_text};
-ghost use Rattle.clip_protocol.specs.Steps.Views.{alerts_by_id};
+ghost use Rattle.clip_protocol.specs.Reply.{alerts_of_all, reply};
+ghost use Rattle.clip_protocol.specs.Steps.Putting.{stand};
 ghost use Rattle.clip_match.specs.Due.{due_value, AreTheirHits};
-ghost use Rattle.clip_front.specs.Outcome.{GivesAll, GivesFront, kept_rows, rows_of_article};
+ghost use Rattle.clip_front.specs.Giving.{GivesArticle, giving};
+ghost use Rattle.clip_front.specs.Outcome.{GivesAll, GivesFront};
 ghost use Rattle.clip_front.specs.Steps.Answers.{GoesOn, held};
 
 use crate::finding::{hits_found, wants_alerts};
@@ -35,7 +35,7 @@ struct RunServer {
 
 /// Delivers what is due to an article, posts it, and puts what the reply shows of it. No alert is made where the reply
 /// shows the queries' ids alone, none of them has a listener and no rows are kept.
-fn answer_article<A: Audience, W: Sink>(
+pub fn answer_article<A: Audience, W: Sink>(
     alloc: Global,
     audience: &mut A,
     books: &mut Books,
@@ -45,27 +45,14 @@ fn answer_article<A: Audience, W: Sink>(
 ) -> Result<(), RunFault>
     requires { AreTheirHits due }
     ensures same_reference { flow.new.writer.ghost_name ≡ flow.old.writer.ghost_name }
-    ensures number { answer.new.number ≡ answer.old.number }
-    ensures notes { OnOk result (map note_value answer.new.notes.items
-        ≡ map note_value answer.old.notes.items ++ notes_of (A.hearers audience.old) (due_value due.entry).alerts) }
-    ensures later { OnOk result (answer.new.has_article ≡ true) }
-    ensures heard { OnOk result (A.hearers audience.new
-        ≡ told_all (due_value due.entry).alerts (A.hearers audience.old)) }
-    ensures rows { OnOk result (books.new.ledger ≡ books.old.ledger ++ kept_rows books.old.settings.keeps_rows
-        (rows_of_article (A.hearers audience.old) answer.old.number (due_value due.entry).alerts)) }
-    ensures settings { books.new.settings ≡ books.old.settings }
-    ensures moved { OnOk result (HandsOver (W.taken flow.old.writer.now)
-        (flow.old.outbox.now ++ item_text answer.old.has_article
-        (alerts_data books.old.settings.form (alerts_by_id (due_value due.entry))))
-        (W.taken flow.new.writer.now) flow.new.outbox.now) }
+    ensures gives { GivesArticle
+        (giving (A.hearers audience.old) books.old.ledger books.old.settings answer.old
+        (stand W.taken W.has_failed flow.old.writer.now flow.old.outbox.now))
+        (giving (A.hearers audience.new) books.new.ledger books.new.settings answer.new
+        (stand W.taken W.has_failed flow.new.writer.now flow.new.outbox.now)) (due_value due.entry) result }
     ensures well { OnOk result (W.has_failed flow.new.writer.now ≡ W.has_failed flow.old.writer.now) }
     ensures fault { IfErr result (λ e. e ≢ RunFault.Read) }
     ensures write { result ≡ Err RunFault.Write → W.has_failed flow.new.writer.now ≡ true }
-    ensures err { OnErr result (HearsFront (due_value due.entry).alerts
-        (A.hearers audience.old) (A.hearers audience.new)) }
-    ensures front { OnErr result (AppendsFront (W.taken flow.old.writer.now) (W.taken flow.new.writer.now)
-        (flow.old.outbox.now ++ item_text answer.old.has_article
-        (alerts_data books.old.settings.form (alerts_by_id (due_value due.entry))))) }
 {
     if wants_alerts(books.settings, &due) {
         let found = Found::Alerts(due.alerts(alloc)?);

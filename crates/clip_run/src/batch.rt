@@ -1,5 +1,6 @@
 //! Lines that wait for their turn, and what is found of an article of one of them.
 ghost use Rattle.std.specs.Prelude.{◌≡◌, ◌<◌, vec_len, IfOk};
+ghost use Rattle.clip_match.specs.Alerts.{alerts_due};
 ghost use Rattle.clip_match.specs.Due.{due_value, AreTheirHits};
 ghost use Rattle.clip_protocol.specs.Found.{found_value};
 ghost use Rattle.clip_front.specs.Steps.Found.{IsFor};
@@ -8,6 +9,7 @@ ghost use Rattle.clip_run.specs.Due.{IsDue, due_to};
 use crate::finding::hits_found;
 use clip_front::Settings;
 use clip_match::{DueEntries, Gate, entries_due};
+use clip_meaning::Article;
 use clip_protocol::{Found, JudgedDraft};
 use clip_registry::View;
 use clip_words::{NoMemory, WordPool};
@@ -56,11 +58,34 @@ fn piece_of(article: usize) -> u32 {
 }
 
 impl Batch {
-    /// What is found of one of its articles. It is read, with words that are shared with those of the pool, and then
-    /// matched between the gate's `enter` and its `leave`, as a piece of the batch, all on the thread that calls, which
-    /// also makes the alerts, writes what a reply shows of those that nobody hears, and lets go of them.
+    /// What is due to one of its articles, which was read. It is matched between the gate's `enter` and its `leave`, as
+    /// the piece of the batch that its place says, and its hits are found when a run with these settings wants them.
     ///
-    /// `NoMemory` where an allocation failed. Cost: that of `JudgedDraft::read`, of `entries_due`, of
+    /// `NoMemory` where an allocation failed. Cost: that of `entries_due`.
+    pub fn due<'a, G: Gate>(
+        &'a self,
+        alloc: Global,
+        read: &'a Article,
+        place: usize,
+        settings: Settings,
+        gate: &G,
+    ) -> Result<DueEntries<'a>, NoMemory>
+        ensures due { IfOk result (λ due. due_value due ≡ alerts_due self.now.view read.now) }
+        ensures hits { IfOk result (λ due. AreTheirHits due) }
+    {
+        let piece = piece_of(place);
+        let hits = hits_found(settings);
+        gate.enter(self.batch, piece);
+        let due = entries_due(alloc, &self.view, read, hits);
+        gate.leave(self.batch, piece);
+        due
+    }
+
+    /// What is found of one of its articles. It is read, with words that are shared with those of the pool, and then
+    /// matched, all on the thread that calls, which also makes the alerts, writes what a reply shows of those that
+    /// nobody hears, and lets go of them.
+    ///
+    /// `NoMemory` where an allocation failed. Cost: that of `JudgedDraft::read`, of `Batch::due`, of
     /// `DueEntries::alerts` and of `Found::shown`.
     pub fn find<G: Gate>(
         &self,
@@ -74,12 +99,8 @@ impl Batch {
         ensures { IfOk result (λ found. IsDue settings (due_to self.now) article found) }
     {
         let draft = &self.drafts[article];
-        let piece = piece_of(article);
         let read = draft.read(alloc, pool)?;
-        let hits = hits_found(settings);
-        gate.enter(self.batch, piece);
-        let due = entries_due(alloc, &self.view, &read, hits);
-        gate.leave(self.batch, piece);
-        found_of(alloc, settings, due?)
+        let due = self.due(alloc, &read, article, settings, gate)?;
+        found_of(alloc, settings, due)
     }
 }

@@ -2,20 +2,18 @@
 ghost use Rattle.std.specs.Prelude.{◌≡◌, ◌≢◌, ◌<◌, [], ◌∷◌, ◌++◌, map, vec_len, false, true, Err, IfErr};
 ghost use Rattle.std.specs.Prelude.{OnErr, OnOk};
 ghost use Rattle.clip_stream.specs.Device.{AppendsFront, HandsOver};
-ghost use Rattle.clip_front.specs.Outcome.{kept_rows, rows_of_article};
-ghost use Rattle.clip_front.specs.Steps.Found.{IsFor};
+ghost use Rattle.clip_front.specs.Giving.{GivesDue, giving};
+ghost use Rattle.clip_front.specs.Outcome.{kept_rows};
 ghost use Rattle.clip_front.specs.Steps.Serving.{AnswersInto, BreaksInto};
-ghost use Rattle.clip_listen.specs.Heard.{told_all, note_value, notes_of, HearsFront};
-ghost use Rattle.clip_protocol.specs.Found.{found_value};
-ghost use Rattle.clip_protocol.specs.Reply.{alerts_data};
-ghost use Rattle.clip_protocol.specs.Steps.Flowing.{item_text};
-ghost use Rattle.clip_protocol.specs.Steps.Views.{alerts_by_id};
+ghost use Rattle.clip_listen.specs.Heard.{told_all, HearsFront};
+ghost use Rattle.clip_protocol.specs.Steps.Putting.{stand};
 ghost use Rattle.clip_run.specs.Crews.{CrewIs, course, course_at};
-ghost use Rattle.clip_run.specs.Due.{AreDue, FindsOne, KeepsDue, WaitsAt};
+ghost use Rattle.clip_run.specs.Due.{AreDue, IsTurn, KeepsDue, WaitsAt, due_to};
 ghost use Rattle.clip_run.specs.Owed.{owed_of, matched, with_owed, BreaksIn, BreaksOff, PaysInto, StopsPaying, Turns};
 ghost use Rattle.clip_run.specs.Owed.{TurnsIn};
 ghost use Rattle.clip_run.specs.Pending.{owed_at, owed_by, owed_to};
 
+use crate::alone::answer_article;
 use crate::batch::{Batch, Pending};
 use crate::caller::Caller;
 use crate::group::{Answer, Group, take_answer};
@@ -36,6 +34,17 @@ use std::thread::Threads;
 
 /// The most batches that wait.
 const MOST_WAITING: u32 = 32;
+
+/// An article of a batch whose turn has come, with what a helper found of it, if one has taken it.
+#[derive(Drop)]
+pub struct Turn<'a> {
+    /// The batch.
+    pub batch: &'a Batch,
+    /// Its place among the articles of the batch.
+    pub article: usize,
+    /// What was found of it.
+    pub found: Option<Found>,
+}
 
 /// What answers the lines of a run: the only caller at a desk, its books, words of the articles that were matched on
 /// its thread, what it owes, and the threads that help it.
@@ -101,72 +110,65 @@ impl<'r, 'd, 'g, R: Threads + Wait + Sync, N: DeskName, G: Gate + Clone + Send +
         }
     }
 
-    /// What is found of an article of a batch that waits at this place of the lines: what the answers have of it, where
-    /// it is their last, and else what is found here.
-    fn find_one(
-        &mut self,
-        alloc: Global,
-        line: usize,
-        batch: &Batch,
-        article: usize,
-        answers: &mut Vec<Answer>,
-    ) -> Result<Found, NoMemory>
-        requires { article < vec_len batch.now.drafts }
-        ensures finds { FindsOne self.old.settings line batch.now article answers.old.items answers.new.items result }
-        ensures same { self.new ≡ self.old }
-    {
-        match take_answer(answers, line, article) {
-            Some(found) => Ok(found),
-            None => batch.find(
-                alloc,
-                &mut self.pool,
-                article,
-                self.books.settings,
-                self.gate,
-            ),
-        }
-    }
-
-    /// Delivers what was found of an article, and puts what the reply to its line shows of it.
-    fn add<A: Audience, W: Sink>(
+    /// Matches an article of a batch on this thread, delivers what is due to it, posts it, and puts what the reply to
+    /// its line shows of it. What nobody hears is shown with no alert made, where it needs none.
+    fn match_here<A: Audience, W: Sink>(
         &mut self,
         alloc: Global,
         audience: &mut A,
+        batch: &Batch,
+        article: usize,
         reply: &mut MatchReply,
         flow: &mut Flow<'_, W>,
-        found: &Found,
     ) -> Result<(), RunFault>
-        requires fit { IsFor self.old.settings found.now }
+        requires { article < vec_len batch.now.drafts }
         ensures same_reference { flow.new.writer.ghost_name ≡ flow.old.writer.ghost_name }
-        ensures number { reply.new.number ≡ reply.old.number }
-        ensures notes { OnOk result (map note_value reply.new.notes.items
-            ≡ map note_value reply.old.notes.items
-            ++ notes_of (A.hearers audience.old) (found_value found.now).alerts) }
-        ensures later { OnOk result (reply.new.has_article ≡ true) }
-        ensures heard { OnOk result (A.hearers audience.new
-            ≡ told_all (found_value found.now).alerts (A.hearers audience.old)) }
-        ensures crew { OnOk result (self.new ≡ record self.old {
-          rows = self.old.rows ++ kept_rows self.old.settings.keeps_rows
-              (rows_of_article (A.hearers audience.old) reply.old.number (found_value found.now).alerts);
-        }) }
-        ensures moved { OnOk result (HandsOver (W.taken flow.old.writer.now)
-            (flow.old.outbox.now ++ item_text reply.old.has_article
-            (alerts_data self.old.settings.form (alerts_by_id (found_value found.now))))
-            (W.taken flow.new.writer.now) flow.new.outbox.now) }
+        ensures crew { self.new ≡ record self.old { rows = self.new.rows } }
+        ensures gives { GivesDue (due_to batch.now) article
+            (giving (A.hearers audience.old) self.old.rows self.old.settings reply.old
+            (stand W.taken W.has_failed flow.old.writer.now flow.old.outbox.now))
+            (giving (A.hearers audience.new) self.new.rows self.new.settings reply.new
+            (stand W.taken W.has_failed flow.new.writer.now flow.new.outbox.now)) result }
         ensures well { OnOk result (W.has_failed flow.new.writer.now ≡ W.has_failed flow.old.writer.now) }
         ensures fault { IfErr result (λ e. e ≢ RunFault.Read) }
         ensures write { result ≡ Err RunFault.Write → W.has_failed flow.new.writer.now ≡ true }
-        ensures err { OnErr result (HearsFront (found_value found.now).alerts
-            (A.hearers audience.old) (A.hearers audience.new)) }
-        ensures front { OnErr result (AppendsFront (W.taken flow.old.writer.now) (W.taken flow.new.writer.now)
-            (flow.old.outbox.now ++ item_text reply.old.has_article
-            (alerts_data self.old.settings.form (alerts_by_id (found_value found.now))))) }
     {
-        reply.add(alloc, audience, &mut self.books, flow, found)
+        let draft = &batch.drafts[article];
+        let read = draft.read(alloc, &mut self.pool)?;
+        let due = batch.due(alloc, &read, article, self.books.settings, self.gate)?;
+        answer_article(alloc, audience, &mut self.books, flow, reply, due)
     }
 
-    /// Gives what is owed to a line of which a batch waits at this place of the lines, article by article: what was
-    /// found of one is delivered, and what the reply shows of it is put, before the next is taken.
+    /// Delivers what is due to an article whose turn has come, posts it, and puts what the reply to its line shows of
+    /// it: by what a helper found of it, and else it is matched here.
+    fn give<A: Audience, W: Sink>(
+        &mut self,
+        alloc: Global,
+        audience: &mut A,
+        turn: &Turn<'_>,
+        reply: &mut MatchReply,
+        flow: &mut Flow<'_, W>,
+    ) -> Result<(), RunFault>
+        requires turn { IsTurn self.old.settings turn.now }
+        ensures same_reference { flow.new.writer.ghost_name ≡ flow.old.writer.ghost_name }
+        ensures crew { self.new ≡ record self.old { rows = self.new.rows } }
+        ensures gives { GivesDue (due_to turn.now.batch.now) turn.now.article
+            (giving (A.hearers audience.old) self.old.rows self.old.settings reply.old
+            (stand W.taken W.has_failed flow.old.writer.now flow.old.outbox.now))
+            (giving (A.hearers audience.new) self.new.rows self.new.settings reply.new
+            (stand W.taken W.has_failed flow.new.writer.now flow.new.outbox.now)) result }
+        ensures well { OnOk result (W.has_failed flow.new.writer.now ≡ W.has_failed flow.old.writer.now) }
+        ensures fault { IfErr result (λ e. e ≢ RunFault.Read) }
+        ensures write { result ≡ Err RunFault.Write → W.has_failed flow.new.writer.now ≡ true }
+    {
+        match &turn.found {
+            Some(found) => reply.add(alloc, audience, &mut self.books, flow, found),
+            None => self.match_here(alloc, audience, turn.batch, turn.article, reply, flow),
+        }
+    }
+
+    /// Gives what is owed to a line of which a batch waits at this place of the lines, article by article: what is due
+    /// to one is delivered, and what the reply shows of it is put, before the next is taken.
     fn settle_batch<A: Audience, W: Sink>(
         &mut self,
         alloc: Global,
@@ -198,8 +200,12 @@ impl<'r, 'd, 'g, R: Threads + Wait + Sync, N: DeskName, G: Gate + Clone + Send +
     {
         let mut reply = MatchReply::begin(alloc, flow, batch.number)?;
         for article in 0..batch.drafts.len() {
-            let found = self.find_one(alloc, line, batch, article, answers)?;
-            self.add(alloc, audience, &mut reply, flow, &found)?;
+            let turn = Turn {
+                batch,
+                article,
+                found: take_answer(answers, line, article),
+            };
+            self.give(alloc, audience, &turn, &mut reply, flow)?;
         }
         reply.end(alloc, flow)
     }
