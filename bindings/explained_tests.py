@@ -44,6 +44,26 @@ LINES: tuple[tuple[bytes, str, str | None, int | None], ...] = (
     (b'{"op":"register","queries":[{"id":"q1","query":"tea AND"}]}', "query", "queries[0].query", None))
 
 
+# A text, two queries, the most words between them, and whether they are near in this order, and in any.
+NEAR_TEXT = "The press-office of the Tea Board, Colombo: 🍵 TEA prices"
+NEAR: tuple[tuple[str, str, int, bool, bool], ...] = (
+    ("press", "office", 0, True, True),
+    ("office", "(press)", 0, False, True),
+    ("press", "board", 4, True, True),
+    ("press", "board", 3, False, False),
+    ("\"press office\"", "\"tea board\"", 2, True, True),
+    ("\"press office\"", "\"tea board\"", 1, False, False),
+    ("\"press office\"", "\"office of\"", 99, False, False),
+    ("tea", "TEA", 2, True, True),
+    ("tea", "tea", 1, False, False),
+    ("pri*", "colom*", 1, False, True),
+    ("press", "title:office", 99, False, False),
+    ("title:press", "title:office", 0, False, False),
+    ("pri*", "milk", 2 ** 80, False, False))
+# Queries that are no word, phrase or prefix.
+NO_PLACES = ("*:*", "-tea", "tea board", "[a TO b]", "+tea +board", "tea AND", "")
+
+
 class Noted:
     """The library, with the texts noted whose words are asked for."""
 
@@ -170,6 +190,26 @@ def words_stand_where_hand_says() -> None:
         assert word_spans(text) == spans, (marked, word_spans(text))
 
 
+def queries_are_near_as_hand_says() -> None:
+    """As far as their words stand apart, in one field; a phrase from its end and to its start."""
+    from pressclip import Monitor, Refused, near_holds
+
+    fields = {"text": NEAR_TEXT, "title": "Office press"}
+    for first, second, between, in_order, in_any in NEAR:
+        row = first, second, between
+        assert near_holds(first, second, between, True, {"text": NEAR_TEXT, "title": ""}) == in_order, row
+        assert near_holds(first, second, between, False, {"text": NEAR_TEXT, "title": ""}) == in_any, row
+        with Monitor() as monitor:
+            monitor.register("both", f"+({first}) +({second})")
+            assert monitor.match({"id": "a", "fields": fields}) or not in_any, row
+    assert near_holds("title:press", "title:office", 0, False, fields) and not near_holds("a", "a", 0, False, {})
+    for query in NO_PLACES:
+        for pair in ((query, "tea"), ("tea", query)):
+            assert raised(Refused, lambda: near_holds(*pair, 0, False, fields)).word == "query", pair
+    assert raised(Refused, lambda: near_holds("a", "b", 0, False, {"no name": ""})).word == "limit"
+    raised(ValueError, lambda: near_holds("a", "b", -1, False, fields))
+
+
 def hits_are_the_words_in_brackets() -> None:
     """By field and position, each where it stands in its text."""
     from pressclip import Monitor
@@ -265,10 +305,12 @@ def a_line_has_its_fault() -> None:
 
 def half_of_a_surrogate_pair_is_no_text() -> None:
     """No call takes it, and nothing changes."""
-    from pressclip import Monitor, explain, word_spans
+    from pressclip import Monitor, explain, near_holds, word_spans
 
     with Monitor(True) as monitor:
         for call in (lambda: explain("tea \ud800"), lambda: word_spans("tea \ud800"),
+                     lambda: near_holds("tea \ud800", "tea", 0, False, {}),
+                     lambda: near_holds("tea", "tea", 0, False, {"text": "tea \ud800"}),
                      lambda: monitor.register("q", "tea \ud800"), lambda: monitor.register("\ud800", "tea"),
                      lambda: monitor.match({"id": "a", "fields": {"text": "tea \ud800"}})):
             raised(UnicodeEncodeError, call)
@@ -294,8 +336,29 @@ def pointers_and_texts_are_looked_at() -> None:
             assert (answer.value, count.value) == (None, 7), (call, arguments)
 
 
+def pairs_are_looked_at() -> None:
+    """What only a caller in C can do with a pair and its fields, each with its status, and nothing written."""
+    from pressclip import _calls
+
+    near, field = ctypes.c_bool(True), _calls.fields_of([(b"text", b"milk")])
+    to_near, tea = ctypes.byref(near), _calls.Pair(b"tea", 3, b"tea", 3, 0, False)
+    cases: list[tuple[str, tuple[Any, ...]]] = [
+        ("null", (field, 1, None, to_near)), ("null", (field, 1, ctypes.byref(tea), None)),
+        ("null", (None, 1, ctypes.byref(tea), to_near)), ("size", (field, 1_000_001, ctypes.byref(tea), to_near))]
+    for word, pair in (("null", (None, 0, b"tea", 3)), ("null", (b"tea", 3, None, 0)),
+                       ("size", (b"tea", 2 ** 63, b"tea", 3)), ("size", (b"tea", 3, b"tea", 2 ** 63)),
+                       ("utf8", (b"tea\xff", 4, b"tea", 3)), ("utf8", (b"tea", 3, b"tea\xff", 4))):
+        cases.append((word, (field, 1, ctypes.byref(_calls.Pair(*pair, 0, False)), to_near)))
+    for word, arguments in cases:
+        status = _calls.LIBRARY.pressclip_near(*arguments)
+        assert _calls.LIBRARY.pressclip_word(ctypes.c_int(status)).decode() == word, (arguments, status)
+        assert near.value, arguments
+    assert _calls.LIBRARY.pressclip_near(field, 1, ctypes.byref(tea), to_near) == 0 and not near.value
+
+
 TESTS: tuple[Callable[[], None], ...] = (
     queries_are_explained_as_by_the_program, lines_are_explained_as_by_the_program, words_stand_where_the_program_says,
-    words_stand_where_hand_says, hits_are_the_words_in_brackets, a_hit_has_the_position_of_its_word,
-    words_are_looked_up_once_for_a_field_with_hits, an_explanation_has_its_members, a_fault_is_told_at_its_character,
-    a_line_has_its_fault, half_of_a_surrogate_pair_is_no_text, pointers_and_texts_are_looked_at)
+    words_stand_where_hand_says, queries_are_near_as_hand_says, hits_are_the_words_in_brackets,
+    a_hit_has_the_position_of_its_word, words_are_looked_up_once_for_a_field_with_hits, an_explanation_has_its_members,
+    a_fault_is_told_at_its_character, a_line_has_its_fault, half_of_a_surrogate_pair_is_no_text,
+    pointers_and_texts_are_looked_at, pairs_are_looked_at)

@@ -54,6 +54,16 @@ typedef struct pressclip_field {
     size_t text_length;
 } pressclip_field;
 
+/* Two queries, each of which is a word, a phrase or a prefix, and how near they are to be. */
+typedef struct pressclip_pair {
+    const char *first;
+    size_t first_length;
+    const char *second;
+    size_t second_length;
+    size_t between; /* The most words between them; 0 where they are to be next to each other. */
+    bool ordered;   /* Whether the first has to be before the second. */
+} pressclip_pair;
+
 /* All that was found of an article, in arrays. The texts of ids lie one after another, each with a byte 0 behind it,
  * and id_at has where each begins, and last where they end: the id n is the id_at[n + 1] - id_at[n] - 1 bytes from
  * ids + id_at[n]. Names of fields lie in the same way. The hits of the id n have the numbers from hit_at[n] on, below
@@ -153,6 +163,14 @@ int pressclip_explain_line(const char *line, size_t length, char **reply, size_t
  * needed. The spans are the caller's, who frees them by pressclip_free, also where there is no word.
  * PRESSCLIP_NULL, PRESSCLIP_SIZE, PRESSCLIP_UTF8, PRESSCLIP_NO_MEMORY. */
 int pressclip_words(const char *text, size_t length, uint64_t **spans, size_t *count);
+
+/* Tells whether two queries are near in an article of these fields, as Lucene's span near query: in one field a place
+ * of the first and a place of the second have no word in common, and at most pair->between words stand between the end
+ * of the one and the start of the other. The query by which both have to hold, +(first) +(second), holds of each such
+ * article. fields may be null where count is 0. Where a query is no word, phrase or prefix, the status is that of a
+ * text that is no query. No engine is needed.
+ * PRESSCLIP_NULL, PRESSCLIP_SIZE, PRESSCLIP_UTF8, PRESSCLIP_LIMIT, PRESSCLIP_QUERY, PRESSCLIP_NO_MEMORY. */
+int pressclip_near(const pressclip_field *fields, size_t count, const pressclip_pair *pair, bool *near);
 
 #ifdef __cplusplus
 }

@@ -25,7 +25,8 @@ struct pressclip_result {
     pressclip_found found;
 };
 
-/* The exports of clip_c. All but clip_open want a slot that keeps an engine, and all but clip_close leave one. */
+/* The exports of clip_c. clip_near takes no slot, and clip_open one that keeps no engine. All others want a slot that
+ * keeps one, and all but clip_close leave one. */
 size_t clip_size(void);
 void clip_open(slot *kept, bool hits);
 void clip_close(slot *kept);
@@ -39,6 +40,7 @@ uint32_t clip_match(slot *kept, const unsigned char *id, size_t id_length, const
 uint32_t clip_explain(slot *kept, const unsigned char *query, size_t length, size_t *size);
 uint32_t clip_explain_line(slot *kept, const unsigned char *line, size_t length, size_t *size);
 uint32_t clip_words(slot *kept, const unsigned char *text, size_t length, size_t *size);
+uint32_t clip_near(const pressclip_field *fields, size_t count, const pressclip_pair *pair, bool *answer);
 bool clip_take(slot *kept, unsigned char *room, size_t size);
 
 /* An export that answers a text by bytes, which are kept, and says how many these are. */
@@ -186,6 +188,21 @@ static int fields_status(const pressclip_field *fields, size_t count) {
     return PRESSCLIP_OK;
 }
 
+/* What stands for fields where there are none. */
+static const pressclip_field no_field = {"", 0, "", 0};
+
+int pressclip_near(const pressclip_field *fields, size_t count, const pressclip_pair *pair, bool *near) {
+    bool answer = false;
+    if (pair == NULL || near == NULL) return PRESSCLIP_NULL;
+    int status = fields_status(fields, count);
+    if (status == PRESSCLIP_OK) status = text_status(pair->first, pair->first_length);
+    if (status == PRESSCLIP_OK) status = text_status(pair->second, pair->second_length);
+    if (status != PRESSCLIP_OK) return status;
+    status = (int)clip_near(count == 0 ? &no_field : fields, count, pair, &answer);
+    if (status == PRESSCLIP_OK) *near = answer;
+    return status;
+}
+
 /* The next number of a result. */
 static uint64_t next_number(pressclip_result *result) {
     uint64_t number = number_at(result->bytes + result->at);
@@ -209,7 +226,6 @@ static void begin(pressclip_result *result) {
 
 int pressclip_match(pressclip *engine, const char *id, size_t id_length, const pressclip_field *fields, size_t count,
                     pressclip_result **result) {
-    static const pressclip_field none = {"", 0, "", 0};
     if (engine == NULL) return PRESSCLIP_CLOSED;
     if (result == NULL) return PRESSCLIP_NULL;
     int status = text_status(id, id_length);
@@ -218,7 +234,7 @@ int pressclip_match(pressclip *engine, const char *id, size_t id_length, const p
     pressclip_result *made = malloc(sizeof *made);
     if (made == NULL) return PRESSCLIP_NO_MEMORY;
     size_t size = 0;
-    status = (int)clip_match(&engine->kept, bytes_of(id), id_length, count == 0 ? &none : fields, count, &size);
+    status = (int)clip_match(&engine->kept, bytes_of(id), id_length, count == 0 ? &no_field : fields, count, &size);
     made->bytes = status == PRESSCLIP_OK ? taken(engine, size) : NULL;
     if (made->bytes == NULL) {
         free(made);

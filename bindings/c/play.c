@@ -75,6 +75,18 @@ static void explain(const char *text, size_t size) {
     if (pressclip_words(text, size, &spans, &length) == PRESSCLIP_OK) pressclip_free(spans);
 }
 
+/* Asks whether a text is near a word, in either order, and drops the answers. */
+static void ask(const char *text, size_t size) {
+    pressclip_field fields[] = {{"text", 4, "w1 w2 w3 w4", 11}, {"title", 5, text, size}};
+    pressclip_pair pair = {text, size, "w4*", 3, 1, false};
+    bool near;
+    pressclip_near(fields, 1, &pair, &near);
+    pressclip_near(fields, 2, &pair, &near);
+    pair = (pressclip_pair){"\"w1 w2\"", 7, "w4*", 3, 1, true};
+    pressclip_near(NULL, 0, &pair, &near);
+    if (pressclip_near(fields, 1, &pair, &near) != PRESSCLIP_OK || !near) fputs("w1 w2 is not near w4\n", stderr);
+}
+
 int main(void) {
     pressclip *engine;
     char *line = NULL, *reply;
@@ -88,6 +100,7 @@ int main(void) {
         call(engine);
         explain(line, size);
         explain("w1 AND", 6);
+        ask(line, size);
     }
     free(line);
     pressclip_close(&engine);

@@ -3,7 +3,7 @@
 from __future__ import annotations
 
 import ctypes
-from ctypes import POINTER, Structure, byref, c_bool, c_char_p, c_int, c_size_t, c_uint64, c_void_p
+from ctypes import POINTER, Array, Structure, byref, c_bool, c_char_p, c_int, c_size_t, c_uint64, c_void_p
 from typing import Any, Callable
 
 from ._library import load
@@ -27,6 +27,13 @@ class Field(Structure):
     """A field of an article, as C sees it."""
 
     _fields_ = [("name", c_char_p), ("name_length", c_size_t), ("text", c_char_p), ("text_length", c_size_t)]
+
+
+class Pair(Structure):
+    """Two queries, and how near they are to be, as C sees it: pressclip_pair."""
+
+    _fields_ = [("first", c_char_p), ("first_length", c_size_t), ("second", c_char_p), ("second_length", c_size_t),
+                ("between", c_size_t), ("ordered", c_bool)]
 
 
 class Found(Structure):
@@ -60,12 +67,18 @@ LIBRARY.pressclip_result_free.restype = None
 LIBRARY.pressclip_explain.argtypes = [c_char_p, c_size_t, POINTER(c_void_p), POINTER(c_size_t)]
 LIBRARY.pressclip_explain_line.argtypes = [c_char_p, c_size_t, POINTER(c_void_p), POINTER(c_size_t)]
 LIBRARY.pressclip_words.argtypes = [c_char_p, c_size_t, POINTER(c_void_p), POINTER(c_size_t)]
+LIBRARY.pressclip_near.argtypes = [POINTER(Field), c_size_t, POINTER(Pair), POINTER(c_bool)]
 
 
 def well(status: int) -> None:
     """Raises where a call did not go well."""
     if status != 0:
         raise Refused(LIBRARY.pressclip_word(c_int(status)).decode())
+
+
+def fields_of(pairs: list[tuple[bytes, bytes]]) -> Array[Field]:
+    """The fields of an article, by names and texts in UTF-8, as C sees them: an array of one at least."""
+    return (Field * max(1, len(pairs)))(*[Field(name, len(name), text, len(text)) for name, text in pairs])
 
 
 def copied(address: c_void_p, length: int) -> bytes:

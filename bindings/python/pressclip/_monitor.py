@@ -9,7 +9,7 @@ from types import TracebackType
 from typing import Any, Callable, Dict, Mapping, NamedTuple, NoReturn
 
 from . import _calls
-from ._calls import QUERY, Field, answer_of, numbers_at, texts_at, well
+from ._calls import QUERY, answer_of, fields_of, numbers_at, texts_at, well
 from ._explain import explain
 from ._words import FieldWords
 
@@ -144,8 +144,7 @@ class Monitor:
         """
         id = article["id"].encode()
         pairs = [(name.encode(), text.encode()) for name, text in article["fields"].items()]
-        fields = (Field * max(1, len(pairs)))(*[Field(name, len(name), text, len(text)) for name, text in pairs])
-        result = c_void_p()
+        fields, result = fields_of(pairs), c_void_p()
         try:
             with self._lock:
                 well(_calls.LIBRARY.pressclip_match(self._engine, id, len(id), fields, len(pairs), byref(result)))

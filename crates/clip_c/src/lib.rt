@@ -16,9 +16,10 @@ ghost use Rattle.clip_engine.specs.Calls.{
   WordsTo,
   ExplainLineTo,
 };
+ghost use Rattle.clip_engine.specs.Near.{IsNear};
 ghost use Rattle.clip_engine.specs.Texts.{fields_of};
 
-use clip_engine::{Field, Kept, Slot};
+use clip_engine::{Field, Kept, Pair, Slot, near};
 use std::alloc::Global;
 
 /// How many bytes of memory a slot needs, at an address that 8 divides.
@@ -175,6 +176,19 @@ pub extern "C" fn clip_explain_line(
     *size = kept.text.len();
     slot.put(kept);
     code
+}
+
+/// Tells whether two queries are near in an article of these fields, where the answer is 0. It needs no slot.
+#[unsafe(no_mangle)]
+pub extern "C" fn clip_near(
+    alloc: Global,
+    fields: &[Field<'_>],
+    pair: &Pair<'_>,
+    answer: &mut bool,
+) -> u32
+    ensures { result ≡ 0 → IsNear (fields_of fields.now) pair.now answer.new }
+{
+    near(alloc, fields, pair, answer)
 }
 
 /// Copies the bytes that are kept into a buffer of just their size, and keeps none then; into a buffer of another size

@@ -76,7 +76,7 @@ fn listing_of(
 }
 
 /// The names and texts of an article.
-fn texts_of(alloc: Global, fields: &[Field<'_>]) -> Result<Vec<(String, String)>, u32>
+pub(crate) fn texts_of(alloc: Global, fields: &[Field<'_>]) -> Result<Vec<(String, String)>, u32>
     ensures ok { IfOk result (λ pairs. pairs_of pairs.items ≡ fields_of fields.now) }
     ensures err { IfErr result (λ code. code ≡ 0 → ⊥) }
 {

@@ -9,9 +9,11 @@ mod explained;
 mod found;
 mod house;
 mod kept;
+mod pair;
 mod slot;
 
 pub use engine::{Engine, LineFault};
 pub use found::bytes_of_found;
 pub use kept::{Field, Kept};
+pub use pair::{Pair, near};
 pub use slot::Slot;

@@ -1,0 +1,5 @@
+pub mod Bare
+pub mod Places
+pub mod Ends
+pub mod Law
+mod Rows
