@@ -18,7 +18,11 @@ async def ask(door: Door, value: Json, is_quiet: bool = False) -> Json:
     """The engine's reply to a request of the protocol, without its line's number; of a quiet one nobody else hears the
     alerts. `Problem` where it is refused, with the reason and the place; where the engine is behind; and where it
     ended."""
-    line = line_of(value)
+    return await ask_line(door, line_of(value), is_quiet)
+
+
+async def ask_line(door: Door, line: bytes, is_quiet: bool = False) -> Json:
+    """The engine's reply to a line of the protocol, and `Problem`, as `ask` has them."""
     try:
         reply: Json = json.loads(await (asked_quietly(door, line) if is_quiet else door.engine.ask(line)))
     except Behind:

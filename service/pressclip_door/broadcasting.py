@@ -185,11 +185,12 @@ async def fill(alerts: Iterable[Alert], explainer: Explainer) -> None:
         if alert.excerpts is not None:
             continue
         alert.excerpts = []
-        if not alert.hits:
+        raised = alert.raised
+        if not raised.hits:
             continue
-        marker = Marker(explainer, alert.fields)
+        marker = Marker(explainer, raised.fields)
         try:
-            for query, hits in list(zip(alert.queries, alert.hits))[:MOST_EXCERPTS]:
+            for query, hits in list(zip(raised.queries, raised.hits))[:MOST_EXCERPTS]:
                 alert.excerpts += await marker.excerpts(query, hits)
         except Ended:
             return

@@ -9,7 +9,7 @@ import time
 from concurrent.futures import ThreadPoolExecutor
 from dataclasses import dataclass
 from hashlib import sha256
-from typing import Any, Callable, Mapping, Sequence, TypeVar
+from typing import Any, Callable, Sequence, TypeVar
 
 from .explaining import Explainer
 from .log import Log
@@ -17,6 +17,7 @@ from .marking import Marker
 from .metrics import Metrics
 from .pipe import Ended
 from .posting import Carrier, NotDelivered
+from .raised import Raised
 from .ring import compact
 from .spool import Parcel, Spool
 
@@ -56,17 +57,6 @@ class Route:
     carrier: Carrier
     by_query: bool
     together: float | None = None
-
-
-@dataclass(frozen=True)
-class Raised:
-    """An article with the queries that hold of it."""
-
-    article: str
-    queries: Sequence[str]
-    fields: Mapping[str, str]
-    hits: Sequence[Sequence[Json]] | None
-    at: float
 
 
 def id_of(raised: Raised, query: str) -> str:

@@ -31,6 +31,7 @@ SECURITY_HEADERS = {
 }
 _REQUEST_ID = re.compile(r"[A-Za-z0-9._-]{1,64}")
 _STATUS_WORDS = {404: "path", 405: "method", 413: "body"}
+_SINGLE = (b"transfer-encoding", b"content-length", b"content-type", b"authorization", b"host")
 _LOCAL_NAMES = ("127.0.0.1", "localhost", "[::1]")
 
 
@@ -116,16 +117,16 @@ class Guard:
             raise Problem("headers", f"at most {MOST_HEADERS} header fields are taken")
         if hdrs.TRANSFER_ENCODING in headers and hdrs.CONTENT_LENGTH in headers:
             raise Problem("request", "a body has a length or a transfer encoding, and not both")
-        for name in (hdrs.TRANSFER_ENCODING, hdrs.CONTENT_LENGTH, hdrs.CONTENT_TYPE, hdrs.AUTHORIZATION):
-            if len(headers.getall(name, [])) > 1:
-                raise Problem("request", f"the header field {name} is there more than once")
+        names = [name.lower() for name, _ in request.raw_headers]
+        if len(set(names)) < len(names) and any(names.count(name) > 1 for name in _SINGLE):
+            raise Problem("request", "a header field is there twice that may be there once")
         if headers.get(hdrs.TRANSFER_ENCODING, "chunked").strip().lower() != "chunked":
             raise Problem("request", "the only transfer encoding is chunked")
         if headers.get(hdrs.CONTENT_ENCODING, "identity").strip().lower() != "identity":
             raise Problem("encoding", "send the body as it is")
         try:
-            unquote_to_bytes(request.rel_url.raw_path).decode()
-            unquote_to_bytes(request.rel_url.raw_query_string).decode()
+            if "%" in request.raw_path:
+                unquote_to_bytes(request.raw_path).decode()
         except UnicodeDecodeError:
             raise Problem("request", "the address is not of UTF-8") from None
 
@@ -134,11 +135,11 @@ class Guard:
         hosts: list[str] = request.headers.getall(hdrs.HOST, [])
         if len(hosts) != 1:
             raise Problem("request", "a request has one Host")
-        name = re.sub(r":\d*$", "", hosts[0]).lower()
-        if self._names is not None and name not in self._names:
+        name = hosts[0].lower()
+        if self._names is not None and re.sub(r":\d*$", "", name) not in self._names:
             raise Problem("host", f"the names of this service are {', '.join(sorted(self._names))}")
         origin = request.headers.get(hdrs.ORIGIN)
-        is_foreign = origin is not None and urlsplit(origin).netloc.lower() != hosts[0].lower()
+        is_foreign = origin is not None and urlsplit(origin).netloc.lower() != name
         is_visit = request.headers.get("Sec-Fetch-Mode") == "navigate" and role_of(request) is Role.OPEN
         if is_foreign or (request.headers.get("Sec-Fetch-Site") == "cross-site" and not is_visit):
             raise Problem("origin")
@@ -176,7 +177,7 @@ def guarding(door: Door, tokens: Sequence[Token]) -> Any:
         finally:
             door.handled -= 1
         door.metrics.requests.labels(request.method if response.status != 405 else "other", str(response.status)).inc()
-        door.log.event("request", id=name, method=request.method, path=request.path, status=response.status,
+        door.log.soon("request", id=name, method=request.method, path=request.path, status=response.status,
                        ms=round(1e3 * (time.perf_counter() - start), 2))
         return response
 
