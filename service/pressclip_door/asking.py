@@ -5,9 +5,10 @@ from __future__ import annotations
 import json
 from typing import Any
 
+from pressclip_service.errors import EngineFailed
+
 from .door import Door
-from .engine import Behind
-from .pipe import Ended, Question
+from .pipe import Behind, Ended, Question
 from .problems import WORDS, Problem
 from .trial import line_of
 
@@ -48,12 +49,15 @@ async def refusal(door: Door, line: bytes, reply: Json) -> Problem:
     """The problem that a refusal of the engine is, explained."""
     word = reply["refused"] if reply["refused"] in WORDS else "fault"
     members: Json = {"which": reply["which"]} if "which" in reply else {}
-    told = await door.explainer.line(line.decode(errors="replace"))
-    if told.get("refused") != reply["refused"]:
+    try:
+        told = await door.explainer.line(line.decode(errors="replace"))
+        if told.get("refused") != reply["refused"]:
+            return Problem(word, **members)
+        members.update({name: told[name] for name in ("member", "at") if name in told})
+        if word == "query":
+            query = json.loads(line)["queries"][reply["which"]]["query"]
+            read = await door.explainer.explain(query)
+            members.update({name: read[name] for name in ("fault", "at") if name in read})
+    except (Behind, Ended, EngineFailed):
         return Problem(word, **members)
-    members.update({name: told[name] for name in ("member", "at") if name in told})
-    if word == "query":
-        query = json.loads(line)["queries"][reply["which"]]["query"]
-        read = await door.explainer.explain(query)
-        members.update({name: read[name] for name in ("fault", "at") if name in read})
     return Problem(word, told.get("says", ""), **members)

@@ -27,11 +27,17 @@ async def read_all(door: Door, request: web.Request) -> bytes:
     limits = door.settings.limits
     if (request.content_length or 0) > limits.body_bytes:
         raise Problem("body", f"at most {limits.body_bytes:,} bytes are taken")
+    expected = limits.body_bytes if request.content_length is None else request.content_length
+    if door.bytes_read + expected > limits.bodies_bytes:
+        raise Problem("behind", "too many bodies are read already", {"Retry-After": "1"})
+    door.bytes_read += expected
     try:
         async with asyncio.timeout(limits.body_seconds):
             return await request.read()
     except TimeoutError:
         raise Problem("slow", f"the body did not come within {limits.body_seconds:.0f} s") from None
+    finally:
+        door.bytes_read -= expected
 
 
 async def object_of(door: Door, request: web.Request) -> Json:

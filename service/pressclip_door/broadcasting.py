@@ -7,11 +7,13 @@ from dataclasses import dataclass, field
 from enum import Enum
 from typing import Iterable
 
+from pressclip_service.errors import EngineFailed
+
 from .explaining import Explainer
 from .log import Log
 from .marking import Marker
 from .metrics import Metrics
-from .pipe import Ended
+from .pipe import Behind, Ended
 from .ring import Alert, Ring, compact
 
 # Alerts that come within so many seconds are sent together.
@@ -192,5 +194,5 @@ async def fill(alerts: Iterable[Alert], explainer: Explainer) -> None:
         try:
             for query, hits in list(zip(raised.queries, raised.hits))[:MOST_EXCERPTS]:
                 alert.excerpts += await marker.excerpts(query, hits)
-        except Ended:
+        except (Behind, Ended, EngineFailed):
             return

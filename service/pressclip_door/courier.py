@@ -11,11 +11,13 @@ from dataclasses import dataclass
 from hashlib import sha256
 from typing import Any, Callable, Sequence, TypeVar
 
+from pressclip_service.errors import EngineFailed
+
 from .explaining import Explainer
 from .log import Log
 from .marking import Marker
 from .metrics import Metrics
-from .pipe import Ended
+from .pipe import Behind, Ended
 from .posting import Carrier, NotDelivered
 from .raised import Raised
 from .ring import compact
@@ -152,7 +154,7 @@ async def excerpts_of(marker: Marker, query: str, hits: Sequence[Json]) -> list[
     """The excerpts of an alert; none where the words can't be had, or not in time."""
     try:
         excerpts = await asyncio.wait_for(marker.excerpts(query, hits), SECONDS_OF_EXCERPTS)
-    except (asyncio.TimeoutError, Ended):
+    except (asyncio.TimeoutError, Behind, Ended, EngineFailed):
         return []
     return [{"field": one["field"], "pieces": one["pieces"]} for one in excerpts]
 

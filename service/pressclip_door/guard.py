@@ -11,10 +11,11 @@ from urllib.parse import unquote_to_bytes, urlsplit
 
 from aiohttp import hdrs, web
 
+from pressclip_service.errors import EngineFailed
+
 from .courier import NotSpooled
 from .door import Door
-from .engine import Behind
-from .pipe import Ended
+from .pipe import Behind, Ended
 from .problems import Problem
 from .tokens import ANYBODY, Role, Token, token_given
 
@@ -51,7 +52,7 @@ def problem_of(error: Exception) -> Problem:
         return error
     if isinstance(error, Behind):
         return Problem("behind", headers={"Retry-After": "1"})
-    if isinstance(error, Ended):
+    if isinstance(error, (Ended, EngineFailed)):
         return Problem("ended", str(error), {"Retry-After": "1"})
     if isinstance(error, NotSpooled):
         return Problem("spool", str(error), {"Retry-After": "10"})
@@ -173,6 +174,9 @@ def guarding(door: Door, tokens: Sequence[Token]) -> Any:
             guard.look(request)
             response = await handler(request)
         except Exception as error:
+            if request.writer.output_size:
+                door.log.event("broken off", id=name, error=repr(error))
+                raise ConnectionResetError("the answer had begun") from error
             response = refused(door, name, error)
         finally:
             door.handled -= 1

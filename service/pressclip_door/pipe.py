@@ -18,6 +18,10 @@ class Ended(Exception):
     """The program ended before it replied; of a change nobody knows whether it was kept."""
 
 
+class Behind(Exception):
+    """Too much waits for the program already; nothing was sent."""
+
+
 class Sink(Protocol):
     """Who awaits a reply."""
 
