@@ -188,7 +188,7 @@ class Engine:
     def _end(self, pipe: Pipe, status: int) -> None:
         """Fails what is owed, and starts another engine, unless this is the end that was asked for."""
         for owed in pipe.owed:
-            owed.sink.fail(Ended(f"the engine ended with status {status}"))
+            owed.sink.fail(Ended(f"the engine ended with status {status}", status))
         pipe.owed.clear()
         pipe.bytes_owed = 0
         if pipe is not self._pipe:

@@ -20,6 +20,7 @@ from .problems import Problem
 from .tokens import ANYBODY, Role, Token, token_given
 
 Handler = Callable[[web.Request], Awaitable[web.StreamResponse]]
+Middleware = Callable[[web.Request, Handler], Awaitable[web.StreamResponse]]
 Handling = TypeVar("Handling", bound=Callable[..., Any])
 SAFE_METHODS = ("GET", "HEAD")
 MOST_HEADERS = 100
@@ -160,7 +161,7 @@ def role_of(request: web.Request) -> Role:
     return Role.READ if request.method in SAFE_METHODS else Role.WRITE
 
 
-def guarding(door: Door, tokens: Sequence[Token]) -> Any:
+def guarding(door: Door, tokens: Sequence[Token]) -> Middleware:
     """The middleware of the application."""
     guard = Guard(door, tokens)
 

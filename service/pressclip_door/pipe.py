@@ -15,7 +15,12 @@ INPUT, OUTPUT, ERRORS = 0, 1, 2
 
 
 class Ended(Exception):
-    """The program ended before it replied; of a change nobody knows whether it was kept."""
+    """The program ended before it replied, with its status if that is known; of a change nobody knows whether it was
+    kept."""
+
+    def __init__(self, why: str, status: int | None = None) -> None:
+        super().__init__(why)
+        self.status = status
 
 
 class Behind(Exception):

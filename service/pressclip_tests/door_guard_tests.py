@@ -268,7 +268,7 @@ def it_stands_behind_nginx() -> None:
             (Path(name) / "nginx.conf").write_text(NGINX.format(folder=name, server=server))
             proxy = subprocess.Popen([nginx(), "-e", "stderr", "-c", f"{name}/nginx.conf"], stderr=subprocess.DEVNULL)
             try:
-                curl = ["curl", "-sS", "--cacert", f"{name}/door.crt", "--retry-connrefused", "--retry", "20", "-H",
+                curl = ["curl", "-s", "--cacert", f"{name}/door.crt", "--retry-connrefused", "--retry", "20", "-H",
                         "Authorization: Bearer " + "t" * 20]
                 through(curl, f"https://localhost:{port}", name)
             finally:

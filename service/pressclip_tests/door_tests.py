@@ -235,15 +235,20 @@ def judge_by_schema(checks: list[Any]) -> None:
 
 
 def it_serves_over_any_command() -> None:
-    """A plain command; one that is not there, or does not answer, ends the door with status 1."""
+    """A plain command; one that is not there, or ends before it answers, ends the door with a status that says so."""
     with Door(engine=without_hits()) as door:
         door.put("q1", "tea")
         need(door.match("a1", "tea")["alerts"] == [{"article": "a1", "queries": ["q1"]}], "no alert")
         door.ask("POST", "/articles?hits=true", TEA).refused(409, "hits")
-    for engine, words in (("/nowhere/pressclip", "can't be started"), ("false", "ended with status 1")):
-        done = subprocess.run([DEBIAN_PYTHON, str(DOOR), "--port", "0", "--", engine], stdin=subprocess.DEVNULL,
-                              capture_output=True, text=True, timeout=PATIENCE_SECONDS, check=False)
-        need(done.returncode == 1 and words in done.stderr, f"status {done.returncode}: {done.stderr}")
+    with folder() as name:
+        (Path(name) / "journal").write_bytes(b"no journal")
+        for options, engine, status, words in (
+                ([], "/nowhere/pressclip", 1, "can't be started"), ([], "false", 1, "ended with status 1"),
+                (["--journal", name], without_hits()[0], 3, "ended with status 3")):
+            done = subprocess.run([DEBIAN_PYTHON, str(DOOR), "--port", "0", *options, "--", engine, "run", "0"],
+                                  stdin=subprocess.DEVNULL, capture_output=True, text=True, timeout=PATIENCE_SECONDS,
+                                  check=False)
+            need(done.returncode == status and words in done.stderr, f"status {done.returncode}: {done.stderr}")
 
 
 def it_serves_over_a_grid() -> None:
