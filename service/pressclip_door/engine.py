@@ -106,6 +106,8 @@ class Engine:
             raise Behind()
         awaited = Awaited()
         self.send(line, awaited)
+        if self._pipe is not None:
+            self._pipe.flush()
         return await awaited.reply()
 
     def send(self, line: bytes, sink: Sink) -> None:
