@@ -32,6 +32,7 @@ class Alerts:
         wish = wish_of(request, Form.EVENTS)
         response = web.StreamResponse(headers=HEADERS)
         response.headers["X-Request-Id"] = request["id"]
+        response.force_close()
         await response.prepare(request)
         try:
             listener = await self._join(request, wish)
@@ -125,4 +126,4 @@ def wish_of(request: web.Request, form: Form) -> Wish:
 
 def routes(door: Door) -> list[web.RouteDef]:
     """The routes of alerts."""
-    return [web.get("/alerts", Alerts(door).get)]
+    return [web.get("/alerts", Alerts(door).get, allow_head=False)]

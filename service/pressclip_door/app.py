@@ -10,7 +10,6 @@ from typing import Any, AsyncIterator, Coroutine, Sequence
 from aiohttp import web
 
 from pressclip_service.engine import command_of
-from pressclip_service.errors import EngineFailed
 from pressclip_service.journal import FILE
 from pressclip_service.lines import MOST_LINE_BYTES
 
@@ -24,6 +23,7 @@ from .following import Following
 from .guard import guarding, sign
 from .log import Log
 from .metrics import Metrics
+from .pipe import Ended
 from .ring import Ring
 from .settings import Settings
 from .tokens import Token
@@ -33,7 +33,7 @@ MODULES = (queries, articles, alerts, lines, explain, deliveries, health, openap
 
 
 async def dumped(command: Sequence[str]) -> AsyncIterator[bytes]:
-    """The lines that a command prints; `EngineFailed` where it ends with another status than 0."""
+    """The lines that a command prints; `Ended` where it ends with another status than 0."""
     process = await asyncio.create_subprocess_exec(*command, stdin=asyncio.subprocess.DEVNULL,
                                                    stdout=asyncio.subprocess.PIPE, limit=2 * MOST_LINE_BYTES)
     assert process.stdout is not None
@@ -41,7 +41,7 @@ async def dumped(command: Sequence[str]) -> AsyncIterator[bytes]:
         yield line
     status = await process.wait()
     if status:
-        raise EngineFailed(f"{command[0]} could not dump the queries: status {status}")
+        raise Ended(f"{command[0]} ended with status {status} and could not dump the queries", status)
 
 
 def door_of(settings: Settings, command: Sequence[str], dump: Sequence[str] | None) -> Door:

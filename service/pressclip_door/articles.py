@@ -7,8 +7,8 @@ from typing import Any
 
 from aiohttp import web
 
-from .asking import ask
-from .bodies import is_asked, limit_of, object_of, of_json, with_members
+from .asking import ask_line
+from .bodies import body_of, is_asked, limit_of, object_in, of_json, with_members
 from .door import Door
 from .marking import Marker, by_query, size_of
 from .problems import Problem
@@ -26,14 +26,15 @@ class Articles:
 
     async def post(self, request: web.Request) -> web.Response:
         """Says which queries hold of each article; with `hits=true` also where, with `marked=true` in the texts."""
-        body = await object_of(self._door, request)
+        text = await body_of(self._door, request)
+        body = object_in(text)
         articles = with_members(body, {"articles": list})["articles"] if "articles" in body else [body]
         wants_hits, wants_marks = is_asked(request, "hits"), is_asked(request, "marked")
         if (wants_hits or wants_marks) and not self._door.shows_hits:
             raise Problem("hits", "start it with an engine as `pressclip run 4 hits`")
         if not self._door.spool_has_room():
             raise Problem("behind", "too many alerts wait for their delivery", {"Retry-After": "10"})
-        reply = await ask(self._door, {"op": "match", "articles": articles})
+        reply = await ask_line(self._door, line_with(text, "articles" in body))
         if wants_marks:
             await self._mark(articles, reply["alerts"])
         if not wants_hits and self._door.shows_hits:
@@ -63,6 +64,13 @@ class Articles:
             if len(found) >= limit:
                 break
         return of_json({"articles": found[:limit]})
+
+
+def line_with(text: bytes, is_list: bool) -> bytes:
+    """The line that matches the articles of a text, which is a JSON object: an article, or one whose only member is a
+    list of them. The text goes into it as it is, but for line feeds, which stand between lexemes alone."""
+    flat = text.replace(b"\n", b" ").strip()
+    return b'{"op":"match",' + flat[1:] if is_list else b'{"op":"match","articles":[' + flat + b"]}"
 
 
 def routes(door: Door) -> list[web.RouteDef]:

@@ -5,9 +5,10 @@ from __future__ import annotations
 import json
 from typing import Any
 
+from pressclip_service.errors import EngineFailed
+
 from .door import Door
-from .engine import Behind
-from .pipe import Ended, Question
+from .pipe import Behind, Ended, Question
 from .problems import WORDS, Problem
 from .trial import line_of
 
@@ -18,7 +19,11 @@ async def ask(door: Door, value: Json, is_quiet: bool = False) -> Json:
     """The engine's reply to a request of the protocol, without its line's number; of a quiet one nobody else hears the
     alerts. `Problem` where it is refused, with the reason and the place; where the engine is behind; and where it
     ended."""
-    line = line_of(value)
+    return await ask_line(door, line_of(value), is_quiet)
+
+
+async def ask_line(door: Door, line: bytes, is_quiet: bool = False) -> Json:
+    """The engine's reply to a line of the protocol, and `Problem`, as `ask` has them."""
     try:
         reply: Json = json.loads(await (asked_quietly(door, line) if is_quiet else door.engine.ask(line)))
     except Behind:
@@ -44,12 +49,15 @@ async def refusal(door: Door, line: bytes, reply: Json) -> Problem:
     """The problem that a refusal of the engine is, explained."""
     word = reply["refused"] if reply["refused"] in WORDS else "fault"
     members: Json = {"which": reply["which"]} if "which" in reply else {}
-    told = await door.explainer.line(line.decode(errors="replace"))
-    if told.get("refused") != reply["refused"]:
+    try:
+        told = await door.explainer.line(line.decode(errors="replace"))
+        if told.get("refused") != reply["refused"]:
+            return Problem(word, **members)
+        members.update({name: told[name] for name in ("member", "at") if name in told})
+        if word == "query":
+            query = json.loads(line)["queries"][reply["which"]]["query"]
+            read = await door.explainer.explain(query)
+            members.update({name: read[name] for name in ("fault", "at") if name in read})
+    except (Behind, Ended, EngineFailed):
         return Problem(word, **members)
-    members.update({name: told[name] for name in ("member", "at") if name in told})
-    if word == "query":
-        query = json.loads(line)["queries"][reply["which"]]["query"]
-        read = await door.explainer.explain(query)
-        members.update({name: read[name] for name in ("fault", "at") if name in read})
     return Problem(word, told.get("says", ""), **members)

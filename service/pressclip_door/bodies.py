@@ -17,7 +17,7 @@ JSON_TYPES = ("application/json",)
 
 async def body_of(door: Door, request: web.Request) -> bytes:
     """The whole body; `Problem` where it is too large, of another type than JSON, or slow."""
-    if request.content_type not in JSON_TYPES:
+    if request.headers.get("Content-Type") not in JSON_TYPES and request.content_type not in JSON_TYPES:
         raise Problem("type", "send application/json")
     return await read_all(door, request)
 
@@ -27,17 +27,28 @@ async def read_all(door: Door, request: web.Request) -> bytes:
     limits = door.settings.limits
     if (request.content_length or 0) > limits.body_bytes:
         raise Problem("body", f"at most {limits.body_bytes:,} bytes are taken")
+    expected = limits.body_bytes if request.content_length is None else request.content_length
+    if door.bytes_read + expected > limits.bodies_bytes:
+        raise Problem("behind", "too many bodies are read already", {"Retry-After": "1"})
+    door.bytes_read += expected
     try:
-        return await asyncio.wait_for(request.read(), limits.body_seconds)
-    except asyncio.TimeoutError:
+        async with asyncio.timeout(limits.body_seconds):
+            return await request.read()
+    except TimeoutError:
         raise Problem("slow", f"the body did not come within {limits.body_seconds:.0f} s") from None
+    finally:
+        door.bytes_read -= expected
 
 
 async def object_of(door: Door, request: web.Request) -> Json:
     """The body as a JSON object; `Problem` where it is none."""
-    text = await body_of(door, request)
+    return object_in(await body_of(door, request))
+
+
+def object_in(text: bytes) -> Json:
+    """A text as a JSON object; `Problem` where it is none."""
     try:
-        value = json.loads(text)
+        value = json.loads(text.decode())
     except (ValueError, RecursionError) as error:
         raise Problem("json", str(error)) from None
     if b"\\ud" in text.lower() and not is_whole(value):
@@ -87,7 +98,7 @@ def limit_of(request: web.Request, usual: int, most: int, name: str = "limit") -
 
 def is_asked(request: web.Request, name: str) -> bool:
     """Whether a member of the address is `true`; `Problem` where it is anything but `true` or `false`."""
-    text = request.query.get(name, "false")
+    text = request.query.get(name, "false") if request.query_string else "false"
     if text not in ("true", "false"):
         raise Problem("shape", f"{name} is true or false", member=name)
     return text == "true"

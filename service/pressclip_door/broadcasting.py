@@ -7,11 +7,13 @@ from dataclasses import dataclass, field
 from enum import Enum
 from typing import Iterable
 
+from pressclip_service.errors import EngineFailed
+
 from .explaining import Explainer
 from .log import Log
 from .marking import Marker
 from .metrics import Metrics
-from .pipe import Ended
+from .pipe import Behind, Ended
 from .ring import Alert, Ring, compact
 
 # Alerts that come within so many seconds are sent together.
@@ -185,11 +187,12 @@ async def fill(alerts: Iterable[Alert], explainer: Explainer) -> None:
         if alert.excerpts is not None:
             continue
         alert.excerpts = []
-        if not alert.hits:
+        raised = alert.raised
+        if not raised.hits:
             continue
-        marker = Marker(explainer, alert.fields)
+        marker = Marker(explainer, raised.fields)
         try:
-            for query, hits in list(zip(alert.queries, alert.hits))[:MOST_EXCERPTS]:
+            for query, hits in list(zip(raised.queries, raised.hits))[:MOST_EXCERPTS]:
                 alert.excerpts += await marker.excerpts(query, hits)
-        except Ended:
+        except (Behind, Ended, EngineFailed):
             return

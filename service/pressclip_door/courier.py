@@ -9,14 +9,17 @@ import time
 from concurrent.futures import ThreadPoolExecutor
 from dataclasses import dataclass
 from hashlib import sha256
-from typing import Any, Callable, Mapping, Sequence, TypeVar
+from typing import Any, Callable, Sequence, TypeVar
+
+from pressclip_service.errors import EngineFailed
 
 from .explaining import Explainer
 from .log import Log
 from .marking import Marker
 from .metrics import Metrics
-from .pipe import Ended
+from .pipe import Behind, Ended
 from .posting import Carrier, NotDelivered
+from .raised import Raised
 from .ring import compact
 from .spool import Parcel, Spool
 
@@ -35,13 +38,14 @@ class NotSpooled(Exception):
 
 
 @dataclass(frozen=True)
-class Pauses:
-    """How long to wait behind a failure: the first pause, and what it grows to."""
+class Bounds:
+    """How long to wait behind a failure, first and at most, and how many parcels may wait."""
 
-    first: float = 1.0
-    most: float = 300.0
+    first: float
+    most: float
+    waiting: int
 
-    def after(self, failures: int) -> float:
+    def pause_after(self, failures: int) -> float:
         """The pause behind so many failures in a row."""
         return min(self.most, self.first * 2.0 ** min(failures - 1, 30))
 
@@ -58,17 +62,6 @@ class Route:
     together: float | None = None
 
 
-@dataclass(frozen=True)
-class Raised:
-    """An article with the queries that hold of it."""
-
-    article: str
-    queries: Sequence[str]
-    fields: Mapping[str, str]
-    hits: Sequence[Sequence[Json]] | None
-    at: float
-
-
 def id_of(raised: Raised, query: str) -> str:
     """The id of an alert: the same where the same article comes again."""
     text = json.dumps([query, raised.article, raised.fields], sort_keys=True)
@@ -78,19 +71,19 @@ def id_of(raised: Raised, query: str) -> str:
 class Courier:
     """Keeps alerts for their routes, and carries them. `start` it, and `stop` it."""
 
-    def __init__(self, spool: Spool, routes: Sequence[Route], explainer: Explainer, pauses: Pauses, most_waiting: int,
-                 metrics: Metrics, log: Log) -> None:
+    def __init__(self, spool: Spool, routes: Sequence[Route], explainer: Explainer, bounds: Bounds, metrics: Metrics,
+                 log: Log) -> None:
         self._spool = spool
         self._explainer = explainer
-        self._most_waiting = most_waiting
+        self._bounds = bounds
         self._thread = ThreadPoolExecutor(1, "spool")
         self._waiting = 0
-        self.carriages = [Carriage(self, route, pauses, metrics, log) for route in routes]
+        self.carriages = [Carriage(self, route, bounds, metrics, log) for route in routes]
         self._tasks: list[asyncio.Task[None]] = []
 
     def has_room(self) -> bool:
         """Whether alerts may come."""
-        return self._waiting < self._most_waiting
+        return self._waiting < self._bounds.waiting
 
     async def start(self) -> None:
         """Goes on with what waits."""
@@ -162,7 +155,7 @@ async def excerpts_of(marker: Marker, query: str, hits: Sequence[Json]) -> list[
     """The excerpts of an alert; none where the words can't be had, or not in time."""
     try:
         excerpts = await asyncio.wait_for(marker.excerpts(query, hits), SECONDS_OF_EXCERPTS)
-    except (asyncio.TimeoutError, Ended):
+    except (asyncio.TimeoutError, Behind, Ended, EngineFailed):
         return []
     return [{"field": one["field"], "pieces": one["pieces"]} for one in excerpts]
 
@@ -170,12 +163,12 @@ async def excerpts_of(marker: Marker, query: str, hits: Sequence[Json]) -> list[
 class Carriage:
     """The work on one route."""
 
-    def __init__(self, courier: Courier, route: Route, pauses: Pauses, metrics: Metrics, log: Log) -> None:
+    def __init__(self, courier: Courier, route: Route, bounds: Bounds, metrics: Metrics, log: Log) -> None:
         self.route = route
         self.news = asyncio.Event()
         self.last_failure: str | None = None
         self._courier = courier
-        self._pauses = pauses
+        self._bounds = bounds
         self._log = log
         self._taken = metrics.deliveries.labels(route.name, "taken")
         self._failed = metrics.deliveries.labels(route.name, "failed")
@@ -194,7 +187,7 @@ class Carriage:
                 wait = await (self._start_lanes() if self.route.by_query else self._carry_first())
             except sqlite3.Error as error:
                 self._log.event("spool failed", route=self.route.name, why=str(error))
-                wait = self._pauses.most
+                wait = self._bounds.most
             try:
                 await asyncio.wait_for(self.news.wait(), wait)
             except asyncio.TimeoutError:
@@ -289,11 +282,11 @@ class Carriage:
         self.last_failure = str(failure)
         if failure.is_route:
             self._failures += 1
-            pause = self._pauses.after(self._failures)
+            pause = self._bounds.pause_after(self._failures)
             self._route_due = time.monotonic() + pause
         else:
             failures = self._paused.get(parcel.query, (0, 0.0))[0] + 1
-            pause = self._pauses.after(failures)
+            pause = self._bounds.pause_after(failures)
             self._paused[parcel.query] = (failures, time.monotonic() + pause)
         self._log.event("not delivered", route=self.route.name, query=parcel.query, id=parcel.id, why=str(failure),
                         pause=round(pause, 2))

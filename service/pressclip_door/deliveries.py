@@ -7,7 +7,7 @@ import time
 from aiohttp import web
 
 from .bodies import of_json
-from .courier import Courier, Pauses, Route
+from .courier import Bounds, Courier, Route
 from .door import Door
 from .explaining import Explainer
 from .guard import needs
@@ -35,9 +35,9 @@ def courier_of(settings: Settings, explainer: Explainer, metrics: Metrics, log: 
     if not settings.deliveries or settings.spool is None:
         return None
     limits = settings.limits
-    pauses = Pauses(limits.first_pause_seconds, limits.most_pause_seconds)
-    return Courier(Spool(settings.spool), [route_of(one) for one in settings.deliveries], explainer, pauses,
-                   limits.deliveries_waiting, metrics, log)
+    bounds = Bounds(limits.first_pause_seconds, limits.most_pause_seconds, limits.deliveries_waiting)
+    return Courier(Spool(settings.spool), [route_of(one) for one in settings.deliveries], explainer, bounds, metrics,
+                   log)
 
 
 class Deliveries:

@@ -20,7 +20,8 @@ from .trial import Trial
 
 @dataclass
 class Door:
-    """One door. `handled` counts the requests that are worked on; `draining` is set once the end has begun."""
+    """One door. `handled` counts the requests that are worked on, and `bytes_read` the bytes of bodies that are read;
+    `draining` is set once the end has begun."""
 
     settings: Settings
     engine: Engine
@@ -35,6 +36,7 @@ class Door:
     log: Log
     courier: Courier | None = None
     handled: int = 0
+    bytes_read: int = 0
     draining: asyncio.Event = field(default_factory=asyncio.Event)
 
     @property

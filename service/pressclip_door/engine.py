@@ -12,6 +12,7 @@ from pressclip_service.errors import EngineFailed, ServiceError
 from pressclip_service.replies import number_of
 
 from .pipe import Awaited, Ended, Owed, Pipe, Sink
+from .pipe import Behind as Behind
 
 FIRST_PAUSE_SECONDS = 0.1
 MOST_PAUSE_SECONDS = 10.0
@@ -21,10 +22,6 @@ _FIRST = b'{"op":"match","articles":[{"id":"a","fields":{}}]}'
 _SHOWS_HITS = b'{"alerts":[{"article":"a","hits":'
 
 Batch = Sequence[tuple[Owed, bytes]]
-
-
-class Behind(Exception):
-    """Too much waits for the engine already; nothing was sent."""
 
 
 class Follower(Protocol):
@@ -63,7 +60,6 @@ class Engine:
         self._follower = follower
         self._pipe: Pipe | None = None
         self._is_stopping = False
-        self._was_ready = False
         self._answered = 0
         self._over = asyncio.Event()
         self._pause = FIRST_PAUSE_SECONDS
@@ -110,6 +106,8 @@ class Engine:
             raise Behind()
         awaited = Awaited()
         self.send(line, awaited)
+        if self._pipe is not None:
+            self._pipe.flush()
         return await awaited.reply()
 
     def send(self, line: bytes, sink: Sink) -> None:
@@ -127,13 +125,17 @@ class Engine:
         """Begins a life, and waits for a first reply, which comes once all is replayed."""
         beside = self._beside()
         besides = [] if beside is None else [asyncio.create_task(beside)]
-        pipe = Pipe(self._hear, self._follower.told, self._end)
+        pipe = Pipe(self._hear, self._follower.told, lambda status: self._end(pipe, status))
         await pipe.start(self._command)
         self._pipe = pipe
         self._answered = 0
         awaited = Awaited()
         pipe.send(Owed(_FIRST, awaited, time.perf_counter()))
-        reply, *_ = await asyncio.gather(awaited.reply(), *besides)
+        try:
+            reply, *_ = await asyncio.gather(awaited.reply(), *besides)
+        except BaseException:
+            pipe.kill()
+            raise
         self.shows_hits = reply.startswith(_SHOWS_HITS)
         self.is_ready = True
         self._pause = FIRST_PAUSE_SECONDS
@@ -185,18 +187,19 @@ class Engine:
         finally:
             self._handing_out = None
 
-    def _end(self, status: int) -> None:
+    def _end(self, pipe: Pipe, status: int) -> None:
         """Fails what is owed, and starts another engine, unless this is the end that was asked for."""
-        assert self._pipe is not None
-        self._was_ready, self.is_ready = self.is_ready, False
-        for owed in self._pipe.owed:
-            owed.sink.fail(Ended(f"the engine ended with status {status}"))
-        self._pipe.owed.clear()
-        self._pipe.bytes_owed = 0
+        for owed in pipe.owed:
+            owed.sink.fail(Ended(f"the engine ended with status {status}", status))
+        pipe.owed.clear()
+        pipe.bytes_owed = 0
+        if pipe is not self._pipe:
+            return
+        was_ready, self.is_ready = self.is_ready, False
         self._freed.set()
         if self._is_stopping:
             self._over.set()
-        elif self._was_ready:
+        elif was_ready:
             self._follower.ended(status)
             self._restarting = asyncio.get_running_loop().create_task(self._restart())
 

@@ -9,11 +9,13 @@ import time
 from pathlib import Path
 from typing import Any, Sequence
 
-from .pipe import Awaited, Ended, Owed, Pipe
+from .pipe import Awaited, Behind, Ended, Owed, Pipe
 
 Json = dict[str, Any]
 _BUILT = Path(__file__).resolve().parents[2] / "crates" / "pressclip_explain" / "out" / "pressclip-explain"
 SECONDS_TO_END = 10.0
+MOST_OWED = 1_024
+MOST_BYTES_OWED = 16 << 20
 
 
 def explainer_command() -> list[str]:
@@ -43,13 +45,16 @@ class Explainer:
         return await self._ask({"line": line})
 
     async def _ask(self, value: Json) -> Json:
-        """The program's reply; `Ended` where it ended before it gave one, `EngineFailed` where it can't be started."""
+        """The program's reply; `Behind` where too much waits for it, `Ended` where it ended before it gave one, and
+        `EngineFailed` where it can't be started."""
         async with self._starting:
             if self._pipe is None or self._pipe.is_over:
                 pipe = Pipe(hear, lambda text: None, self._end)
                 await pipe.start(self._command)
                 self._over.clear()
                 self._pipe = pipe
+        if len(self._pipe.owed) >= MOST_OWED or self._pipe.bytes_owed >= MOST_BYTES_OWED:
+            raise Behind()
         awaited = Awaited()
         text = json.dumps(value, ensure_ascii=False, separators=(",", ":"))
         self._pipe.send(Owed(text.encode(errors="surrogatepass"), awaited, time.perf_counter()))

@@ -6,19 +6,19 @@ import json
 import re
 import time
 from collections import deque
-from typing import Any, Awaitable
+from typing import Awaitable
 
 from pressclip_service.replies import CHANGES, Kind, kind_of
 
 from .catalog import Catalog
-from .courier import Courier, Raised
+from .courier import Courier
 from .engine import Batch
 from .log import Log
 from .metrics import Metrics
 from .pipe import Question
+from .raised import Raised, raised_by
 from .ring import Ring
 
-Json = dict[str, Any]
 MOST_BYTES_OF_MATCHES = 8 << 20
 _MATCH = b'{"alerts":'
 # A quotation mark inside a text is written with a backslash, so this stands where an alert does and nowhere else.
@@ -60,12 +60,12 @@ class Following:
                     continue
                 self._take_match(owed.line)
                 if _ALERTED in reply:
-                    raised += self._alerts(owed.line, json.loads(reply)["alerts"])
+                    raised += raised_by(owed.line, json.loads(reply)["alerts"], time.time())
             else:
                 self._take_other(owed.line, reply)
         for one in raised:
             self._metrics.alerts.inc(len(one.queries))
-            self._ring.add(one.article, one.queries, one.fields, one.hits, one.at)
+            self._ring.add(one)
         courier = self.courier
         if courier is None:
             return None
@@ -92,12 +92,6 @@ class Following:
         self._bytes_of_matches += len(line)
         while len(kept) > self._articles_kept or self._bytes_of_matches > MOST_BYTES_OF_MATCHES:
             self._bytes_of_matches -= len(kept.popleft())
-
-    def _alerts(self, line: bytes, alerts: list[Json]) -> list[Raised]:
-        """The articles of a match of which queries hold."""
-        now = time.time()
-        return [Raised(alert["article"], alert["queries"], article["fields"], alert.get("hits"), now)
-                for article, alert in zip(json.loads(line)["articles"], alerts) if alert["queries"]]
 
     def told(self, text: str) -> None:
         """Takes what the engine told on standard error into the log and the figures."""

@@ -11,14 +11,16 @@ from urllib.parse import unquote_to_bytes, urlsplit
 
 from aiohttp import hdrs, web
 
+from pressclip_service.errors import EngineFailed
+
 from .courier import NotSpooled
 from .door import Door
-from .engine import Behind
-from .pipe import Ended
+from .pipe import Behind, Ended
 from .problems import Problem
 from .tokens import ANYBODY, Role, Token, token_given
 
 Handler = Callable[[web.Request], Awaitable[web.StreamResponse]]
+Middleware = Callable[[web.Request, Handler], Awaitable[web.StreamResponse]]
 Handling = TypeVar("Handling", bound=Callable[..., Any])
 SAFE_METHODS = ("GET", "HEAD")
 MOST_HEADERS = 100
@@ -31,6 +33,7 @@ SECURITY_HEADERS = {
 }
 _REQUEST_ID = re.compile(r"[A-Za-z0-9._-]{1,64}")
 _STATUS_WORDS = {404: "path", 405: "method", 413: "body"}
+_SINGLE = (b"transfer-encoding", b"content-length", b"content-type", b"authorization", b"host")
 _LOCAL_NAMES = ("127.0.0.1", "localhost", "[::1]")
 
 
@@ -50,7 +53,7 @@ def problem_of(error: Exception) -> Problem:
         return error
     if isinstance(error, Behind):
         return Problem("behind", headers={"Retry-After": "1"})
-    if isinstance(error, Ended):
+    if isinstance(error, (Ended, EngineFailed)):
         return Problem("ended", str(error), {"Retry-After": "1"})
     if isinstance(error, NotSpooled):
         return Problem("spool", str(error), {"Retry-After": "10"})
@@ -116,16 +119,16 @@ class Guard:
             raise Problem("headers", f"at most {MOST_HEADERS} header fields are taken")
         if hdrs.TRANSFER_ENCODING in headers and hdrs.CONTENT_LENGTH in headers:
             raise Problem("request", "a body has a length or a transfer encoding, and not both")
-        for name in (hdrs.TRANSFER_ENCODING, hdrs.CONTENT_LENGTH, hdrs.CONTENT_TYPE, hdrs.AUTHORIZATION):
-            if len(headers.getall(name, [])) > 1:
-                raise Problem("request", f"the header field {name} is there more than once")
+        names = [name.lower() for name, _ in request.raw_headers]
+        if len(set(names)) < len(names) and any(names.count(name) > 1 for name in _SINGLE):
+            raise Problem("request", "a header field is there twice that may be there once")
         if headers.get(hdrs.TRANSFER_ENCODING, "chunked").strip().lower() != "chunked":
             raise Problem("request", "the only transfer encoding is chunked")
         if headers.get(hdrs.CONTENT_ENCODING, "identity").strip().lower() != "identity":
             raise Problem("encoding", "send the body as it is")
         try:
-            unquote_to_bytes(request.rel_url.raw_path).decode()
-            unquote_to_bytes(request.rel_url.raw_query_string).decode()
+            if "%" in request.raw_path:
+                unquote_to_bytes(request.raw_path).decode()
         except UnicodeDecodeError:
             raise Problem("request", "the address is not of UTF-8") from None
 
@@ -134,11 +137,11 @@ class Guard:
         hosts: list[str] = request.headers.getall(hdrs.HOST, [])
         if len(hosts) != 1:
             raise Problem("request", "a request has one Host")
-        name = re.sub(r":\d*$", "", hosts[0]).lower()
-        if self._names is not None and name not in self._names:
+        name = hosts[0].lower()
+        if self._names is not None and re.sub(r":\d*$", "", name) not in self._names:
             raise Problem("host", f"the names of this service are {', '.join(sorted(self._names))}")
         origin = request.headers.get(hdrs.ORIGIN)
-        is_foreign = origin is not None and urlsplit(origin).netloc.lower() != hosts[0].lower()
+        is_foreign = origin is not None and urlsplit(origin).netloc.lower() != name
         is_visit = request.headers.get("Sec-Fetch-Mode") == "navigate" and role_of(request) is Role.OPEN
         if is_foreign or (request.headers.get("Sec-Fetch-Site") == "cross-site" and not is_visit):
             raise Problem("origin")
@@ -158,7 +161,7 @@ def role_of(request: web.Request) -> Role:
     return Role.READ if request.method in SAFE_METHODS else Role.WRITE
 
 
-def guarding(door: Door, tokens: Sequence[Token]) -> Any:
+def guarding(door: Door, tokens: Sequence[Token]) -> Middleware:
     """The middleware of the application."""
     guard = Guard(door, tokens)
 
@@ -172,11 +175,14 @@ def guarding(door: Door, tokens: Sequence[Token]) -> Any:
             guard.look(request)
             response = await handler(request)
         except Exception as error:
+            if request.writer.output_size:
+                door.log.event("broken off", id=name, error=repr(error))
+                raise ConnectionResetError("the answer had begun") from error
             response = refused(door, name, error)
         finally:
             door.handled -= 1
         door.metrics.requests.labels(request.method if response.status != 405 else "other", str(response.status)).inc()
-        door.log.event("request", id=name, method=request.method, path=request.path, status=response.status,
+        door.log.soon("request", id=name, method=request.method, path=request.path, status=response.status,
                        ms=round(1e3 * (time.perf_counter() - start), 2))
         return response
 

@@ -22,10 +22,10 @@ NUMBER: Json = {"type": "integer"}
 BOOLEAN: Json = {"type": "boolean"}
 
 
-def record(needed: Mapping[str, Json], more: Mapping[str, Json] | None = None, is_open: bool = False) -> Json:
+def record(needed: Mapping[str, Json], more: Mapping[str, Json] | None = None) -> Json:
     """The form of an object with these members."""
     return {"type": "object", "properties": {**needed, **(more or {})}, "required": list(needed),
-            "additionalProperties": is_open}
+            "additionalProperties": False}
 
 
 def many(item: Json) -> Json:
@@ -70,7 +70,7 @@ def answered(says: str, form: Json | None, kind: str = "application/json") -> Js
 
 
 def act(says: str, answers: Mapping[int, Json], words: Sequence[str] = (), body: Json | None = None,
-        parameters: Sequence[Json] = (), kind: str = "application/json", is_open: bool = False) -> Json:
+        parameters: Sequence[Json] = (), kind: str = "application/json") -> Json:
     """An operation, with the words of the refusals that are its own."""
     found: Json = {"summary": says, "responses": {str(status): answer for status, answer in answers.items()}}
     by_status: dict[int, list[str]] = {}
@@ -83,8 +83,6 @@ def act(says: str, answers: Mapping[int, Json], words: Sequence[str] = (), body:
         found["requestBody"] = {"required": True, "content": {kind: {"schema": body}}}
     if parameters:
         found["parameters"] = list(parameters)
-    if is_open:
-        found["security"] = []
     return found
 
 
@@ -145,12 +143,15 @@ PATHS: Json = {
                          record({"query": TEXT, "article": known("Article")}))},
     "/deliveries": {"get": act("Says what waits to be delivered", {200: answered(
         "the routes", record({"deliveries": many(known("Delivery"))}))})},
-    "/healthz": {"get": act("Says that the service lives", {200: answered("it does", HEALTH)}, is_open=True)},
+    "/healthz": {"get": act("Says that the service lives", {200: answered("it does", HEALTH)})},
     "/readyz": {"get": act("Says whether the service answers now",
-                           {200: answered("it does", READY), 503: answered("not now", READY)}, is_open=True)},
+                           {200: answered("it does", READY), 503: answered("not now", READY)})},
     "/metrics": {"get": act("Figures for Prometheus", {200: answered("the figures", TEXT, "text/plain")})},
-    "/openapi.json": {"get": act("This document", {200: answered("the document", READING)}, is_open=True)},
+    "/openapi.json": {"get": act("This document", {200: answered("the document", READING)})},
 }
+
+for _path in ("/healthz", "/readyz", "/openapi.json"):
+    PATHS[_path]["get"]["security"] = []
 
 DOCUMENT: Json = {
     "openapi": "3.1.0",

@@ -15,7 +15,16 @@ INPUT, OUTPUT, ERRORS = 0, 1, 2
 
 
 class Ended(Exception):
-    """The program ended before it replied; of a change nobody knows whether it was kept."""
+    """The program ended before it replied, with its status if that is known; of a change nobody knows whether it was
+    kept."""
+
+    def __init__(self, why: str, status: int | None = None) -> None:
+        super().__init__(why)
+        self.status = status
+
+
+class Behind(Exception):
+    """Too much waits for the program already; nothing was sent."""
 
 
 class Sink(Protocol):
@@ -115,10 +124,13 @@ class Pipe(asyncio.SubprocessProtocol):
         self.owed.append(owed)
         self.bytes_owed += len(owed.line)
         if not self._unsent:
-            asyncio.get_running_loop().call_soon(self._write)
+            asyncio.get_running_loop().call_soon(self.flush)
         self._unsent.append(owed.line)
 
-    def _write(self) -> None:
+    def flush(self) -> None:
+        """Writes what is on its way now."""
+        if not self._unsent:
+            return
         assert self._transport is not None
         pipe = self._transport.get_pipe_transport(INPUT)
         lines, self._unsent = self._unsent, []
@@ -128,8 +140,7 @@ class Pipe(asyncio.SubprocessProtocol):
     def close_input(self) -> None:
         """Tells it that no more lines come."""
         assert self._transport is not None
-        if self._unsent:
-            self._write()
+        self.flush()
         pipe = self._transport.get_pipe_transport(INPUT)
         if pipe is not None:
             pipe.close()

@@ -5,7 +5,9 @@ from __future__ import annotations
 import json
 from collections import deque
 from dataclasses import dataclass, field
-from typing import Any, Callable, Mapping, Sequence
+from typing import Any, Callable
+
+from .raised import Raised
 
 Json = dict[str, Any]
 # An article with more queries has several alerts.
@@ -16,35 +18,32 @@ _MOST_TITLE = 200
 
 @dataclass
 class Alert:
-    """Queries that hold of an article, and the article's fields; their hits where the engine shows them. `excerpts` are
-    made where somebody asks for them."""
+    """Queries that hold of an article, under a number. `excerpts` are made where somebody asks for them."""
 
     number: int
-    article: str
-    queries: Sequence[str]
-    fields: Mapping[str, str]
-    hits: Sequence[Sequence[Json]] | None
-    at: float
+    raised: Raised
     excerpts: list[Json] | None = field(default=None)
 
     def size(self) -> int:
         """About how many bytes it takes."""
-        hits = 100 * sum(map(len, self.hits)) if self.hits else 0
-        return _BYTES_BESIDE + hits + sum(map(len, self.queries)) + sum(map(len, self.fields.values()))
+        raised = self.raised
+        hits = 100 * sum(map(len, raised.hits)) if raised.hits else 0
+        return _BYTES_BESIDE + hits + sum(map(len, raised.queries)) + len(raised.matched.line)
 
     def document(self, prefix: str, with_excerpts: bool) -> Json | None:
         """It as JSON, with the queries whose ids begin so alone; None where none does. With excerpts it has its time
         too, in seconds of the epoch, and the field `title` where there is one."""
-        queries = [query for query in self.queries if query.startswith(prefix)] if prefix else list(self.queries)
+        raised = self.raised
+        queries = [query for query in raised.queries if query.startswith(prefix)] if prefix else list(raised.queries)
         if not queries:
             return None
-        said: Json = {"article": self.article, "queries": queries}
+        said: Json = {"article": raised.article, "queries": queries}
         if with_excerpts:
             named = set(queries)
             said["excerpts"] = [one for one in self.excerpts or () if one["query"] in named]
-            said["at"] = round(self.at, 3)
-            if "title" in self.fields:
-                said["title"] = self.fields["title"][:_MOST_TITLE]
+            said["at"] = round(raised.at, 3)
+            if "title" in raised.fields:
+                said["title"] = raised.fields["title"][:_MOST_TITLE]
         return said
 
 
@@ -66,12 +65,10 @@ class Ring:
         self._most = most
         self._most_bytes = most_bytes
 
-    def add(self, article: str, queries: Sequence[str], fields: Mapping[str, str],
-            hits: Sequence[Sequence[Json]] | None, at: float) -> None:
+    def add(self, raised: Raised) -> None:
         """Takes the next alert, and wakes whoever listens. The oldest go where there are too many."""
-        for start in range(0, len(queries), MOST_QUERIES):
-            part = slice(start, start + MOST_QUERIES)
-            alert = Alert(self.next_number, article, queries[part], fields, hits[part] if hits else None, at)
+        for start in range(0, len(raised.queries), MOST_QUERIES):
+            alert = Alert(self.next_number, raised.part(start, MOST_QUERIES))
             self.next_number += 1
             self._alerts.append(alert)
             self._sizes.append(alert.size())

@@ -26,6 +26,7 @@ class Limits:
     """What one client, and all together, may take."""
 
     body_bytes: int = 4 << 20
+    bodies_bytes: int = 256 << 20
     requests_a_second: float = 2_000.0
     burst: int = 4_000
     connections: int = 4_096

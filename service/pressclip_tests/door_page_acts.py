@@ -157,8 +157,12 @@ def queries_are_saved_found_changed_and_deleted(browser: Browser, door: Door) ->
     browser.until(lambda: len(browser.all("#query-list li")) == 10, "not ten are found by their ids")
     browser.press("down", "down", "enter")
     browser.shows("#write-heading", "other-071")
+    leaves = """const event = new Event("beforeunload", {cancelable: true});
+        dispatchEvent(event); return !event.defaultPrevented"""
+    need(browser.run(leaves) is True, "a page without changes can't be left")
     write(browser, "milk")
     browser.shows("#write-note", "Changed, and not saved yet")
+    need(browser.run(leaves) is False, "a page with changes is left without a question")
     browser.click("#query-id")
     browser.press_control("a")
     browser.type("other-072")

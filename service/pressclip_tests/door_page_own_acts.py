@@ -122,8 +122,13 @@ def the_page_goes_on_where_the_door_was_ended(browser: Browser) -> None:
             door.process.kill()
             door.process.wait()
             browser.shows("#status-text", "Reconnecting")
+            write(browser, "Siemens Energy")
+            browser.shows("#fault", "The service does not answer.")
+            need(not browser.find("#remarks").is_displayed(), "remarks without an answer")
             with Door("--journal", journal, port=door.port) as next_door:
                 browser.shows("#status-text", "Live")
+                browser.type(" wins")
+                browser.has("#remarks", "A blank is read as OR")
                 next_door.match("a2", "tea")
                 browser.until(lambda: "a2" in browser.texts("#alert-list .headline"), "no alert of the next door")
                 need(len(browser.all("#alert-list .gap")) == 1, "nobody says that alerts may be missing")

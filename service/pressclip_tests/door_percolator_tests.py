@@ -4,9 +4,9 @@ what Elasticsearch's queries mean."""
 from __future__ import annotations
 
 import json
+import os
 import signal
 import subprocess
-import time
 from functools import partial
 from pathlib import Path
 from random import Random
@@ -141,6 +141,7 @@ def clients_percolate() -> None:
         {"0_message": ["A new <em>bonsai</em> <em>tree</em>, and Tea."], "2_message": ["a <em>tree</em>"]},
         {"0_message": ["A new bonsai tree, and <em>Tea</em>."]}], f"{hits}")
     need(slots_of(came[3]["gave"]["hits"]["hits"]) == {"2": [0]}, f"{came[3]}")
+    need([one["gave"]["hits"]["max_score"] for one in came[2:]] == [1.0, 0.0, 1.0], "the scores are others")
     shown = came[4]["gave"]["hits"]
     need(shown["total"]["value"] == 2 and [hit["_id"] for hit in shown["hits"]] == ["2"], f"{shown}")
     need("_source" not in shown["hits"][0], f"{shown}")
@@ -199,6 +200,7 @@ def texts_of_operators_mean_what_lucene_says() -> None:
 # Texts, the fields that are searched, and of which of the documents below them they hold, worked out by hand.
 TEXT_ROWS: tuple[tuple[str, Json, list[int]], ...] = (
     ("query_string", {"query": "green tea", "fields": ["title", "text"], "default_operator": "and"}, [0]),
+    ("query_string", {"query": "green tea AND milk", "fields": ["title", "text"]}, [0]),
     ("query_string", {"query": "title:green AND text:tea"}, [0, 1]),
     ("query_string", {"query": "title:(green black) -cake", "default_field": "text"}, [0, 1, 3]),
     ("query_string", {"query": "-tea", "default_field": "text"}, [2, 3, 4]),
@@ -220,6 +222,8 @@ TEXT_ROWS: tuple[tuple[str, Json, list[int]], ...] = (
     ("simple_query_string", {"query": "green -tea", "fields": ["title", "text"], "default_operator": "and"}, [3]),
     ("simple_query_string", {"query": "((tea\" + )mil* ~", "fields": ["text"]}, [0, 1, 3]),
     ("simple_query_string", {"query": "\"green tea\"", "fields": ["title", "text"]}, [0]),
+    ("simple_query_string", {"query": "--tea", "fields": ["text"]}, [0, 1]),
+    ("simple_query_string", {"query": "- tea", "fields": ["text"]}, [0, 1]),
     ("simple_query_string", {"query": "()&", "fields": ["text"]}, []))
 ROW_DOCUMENTS: list[Json] = [
     {"title": "Green tea", "text": "tea with milk", "count": 3, "tag": "Red", "day": "2020-02-29"},
@@ -314,11 +318,16 @@ def what_has_no_meaning_is_refused() -> None:
         nested = {"bool": {"must": nested}}
     refused(door.ask("PUT", f"{BASE}/strict/_doc/2", {"query": nested}), 400, "30 deep")
     refused(door.ask("PUT", f"{BASE}/strict/_doc/2", {"text": "tea"}), 400, "without a query in [query]")
-    long = {"query": {"match": {"text": " ".join(f"word{at}" for at in range(5_000))}}}
-    refused(door.ask("PUT", f"{BASE}/strict/_doc/2", long), 400, "the engine refuses the query")
+    long = {"match": {"text": " ".join(f"word{at}" for at in range(5_000))}}
+    refused(door.ask("PUT", f"{BASE}/strict/_doc/2", {"query": long}), 400, "the engine refuses the query")
     need(asked(door, "GET", "/strict/_count")["count"] == 1, "a refused query is kept")
     shown = door.ask("GET", "/queries?prefix=strict/").value["queries"]
     need([one["query"] for one in shown] == ["text:tea"], f"{shown}")
+    two_of_many = {"match": {"text": {"query": " ".join(f"w{at}" for at in range(60)), "minimum_should_match": 2}}}
+    items = bulk(door, "strict", [two_of_many, {"match": {"text": "tea"}}, long, {"match": {"text": "milk"}}])
+    need([item["status"] for item in items] == [201, 200, 400, 201], f"{items}")
+    found = slots_of(percolated(door, "strict", [{"text": "w7"}, {"text": "w59 w0"}, {"text": "milk word7"}]))
+    need(found == {"0": [1], "3": [2]}, f"{found}")
 
 
 COSTLY: tuple[Json, ...] = (
@@ -332,7 +341,13 @@ COSTLY: tuple[Json, ...] = (
     {"query_string": {"query": "[\t" + "\t" * 60_000, "default_field": "text"}},
     {"simple_query_string": {"query": "(\"" * 30_000, "fields": ["text"]}},
     {"simple_query_string": {"query": "a|b+" * 16_000, "fields": ["text"]}})
-MOST_SECONDS_OF_COSTLY = 5.0
+MOST_SECONDS_OF_COSTLY = 2.0
+
+
+def seconds_of(door: Door) -> float:
+    """How many seconds of the processor a door has taken."""
+    fields = Path(f"/proc/{door.process.pid}/stat").read_text().rpartition(") ")[2].split()
+    return (int(fields[11]) + int(fields[12])) / os.sysconf("SC_CLK_TCK")
 
 
 def costly_queries_are_refused_soon() -> None:
@@ -340,10 +355,10 @@ def costly_queries_are_refused_soon() -> None:
     door = shared()
     emptied(door, "costly", MAPPINGS)
     for query in COSTLY:
-        start = time.monotonic()
+        start = seconds_of(door)
         refused(door.ask("PUT", f"{BASE}/costly/_doc/1", {"query": query}), 400)
-        took = time.monotonic() - start
-        need(took < MOST_SECONDS_OF_COSTLY, f"{str(query)[:100]} took {took:.1f} s")
+        took = seconds_of(door) - start
+        need(took < MOST_SECONDS_OF_COSTLY, f"{str(query)[:100]} took {took:.1f} s of the processor")
     deep = b'{"query":' + b'{"bool":{"must":' * 900 + b"{}" + b"}}" * 900 + b"}"
     refused(door.ask("PUT", f"{BASE}/costly/_doc/1", deep), 400)
     need(asked(door, "GET", "/costly/_count")["count"] == 0, "one is kept")

@@ -228,13 +228,13 @@ def a_slow_listener_is_let_go() -> None:
     """It is told behind which alert to go on; others hear all meanwhile."""
     limits = "unread_bytes = 20000\nunread_seconds = 20"
     with folder() as name, Door(with_settings(name, limits)) as door:
-        queries = [{"id": f"{'q' * 200}{number}", "query": "tea"} for number in range(200)]
+        queries = [{"id": f"{'q' * 200}{number}", "query": "tea"} for number in range(900)]
         door.ask("POST", "/queries", {"queries": queries})
         slow = socket.socket()
         slow.setsockopt(socket.SOL_SOCKET, socket.SO_RCVBUF, 4_096)
         slow.connect(("127.0.0.1", door.port))
         slow.sendall(b"GET /alerts HTTP/1.1\r\nHost: 127.0.0.1\r\n\r\n")
-        with Events(door, "/alerts?prefix=" + "q" * 200 + "7") as events:
+        with Events(door, "/alerts?prefix=" + "q" * 200 + "77") as events:
             count = 0
             while not door.events("listener dropped"):
                 door.match(f"a{count}", "tea")

@@ -10,7 +10,7 @@ from urllib.parse import quote
 
 from .door_runs import DOOR, Door, Json, by_aiohttp, shared, without_hits
 from .explain_tests import FAULTS
-from .grid_runs import DEBIAN_PYTHON
+from .grid_runs import DEBIAN_PYTHON, Grid
 from .judge import SERVICE, folder, need
 from .processes import PATIENCE_SECONDS
 
@@ -235,18 +235,36 @@ def judge_by_schema(checks: list[Any]) -> None:
 
 
 def it_serves_over_any_command() -> None:
-    """A plain command; one that is not there, or does not answer, ends the door with status 1."""
+    """A plain command; one that is not there, or ends before it answers, ends the door with a status that says so."""
     with Door(engine=without_hits()) as door:
         door.put("q1", "tea")
         need(door.match("a1", "tea")["alerts"] == [{"article": "a1", "queries": ["q1"]}], "no alert")
         door.ask("POST", "/articles?hits=true", TEA).refused(409, "hits")
-    for engine, words in (("/nowhere/pressclip", "can't be started"), ("false", "ended with status 1")):
-        done = subprocess.run([DEBIAN_PYTHON, str(DOOR), "--port", "0", "--", engine], stdin=subprocess.DEVNULL,
-                              capture_output=True, text=True, timeout=PATIENCE_SECONDS, check=False)
-        need(done.returncode == 1 and words in done.stderr, f"status {done.returncode}: {done.stderr}")
+    with folder() as name:
+        (Path(name) / "journal").write_bytes(b"no journal")
+        for options, engine, status, words in (
+                ([], "/nowhere/pressclip", 1, "can't be started"), ([], "false", 1, "ended with status 1"),
+                (["--journal", name], without_hits()[0], 3, "ended with status 3")):
+            done = subprocess.run([DEBIAN_PYTHON, str(DOOR), "--port", "0", *options, "--", engine, "run", "0"],
+                                  stdin=subprocess.DEVNULL, capture_output=True, text=True, timeout=PATIENCE_SECONDS,
+                                  check=False)
+            need(done.returncode == status and words in done.stderr, f"status {done.returncode}: {done.stderr}")
+
+
+def it_serves_over_a_grid() -> None:
+    """Queries are registered, listed and matched, and those that were there are known."""
+    with folder() as name, Grid(Path(name), 2, 1, after=1_000) as grid:
+        environment = {"PRESSCLIP_REDIS": f"redis://127.0.0.1:{grid.redis.port}/0"}
+        for number in range(2):
+            with Door("--grid", engine=without_hits(), environment=environment) as door:
+                need(door.ask("GET", "/queries").value["count"] == 3 * number, "other queries are known")
+                door.ask("POST", "/queries", {"queries": [{"id": f"q{n}", "query": "tea"} for n in range(3)]})
+                alerts = door.match("a1", "tea")["alerts"]
+                need(alerts == [{"article": "a1", "queries": ["q0", "q1", "q2"]}], f"{alerts}")
+                door.ends()
 
 
 TESTS: tuple[Callable[[], None], ...] = (
     queries_are_put_shown_and_deleted, ids_of_any_signs_are_named, queries_are_listed_in_pages,
     a_refused_query_has_its_fault_and_place, articles_have_hits_and_marks, queries_are_explained_and_tried,
-    figures_are_those_of_what_was_done, the_document_names_each_route, it_serves_over_any_command)
+    figures_are_those_of_what_was_done, the_document_names_each_route, it_serves_over_any_command, it_serves_over_a_grid)

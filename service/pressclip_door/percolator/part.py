@@ -22,9 +22,9 @@ _USUAL: Mapping[str, tuple[object, ...]] = {
     "max_expansions": (50,), "prefix_length": (0,), "fuzzy_prefix_length": (0,), "fuzzy_max_expansions": (50,),
     "fuzzy_transpositions": (True,), "auto_generate_synonyms_phrase_query": (True,), "analyzer": (None, "standard"),
     "quote_analyzer": (None, "standard"), "rewrite": (None, "constant_score"), "fuzzy_rewrite": (None,),
-    "adjust_pure_negative": (True,), "max_determinized_states": (10_000,), "enable_position_increments": (True,), "escape": (False,),
-    "analyze_wildcard": (False,), "quote_field_suffix": (None,), "relation": (None, "intersects", "INTERSECTS"),
-    "allow_leading_wildcard": (True, False), "flags": (-1, 255, "ALL")}
+    "adjust_pure_negative": (True,), "max_determinized_states": (10_000,), "enable_position_increments": (True,),
+    "escape": (False,), "analyze_wildcard": (False,), "quote_field_suffix": (None,),
+    "relation": (None, "intersects", "INTERSECTS"), "allow_leading_wildcard": (True, False), "flags": (-1, 255, "ALL")}
 
 
 @dataclass(frozen=True)

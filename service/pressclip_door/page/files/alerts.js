@@ -106,7 +106,7 @@ export class Alerts {
     const rest = queries.length - shown.length;
     return element("li", {},
       element("p", { class: "from" },
-        element("span", { class: "headline" }, title || titleIn(excerpts) || article),
+        element("span", { class: "headline", dir: "auto" }, title || titleIn(excerpts) || article),
         element("time", { datetime: when.toISOString() }, TIME.format(when))),
       ...shown.map((query) => this.#queryNode(query, article, excerpts.filter((one) => one.query === query))),
       ...(rest > 0 ? [element("p", { class: "quiet" }, `and ${counted(rest, "more query", "more queries")}`)] : []));
@@ -125,7 +125,7 @@ export class Alerts {
       onclick: () => this.opens(query, article),
     }, query);
     const texts = excerpts.map(({ field, pieces }) =>
-      element("p", { class: "excerpt", "data-field": field }, ...markedNodes(pieces)));
+      element("p", { class: "excerpt", dir: "auto", "data-field": field }, ...markedNodes(pieces)));
     return element("div", { class: "of-query" }, button, ...texts);
   }
 }

@@ -35,6 +35,11 @@ export class Draft {
       this.#say("");
       this.#note();
     });
+    window.addEventListener("beforeunload", (event) => {
+      if (this.#isUnsaved) {
+        event.preventDefault();
+      }
+    });
   }
 
   /** Whether leaving it would lose what was written. */

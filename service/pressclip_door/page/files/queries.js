@@ -114,7 +114,7 @@ export class Queries {
    */
   #row({ id, query }) {
     const button = element("button", { type: "button", "data-id": id, onclick: () => this.opens(id) },
-      element("span", { class: "name" }, id), element("span", { class: "code" }, query));
+      element("span", { class: "name", dir: "auto" }, id), element("span", { class: "code", dir: "auto" }, query));
     if (id === this.#open) {
       button.setAttribute("aria-current", "true");
     }

@@ -44,11 +44,7 @@ export class Reading {
   constructor(box, heard) {
     this.box = box;
     this.heard = heard;
-    const ask = later(QUIET_MILLISECONDS, () => this.#ask());
-    box.onChange(() => {
-      this.box.mark([]);
-      ask();
-    });
+    box.onChange(later(QUIET_MILLISECONDS, () => this.#ask()));
     find("more-remarks", HTMLButtonElement).addEventListener("click", () => {
       this.#areAllShown = true;
       this.#showRemarks();
@@ -87,6 +83,7 @@ export class Reading {
         this.#show(text, explained);
       }
     } catch (error) {
+      this.#show("", null);
       this.#showFault(error instanceof Error ? error.message : String(error));
     }
   }
