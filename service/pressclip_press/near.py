@@ -34,6 +34,21 @@ def near_holds(left: Sequence[Span], right: Sequence[Span], within: int, ordered
     return _is_followed(left, right, within, gaps) or not ordered and _is_followed(right, left, within, gaps)
 
 
+def words_are_near(left: Sequence[int], right: Sequence[int], within: int, ordered: bool) -> bool:
+    """Whether a place of the one and a place of the other, both in ascending order, are different and at most `within`
+    apart; with `ordered` the left one first. The end of a sentence takes a place, as `Gaps` counts. Cost: a search for
+    each place on the left."""
+    for place in left:
+        at = bisect_left(right, place + 1)
+        if at < len(right) and right[at] <= place + within:
+            return True
+        if not ordered:
+            at = bisect_left(right, place) - 1
+            if at >= 0 and right[at] >= place - within:
+                return True
+    return False
+
+
 def near_spans(left: Sequence[Span], right: Sequence[Span], within: int, ordered: bool, gaps: Gaps) -> list[Span]:
     """The spans from the first to the last position of each pair that is near, in ascending order."""
     found = set(_followed(left, right, within, gaps))
