@@ -331,15 +331,15 @@ class Times:
 
 
 def _plain_queries(part: Part) -> list[str]:
-    """The part as queries of the engine on its field of text, of which one has to hold: each a word, words in a row or
-    the beginning of a word. None where one can't be said so."""
+    """The part as queries of the engine on its field of text, of which one has to hold: each a word or the beginning of
+    one. None where one can't be said so. Words in a row may run over the end of a sentence, which is a word there."""
     if isinstance(part, AnyPlaced):
         queries = [_plain_queries(one) for one in part.parts]
         return [query for held in queries for query in held] if all(queries) else []
-    if not isinstance(part, InRow) or part.codes or not part.row.is_plain:
+    if not isinstance(part, InRow) or part.codes or not part.row.is_plain or len(part.row.slots) > 1:
         return []
-    words = [slot.word for slot in part.row.slots]
-    return [front(TEXT, words[0][:-1]) if part.row.slots[0].is_wild else phrase(TEXT, words)]
+    only = part.row.slots[0]
+    return [front(TEXT, only.word[:-1]) if only.is_wild else word(TEXT, only.word)]
 
 
 def _single_words(part: Part) -> list[str]:

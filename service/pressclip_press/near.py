@@ -11,8 +11,8 @@ from .library import LIBRARY
 Span = tuple[int, int]
 
 
-# The library's proved nearness, `(first, second, between, ordered, fields)`, of two queries of the engine, each a word,
-# words in a row or the beginning of a word; None where the library isn't built.
+# The library's proved nearness, `(first, second, between, ordered, fields)`, of two queries of the engine, each a word or
+# the beginning of one; None where the library isn't built.
 proved_near: Callable[[str, str, int, bool, dict[str, str]], bool] | None = getattr(LIBRARY, "near_holds", None)
 
 

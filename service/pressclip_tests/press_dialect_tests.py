@@ -185,10 +185,10 @@ def nearness_is_its_definition() -> None:
 
 
 def nearness_is_the_librarys() -> None:
-    """What the library proves of two words, rows or beginnings is what is judged by places."""
+    """What the library proves of two words or beginnings is what is judged by places."""
     dice = Random("library")
     assert proved_near is not None
-    sides = ["tea", "milk", '"green tea"', "te*"]
+    sides = ["tea", "milk", '"green tea"', "te*", "green"]
     preparer = Preparer(Profile.load(None))
     for _ in range(RANDOM_TEXTS):
         text = "".join(word + dice.choice([" ", " ", " ", ". ", ", ", "\n\n"])
