@@ -13,16 +13,17 @@ from itertools import combinations, groupby, product
 from math import comb
 from typing import Protocol
 
-from .near import Gaps, Span, away, near_holds, near_spans, proved_near, slop_spans
+from .near import Gaps, Span, away, near_holds, near_spans, proved_near, slop_spans, words_are_near
 from .preparing import SEPARATOR
 from .profile_query import EVERY, Wide, between, every, front, phrase, some, word
 from .terms import Row, Slot
 from .tree import TEXT, WILD_MANY, WILD_ONE, Unit
-from .words import Words, with_ends_as_words
+from .words import Words, folded_words, places_of, with_ends_as_words
 
 BACKWARDS = "backwards"
 _MOST_COMBINATIONS = 64
 _MOST_PAIRS = 4
+_MOST_ASKED = 2
 
 
 class Article(Protocol):
@@ -47,6 +48,8 @@ class Pages:
         self._words: dict[str, Words] = {}
         self._written: dict[str, Words] = {}
         self._with_ends: dict[str, str] = {}
+        self._scales: dict[str, dict[str, list[int]]] = {}
+        self._asked = 0
 
     def words(self, field: str) -> Words:
         """The folded words of a field."""
@@ -65,6 +68,21 @@ class Pages:
         if field not in self._with_ends:
             self._with_ends[field] = with_ends_as_words(self.article.fields((field,)).get(field, ""))
         return self._with_ends[field]
+
+    def on_scale(self, field: str, one_of: Sequence[str]) -> Sequence[int]:
+        """Where one of these words stands, in ascending order, where the end of a sentence takes a place too."""
+        scale = self._scales.get(field)
+        if scale is None:
+            scale = self._scales[field] = places_of(folded_words(self.with_ends(field)))
+        if len(one_of) == 1:
+            return scale.get(one_of[0], ())
+        return sorted(place for word in one_of for place in scale.get(word, ()))
+
+    def asks_library(self) -> bool:
+        """Whether the library is asked once more: it reads the whole text each time, so that for many queries the words
+        are cut once instead."""
+        self._asked += 1
+        return self._asked <= _MOST_ASKED
 
     def engine_words(self, field: str) -> Sequence[str]:
         """The words of a field that is made for the engine alone."""
@@ -313,15 +331,23 @@ class Times:
 
 
 def _plain_queries(part: Part) -> list[str]:
-    """The part as queries of the engine on its field of text, of which one has to hold: each a word, words in a row or
-    the beginning of a word. None where one can't be said so."""
+    """The part as queries of the engine on its field of text, of which one has to hold: each a word or the beginning of
+    one. None where one can't be said so. Words in a row may run over the end of a sentence, which is a word there."""
     if isinstance(part, AnyPlaced):
         queries = [_plain_queries(one) for one in part.parts]
         return [query for held in queries for query in held] if all(queries) else []
-    if not isinstance(part, InRow) or part.codes or not part.row.is_plain:
+    if not isinstance(part, InRow) or part.codes or not part.row.is_plain or len(part.row.slots) > 1:
         return []
-    words = [slot.word for slot in part.row.slots]
-    return [front(TEXT, words[0][:-1]) if part.row.slots[0].is_wild else phrase(TEXT, words)]
+    only = part.row.slots[0]
+    return [front(TEXT, only.word[:-1]) if only.is_wild else word(TEXT, only.word)]
+
+
+def _single_words(part: Part) -> list[str]:
+    """The words of which one has to stand there, where all are single ones without signs; else none."""
+    if isinstance(part, AnyPlaced):
+        held = [_single_words(one) for one in part.parts]
+        return [word for words in held for word in words] if all(held) else []
+    return [part.row.word] if isinstance(part, InRow) and part.row.word is not None and not part.codes else []
 
 
 def _both(left: Part, right: Part, unless: bool) -> Wide:
@@ -360,10 +386,19 @@ class NearEach:
         pairs = list(product(_plain_queries(self.left), _plain_queries(self.right)))
         return [] if self.unless or len(pairs) > _MOST_PAIRS else pairs
 
+    @cached_property
+    def _words(self) -> tuple[Sequence[str], Sequence[str]] | None:
+        """The words on both sides, where all are single ones, or None."""
+        left, right = _single_words(self.left), _single_words(self.right)
+        return None if self.unless or not left or not right else (left, right)
+
     def holds(self, pages: Pages) -> bool:
-        if proved_near and self._pairs:
+        if proved_near and self._pairs and pages.asks_library():
             fields = {TEXT: pages.with_ends(self.field)}
             return any(proved_near(left, right, self.within - 1, self.ordered, fields) for left, right in self._pairs)
+        if self._words:
+            one, other = (pages.on_scale(self.field, words) for words in self._words)
+            return words_are_near(one, other, self.within, self.ordered)
         left, right = self.left.spans(pages), self.right.spans(pages)
         if not left:
             return False

@@ -11,8 +11,8 @@ from .library import LIBRARY
 Span = tuple[int, int]
 
 
-# The library's proved nearness, `(first, second, between, ordered, fields)`, of two queries of the engine, each a word,
-# words in a row or the beginning of a word; None where the library isn't built.
+# The library's proved nearness, `(first, second, between, ordered, fields)`, of two queries of the engine, each a word or
+# the beginning of one; None where the library isn't built.
 proved_near: Callable[[str, str, int, bool, dict[str, str]], bool] | None = getattr(LIBRARY, "near_holds", None)
 
 
@@ -32,6 +32,21 @@ def near_holds(left: Sequence[Span], right: Sequence[Span], within: int, ordered
     `within` places after the earlier ends; with `ordered` the left one is the earlier. Both are in ascending order.
     Cost: a search for each span."""
     return _is_followed(left, right, within, gaps) or not ordered and _is_followed(right, left, within, gaps)
+
+
+def words_are_near(left: Sequence[int], right: Sequence[int], within: int, ordered: bool) -> bool:
+    """Whether a place of the one and a place of the other, both in ascending order, are different and at most `within`
+    apart; with `ordered` the left one first. The end of a sentence takes a place, as `Gaps` counts. Cost: a search for
+    each place on the left."""
+    for place in left:
+        at = bisect_left(right, place + 1)
+        if at < len(right) and right[at] <= place + within:
+            return True
+        if not ordered:
+            at = bisect_left(right, place) - 1
+            if at >= 0 and right[at] >= place - within:
+                return True
+    return False
 
 
 def near_spans(left: Sequence[Span], right: Sequence[Span], within: int, ordered: bool, gaps: Gaps) -> list[Span]:

@@ -93,6 +93,8 @@ class Runner:
         """Waits for something to do, and does it."""
         if self.termination.is_asked:
             self.input.end()
+            if self._is_done():
+                return
         ready = self._ready()
         if self.engine.output in ready:
             self._take_replies()

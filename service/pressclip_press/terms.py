@@ -127,8 +127,16 @@ class Row:
             return True
         return word[-1] == WILD_MANY and not is_wild(word[:-1]) and not SEPARATOR.startswith(word[:-1])
 
+    @cached_property
+    def word(self) -> str | None:
+        """The one word that it is, without marks, capitals and wildcards, or None."""
+        is_one = len(self.slots) == 1 and self.is_plain and not self.slots[0].is_wild
+        return self.slots[0].word if is_one else None
+
     def spans(self, words: Words, written: Callable[[], Words]) -> list[Span]:
         """From where to where it stands, in ascending order."""
+        if self.word is not None:
+            return [(place, place) for place in words.places.get(self.word, ())]
         count = len(self.slots)
         anchor = min(range(count), key=lambda number: (self.slots[number].is_any, self.slots[number].is_wild))
         found: list[Span] = []

@@ -30,21 +30,27 @@ ABBREVIATIONS = frozenset("""mr mrs ms dr prof st jr sr inc ltd co corp vs etc n
 
 def _spans_by_expression(text: str) -> list[tuple[int, int]]:
     """Where the words stand, by the word boundaries of the annex as the `regex` package has them."""
-    if _COMMON.fullmatch(text):
-        return [found.span() for found in _COMMON_WORD.finditer(text)]
     cuts = [found.start() for found in _CUT.finditer(text)]
     return [(start, end) for start, end in zip(cuts, cuts[1:]) if _IS_WORD.search(text, start, end)]
 
 
-def _spans() -> Callable[[str], Sequence[tuple[int, int]]]:
-    """What cuts texts: the library, and where it isn't built an expression."""
-    if LIBRARY is None:
-        return _spans_by_expression
-    spans: Callable[[str], Sequence[tuple[int, int]]] = LIBRARY.word_spans
-    return spans
+# What cuts texts of other scripts than the common ones: the library, and where it isn't built an expression.
+_spans_of_others: Callable[[str], Sequence[tuple[int, int]]] = getattr(LIBRARY, "word_spans", _spans_by_expression)
 
 
-spans_of = _spans()
+def spans_of(text: str) -> Sequence[tuple[int, int]]:
+    """Where the words of a text stand, in characters, as the engine cuts it."""
+    if _COMMON.fullmatch(text):
+        return [found.span() for found in _COMMON_WORD.finditer(text)]
+    return _spans_of_others(text)
+
+
+def folded_words(text: str) -> Sequence[str]:
+    """The words of a text, each folded."""
+    folded = text.casefold()
+    if _COMMON.fullmatch(folded):
+        return _COMMON_WORD.findall(folded)
+    return [text[start:end].casefold() for start, end in spans_of(text)]
 
 
 def sentence_ends(text: str) -> list[int]:
@@ -71,6 +77,17 @@ def with_ends_as_words(text: str) -> str:
     return f" {SEPARATOR} ".join(text[start:end] for start, end in zip([0, *ends], [*ends, len(text)]))
 
 
+def places_of(words: Sequence[str]) -> dict[str, list[int]]:
+    """The positions of each word."""
+    found: dict[str, list[int]] = {}
+    for position, word in enumerate(words):
+        if word in found:
+            found[word].append(position)
+        else:
+            found[word] = [position]
+    return found
+
+
 @dataclass(frozen=True)
 class Words:
     """A text, where its words stand in characters, and each word folded."""
@@ -91,10 +108,7 @@ class Words:
     @cached_property
     def places(self) -> dict[str, list[int]]:
         """The positions of each word."""
-        found: dict[str, list[int]] = {}
-        for position, word in enumerate(self.folded):
-            found.setdefault(word, []).append(position)
-        return found
+        return places_of(self.folded)
 
     def between(self, position: int) -> str:
         """What stands before the word at the position, behind the one before it; after the last one all that is left."""

@@ -19,7 +19,9 @@ from pressclip_press.sources import Source, source_in, with_source
 from pressclip_press.translating import part_of
 from pressclip_press.tree import (All, AtLeast, Has, Near, Not, Often, Place, Range, Refused, Same, Slop, Some, Term,
                                   Tree, Unit)
+from pressclip_press.words import folded_words, spans_of
 
+from .explain_tests import told_of
 from .judge import need
 from .press_runs import asked, explained, rows_of
 
@@ -32,6 +34,7 @@ PIECES = ["tea", "Title", "wi-fi", "é", "日本", " ", " ", " ", "+", "-", "!",
           "/s", "/", "?", ".", "'", "\t", "\u3000", "“", "„", "«", ",", ";", "atleast2(", "2 of (", "exact:", "date:2026",
           "#", "C++", "❤", "–", "has:author", "site:", "near", "and", "or", "not", "\u200f", "<", ">", "=", "\ud83d"]
 RANDOM_QUERIES = 6_000
+COMMON = [*"abcXYZ1290_.,:;'\" -\n#&@", "é", "ß", "Ø", "ö", "Я", "ё", "Ω", "ς", "—", "“", "…", "€", "ỹ", "İ", "ŉ"]
 RANDOM_SPANS = 4_000
 RANDOM_TEXTS = 2_000
 KNOWN = frozenset(("text", "title", "body", "author", "date", "reach", "url", "host", "language", "country", "source"))
@@ -182,10 +185,10 @@ def nearness_is_its_definition() -> None:
 
 
 def nearness_is_the_librarys() -> None:
-    """What the library proves of two words, rows or beginnings is what is judged by places."""
+    """What the library proves of two words or beginnings is what is judged by places."""
     dice = Random("library")
     assert proved_near is not None
-    sides = ["tea", "milk", '"green tea"', "te*"]
+    sides = ["tea", "milk", '"green tea"', "te*", "green"]
     preparer = Preparer(Profile.load(None))
     for _ in range(RANDOM_TEXTS):
         text = "".join(word + dice.choice([" ", " ", " ", ". ", ", ", "\n\n"])
@@ -198,8 +201,19 @@ def nearness_is_the_librarys() -> None:
         need(bool(part.spans(Pages(preparer.prepared({"text": text})))) == by_library, f"{left} {operator} {right}: {text!r}")
 
 
+def words_are_the_engines() -> None:
+    """Texts of common scripts are cut as the engine cuts them."""
+    dice = Random("words")
+    texts = ["".join(dice.choices(COMMON, k=dice.randint(1, 12))) for _ in range(RANDOM_TEXTS)]
+    for text, told in zip(texts, told_of([{"text": text} for text in texts])):
+        due = [(len(text.encode()[:one["start"]].decode()), len(text.encode()[:one["end"]].decode()))
+               for one in told["words"]]
+        need(list(spans_of(text)) == due, f"{text!r} is cut at {spans_of(text)}, and {due} are due")
+        need(list(folded_words(text)) == [one["word"] for one in told["words"]], f"{text!r} is {folded_words(text)}")
+
+
 # Where the library isn't built, nothing is judged by it.
 OF_THE_LIBRARY = (nearness_is_the_librarys,) if proved_near else ()
 TESTS: tuple[Callable[[], None], ...] = (
     each_form_is_its_tree, blanks_are_as_the_profile_says, a_source_is_in_its_query, any_text_is_read_or_refused,
-    nearness_is_its_definition, *OF_THE_LIBRARY, each_row_of_press_desks, each_row_of_media_tools, each_row_of_the_page)
+    words_are_the_engines, nearness_is_its_definition, *OF_THE_LIBRARY, each_row_of_press_desks, each_row_of_media_tools, each_row_of_the_page)

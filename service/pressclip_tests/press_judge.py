@@ -20,6 +20,7 @@ Cut = Callable[[str], Sequence[Span]]
 SIGNS = "#@$+&%"
 _ENDS = ".!?…"
 _ENDS_ALONE = "。！？"
+_OPENING = "(\"'“„«"
 _CLOSING = "\"'”’»)]"
 
 
@@ -64,7 +65,7 @@ class Judge:
         sentence = paragraph = last = 0
         for start, end in self._cut(text):
             before = text[last:start]
-            if words and ends_sentence(words[-1].written, before, text[start]):
+            if words and ends_sentence(words[-1], before, text[start]):
                 sentence += 1
             if words and ends_paragraph(before):
                 paragraph += 1
@@ -96,19 +97,22 @@ class Judge:
         return made
 
 
-def ends_sentence(word: str, gap: str, following: str) -> bool:
+def ends_sentence(word: Word, gap: str, following: str) -> bool:
     """Whether a sentence ends in what stands between a word and the next, which begins with a character."""
     if has_blank_line(gap) or any(sign in gap for sign in _ENDS_ALONE):
         return True
     return any(_ends_at(word, gap, place, following) for place, sign in enumerate(gap) if sign in _ENDS)
 
 
-def _ends_at(word: str, gap: str, place: int, following: str) -> bool:
-    """Whether a sentence ends with the sign at a place: with a blank behind, and no small letter behind that."""
+def _ends_at(word: Word, gap: str, place: int, following: str) -> bool:
+    """Whether a sentence ends with the sign at a place: with a blank behind, and no small letter behind that. A full
+    stop behind a letter that stands alone ends none."""
     marks = gap[place:].lstrip(_ENDS).lstrip(_CLOSING)
     if not marks[:1].isspace() or (marks.lstrip() or following)[0].islower():
         return False
-    return gap[place] != "." or gap[place - 1:place] == "." or len(word) > 1 or not word.isalpha() or place > 0
+    stands_alone = not word.before or word.before[-1].isspace() or word.before[-1] in _OPENING
+    is_initial = len(word.written) == 1 and word.written.isalpha() and stands_alone
+    return gap[place] != "." or place > 0 or not is_initial
 
 
 def ends_paragraph(gap: str) -> bool:

@@ -1,6 +1,6 @@
 """The laws of the press dialect by random cases. A query that is translated, run by the engine and filtered holds of
 just the articles of which the judge says that the tree holds from which it was written. And it finds each word that the
-plain query finds in the article as it was given."""
+plain query finds in the article as it was given. Rows by hand beside them."""
 
 from __future__ import annotations
 
@@ -24,6 +24,7 @@ from .judge import need, replies_of_engine
 from .press_inputs import Maker
 from .press_judge import Judge, Span
 from .press_preparing_tests import APOSTROPHES, random_text, words_of
+from .press_runs import asked, explained, rows_of
 
 CASES = 100_000
 CHUNKS = 20
@@ -209,4 +210,19 @@ def a_translated_query_means_what_the_judge_says() -> None:
     need(decided >= LEAST_DECIDED, f"the filter decided {decided} cases")
 
 
-TESTS: tuple[Callable[[], None], ...] = (a_translated_query_means_what_the_judge_says, no_word_is_lost_by_translating)
+def each_more_row_of_press_desks() -> None:
+    """It holds of the articles that it should hold of, and of no other; or it is refused, or told, where the row says
+    no more."""
+    rows = rows_of("more_queries_of_press_desks.jsonl")
+    need(len(rows) > 100, f"there are {len(rows)} rows")
+    found = asked([(row["query"], [article["fields"] for article in row["articles"]]) for row in rows])
+    for row, told, held in zip(rows, explained([row["query"] for row in rows]), found):
+        due = [article["holds"] for article in row["articles"]]
+        if None in due:
+            need("fault" in told or not row.get("refused") and told["remarks"] != [], f"{row['query']} is {told}")
+        else:
+            need(held == due, f"{row['query']} holds {held} of {row['articles']}: {told}")
+
+
+TESTS: tuple[Callable[[], None], ...] = (
+    a_translated_query_means_what_the_judge_says, no_word_is_lost_by_translating, each_more_row_of_press_desks)

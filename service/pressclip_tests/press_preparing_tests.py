@@ -25,6 +25,7 @@ from pressclip_press.profile import DEFAULT, Profile
 
 from .explain_tests import told_of
 from .judge import SERVICE, need
+from .streams_tests import run_closed
 from .texts_in_scripts import TEXTS
 
 PRESS = SERVICE / "press"
@@ -263,11 +264,18 @@ def each_article_has_a_line_in_its_place() -> None:
     told = done.stderr.decode().splitlines()
     for number, (line, (_, due, why)) in enumerate(zip(made, LINES), 1):
         need(line == due, f"line {number} is {line}, and {due} is due")
-        tells = [one for one in told if re.match(rf"press prepare: line {number}\b", one)]
+        tells = [one for one in told if re.match(rf"service/press: line {number}\b", one)]
         need(len(tells) == bool(why) and all(why in one for one in tells), f"line {number} is told {tells}")
     none = subprocess.run([str(PRESS), "prepare", "--profile", os.devnull + "/none"], input=b"", capture_output=True,
                           check=False)
     need(none.returncode == 2 and b"can't be read" in none.stderr, f"without its profile: {none}")
+
+
+def closed_streams_of_prepare_are_told() -> None:
+    """Without standard input or output `press prepare` ends with a status and a reason."""
+    for closed, due in ((0, 4), (1, 6)):
+        status, _, told = run_closed([str(PRESS), "prepare"], closed)
+        need(status == due and told.startswith(b"service/press: "), f"without {closed} it ends with {status}: {told!r}")
 
 
 def an_article_is_prepared_in_a_millisecond() -> None:
@@ -303,4 +311,4 @@ TESTS: tuple[Callable[[], None], ...] = (
     each_step_does_as_its_table_says, the_usual_profile_says_each_rule, preparing_twice_is_preparing_once,
     folding_moves_no_word, no_word_is_lost, marks_are_words, values_sort_as_they_are, an_article_has_its_fields,
     terms_have_other_spellings, other_profiles_are_refused, each_article_has_a_line_in_its_place,
-    an_article_is_prepared_in_a_millisecond, odd_texts_cost_no_more_than_others)
+    closed_streams_of_prepare_are_told, an_article_is_prepared_in_a_millisecond, odd_texts_cost_no_more_than_others)

@@ -21,7 +21,7 @@ from .processes import ENDED, Spoken, children_of
 PROFILE = '[dialect]\nblank = "or"\n'
 LISTENED = [{"id": "near", "query": "tea NEAR/2 milk", "listener": "mail"},
             {"id": "plain", "query": "tea", "listener": "feed"}, {"id": "quiet", "query": "tea /s milk"}]
-MANY = 30_000
+MANY = 10_000
 
 
 class PlainSource(Source):
@@ -204,6 +204,7 @@ def it_ends_as_it_is_asked() -> None:
     served.send(dumped(match({"text": "tea, milk"})))
     need(b'"queries":["0"]' in b"".join(served.wait_for_replies()), "the second reply")
     served.process.send_signal(signal.SIGTERM)
+    served.process.wait(PATIENCE_SECONDS)
     served.close()
     need(served.status == 0, f"after SIGTERM the status is {served.status}: {served.last_words}")
     served = Spoken(run_command())
@@ -211,6 +212,7 @@ def it_ends_as_it_is_asked() -> None:
     served.wait_for_replies()
     for child in children_of(served.process.pid):
         os.kill(child, signal.SIGKILL)
+    served.process.wait(PATIENCE_SECONDS)
     served.close()
     need(served.status == 1 and "the engine ended" in served.last_words, f"{served.status}: {served.last_words}")
 

@@ -17,7 +17,7 @@ from .preparer import Preparer
 if TYPE_CHECKING:
     from ..profile import Profile
 
-NAME = "press prepare"
+NAME = "service/press"
 MOST_LINE_BYTES = 16 << 20
 
 

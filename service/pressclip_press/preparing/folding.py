@@ -52,10 +52,7 @@ _ARABIC_FORMS = Table(_ARABIC)
 def without_accents(text: str) -> str:
     """Takes the accents of Latin and Greek off."""
     made = _without_accent().replaced(unicodedata.normalize("NFC", text))
-    if not _ACCENT.search(made):
-        return made
-    made = _AFTER_LETTER.sub("", made)
-    return made if unicodedata.is_normalized("NFC", made) else without_accents(made)
+    return _AFTER_LETTER.sub("", made) if _ACCENT.search(made) else made
 
 
 def with_letters_spelled(text: str) -> str:
@@ -104,7 +101,8 @@ FOLDING: tuple[Step, ...] = (
     Step("spelled", "Letters that keyboards lack are spelled out.", with_letters_spelled,
          (("Straße", "Strasse"), ("Ærø", "AEro"), ("Łódź", "Lódź"), ("ılık", "ilik"), ("ǿ", "ǿ")), _may_be_spelled),
     Step("stress", "Stress and the dots of ё are taken off.", without_stress,
-         (("за\u0301мок", "замок"), ("Алёна", "Алена"), ("мой", "мой"), ("їжак", "їжак")), one_of("".join(_CYRILLIC) + "\u0300\u0301\u0308")),
+         (("за\u0301мок", "замок"), ("Алёна", "Алена"), ("мой", "мой"), ("и\u0301\u0306", "й"), ("їжак", "їжак")),
+         one_of("".join(_CYRILLIC) + "\u0300\u0301\u0308")),
     Step("points", "Points of Hebrew are taken off.", without_points, (("שָׁלוֹם", "שלום"),), one_of("\u0591-\u05c7")),
     Step("arabic", "Vowels and stretching of Arabic are taken off, and alef, yeh and kaf have one form.",
          in_one_arabic,

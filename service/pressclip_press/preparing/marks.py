@@ -4,6 +4,7 @@ from __future__ import annotations
 
 import re
 from dataclasses import dataclass
+from functools import lru_cache
 from typing import Iterator
 
 import regex  # type: ignore[import]
@@ -17,6 +18,7 @@ _NAMES = {**_CURRENCIES, "#": "hash", "@": "at", "&": "amp", "+": "plus", "%": "
 _MONEY = re.escape("".join(_CURRENCIES))
 _NUMBER = r"\d+(?:[.,]\d+)*"
 _MOST_STOPPED = 12
+_MOST_KEPT = 1 << 14
 _MOST_CHARACTERS = 100
 
 
@@ -44,7 +46,8 @@ _OF_ALL = (regex.compile(_tokens(_WORD, _LETTER, r"\w\p{M}"), regex.V1),
            regex.compile(_stopped(_WORD, _LETTER), regex.V1))
 _FRONT = regex.compile(f"[{_WORD}]+", regex.V1)
 _SIGN = re.compile(rf"[#@&+!%.{_MONEY}]")
-_OF_TOKEN = re.compile(rf"[\w&+#@%!.,{_MONEY}\u0300-\u036f\u0900-\u0dff]")
+_OF_TOKEN = re.compile(rf"[\w&+#@%!.,{_MONEY}\u0300-\u036f\u0900-\u0dff]*")
+_BESIDE_BLANK = "%" + "".join(_CURRENCIES)
 _MAY_BE_EMOJI = re.compile("[\u203c-\u2bff\u3030\u303d\u3297\u3299\U0001f000-\U0001faff]")
 _EMOJI = regex.compile(
     "[\U0001f1e6-\U0001f1ff]{2}"
@@ -95,8 +98,11 @@ def _found(text: str) -> Iterator[Mark]:
         if sign.start() < done or not _may_mark(text, sign.start()):
             continue
         start, done = _reach(text, sign.start(), done)
-        tokens, stopped = _OF_ASCII if text[start:done].isascii() else _OF_ALL
-        matches = [*tokens.finditer(text, start, done), *stopped.finditer(text, start, done)]
+        chunk = text[start:done]
+        tokens, stopped = _OF_ASCII if chunk.isascii() else _OF_ALL
+        matches = list(tokens.finditer(text, start, done))
+        if "." in chunk:
+            matches += stopped.finditer(text, start, done)
         # What a tag names may be such a token too, as in `@AT&T`.
         inner = [tokens.match(text, match.start() + 1, done) for match in matches if match.lastgroup == "tag"]
         for match in (*matches, *filter(None, inner)):
@@ -117,18 +123,17 @@ def _may_mark(text: str, place: int) -> bool:
 def _reach(text: str, place: int, least: int) -> tuple[int, int]:
     """From where to where tokens around a sign are looked for."""
     start, end = place, place + 1
-    least, most = max(least, place - _MOST_CHARACTERS), min(len(text), place + _MOST_CHARACTERS)
-    if text[place] in "%" + "".join(_CURRENCIES) and text[max(least, place - 1):place] == " ":
-        start -= 1
-    while start > least and _OF_TOKEN.match(text[start - 1]):
+    least = max(least, place - _MOST_CHARACTERS)
+    if text[place] in _BESIDE_BLANK and text[max(least, place - 1):place] == " ":
         start -= 1
     if text[place] in _CURRENCIES and text[end:end + 1] == " ":
         end += 1
-    while end < most and _OF_TOKEN.match(text[end]):
-        end += 1
-    return start, end
+    # A run of characters of tokens has an end in any case, if only the empty one.
+    start -= len(_OF_TOKEN.match(text[least:start][::-1])[0])  # type: ignore[index]
+    return start, _OF_TOKEN.match(text, end, end + _MOST_CHARACTERS).end()  # type: ignore[union-attr]
 
 
+@lru_cache(_MOST_KEPT)
 def _words(kind: str, token: str) -> tuple[str, ...]:
     """The words that code a token; of a chain as `A&B&C` also those of its neighbours."""
     parts = _PART.findall(token.replace(" ", ""))
