@@ -51,7 +51,11 @@ class Connection(RequestHandler):
         super().connection_lost(exc)
 
     def data_received(self, data: bytes) -> None:
-        """Takes what came: a header in time and of some size, and no more requests than are soon answered."""
+        """Takes what came: a header in time and of some size, and no more requests than are soon answered; or what a
+        WebSocket brings."""
+        if self._upgrade or self._payload_parser is not None:
+            super().data_received(data)
+            return
         count = self._request_count
         is_of_body = self._body is not None and not self._body.is_eof()
         super().data_received(data)
