@@ -4,7 +4,7 @@ from __future__ import annotations
 
 import asyncio
 
-from aiohttp import WSCloseCode, web
+from aiohttp import HttpVersion11, WSCloseCode, web
 
 from .bodies import is_asked, limit_of
 from .broadcasting import MOST_AT_ONCE, Broadcaster, Form, Listener, Wish, fill, told, written
@@ -29,6 +29,8 @@ class Alerts:
             raise Problem("streams", headers={"Retry-After": "10"})
         if request.headers.get("Upgrade", "").lower() == "websocket":
             return await self._by_frames(request)
+        if request.version != HttpVersion11:
+            raise Problem("request", "alerts stream over HTTP 1.1")
         wish = wish_of(request, Form.EVENTS)
         response = web.StreamResponse(headers=HEADERS)
         response.headers["X-Request-Id"] = request["id"]

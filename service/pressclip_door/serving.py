@@ -51,7 +51,11 @@ class Connection(RequestHandler):
         super().connection_lost(exc)
 
     def data_received(self, data: bytes) -> None:
-        """Takes what came: a header in time and of some size, and no more requests than are soon answered."""
+        """Takes what came: a header in time and of some size, and no more requests than are soon answered; or what a
+        WebSocket brings."""
+        if self._upgrade or self._payload_parser is not None:
+            super().data_received(data)
+            return
         count = self._request_count
         is_of_body = self._body is not None and not self._body.is_eof()
         super().data_received(data)
@@ -73,7 +77,15 @@ class Connection(RequestHandler):
     def _wait_for_header(self) -> None:
         seconds = self._limits.header_seconds
         problem = Problem("slow", f"the header did not come within {seconds:.0f} s")
-        self._slow = self._loop.call_later(seconds, self._refuse, problem)
+        self._slow = self._loop.call_later(seconds, self._refuse_if_idle, problem)
+
+    def _refuse_if_idle(self, problem: Problem) -> None:
+        """Refuses, unless a request before is still worked on."""
+        self._slow = None
+        if self._current_request is None:
+            self._refuse(problem)
+        else:
+            self._wait_for_header()
 
     def _stop_waiting(self) -> None:
         if self._slow is not None:
@@ -81,10 +93,13 @@ class Connection(RequestHandler):
             self._slow = None
 
     def _refuse(self, problem: Problem) -> None:
-        """Answers without a request, and closes."""
+        """Answers without a request, and closes; in the middle of another answer it only closes."""
         self._stop_waiting()
         self._metrics.problems.labels(problem.word).inc()
         if self.transport is None or self.transport.is_closing():
+            return
+        if self._current_request is not None:
+            self.force_close()
             return
         body = json.dumps(problem.document()).encode()
         phrase = HTTPStatus(problem.status).phrase

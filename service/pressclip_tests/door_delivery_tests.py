@@ -24,7 +24,7 @@ from .processes import ENDED, PATIENCE_SECONDS
 
 SECRET = b"a secret of many bytes"
 PAUSES = "first_pause_seconds = 0.05\nmost_pause_seconds = 0.4"
-DOOR_KILLS = 3
+DOOR_KILLS = 2
 
 
 class Hook(ThreadingHTTPServer):

@@ -68,6 +68,7 @@ HOSTILE: tuple[tuple[str, str, int, str], ...] = (
     ("no HTTP", "hello there\r\n\r\n", 400, "request"),
     ("TLS", "\x16\x03\x01\x02\x00\x01\x00\x01\xfc\x03\x03" + "x" * 60 + "\r\n\r\n", 400, "request"),
     ("another version", f"GET /healthz HTTP/9.9\r\n{HOST}\r\n", 400, "request"),
+    ("a stream over an old version", f"GET /alerts HTTP/1.0\r\n{HOST}\r\n", 400, "request"),
     ("a NUL in a header", getting("/healthz", "X-One: a\x00b\r\n"), 400, "request"),
     ("a bare line feed in a header", getting("/healthz", "X-One: a\nContent-Length: 3\nContent-Length: 4\r\n"), 400,
      "request"),
@@ -141,7 +142,24 @@ def hostile_requests_are_refused_by_name() -> None:
         need(len(HOSTILE) >= 50, f"only {len(HOSTILE)} requests")
         need(door.match("a1", "tea")["alerts"] == [{"article": "a1", "queries": ["q1"]}], "it does not go on")
         need(not door.events("fault"), f"{door.events('fault')}")
+        a_socket_stays_open(door)
         too_many_connections(door)
+
+
+def a_socket_stays_open(door: Door) -> None:
+    """What a WebSocket brings is no header that is late."""
+    with socket.create_connection(("127.0.0.1", door.port), timeout=PATIENCE_SECONDS) as connection:
+        connection.sendall(upgrading(VERSION, KEY).encode())
+        heard = b""
+        while not heard.endswith(b"\r\n\r\n"):
+            heard += connection.recv(1)
+        need(heard.startswith(b"HTTP/1.1 101 "), f"{heard!r}")
+        connection.sendall(b"\x89\x80abcd")
+        need(connection.recv(2) == b"\x8a\x00", "a ping is not answered")
+        time.sleep(1.3)
+        door.match("a1", "tea")
+        frame = connection.recv(1_000)
+        need(frame[0] == 0x81 and json.loads(frame[2:])["article"] == "a1", f"{frame!r}")
 
 
 def too_many_connections(door: Door) -> None:

@@ -20,8 +20,8 @@ from .keep_runs import changes_in
 from .processes import ENDED, PATIENCE_SECONDS, engine_of
 
 ENGINE_KILLS = 12
-KEEP_KILLS = 4
-DOOR_KILLS = 4
+KEEP_KILLS = 3
+DOOR_KILLS = 3
 
 
 def posted(door: Door, text: bytes) -> bytes:
