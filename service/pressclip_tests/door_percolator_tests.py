@@ -26,7 +26,7 @@ NDJSON = {"Content-Type": "application/x-ndjson"}
 SIGNS = ("aZé\u00df\u0130\u4e00\u3042\ud55c\u0e01\u0301\u200d'\".,:;_-*?~^/\\+!(){}[]|& \t\u3000\u05d0"
          "\U0001f375\ufb01\u01490")
 MAPPINGS: Json = {"properties": {"query": {"type": "percolator"}, **FIELDS}}
-RANDOM_QUERIES, RANDOM_TEXTS, RANDOM_DOCUMENTS = 1_200, 400, 60
+RANDOM_QUERIES, RANDOM_TEXTS, RANDOM_DOCUMENTS = 1_000, 400, 40
 
 
 def called(door: Door, calls: Sequence[tuple[str, Json]], *token: str) -> list[Any]:
@@ -147,15 +147,22 @@ def clients_percolate() -> None:
     need("_source" not in shown["hits"][0], f"{shown}")
 
 
-def differing(door: Door, queries: Sequence[Json], judges: Sequence[Judge], documents: Sequence[Json]) -> Iterator[str]:
-    """Those queries that are refused, or hold of other documents than judges say."""
+Dues = Sequence[list[int]]
+
+
+def dues_of(judges: Sequence[Judge], documents: Sequence[Json]) -> Dues:
+    """The places of the documents that are due by each judge."""
+    return [[place for place, document in enumerate(documents) if judge(document)] for judge in judges]
+
+
+def differing(door: Door, queries: Sequence[Json], dues: Dues, documents: Sequence[Json]) -> Iterator[str]:
+    """Those queries that are refused, or hold of other documents than are due."""
     emptied(door, "random", MAPPINGS)
     for query, item in zip(queries, bulk(door, "random", queries)):
         if "error" in item:
             yield f"{query} is refused: {item['error']}"
     came = slots_of(percolated(door, "random", documents))
-    for place, (query, judge) in enumerate(zip(queries, judges)):
-        due = [at for at, document in enumerate(documents) if judge(document)]
+    for place, (query, due) in enumerate(zip(queries, dues)):
         if came.get(str(place), []) != due:
             yield f"{query} holds of {came.get(str(place), [])}, and {due} are due: {documents}"
 
@@ -171,10 +178,10 @@ def queries_mean_what_elasticsearch_says() -> None:
     documents = [source.document() for _ in range(RANDOM_DOCUMENTS)]
     queries = [source.query() for _ in range(RANDOM_QUERIES)]
     judges: list[Judge] = [partial(judged, query) for query in queries]
-    wrong = list(differing(door, queries, judges, documents))
+    dues = dues_of(judges, documents)
+    wrong = list(differing(door, queries, dues, documents))
     need(not wrong, f"{len(wrong)} of {RANDOM_QUERIES}: {wrong[:1]}")
-    held = [sum(judge(document) for document in documents) for judge in judges]
-    need(sum(0 < count < RANDOM_DOCUMENTS for count in held) > RANDOM_QUERIES // 3, "most hold of all or of none")
+    need(sum(0 < len(due) < RANDOM_DOCUMENTS for due in dues) > RANDOM_QUERIES // 3, "most hold of all or of none")
 
 
 def texts_of_operators_mean_what_lucene_says() -> None:
@@ -193,7 +200,7 @@ def texts_of_operators_mean_what_lucene_says() -> None:
             text, judge = source.simple("text")
             queries.append({"simple_query_string": {"query": text, "fields": ["text"]}})
         judges.append(judge)
-    wrong = list(differing(door, queries, judges, documents))
+    wrong = list(differing(door, queries, dues_of(judges, documents), documents))
     need(not wrong, f"{len(wrong)} of {RANDOM_TEXTS}: {wrong[:1]}")
 
 
@@ -504,7 +511,7 @@ def what_was_answered_is_kept() -> None:
     sent: dict[str, list[int | None]] = {}
     number = 0
     with folder() as name:
-        for life in range(4):
+        for life in range(3):
             with Door("--journal", str(Path(name) / "j")) as door:
                 if life == 0:
                     emptied(door, "lives", MAPPINGS)
