@@ -225,7 +225,7 @@ def terms_have_other_spellings() -> None:
     """The term first, and at most eight."""
     for term, due in (("McDonald's", ("McDonald s", "McDonalds")), ("McDonalds", ("McDonalds", "McDonald s")),
                       ("politics", ("politics",)), ("e-mail", ("e-mail", "email")), ("Müller", ("Müller", "Mueller")),
-                      ("tea", ("tea",)), ("", ("",))):
+                      ("CO2", ("CO2", "CO₂")), ("CO₂", ("CO₂", "CO2")), ("tea", ("tea",)), ("", ("",))):
         need(PREPARER.spellings(term) == due, f"{term!r} is spelled {PREPARER.spellings(term)}")
     need("وأرامكو" in PREPARER.spellings("أرامكو", fronts=True), "with a particle in front")
     need(len(PREPARER.spellings(" ".join(["O'Brien"] * 12))) == 8, "at most eight")
