@@ -13,7 +13,7 @@ from collections.abc import Callable, Sequence
 from pathlib import Path
 from random import Random
 
-from pressclip_press.choices import ProfileFault
+from pressclip_press.choices import Choices, ProfileFault
 from pressclip_press.kinds import Kind
 from pressclip_press.preparing import SEPARATOR, Preparer
 from pressclip_press.preparing.folding import FOLDING
@@ -100,8 +100,10 @@ def each_step_does_as_its_table_says() -> None:
 
 def the_usual_profile_says_each_rule() -> None:
     """In the order of the steps, with the rule behind each."""
-    said = re.findall(r"^(\w+) = true +# (.*)$", DEFAULT.read_text(), re.MULTILINE)
+    steps = DEFAULT.read_text().partition("[steps]")[2].partition("\n[")[0]
+    said = re.findall(r"^(\w+) = true +# (.*)$", steps, re.MULTILINE)
     need(said == [(step.name, step.rule) for step in STEPS], f"the profile says {said}")
+    need(Profile.load(None).choices == Choices(), "the usual choices are those of the dialect")
 
 
 def random_text(dice: Random) -> str:
