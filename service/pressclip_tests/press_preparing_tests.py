@@ -243,6 +243,10 @@ def other_profiles_are_refused() -> None:
         need("can't be read" in fault_of(Path(folder)), "a folder is no profile")
         path.write_text("[steps]\naccents = false\n")
         plain = Preparer(Profile.load(path))
+        path.write_text("[kinds]\nnumber = [\"score\"]\ntext = [\"date\"]\n")
+        kinds = Profile.load(path).kinds
+    need((kinds["score"], kinds["date"], kinds["published"], kinds["url"], "reach" in kinds)
+         == (Kind.NUMBER, Kind.TEXT, Kind.DATE, Kind.URL, False), f"kinds are {kinds}")
     need(plain.plain("L'Été") == "L Été", f"without the step it is {plain.plain('L’Été')!r}")
 
 
