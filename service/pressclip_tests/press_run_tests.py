@@ -143,6 +143,14 @@ def unnumbered(reply: bytes) -> dict[str, object]:
     return value
 
 
+def is_gone(process: int) -> bool:
+    """Whether a process has ended, also where nobody has asked for its status yet."""
+    try:
+        return Path(f"/proc/{process}/stat").read_text().rpartition(")")[2].split()[0] in ("Z", "X")
+    except OSError:
+        return True
+
+
 def end_all(served: Spoken) -> None:
     """Ends a process and its child at once, and waits until both are gone."""
     children = children_of(served.process.pid)
@@ -150,12 +158,11 @@ def end_all(served: Spoken) -> None:
     ENDED.append("press")
     start = time.monotonic()
     for child in children:
-        try:
-            while time.monotonic() - start < PATIENCE_SECONDS:
-                os.kill(child, signal.SIGKILL)
-                time.sleep(0.01)
-        except ProcessLookupError:
-            continue
+        if not is_gone(child):
+            os.kill(child, signal.SIGKILL)
+        while not is_gone(child):
+            need(time.monotonic() - start < PATIENCE_SECONDS, f"process {child} does not end")
+            time.sleep(0.005)
     served.close()
 
 
