@@ -8,6 +8,7 @@ import signal
 import subprocess
 import time
 from collections.abc import Callable, Sequence
+from contextlib import suppress
 from pathlib import Path
 from random import Random
 
@@ -72,6 +73,16 @@ def it_alerts_by_the_dialect() -> None:
            {"alerts": [{"article": "a0", "queries": ["plain", "quiet"]}], "line": 6, "notes": ["feed plain/a0"]},
            {"cleared": 2, "line": 7}, {"alerts": [{"article": "a0", "queries": []}], "line": 8, "notes": []}]
     same(b"\n".join(replies), b"\n".join(map(dumped, due)), "the replies")
+
+
+def hits_are_of_what_is_kept() -> None:
+    """Over an engine that shows hits, those of a query that its filter drops are dropped with it."""
+    lines = [register("tea NEAR/1 milk", "tea", "*lk"), match({"text": "milk and tea"}, {"text": "coffee"})]
+    replies, _ = run_press(lines, engine=[*command_of([], workers=0), "hits"])
+    due = {"alerts": [{"article": "a0", "hits": [[{"field": "text", "position": 2}],
+                                                 [{"field": "backwards", "position": 2}]], "queries": ["1", "2"]},
+                      {"article": "a1", "hits": [], "queries": []}], "line": 2, "notes": []}
+    same(replies[1], dumped(due), "the reply with hits")
 
 
 def a_refusal_has_its_reason() -> None:
@@ -158,7 +169,7 @@ def end_all(served: Spoken) -> None:
     ENDED.append("press")
     start = time.monotonic()
     for child in children:
-        if not is_gone(child):
+        with suppress(ProcessLookupError):
             os.kill(child, signal.SIGKILL)
         while not is_gone(child):
             need(time.monotonic() - start < PATIENCE_SECONDS, f"process {child} does not end")
@@ -241,6 +252,6 @@ def many_queries() -> None:
 
 
 TESTS: tuple[Callable[[], None], ...] = (
-    it_alerts_by_the_dialect, a_refusal_has_its_reason, answers_as_the_engine, what_gets_too_long,
+    it_alerts_by_the_dialect, hits_are_of_what_is_kept, a_refusal_has_its_reason, answers_as_the_engine, what_gets_too_long,
     a_field_that_is_made_is_refused, it_ends_as_it_is_asked,
     over_keep_and_below_it, many_queries)
