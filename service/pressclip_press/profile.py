@@ -31,12 +31,14 @@ class Profile:
 
     @staticmethod
     def load(path: Path | None) -> Profile:
-        """The profile of a file, or the usual one. A table that a file lacks is as usual. `ProfileFault` with the file
-        and the reason where it is none."""
+        """The profile of a file, or the usual one. What a file lacks is as usual. `ProfileFault` with the file and the
+        reason where it is none."""
         usual = _tables(DEFAULT)
-        tables = usual if path is None else {**usual, **_tables(path)}
+        own = {} if path is None else _tables(path)
         try:
-            return _profile(tables)
+            _need_tables(own)
+            return _profile({name: {**_without(table, own.get(name, {})), **own.get(name, {})}
+                             for name, table in usual.items()})
         except ProfileFault as fault:
             raise ProfileFault(f"{path or DEFAULT.name}: {fault}") from None
 
@@ -52,12 +54,23 @@ def _tables(path: Path) -> dict[str, Any]:
         raise ProfileFault(f"{path}: it is no TOML: {error}") from None
 
 
-def _profile(tables: Mapping[str, Any]) -> Profile:
+def _need_tables(tables: Mapping[str, Any]) -> None:
+    """`ProfileFault` where there is another table, or what is none."""
     for name, table in tables.items():
         if name not in _TABLES:
             raise ProfileFault(f"a profile has no table {name}")
         if not isinstance(table, dict):
             raise ProfileFault(f"{name} is a table")
+
+
+def _without(usual: Mapping[str, Any], own: Mapping[str, Any]) -> dict[str, Any]:
+    """A usual table without the items of its lists that lists of one's own have."""
+    taken = [name for names in own.values() if isinstance(names, list) for name in names]
+    return {name: [item for item in value if item not in taken] if isinstance(value, list) else value
+            for name, value in usual.items()}
+
+
+def _profile(tables: Mapping[str, Mapping[str, Any]]) -> Profile:
     return Profile(_steps(tables["steps"]), _kinds(tables["kinds"]), Choices.of(tables["dialect"]))
 
 

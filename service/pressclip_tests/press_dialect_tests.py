@@ -10,6 +10,7 @@ from random import Random
 from typing import Any
 
 from pressclip_press.choices import Choices
+from pressclip_press.door import Desk
 from pressclip_press.filtering import NearEach, Pages
 from pressclip_press.near import Gaps, Span, away, near_holds, near_spans, proved_near, slop_spans
 from pressclip_press.preparing import Preparer
@@ -184,6 +185,17 @@ def nearness_is_its_definition() -> None:
         need(bool(slop_spans(places, within)) == is_near, f"{places} with {within} moves")
 
 
+def a_desk_explains_and_tries() -> None:
+    """What the door asks: how a query is read, with bytes for places, and whether it holds of an article."""
+    desk = Desk()
+    need(desk.explain("é AND") == {"at": 3, "fault": "end", "says": "Something is missing behind AND."}, "the fault")
+    told = desk.explain("日本 NEAR tea")
+    need((told["query"], told["filtered"]) == ('(+"日 本" +tea)', True), f"it is {told}")
+    need([(one["at"], one["rule"]) for one in told["remarks"] if one["level"] == "notice"] == [(7, "near_without_number")],
+         f"told is {told['remarks']}")
+    need(desk.holds("日本 NEAR/2 tea", {"title": "日本 tea"}) and not desk.holds("exact:Tea", {"text": "tea"}), "tried")
+
+
 def nearness_is_the_librarys() -> None:
     """What the library proves of two words or beginnings is what is judged by places."""
     dice = Random("library")
@@ -216,4 +228,5 @@ def words_are_the_engines() -> None:
 OF_THE_LIBRARY = (nearness_is_the_librarys,) if proved_near else ()
 TESTS: tuple[Callable[[], None], ...] = (
     each_form_is_its_tree, blanks_are_as_the_profile_says, a_source_is_in_its_query, any_text_is_read_or_refused,
-    words_are_the_engines, nearness_is_its_definition, *OF_THE_LIBRARY, each_row_of_press_desks, each_row_of_media_tools, each_row_of_the_page)
+    a_desk_explains_and_tries, words_are_the_engines, nearness_is_its_definition, *OF_THE_LIBRARY,
+    each_row_of_press_desks, each_row_of_media_tools, each_row_of_the_page)

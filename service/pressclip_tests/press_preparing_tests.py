@@ -13,7 +13,7 @@ from collections.abc import Callable, Sequence
 from pathlib import Path
 from random import Random
 
-from pressclip_press.choices import ProfileFault
+from pressclip_press.choices import Choices, ProfileFault
 from pressclip_press.kinds import Kind
 from pressclip_press.preparing import SEPARATOR, Preparer
 from pressclip_press.preparing.folding import FOLDING
@@ -100,8 +100,10 @@ def each_step_does_as_its_table_says() -> None:
 
 def the_usual_profile_says_each_rule() -> None:
     """In the order of the steps, with the rule behind each."""
-    said = re.findall(r"^(\w+) = true +# (.*)$", DEFAULT.read_text(), re.MULTILINE)
+    steps = DEFAULT.read_text().partition("[steps]")[2].partition("\n[")[0]
+    said = re.findall(r"^(\w+) = true +# (.*)$", steps, re.MULTILINE)
     need(said == [(step.name, step.rule) for step in STEPS], f"the profile says {said}")
+    need(Profile.load(None).choices == Choices(), "the usual choices are those of the dialect")
 
 
 def random_text(dice: Random) -> str:
@@ -225,7 +227,7 @@ def terms_have_other_spellings() -> None:
     """The term first, and at most eight."""
     for term, due in (("McDonald's", ("McDonald s", "McDonalds")), ("McDonalds", ("McDonalds", "McDonald s")),
                       ("politics", ("politics",)), ("e-mail", ("e-mail", "email")), ("Müller", ("Müller", "Mueller")),
-                      ("tea", ("tea",)), ("", ("",))):
+                      ("CO2", ("CO2", "CO₂")), ("CO₂", ("CO₂", "CO2")), ("tea", ("tea",)), ("", ("",))):
         need(PREPARER.spellings(term) == due, f"{term!r} is spelled {PREPARER.spellings(term)}")
     need("وأرامكو" in PREPARER.spellings("أرامكو", fronts=True), "with a particle in front")
     need(len(PREPARER.spellings(" ".join(["O'Brien"] * 12))) == 8, "at most eight")
@@ -241,6 +243,10 @@ def other_profiles_are_refused() -> None:
         need("can't be read" in fault_of(Path(folder)), "a folder is no profile")
         path.write_text("[steps]\naccents = false\n")
         plain = Preparer(Profile.load(path))
+        path.write_text("[kinds]\nnumber = [\"score\"]\ntext = [\"date\"]\n")
+        kinds = Profile.load(path).kinds
+    need((kinds["score"], kinds["date"], kinds["published"], kinds["url"], "reach" in kinds)
+         == (Kind.NUMBER, Kind.TEXT, Kind.DATE, Kind.URL, False), f"kinds are {kinds}")
     need(plain.plain("L'Été") == "L Été", f"without the step it is {plain.plain('L’Été')!r}")
 
 

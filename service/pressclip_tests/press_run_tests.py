@@ -8,6 +8,7 @@ import signal
 import subprocess
 import time
 from collections.abc import Callable, Sequence
+from contextlib import suppress
 from pathlib import Path
 from random import Random
 
@@ -72,6 +73,16 @@ def it_alerts_by_the_dialect() -> None:
            {"alerts": [{"article": "a0", "queries": ["plain", "quiet"]}], "line": 6, "notes": ["feed plain/a0"]},
            {"cleared": 2, "line": 7}, {"alerts": [{"article": "a0", "queries": []}], "line": 8, "notes": []}]
     same(b"\n".join(replies), b"\n".join(map(dumped, due)), "the replies")
+
+
+def hits_are_of_what_is_kept() -> None:
+    """Over an engine that shows hits, those of a query that its filter drops are dropped with it."""
+    lines = [register("tea NEAR/1 milk", "tea", "*lk"), match({"text": "milk and tea"}, {"text": "coffee"})]
+    replies, _ = run_press(lines, engine=[*command_of([], workers=0), "hits"])
+    due = {"alerts": [{"article": "a0", "hits": [[{"field": "text", "position": 2}],
+                                                 [{"field": "backwards", "position": 2}]], "queries": ["1", "2"]},
+                      {"article": "a1", "hits": [], "queries": []}], "line": 2, "notes": []}
+    same(replies[1], dumped(due), "the reply with hits")
 
 
 def a_refusal_has_its_reason() -> None:
@@ -143,6 +154,14 @@ def unnumbered(reply: bytes) -> dict[str, object]:
     return value
 
 
+def is_gone(process: int) -> bool:
+    """Whether a process has ended, also where nobody has asked for its status yet."""
+    try:
+        return Path(f"/proc/{process}/stat").read_text().rpartition(")")[2].split()[0] in ("Z", "X")
+    except OSError:
+        return True
+
+
 def end_all(served: Spoken) -> None:
     """Ends a process and its child at once, and waits until both are gone."""
     children = children_of(served.process.pid)
@@ -150,12 +169,11 @@ def end_all(served: Spoken) -> None:
     ENDED.append("press")
     start = time.monotonic()
     for child in children:
-        try:
-            while time.monotonic() - start < PATIENCE_SECONDS:
-                os.kill(child, signal.SIGKILL)
-                time.sleep(0.01)
-        except ProcessLookupError:
-            continue
+        with suppress(ProcessLookupError):
+            os.kill(child, signal.SIGKILL)
+        while not is_gone(child):
+            need(time.monotonic() - start < PATIENCE_SECONDS, f"process {child} does not end")
+            time.sleep(0.005)
     served.close()
 
 
@@ -234,6 +252,6 @@ def many_queries() -> None:
 
 
 TESTS: tuple[Callable[[], None], ...] = (
-    it_alerts_by_the_dialect, a_refusal_has_its_reason, answers_as_the_engine, what_gets_too_long,
+    it_alerts_by_the_dialect, hits_are_of_what_is_kept, a_refusal_has_its_reason, answers_as_the_engine, what_gets_too_long,
     a_field_that_is_made_is_refused, it_ends_as_it_is_asked,
     over_keep_and_below_it, many_queries)

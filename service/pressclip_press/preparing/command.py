@@ -28,9 +28,9 @@ class NoArticle(Exception):
 def add_arguments(parser: argparse.ArgumentParser) -> None:
     """The words of the command; the parser's own are the profile's alone."""
     parser.description = (
-        "Each line of the input is an article, a JSON object of named texts, {\"title\":\"..\",\"text\":\"..\"}, and the line "
-        "in its place has the fields that the engine gets of it. One that is none is told on standard error and refused in "
-        "its place.")
+        "Each line of the input is an article, a JSON object of named texts, {\"title\":\"..\",\"text\":\"..\"}. The "
+        "line in its place has the fields that the engine gets of it. One that is none is told on standard error and "
+        "refused in its place.")
 
 
 def main(options: argparse.Namespace) -> int:

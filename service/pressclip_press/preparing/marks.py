@@ -41,7 +41,8 @@ def _stopped(word: str, letter: str) -> str:
 # Scripts whose words have no blanks between: a name of another script may stand right beside them.
 _UNPARTED = r"[\p{Han}\p{Hiragana}\p{Katakana}\p{Hangul}\p{Thai}\p{Lao}\p{Khmer}\p{Myanmar}ー々〆]"
 _WORD, _LETTER = rf"[\w\p{{M}}]--{_UNPARTED}", rf"[\p{{L}}--{_UNPARTED}]"
-_OF_ASCII = (re.compile(_tokens("A-Za-z0-9_", "[A-Za-z]", "A-Za-z0-9_")), re.compile(_stopped("A-Za-z0-9_", "[A-Za-z]")))
+_OF_ASCII = (re.compile(_tokens("A-Za-z0-9_", "[A-Za-z]", "A-Za-z0-9_")),
+             re.compile(_stopped("A-Za-z0-9_", "[A-Za-z]")))
 _OF_ALL = (regex.compile(_tokens(_WORD, _LETTER, r"\w\p{M}"), regex.V1),
            regex.compile(_stopped(_WORD, _LETTER), regex.V1))
 _FRONT = regex.compile(f"[{_WORD}]+", regex.V1)

@@ -14,6 +14,9 @@ _NAME_IN_S = re.compile(r"[A-Z][A-Za-z]+[a-hj-rt-z]s")
 _HYPHEN = re.compile(r"(?<=[^\W_])[-\u2010\u2011](?=[^\W_])")
 _UMLAUT = re.compile("[äöüÄÖÜ]")
 _UMLAUTS = {"ä": "ae", "ö": "oe", "ü": "ue", "Ä": "Ae", "Ö": "Oe", "Ü": "Ue"}
+_FORMULA = re.compile(r"[A-Z][A-Za-z]{0,2}\d{1,2}")
+_LOW_DIGITS = str.maketrans("0123456789", "₀₁₂₃₄₅₆₇₈₉")
+_COMMON_DIGITS = str.maketrans("₀₁₂₃₄₅₆₇₈₉", "0123456789")
 _ARABIC_WORD = re.compile("[\u0621-\u064a]{3,}")
 _ARABIC_FRONTS = ("و", "ب", "ل", "ف", "ك", "ال", "وال")
 _HEBREW_WORD = re.compile("[\u05d0-\u05ea]{2,}")
@@ -40,8 +43,8 @@ def _with_fronts(word: str) -> tuple[str, ...]:
 
 
 def _of_word(word: str) -> list[str]:
-    """The word, and how else it is written: without its apostrophe or hyphen, a name that ends in s with one, and
-    umlauts as two letters."""
+    """The word, and how else it is written: without its apostrophe or hyphen, a name that ends in s with one, umlauts
+    as two letters, and the digits of a formula."""
     made = [word]
     if _POSSESSIVE.search(word):
         made.append(_POSSESSIVE.sub("", word))
@@ -51,4 +54,6 @@ def _of_word(word: str) -> list[str]:
         made.append(_HYPHEN.sub("", word))
     if _UMLAUT.search(word):
         made.append(_UMLAUT.sub(lambda match: _UMLAUTS[match[0]], word))
+    if _FORMULA.fullmatch(plain := word.translate(_COMMON_DIGITS)):
+        made.append(word.translate(_LOW_DIGITS) if plain == word else plain)
     return made
