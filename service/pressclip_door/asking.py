@@ -61,7 +61,7 @@ async def refusal(door: Door, line: bytes, reply: Json) -> Problem:
             query = json.loads(line)["queries"][reply["which"]]["query"]
             read = await door.explainer.explain(query)
             members.update({name: read[name] for name in ("fault", "at") if name in read})
-    except (Behind, Ended, EngineFailed):
+    except (Behind, Ended, EngineFailed, Problem):
         return Problem(word, **members)
     return Problem(word, told.get("says", ""), **members)
 

@@ -52,7 +52,7 @@ class PressDesk:
             return await asyncio.wait_for(self._desk.ask(value), MOST_SECONDS)
         except TimeoutError:
             self._desk.kill()
-            raise Problem("large", f"the query takes over {MOST_SECONDS:.0f} s") from None
+            raise Problem("limit", f"the query takes over {MOST_SECONDS:.0f} s here", member="query") from None
 
     async def stop(self) -> None:
         """Ends its program."""

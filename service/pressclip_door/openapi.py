@@ -136,7 +136,7 @@ PATHS: Json = {
                             asked("prefix", "how the ids of the queries begin"),
                             asked("excerpts", "whether to show marked excerpts", BOOLEAN)])},
     "/explain": {"post": act("Says how a query is read, or its fault", {200: answered("the reading", READING)},
-                             (*READ_WORDS, "dialect"), record({"query": TEXT}), [DIALECT])},
+                             (*READ_WORDS, "dialect", "limit"), record({"query": TEXT}), [DIALECT])},
     "/words": {"post": act("Says how a text is cut into words",
                            {200: answered("the words", record({"words": many(known("Word"))}))}, READ_WORDS,
                            record({"text": TEXT}))},
