@@ -16,6 +16,7 @@ from pressclip_service.lines import MOST_LINE_BYTES
 from . import alerts, articles, deliveries, explain, health, lines, openapi, page, percolator, queries
 from .broadcasting import Broadcaster
 from .catalog import Catalog
+from .desk import PressDesk
 from .door import Door
 from .engine import Engine, Room
 from .explaining import Explainer, explainer_command
@@ -25,7 +26,7 @@ from .log import Log
 from .metrics import Metrics
 from .pipe import Ended
 from .ring import Ring
-from .settings import Settings
+from .settings import CLASSIC, Settings
 from .tokens import Token
 from .trial import Trial
 
@@ -50,7 +51,7 @@ def door_of(settings: Settings, command: Sequence[str], dump: Sequence[str] | No
     log, metrics, catalog, limits = Log(), Metrics(), Catalog(), settings.limits
     ring = Ring(secrets.token_hex(4), limits.alerts_kept, limits.alert_bytes_kept)
     explainer = Explainer(explainer_command())
-    following = Following(catalog, ring, metrics, log, limits.articles_kept)
+    following = Following(catalog, ring, metrics, log, limits.articles_kept, settings.dialect == CLASSIC)
 
     def load() -> Coroutine[Any, Any, None] | None:
         is_there = dump and (settings.journal is None or (settings.journal / FILE).exists())
@@ -61,8 +62,9 @@ def door_of(settings: Settings, command: Sequence[str], dump: Sequence[str] | No
                         for one in (None, explainer))
     courier = deliveries.courier_of(settings, explainer, metrics, log)
     following.courier = courier
-    return Door(settings, engine, explainer, Trial([*command_of([], workers=0), "hits"]), ring, plain, excerpted,
-                catalog, following, metrics, log, courier)
+    trial, desk = Trial([*command_of([], workers=0), "hits"]), PressDesk(settings.profile, explainer)
+    return Door(settings, engine, explainer, trial, desk, ring, plain, excerpted, catalog, following, metrics, log,
+                courier)
 
 
 async def start(door: Door) -> None:
@@ -77,6 +79,7 @@ async def stop(door: Door) -> None:
     """Ends what the door works with: the engine first, which still answers what it owes."""
     await door.engine.stop()
     await door.trial.stop()
+    await door.desk.stop()
     if door.courier:
         await door.courier.stop()
     await door.explainer.stop()

@@ -12,10 +12,12 @@ from .bodies import body_of, is_asked, limit_of, object_in, of_json, with_member
 from .door import Door
 from .marking import Marker, by_query, size_of
 from .problems import Problem
+from .settings import CLASSIC
 
 Json = dict[str, Any]
 USUAL_LISTED = 20
 MOST_LISTED = 100
+NO_PLACES = "in the press dialect they are places in prepared articles, and not in those that came"
 
 
 class Articles:
@@ -31,13 +33,14 @@ class Articles:
         articles = with_members(body, {"articles": list})["articles"] if "articles" in body else [body]
         wants_hits, wants_marks = is_asked(request, "hits"), is_asked(request, "marked")
         if (wants_hits or wants_marks) and not self._door.shows_hits:
-            raise Problem("hits", "start it with an engine as `pressclip run 4 hits`")
+            is_classic = self._door.settings.dialect == CLASSIC
+            raise Problem("hits", "start it with an engine as `pressclip run 4 hits`" if is_classic else NO_PLACES)
         if not self._door.spool_has_room():
             raise Problem("behind", "too many alerts wait for their delivery", {"Retry-After": "10"})
         reply = await ask_line(self._door, line_with(text, "articles" in body))
         if wants_marks:
             await self._mark(articles, reply["alerts"])
-        if not wants_hits and self._door.shows_hits:
+        if not wants_hits and self._door.engine.shows_hits:
             for alert in reply["alerts"]:
                 del alert["hits"]
         return of_json(reply)

@@ -10,6 +10,7 @@ from pressclip_service.errors import EngineFailed
 from .door import Door
 from .pipe import Behind, Ended, Question
 from .problems import WORDS, Problem
+from .settings import PRESS
 from .trial import line_of
 
 Json = dict[str, Any]
@@ -50,6 +51,8 @@ async def refusal(door: Door, line: bytes, reply: Json) -> Problem:
     word = reply["refused"] if reply["refused"] in WORDS else "fault"
     members: Json = {"which": reply["which"]} if "which" in reply else {}
     try:
+        if word == "query" and door.settings.dialect == PRESS:
+            return await by_desk(door, json.loads(line)["queries"][reply["which"]]["query"], reply["which"])
         told = await door.explainer.line(line.decode(errors="replace"))
         if told.get("refused") != reply["refused"]:
             return Problem(word, **members)
@@ -58,6 +61,13 @@ async def refusal(door: Door, line: bytes, reply: Json) -> Problem:
             query = json.loads(line)["queries"][reply["which"]]["query"]
             read = await door.explainer.explain(query)
             members.update({name: read[name] for name in ("fault", "at") if name in read})
-    except (Behind, Ended, EngineFailed):
+    except (Behind, Ended, EngineFailed, Problem):
         return Problem(word, **members)
     return Problem(word, told.get("says", ""), **members)
+
+
+async def by_desk(door: Door, query: str, which: int) -> Problem:
+    """The problem that a query of a register line can't be said in the press dialect."""
+    read = await door.desk.explain(query)
+    told = {name: read[name] for name in ("fault", "at") if name in read}
+    return Problem("query", read["says"] if "fault" in read else "", which=which, member=f"queries[{which}].query", **told)

@@ -8,13 +8,14 @@ from dataclasses import dataclass, field
 from .broadcasting import Broadcaster
 from .catalog import Catalog
 from .courier import Courier
+from .desk import PressDesk
 from .engine import Engine
 from .explaining import Explainer
 from .following import Following
 from .log import Log
 from .metrics import Metrics
 from .ring import Ring
-from .settings import Settings
+from .settings import CLASSIC, Settings
 from .trial import Trial
 
 
@@ -27,6 +28,7 @@ class Door:
     engine: Engine
     explainer: Explainer
     trial: Trial
+    desk: PressDesk
     ring: Ring
     plain: Broadcaster
     excerpted: Broadcaster
@@ -41,8 +43,8 @@ class Door:
 
     @property
     def shows_hits(self) -> bool:
-        """Whether the engine's replies to matches have hits."""
-        return self.engine.shows_hits
+        """Whether the engine's replies to matches have hits, and these are places in the articles as they came."""
+        return self.engine.shows_hits and self.settings.dialect == CLASSIC
 
     @property
     def is_draining(self) -> bool:

@@ -34,17 +34,17 @@ class Explainer:
 
     async def explain(self, query: str) -> Json:
         """How a query's text is read, or its fault."""
-        return await self._ask({"query": query})
+        return await self.ask({"query": query})
 
     async def words(self, text: str) -> Json:
         """The words of a text and where each stands, by bytes of UTF-8."""
-        return await self._ask({"text": text})
+        return await self.ask({"text": text})
 
     async def line(self, line: str) -> Json:
         """What a line of the protocol would be refused for."""
-        return await self._ask({"line": line})
+        return await self.ask({"line": line})
 
-    async def _ask(self, value: Json) -> Json:
+    async def ask(self, value: Json) -> Json:
         """The program's reply; `Behind` where too much waits for it, `Ended` where it ended before it gave one, and
         `EngineFailed` where it can't be started."""
         async with self._starting:
@@ -64,9 +64,14 @@ class Explainer:
     def _end(self, status: int) -> None:
         assert self._pipe is not None
         for owed in self._pipe.owed:
-            owed.sink.fail(Ended(f"pressclip-explain ended with status {status}"))
+            owed.sink.fail(Ended(f"{Path(self._command[0]).name} ended with status {status}"))
         self._pipe.owed.clear()
         self._over.set()
+
+    def kill(self) -> None:
+        """Ends the program at once; it is started again where it is asked next."""
+        if self._pipe is not None and not self._pipe.is_over:
+            self._pipe.kill()
 
     async def stop(self) -> None:
         """Ends the program with its input."""

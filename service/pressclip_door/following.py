@@ -33,9 +33,10 @@ _RESTARTED = "; it is started again"
 
 class Following:
     """Hears each reply before whoever awaits it. `changes` counts those that are kept; None where nobody says how many
-    there were. `last_matches` are the last lines with articles."""
+    there were. `last_matches` are the last lines with articles. Hits are passed over unless they are places in these."""
 
-    def __init__(self, catalog: Catalog, ring: Ring, metrics: Metrics, log: Log, articles_kept: int) -> None:
+    def __init__(self, catalog: Catalog, ring: Ring, metrics: Metrics, log: Log, articles_kept: int,
+                 are_hits_places: bool = True) -> None:
         self.changes: int | None = None
         self.last_matches: deque[bytes] = deque()
         self.courier: Courier | None = None
@@ -44,6 +45,7 @@ class Following:
         self._metrics = metrics
         self._log = log
         self._articles_kept = articles_kept
+        self._are_hits_places = are_hits_places
         self._bytes_of_matches = 0
         self._lines = {name: metrics.lines.labels(name)
                        for name in (*_OPERATIONS.values(), "match", "show", "purge")}
@@ -60,7 +62,7 @@ class Following:
                     continue
                 self._take_match(owed.line)
                 if _ALERTED in reply:
-                    raised += raised_by(owed.line, json.loads(reply)["alerts"], time.time())
+                    raised += raised_by(owed.line, json.loads(reply)["alerts"], time.time(), self._are_hits_places)
             else:
                 self._take_other(owed.line, reply)
         for one in raised:

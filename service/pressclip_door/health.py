@@ -11,6 +11,7 @@ from prometheus_client import CONTENT_TYPE_LATEST, generate_latest
 from pressclip_service.journal import FILE
 
 from .bodies import of_json
+from .dialects import dialects_of
 from .door import Door
 from .guard import needs
 from .tokens import Role
@@ -24,8 +25,8 @@ class Health:
 
     @needs(Role.OPEN)
     async def health(self, request: web.Request) -> web.Response:
-        """That the door lives."""
-        return of_json({"is_alive": True})
+        """That the door lives, and the dialects of queries that it knows, its own first."""
+        return of_json({"is_alive": True, "dialects": dialects_of(self._door)})
 
     @needs(Role.OPEN)
     async def ready(self, request: web.Request) -> web.Response:

@@ -12,6 +12,7 @@ from .bodies import of_json
 from .door import Door
 from .guard import needs
 from .problems import TYPE, WORDS
+from .settings import DIALECTS
 from .tokens import Role
 
 Json = dict[str, Any]
@@ -88,20 +89,21 @@ def act(says: str, answers: Mapping[int, Json], words: Sequence[str] = (), body:
 
 ID = asked("id", "the query's id", place="path")
 LIMIT = asked("limit", "how many at most", NUMBER)
+DIALECT = asked("dialect", "the dialect of the query, where it is not the service's own", {"enum": list(DIALECTS)})
 ENGINE_WORDS = ("long", "json", "shape", "limit", "query", "listener", "full", "behind", "ended")
 READ_WORDS = ("json", "shape", "ended")
 LISTED = record({"count": NUMBER, "queries": many(known("Listing"))}, {"next": TEXT})
 MATCHED = record({"alerts": many(known("Alert")), "notes": many(TEXT)})
 READING = {"type": "object"}
 TRIED = record({"holds": BOOLEAN, "marked": many(known("Marked"))})
-HEALTH = record({"is_alive": BOOLEAN})
+HEALTH = record({"is_alive": BOOLEAN, "dialects": many({"enum": list(DIALECTS)})})
 READY = record({"is_ready": BOOLEAN, "queries": NUMBER, "shows_hits": BOOLEAN, "changes": maybe(NUMBER)})
 
 PATHS: Json = {
     "/queries/{id}": {
         "put": act("Registers a query, or replaces it",
                    {200: answered("replaced", known("Listing")), 201: answered("registered", known("Listing"))},
-                   ENGINE_WORDS, known("Query"), [ID]),
+                   (*ENGINE_WORDS, "dialect"), known("Query"), [ID, DIALECT]),
         "get": act("Shows a query", {200: answered("the query", known("Listing"))}, ("missing", "ended"), None, [ID]),
         "delete": act("Deletes a query", {200: answered("deleted", record({"deleted": NUMBER}))},
                       ("missing", "ended"), None, [ID])},
@@ -110,7 +112,7 @@ PATHS: Json = {
                    [asked("after", "the `next` of the page before"), LIMIT, asked("prefix", "how the ids begin"),
                     asked("search", "a text in the id or in the query, in any case")]),
         "post": act("Registers many queries, all or none", {200: answered("done", record({"registered": NUMBER}))},
-                    ENGINE_WORDS, record({"queries": many(known("Listing"))})),
+                    (*ENGINE_WORDS, "dialect"), record({"queries": many(known("Listing"))}), [DIALECT]),
         "delete": act("Deletes all queries", {200: answered("done", record({"cleared": NUMBER}))}, ("ended",))},
     "/articles": {
         "post": act("Matches one article or many", {200: answered("the alerts", MATCHED)},
@@ -134,13 +136,13 @@ PATHS: Json = {
                             asked("prefix", "how the ids of the queries begin"),
                             asked("excerpts", "whether to show marked excerpts", BOOLEAN)])},
     "/explain": {"post": act("Says how a query is read, or its fault", {200: answered("the reading", READING)},
-                             READ_WORDS, record({"query": TEXT}))},
+                             (*READ_WORDS, "dialect", "limit"), record({"query": TEXT}), [DIALECT])},
     "/words": {"post": act("Says how a text is cut into words",
                            {200: answered("the words", record({"words": many(known("Word"))}))}, READ_WORDS,
                            record({"text": TEXT}))},
     "/try": {"post": act("Says whether a query that is not registered holds of an article",
-                         {200: answered("whether, and where", TRIED)}, (*READ_WORDS, "limit", "query"),
-                         record({"query": TEXT, "article": known("Article")}))},
+                         {200: answered("whether, and where", TRIED)}, (*READ_WORDS, "dialect", "limit", "query"),
+                         record({"query": TEXT, "article": known("Article")}), [DIALECT])},
     "/deliveries": {"get": act("Says what waits to be delivered", {200: answered(
         "the routes", record({"deliveries": many(known("Delivery"))}))})},
     "/healthz": {"get": act("Says that the service lives", {200: answered("it does", HEALTH)})},

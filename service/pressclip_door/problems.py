@@ -41,6 +41,7 @@ WORDS: Mapping[str, tuple[int, str]] = {
     "ended": (503, "the engine ended before it answered"),
     "spool": (503, "alerts can't be kept for their delivery now"),
     "draining": (503, "the service ends now"),
+    "dialect": (409, "this dialect can't be had here"),
     "large": (422, "the answer would be too large"),
     "hits": (409, "the engine shows no hits"),
     "fault": (500, "something went wrong here"),

@@ -10,6 +10,7 @@ from aiohttp import web
 
 from .asking import ask
 from .bodies import limit_of, object_of, of_json, with_members
+from .dialects import need_own
 from .door import Door
 from .guard import needs
 from .problems import Problem
@@ -29,6 +30,7 @@ class Queries:
 
     async def put(self, request: web.Request) -> web.Response:
         """Registers a query under an id, or replaces it."""
+        need_own(self._door, request)
         name = request.match_info["id"]
         body = with_members(await object_of(self._door, request), {"query": str}, {"listener": str})
         is_new = self._door.catalog.get(name) is None
@@ -54,6 +56,7 @@ class Queries:
 
     async def post(self, request: web.Request) -> web.Response:
         """Registers many, all or none."""
+        need_own(self._door, request)
         body = with_members(await object_of(self._door, request), {"queries": list})
         return of_json(await ask(self._door, {"op": "register", "queries": body["queries"]}))
 

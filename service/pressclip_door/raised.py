@@ -45,8 +45,8 @@ class Raised:
         return Raised(self.article, self.queries[chosen], hits, self.at, self.matched, self.place)
 
 
-def raised_by(line: bytes, alerts: Sequence[Json], at: float) -> list[Raised]:
-    """The articles of a line of which queries hold, by the alerts of its reply."""
+def raised_by(line: bytes, alerts: Sequence[Json], at: float, with_hits: bool = True) -> list[Raised]:
+    """The articles of a line of which queries hold, by the alerts of its reply, with their hits or without."""
     matched = Matched(line)
-    return [Raised(alert["article"], alert["queries"], alert.get("hits"), at, matched, place)
+    return [Raised(alert["article"], alert["queries"], alert.get("hits") if with_hits else None, at, matched, place)
             for place, alert in enumerate(alerts) if alert["queries"]]

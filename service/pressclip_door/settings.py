@@ -5,6 +5,7 @@ from __future__ import annotations
 import ipaddress
 import tomllib
 from dataclasses import dataclass, field, fields
+from importlib.util import find_spec
 from pathlib import Path
 from typing import Any, Mapping, Sequence
 from urllib.parse import urlsplit
@@ -13,6 +14,10 @@ from pressclip_service.errors import STATUS_USAGE, ServiceError
 
 Json = dict[str, Any]
 USUAL_PORT = 8_080
+CLASSIC, PRESS = "classic", "press"
+DIALECTS = (CLASSIC, PRESS)
+# Packages of Debian that the press dialect needs, and that are not there.
+MISSING = tuple(f"python3-{name}" for name in ("lark", "regex") if find_spec(name) is None)
 
 
 class BadSettings(ServiceError):
@@ -66,7 +71,8 @@ class Delivery:
 
 @dataclass(frozen=True)
 class Settings:
-    """All of it. `engine` is the engine's command; `grid` says that it is a grid, with these options."""
+    """All of it. `engine` is the engine's command; `grid` says that it is a grid, with these options; `dialect` is how
+    queries are read, of press desks by a profile, or the usual one."""
 
     host: str = "127.0.0.1"
     port: int = USUAL_PORT
@@ -74,6 +80,8 @@ class Settings:
     engine: tuple[str, ...] = ()
     journal: Path | None = None
     grid: tuple[str, ...] | None = None
+    dialect: str = CLASSIC
+    profile: Path | None = None
     tokens: Path | None = None
     spool: Path | None = None
     limits: Limits = field(default_factory=Limits)
@@ -155,6 +163,11 @@ def check(settings: Settings) -> None:
          f"to listen at {settings.host} tokens are needed: --tokens FILE, or tokens in door.toml")
     need(not settings.deliveries or settings.spool is not None, "deliveries need a spool: a file for what waits")
     need(settings.journal is None or settings.grid is None, "a grid keeps its queries itself: leave the journal out")
+    need(settings.dialect in DIALECTS, f"dialect is {CLASSIC} or {PRESS}")
+    is_press = settings.dialect == PRESS
+    need(not is_press or not MISSING, f"dialect {PRESS} needs {' and '.join(MISSING)}")
+    need(not is_press or settings.grid is None, f"a grid's engines read queries themselves: leave dialect {PRESS} out")
+    need(is_press or settings.profile is None, f"a profile is of dialect {PRESS}")
     need(0 <= settings.port < 65_536, "a port is a number below 65536")
 
 
@@ -171,6 +184,9 @@ def secret_of(path: Path) -> bytes:
 def commands_of(settings: Settings, service: Path, usual: Sequence[str]) -> tuple[list[str], list[str] | None]:
     """The command of the engine, and the one that dumps the queries that are there."""
     engine = list(settings.engine) or list(usual)
+    if settings.dialect == PRESS:
+        profile = [] if settings.profile is None else ["--profile", str(settings.profile)]
+        engine = [str(service / "press"), "run", "--quiet", *profile, "--", *engine]
     if settings.grid is not None:
         grid = [str(service / "grid"), *settings.grid]
         return [*grid, "submit", "--", *engine], [*grid, "dump"]

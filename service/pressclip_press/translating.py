@@ -19,8 +19,10 @@ from .signs import BRANDS_THAT_ARE_WORDS
 from .spelled import MARKS_OF, terms_of
 from .terms import Row, Slot, is_wild, row_of
 from .tree import (BODY, TEXT, TITLE, WILD_MANY, All, AtLeast, Every, Has, Level, Near, Not, Often, Place, Range,
-                   Refused, Remark, Same, Slop, Some, Term, Tree)
+                   Refused, Remark, Same, Slop, Some, Term, Tree, parts_of)
 
+_MOST_DEEP = 200
+_TOO_DEEP = Refused(Place(0, 1), "too_deep", f"At most {_MOST_DEEP} parts lie within one another.")
 _SIGN_IN_WORD = re.compile(r"[a-z]{3,}[+&][a-z]{3,}")
 _PART_OF_DATE = re.compile(r"(\d{4})(?:-(\d{2}))?")
 _FIELD_IN_QUERY = re.compile(r"(?:^|[\s(+-])([A-Za-z_][A-Za-z0-9_]*):")
@@ -64,9 +66,29 @@ def part_of(source: str, preparer: Preparer) -> Part:
     return _Planner(preparer).part(_read(source, preparer).tree)
 
 
+def tree_of(source: str, preparer: Preparer) -> Tree:
+    """How a query is read. `Refused` where it can't be said."""
+    return _read(source, preparer).tree
+
+
 def _read(source: str, preparer: Preparer) -> Reading:
     profile = preparer.profile
-    return read(source, profile.choices, _known(profile))
+    try:
+        reading = read(source, profile.choices, _known(profile))
+    except RecursionError:
+        raise _TOO_DEEP from None
+    if _depth(reading.tree) > _MOST_DEEP:
+        raise _TOO_DEEP
+    return reading
+
+
+def _depth(tree: Tree) -> int:
+    """How many parts lie within one another."""
+    depth, level = 0, [tree]
+    while level:
+        depth += 1
+        level = [part for one in level for part in parts_of(one)]
+    return depth
 
 
 @lru_cache(maxsize=8)

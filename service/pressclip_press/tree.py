@@ -172,3 +172,14 @@ class Slop:
 
 
 Tree = Union[Term, Every, Has, Range, Not, All, Some, AtLeast, Often, Near, Same, Slop]
+
+
+def parts_of(tree: Tree) -> tuple[Tree, ...]:
+    """The parts right within one; none of a term, a field or a range."""
+    if isinstance(tree, (All, Some, AtLeast)):
+        return tree.parts
+    if isinstance(tree, (Near, Same)):
+        return (tree.left, tree.right)
+    if isinstance(tree, (Not, Often)):
+        return (tree.part,)
+    return (tree.term,) if isinstance(tree, Slop) else ()

@@ -29,7 +29,8 @@ NAMED = {name: getattr(Keys, name.upper()) for name in ("tab", "escape", "enter"
 # Chromium tells each answer that is an error, also those that a page is made for, and where a test leaves a page that
 # asks first.
 _EXPECTED = ("the server responded with a status of 401", "the server responded with a status of 403",
-             "the server responded with a status of 404", "the server responded with a status of 422",
+             "the server responded with a status of 404", "the server responded with a status of 409",
+             "the server responded with a status of 422",
              "the server responded with a status of 503",
              "net::ERR_CONNECTION_REFUSED", "net::ERR_INCOMPLETE_CHUNKED_ENCODING", "net::ERR_CONNECTION_RESET",
              "Blocked attempt to show a 'beforeunload' confirmation panel")

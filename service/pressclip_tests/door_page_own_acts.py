@@ -5,7 +5,9 @@ from __future__ import annotations
 from pathlib import Path
 from typing import TYPE_CHECKING, Any, Callable
 
-from .door_page_acts import ARTICLES, QUERY, write
+from pressclip_service.engine import command_of
+
+from .door_page_acts import ARTICLES, QUERY, TEXT, write
 from .door_runs import Door
 from .judge import folder, need
 
@@ -371,7 +373,53 @@ def the_keyboard_goes_through_all(browser: Browser) -> None:
             need(browser.run(FOCUSED)["order"] == orders[-2], "the way back is another one")
 
 
+def queries_of_press_desks_are_read_and_tried(browser: Browser) -> None:
+    """By choice, where they can't be saved and no saved one is read so; and by a service of that dialect alone, where
+    they are saved, and alert."""
+    far = "Recall of toys that were made in May. Tesla"
+    with Door() as door:
+        door.put("tea", "tea coffee")
+        browser.open(door.address)
+        browser.pick("#dialect", "Press desk")
+        browser.until(lambda: "Tesla NEAR/5 recall*" in browser.texts("#examples button"), "other examples are shown")
+        browser.fill(TEXT, "A recall by Tesla")
+        write(browser, "é OR Tesla NEAR recall")
+        browser.has("#sentence", "Of these, those are kept")
+        browser.until(lambda: browser.texts(".at-notice") == ["NEAR"], f"marked is {browser.texts('.at-notice')}")
+        browser.shows("#verdict", "Holds.")
+        browser.shoot("press-by-choice", is_whole=True)
+        browser.click("#query-id")
+        browser.type("near")
+        browser.press("enter")
+        browser.has("#said", "Queries are registered in the dialect classic alone here")
+        need(door.ask("GET", "/queries").value["count"] == 1, "it is registered")
+        write(browser, "é AND")
+        browser.shows("#fault", "Something is missing behind AND.")
+        need(browser.texts(".at-fault") == ["AND"], f"{browser.texts('.at-fault')}")
+        write(browser, "")
+        browser.click("[data-id=tea]")
+        browser.shows("#sentence", 'The article must have any of ("tea" in text; "coffee" in text).')
+        need(browser.run("return document.querySelector('#dialect').value") == "classic", "the dialect stays another")
+    with Door("--dialect", "press", engine=command_of([], workers=0)) as door:
+        browser.open(door.address)
+        browser.until(lambda: "Tesla NEAR/5 recall*" in browser.texts("#examples button"), "other examples are shown")
+        need(not browser.find("#dialect-choice").is_displayed(), "there is a choice")
+        write(browser, "Tesla NEAR/2 recall")
+        browser.has("#sentence", "Of these, those are kept")
+        browser.fill(TEXT, far)
+        browser.has("#verdict", "Does not hold")
+        browser.click("#query-id")
+        browser.type("near")
+        browser.press("enter")
+        browser.has("#said", "Saved.")
+        door.match("far", far)
+        door.match("near", "A recall by Tesla")
+        browser.until(lambda: browser.texts("#alert-list .headline") == ["near"], "another article alerts")
+        need(not browser.all("#alert-list mark"), "words are marked")
+
+
 OWN_ACTS: tuple[OwnAct, ...] = (
+    queries_of_press_desks_are_read_and_tried,
     alerts_are_shown_as_they_come, excerpts_end_with_whole_words, many_alerts_are_shown_within_bounds,
     alerts_that_came_before_are_shown, texts_of_others_stay_texts, a_page_that_nobody_sees_keeps_no_connection,
     the_page_goes_on_where_the_door_was_ended, a_link_of_another_site_leads_to_the_page, the_page_asks_for_a_token,

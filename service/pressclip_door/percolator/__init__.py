@@ -6,17 +6,26 @@ from aiohttp import web
 
 from ..door import Door
 from ..guard import needs
+from ..settings import PRESS
 from ..tokens import Role
 from .answers import Handler, handled
 from .handlers import OfDocuments, OfIndices, OfSearches
 from .indices import Indices
+from .trouble import Trouble
 
 PREFIX = "/elasticsearch"
 INDEX = "/{index:[^_/][^/]*}"
 
 
+async def refused(request: web.Request) -> web.StreamResponse:
+    """Refuses all where the engine reads queries in another dialect than those that are made here."""
+    raise Trouble("illegal_argument_exception", f"the service has the dialect {PRESS}, and takes no queries of Elasticsearch")
+
+
 def routes(door: Door) -> list[web.RouteDef]:
     """Its routes, each with the role that its callers need, where that is not told by its method."""
+    if door.settings.dialect == PRESS:
+        return [web.route("*", PREFIX + "{rest:.*}", handled(refused))]
     indices = Indices(door)
     of_indices, of_documents, of_searches = OfIndices(indices), OfDocuments(indices), OfSearches(indices)
     handlers: list[tuple[str, str, Handler, Role | None]] = [

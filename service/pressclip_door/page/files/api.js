@@ -103,14 +103,15 @@ export async function call(method, address, body, signal) {
 /**
  * The address of a registered query.
  * @param {string} id
+ * @param {Record<string, string>} [parameters]
  * @returns {URL}
  * @throws {Refused} where the id has no address
  */
-export function addressOfQuery(id) {
+export function addressOfQuery(id, parameters = {}) {
   if (id === "." || id === "..") {
     throw new Refused(0, "A name that is only dots has no address: choose another one.");
   }
-  return addressOf(`queries/${encodeURIComponent(id)}`);
+  return addressOf(`queries/${encodeURIComponent(id)}`, parameters);
 }
 
 /** Asks again and again for what is newest: an answer that was overtaken by a later question is dropped. */

@@ -58,6 +58,11 @@ export class Box {
     this.#editor.clearHistory();
   }
 
+  /** @param {string} text what stands in it while it is empty */
+  set placeholder(text) {
+    this.#editor.setOption("placeholder", text);
+  }
+
   /**
    * Calls at each change of the text.
    * @param {() => void} call

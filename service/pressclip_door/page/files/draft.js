@@ -18,11 +18,13 @@ export class Draft {
 
   /**
    * @param {import("./box.js").Box} box
+   * @param {import("./dialect.js").Dialect} dialect
    * @param {(id: string | null) => void} changed hears which query is open now
    * @param {() => void} saved hears that the registered queries are others now
    */
-  constructor(box, changed, saved) {
+  constructor(box, dialect, changed, saved) {
     this.box = box;
+    this.dialect = dialect;
     this.changed = changed;
     this.saved = saved;
     find("save", HTMLFormElement).addEventListener("submit", (event) => {
@@ -84,6 +86,9 @@ export class Draft {
    */
   #show(listing) {
     this.#opened = listing;
+    if (listing) {
+      this.dialect.takeOwn();
+    }
     this.box.text = listing?.query ?? "";
     this.#head();
     this.#id.value = listing?.id ?? "";
@@ -129,7 +134,7 @@ export class Draft {
    */
   async #put(id, query) {
     const listener = this.#opened?.id === id ? this.#opened.listener : undefined;
-    await call("PUT", addressOfQuery(id), { query, ...(listener ? { listener } : {}) });
+    await call("PUT", addressOfQuery(id, this.dialect.parameters), { query, ...(listener ? { listener } : {}) });
     this.#opened = { id, query, listener };
     this.#head();
     this.#id.value = id;

@@ -3,6 +3,7 @@
 import { AlertStream } from "./events.js";
 import { Alerts } from "./alerts.js";
 import { Box } from "./box.js";
+import { Dialect } from "./dialect.js";
 import { Draft } from "./draft.js";
 import { find } from "./elements.js";
 import { Keys } from "./keys.js";
@@ -30,10 +31,13 @@ function queryBox() {
 class Page {
   #panes = new Panes();
   #box = queryBox();
-  #trying = new Trying(this.#box);
-  #reading = new Reading(this.#box, (fields, isReadable) => this.#trying.hear(fields, isReadable));
+  /** @type {Dialect} */
+  #dialect = new Dialect(this.#box, () => this.#reading.hear());
+  #trying = new Trying(this.#box, this.#dialect);
+  /** @type {Reading} */
+  #reading = new Reading(this.#box, this.#dialect, (fields, isReadable) => this.#trying.hear(fields, isReadable));
   #queries = new Queries((id) => this.#open(id));
-  #draft = new Draft(this.#box, (id) => this.#queries.mark(id), () => this.#queries.load());
+  #draft = new Draft(this.#box, this.#dialect, (id) => this.#queries.mark(id), () => this.#queries.load());
   #alerts = new Alerts((query, article) => this.#open(query, article), (count) => this.#panes.came(count));
   #standing = new Standing(() => this.#queries.refresh());
   #stream = new AlertStream({
@@ -55,6 +59,7 @@ class Page {
       { key: "a", says: "go to the alerts", act: this.#goTo("alerts", () => this.#alerts.focus()) },
       { key: "p", says: "hold alerts back, or go on", act: () => this.#alerts.toggle() },
     ], { save: () => this.#draft.save(), next: () => this.#reading.next() });
+    this.#dialect.load();
     this.#load();
     this.#standing.run();
     this.#stream.run();

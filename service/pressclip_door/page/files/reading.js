@@ -16,13 +16,22 @@ const REMARKS_SHOWN = 5;
 const MOST_REMARKS = 200;
 const MOST_SENTENCE = 1_500;
 const LEVELS = { warning: "Warning", notice: "Note", hint: "Hint" };
-const EXAMPLES = [
-  ["tea coffee", "one of the two words"],
-  ["+tea +price*", "both; the second with any ending"],
-  ['"green tea" -spam', "these words together, and not the other"],
-  ["title:merger", "only in the title"],
-  ["(tea OR coffee) AND harvest", "groups"],
-];
+const EXAMPLES = {
+  classic: [
+    ["tea coffee", "one of the two words"],
+    ["+tea +price*", "both; the second with any ending"],
+    ['"green tea" -spam', "these words together, and not the other"],
+    ["title:merger", "only in the title"],
+    ["(tea OR coffee) AND harvest", "groups"],
+  ],
+  press: [
+    ["Tesla NEAR/5 recall*", "at most five words on; any ending"],
+    ['"green tea" NOT spam', "these words together, and not the other"],
+    ["(CEO OR director) /s Musk", "in one sentence"],
+    ["2 of (strike, layoffs, closure)", "two of them"],
+    ["exact:Orange", "as it is written, with capitals"],
+  ],
+};
 
 /** What is below the query's box. */
 export class Reading {
@@ -39,10 +48,12 @@ export class Reading {
 
   /**
    * @param {import("./box.js").Box} box
+   * @param {import("./dialect.js").Dialect} dialect
    * @param {(fields: string[], isReadable: boolean) => void} heard hears which fields the query names
    */
-  constructor(box, heard) {
+  constructor(box, dialect, heard) {
     this.box = box;
+    this.dialect = dialect;
     this.heard = heard;
     box.onChange(later(QUIET_MILLISECONDS, () => this.#ask()));
     find("more-remarks", HTMLButtonElement).addEventListener("click", () => {
@@ -52,12 +63,18 @@ export class Reading {
     this.#showExamples();
   }
 
+  /** Reads the query anew, in the dialect that it has now. */
+  hear() {
+    this.#showExamples();
+    this.#ask();
+  }
+
   /** Shows examples while the box is empty. */
   #showExamples() {
-    const rows = EXAMPLES.map(([text, says]) => element("li", {},
+    const rows = EXAMPLES[this.dialect.chosen].map(([text, says]) => element("li", {},
       element("button", { type: "button", onclick: () => this.#take(text) }, text),
       element("span", { class: "quiet" }, says)));
-    find("examples", HTMLElement).append(element("ul", { "aria-label": "Examples" }, ...rows));
+    find("examples", HTMLElement).replaceChildren(element("ul", { "aria-label": "Examples" }, ...rows));
   }
 
   /**
@@ -78,7 +95,7 @@ export class Reading {
       return;
     }
     try {
-      const explained = await this.#newest.ask("POST", addressOf("explain"), { query: text });
+      const explained = await this.#newest.ask("POST", addressOf("explain", this.dialect.parameters), { query: text });
       if (explained) {
         this.#show(text, explained);
       }
@@ -112,7 +129,7 @@ export class Reading {
     this.box.mark(this.#places.slice().reverse());
     this.#atPlace = -1;
     this.box.setValid(!isFault);
-    this.heard(explained && !isFault ? fieldsOf(explained.tree) : [], explained !== null && !isFault);
+    this.heard(explained && !isFault ? namedIn(explained) : [], explained !== null && !isFault);
   }
 
   /**
@@ -122,10 +139,11 @@ export class Reading {
   #showMeaning(meaning) {
     const [fault, sentence, tree] = ["fault", "sentence", "tree"].map((id) => find(id, HTMLElement));
     fault.hidden = true;
-    sentence.hidden = tree.hidden = meaning === null;
+    sentence.hidden = meaning === null;
+    tree.hidden = !meaning?.tree;
     const says = meaning?.says ?? "";
     sentence.textContent = says.length > MOST_SENTENCE ? `${says.slice(0, MOST_SENTENCE)} …` : says;
-    tree.replaceChildren(...(meaning ? treeNodes(meaning.tree) : []));
+    tree.replaceChildren(...(meaning?.tree ? treeNodes(meaning.tree) : []));
     const flags = meaning ? flagsOf(meaning) : [];
     const list = find("flags", HTMLElement);
     list.hidden = flags.length === 0;
@@ -202,6 +220,15 @@ export class Reading {
       announce(this.#places[this.#atPlace].says ?? "");
     }
   }
+}
+
+/**
+ * The fields that a query names.
+ * @param {Meaning} meaning
+ * @returns {string[]}
+ */
+function namedIn(meaning) {
+  return meaning.tree ? fieldsOf(meaning.tree) : meaning.fields ?? [];
 }
 
 /**

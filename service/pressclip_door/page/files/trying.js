@@ -41,9 +41,13 @@ export class Trying {
   #pick = find("pick", HTMLSelectElement);
   #later = later(QUIET_MILLISECONDS, () => this.#ask());
 
-  /** @param {Box} query the query's box */
-  constructor(query) {
+  /**
+   * @param {Box} query the query's box
+   * @param {import("./dialect.js").Dialect} dialect
+   */
+  constructor(query, dialect) {
     this.query = query;
+    this.dialect = dialect;
     this.#ensure(USUAL_FIELDS);
     this.#pick.addEventListener("change", () => this.#picked());
     for (const intent of ["pointerenter", "focus"]) {
@@ -200,7 +204,7 @@ export class Trying {
     }
     try {
       const body = { query: this.query.text, article: { id: "trial", fields } };
-      const trial = await this.#newest.ask("POST", addressOf("try"), body);
+      const trial = await this.#newest.ask("POST", addressOf("try", this.dialect.parameters), body);
       if (trial) {
         this.#tell(trial);
       }

@@ -31,8 +31,10 @@
  *   how a query is read; a group is the list of its clauses
  *
  * @typedef {{
- *   says: string, tree: Tree, remarks: Remark[], never: boolean, always: boolean, tried_on_all: boolean,
+ *   says: string, remarks: Remark[], tree?: Tree, fields?: string[], never?: boolean, always?: boolean,
+ *   tried_on_all?: boolean,
  * }} Meaning
+ *   of a query of the press dialect the fields that it names, and no tree
  *
  * @typedef {{fault: string, at: number, says: string}} Fault
  *   why a text is no query, and at which byte
