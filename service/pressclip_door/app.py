@@ -30,7 +30,8 @@ from .settings import CLASSIC, Settings
 from .tokens import Token
 from .trial import Trial
 
-MODULES = (queries, articles, alerts, lines, explain, deliveries, health, openapi, percolator, page)
+# Addresses are looked for in this order.
+MODULES = (articles, queries, alerts, lines, explain, deliveries, health, openapi, percolator, page)
 
 
 async def dumped(command: Sequence[str]) -> AsyncIterator[bytes]:

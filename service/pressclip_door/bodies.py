@@ -13,6 +13,7 @@ from .problems import Problem
 
 Json = dict[str, Any]
 JSON_TYPES = ("application/json",)
+_WRITER = json.JSONEncoder(ensure_ascii=False)
 
 
 async def body_of(door: Door, request: web.Request) -> bytes:
@@ -30,6 +31,8 @@ async def read_all(door: Door, request: web.Request) -> bytes:
     expected = limits.body_bytes if request.content_length is None else request.content_length
     if door.bytes_read + expected > limits.bodies_bytes:
         raise Problem("behind", "too many bodies are read already", {"Retry-After": "1"})
+    if request.content.is_eof():
+        return await request.read()
     door.bytes_read += expected
     try:
         async with asyncio.timeout(limits.body_seconds):
@@ -69,7 +72,7 @@ def is_whole(value: object) -> bool:
 
 def of_json(value: Json, status: int = 200) -> web.Response:
     """An answer of JSON, in one line."""
-    return web.Response(text=json.dumps(value, ensure_ascii=False) + "\n", status=status, content_type=JSON_TYPES[0])
+    return web.Response(text=_WRITER.encode(value) + "\n", status=status, content_type=JSON_TYPES[0])
 
 
 def with_members(value: Json, needed: dict[str, type], allowed: dict[str, type] | None = None) -> Json:

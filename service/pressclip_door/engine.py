@@ -105,16 +105,18 @@ class Engine:
         if not self.has_room():
             raise Behind()
         awaited = Awaited()
-        self.send(line, awaited)
-        if self._pipe is not None:
-            self._pipe.flush()
+        self._ready_pipe().send_at_once(Owed(line, awaited, time.perf_counter()))
         return await awaited.reply()
 
     def send(self, line: bytes, sink: Sink) -> None:
         """Takes a line on its way, whose reply goes to the sink; `Ended` where the engine is gone, or not ready yet."""
+        self._ready_pipe().send(Owed(line, sink, time.perf_counter()))
+
+    def _ready_pipe(self) -> Pipe:
+        """The pipe, where the engine is ready."""
         if not self.is_ready or self._pipe is None:
             raise Ended("the engine is not ready: it is started, and replays its journal")
-        self._pipe.send(Owed(line, sink, time.perf_counter()))
+        return self._pipe
 
     async def start(self) -> None:
         """Starts the engine, and waits until it answers; `Ended` where its first life ends before that, `EngineFailed`

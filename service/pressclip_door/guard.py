@@ -35,6 +35,7 @@ _REQUEST_ID = re.compile(r"[A-Za-z0-9._-]{1,64}")
 _STATUS_WORDS = {404: "path", 405: "method", 413: "body"}
 _SINGLE = (b"transfer-encoding", b"content-length", b"content-type", b"authorization", b"host")
 _LOCAL_NAMES = ("127.0.0.1", "localhost", "[::1]")
+_PORT = re.compile(r":\d*$")
 
 
 def needs(role: Role) -> Callable[[Handling], Handling]:
@@ -138,7 +139,7 @@ class Guard:
         if len(hosts) != 1:
             raise Problem("request", "a request has one Host")
         name = hosts[0].lower()
-        if self._names is not None and re.sub(r":\d*$", "", name) not in self._names:
+        if self._names is not None and _PORT.sub("", name) not in self._names:
             raise Problem("host", f"the names of this service are {', '.join(sorted(self._names))}")
         origin = request.headers.get(hdrs.ORIGIN)
         is_foreign = origin is not None and urlsplit(origin).netloc.lower() != name
@@ -181,7 +182,7 @@ def guarding(door: Door, tokens: Sequence[Token]) -> Middleware:
             response = refused(door, name, error)
         finally:
             door.handled -= 1
-        door.metrics.requests.labels(request.method if response.status != 405 else "other", str(response.status)).inc()
+        door.metrics.count_request(request.method if response.status != 405 else "other", response.status)
         door.log.soon("request", id=name, method=request.method, path=request.path, status=response.status,
                        ms=round(1e3 * (time.perf_counter() - start), 2))
         return response
@@ -201,7 +202,8 @@ def refused(door: Door, name: str, error: Exception) -> web.Response:
 
 async def sign(request: web.Request, response: web.StreamResponse) -> None:
     """Puts on each answer, before it is sent, what all have."""
-    response.headers.setdefault("X-Request-Id", request.get("id", ""))
+    headers = response.headers
+    headers.setdefault("X-Request-Id", request.get("id", ""))
     for name, value in SECURITY_HEADERS.items():
-        response.headers.setdefault(name, value)
-    response.headers["Server"] = "pressclip"
+        headers.setdefault(name, value)
+    headers["Server"] = "pressclip"

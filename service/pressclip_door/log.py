@@ -11,6 +11,7 @@ from pressclip_service.streams import ERRORS, write_waiting
 
 FLUSHED_SECONDS = 0.1
 MOST_HELD = 200
+_WRITER = json.JSONEncoder(ensure_ascii=False, default=str)
 
 
 class Log:
@@ -34,7 +35,7 @@ class Log:
 
     def _hold(self, name: str, members: dict[str, object]) -> None:
         now = datetime.now(timezone.utc).isoformat(timespec="milliseconds")
-        self._held.append(json.dumps({"at": now, "event": name, **members}, ensure_ascii=False, default=str))
+        self._held.append(_WRITER.encode({"at": now, "event": name, **members}))
 
     def flush(self) -> None:
         """Writes what is held."""

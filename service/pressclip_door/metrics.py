@@ -34,5 +34,14 @@ class Metrics:
         self.waiting_seconds = Gauge("pressclip_deliveries_oldest_seconds", "For how long the oldest parcel waits",
                                      ["route"], registry=self.registry)
 
+        self._requests_of: dict[tuple[str, int], Counter] = {}
+
+    def count_request(self, method: str, status: int) -> None:
+        """Counts a request that was answered."""
+        found = self._requests_of.get((method, status))
+        if found is None:
+            found = self._requests_of[method, status] = self.requests.labels(method, str(status))
+        found.inc()
+
     def _counter(self, name: str, says: str, *labels: str) -> Counter:
         return Counter(name, says, labels, registry=self.registry)

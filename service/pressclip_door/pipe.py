@@ -121,10 +121,18 @@ class Pipe(asyncio.SubprocessProtocol):
 
     def send(self, owed: Owed) -> None:
         """Takes a line on its way, which may not be blank; those of one turn of the loop are written together."""
-        self.owed.append(owed)
-        self.bytes_owed += len(owed.line)
         if not self._unsent:
             asyncio.get_running_loop().call_soon(self.flush)
+        self._hold(owed)
+
+    def send_at_once(self, owed: Owed) -> None:
+        """Writes a line now, which may not be blank, behind those that are on their way."""
+        self._hold(owed)
+        self.flush()
+
+    def _hold(self, owed: Owed) -> None:
+        self.owed.append(owed)
+        self.bytes_owed += len(owed.line)
         self._unsent.append(owed.line)
 
     def flush(self) -> None:

@@ -8,8 +8,11 @@ from http import HTTPStatus
 from typing import Any
 
 from aiohttp import HttpVersion10, HttpVersion11, web
+from aiohttp.abc import AbstractStreamWriter
+from aiohttp.http import RawRequestMessage, StreamWriter
 from aiohttp.streams import StreamReader
 from aiohttp.web_protocol import RequestHandler
+from multidict import CIMultiDict
 
 from .log import Log
 from .metrics import Metrics
@@ -122,14 +125,48 @@ class Connection(RequestHandler):
         return response
 
 
+class Writer(StreamWriter):
+    """Writes the header of an answer whose length is known together with its body, at once."""
+
+    def __init__(self, protocol: RequestHandler, loop: asyncio.AbstractEventLoop) -> None:
+        super().__init__(protocol, loop)
+        self._is_header = False
+        self._header = b""
+
+    async def write_headers(self, status_line: str, headers: CIMultiDict[str]) -> None:
+        """Writes the header, or holds it until the body is there."""
+        self._is_header = self.length is not None
+        await super().write_headers(status_line, headers)
+        self._is_header = False
+
+    async def write_eof(self, chunk: bytes = b"") -> None:
+        """Writes what is left, which may be a header alone."""
+        if self._header and not chunk:
+            self._write(b"")
+        await super().write_eof(chunk)
+
+    def _write(self, chunk: bytes) -> None:
+        if self._is_header:
+            self._header = chunk
+            return
+        whole, self._header = self._header + chunk, b""
+        super()._write(whole)
+
+
 class Server(web.Server):
     """Makes connections."""
 
     def __init__(self, whole: web.Server, limits: Limits, metrics: Metrics, log: Log, **options: Any) -> None:
-        super().__init__(whole.request_handler, request_factory=whole.request_factory, **options)
+        super().__init__(whole.request_handler, request_factory=self._request, **options)
+        self._make = whole.request_factory
         self.limits = limits
         self.metrics = metrics
         self.log = log
+
+    def _request(self, message: RawRequestMessage, payload: StreamReader, protocol: RequestHandler,
+                 _: AbstractStreamWriter, task: asyncio.Task[None]) -> web.BaseRequest:
+        """A request whose answer goes through our writer."""
+        return self._make(message, payload, protocol, Writer(protocol, self._loop), task)
 
     def __call__(self) -> RequestHandler:
         return Connection(self, loop=self._loop, **self._kwargs)

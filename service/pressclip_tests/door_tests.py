@@ -191,6 +191,9 @@ def the_document_names_each_route() -> None:
         checks.append({"what": f"{method} {path} {answer.status}", "value": answer.value,
                        "schema": {**content["schema"], "components": document["components"]}})
     judge_by_schema(checks)
+    head, whole = (door.ask(method, "/openapi.json") for method in ("HEAD", "GET"))
+    need(head.status == 200 and not head.text and head.headers["Content-Length"] == str(len(whole.text)),
+         f"the header alone: {head}")
 
 
 VALIDATOR = """
