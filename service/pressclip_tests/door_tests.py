@@ -245,9 +245,10 @@ def it_serves_over_any_command() -> None:
         door.ask("POST", "/articles?hits=true", TEA).refused(409, "hits")
     with folder() as name:
         (Path(name) / "journal").write_bytes(b"no journal")
-        for options, engine, status, words in (
-                ([], "/nowhere/pressclip", 1, "can't be started"), ([], "false", 1, "ended with status 1"),
-                (["--journal", name], without_hits()[0], 3, "ended with status 3")):
+        cases: tuple[tuple[list[str], str, int, str], ...] = (
+            ([], "/nowhere/pressclip", 1, "can't be started"), ([], "false", 1, "ended with status 1"),
+            (["--journal", name], without_hits()[0], 3, "ended with status 3"))
+        for options, engine, status, words in cases:
             done = subprocess.run([DEBIAN_PYTHON, str(DOOR), "--port", "0", *options, "--", engine, "run", "0"],
                                   stdin=subprocess.DEVNULL, capture_output=True, text=True, timeout=PATIENCE_SECONDS,
                                   check=False)
