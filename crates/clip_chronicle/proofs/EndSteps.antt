@@ -1,13 +1,12 @@
 -- Each step of an end keeps the rule.
-use Rattle.std.proofs.Common.{◌≡◌, ℕ, ◌≢◌, List, [], ◌∷◌, ◌++◌, fold, set, sym, refl, ap, ◌∙◌, subst, ⊎_elim, Option}
-use Rattle.std.proofs.Common.{None, Some, zero, suc, Result, Ok, Err, MatchResult}
-use mathlib.Core.Option.{some, some-injective, some-ne-none}
+use Rattle.std.proofs.Common.{◌≡◌, ℕ, ◌≢◌, List, [], ◌∷◌, ◌++◌, fold, set, refl, ap, ◌∙◌, subst, ⊎_elim, Option}
+use Rattle.std.proofs.Common.{None, Some, Result, Ok, Err, MatchResult}
+use mathlib.Core.Option.{some}
 use lib.ListN.{get_elem?}
 use Rattle.left_right.specs.Register.{Admits, TurnsAt, Forks, Merges}
 use Rattle.atomic_table.proofs.Lists.{at_set, at_snoc}
-use Rattle.logbook.specs.Pages.{Book}
 use Rattle.clip_chronicle.specs.declared.published.Published.{Published}
-use Rattle.clip_chronicle.specs.Ends.{Continues, Fits, Keeps, Sees, IsOf, StaysOf, seen_keeps}
+use Rattle.clip_chronicle.specs.Ends.{Continues, Fits, Keeps, Sees}
 use Rattle.clip_chronicle.proofs.Beginnings.{prefix_self, prefix_trans}
 
 pub continues_self : (x : Published) → Continues x x
@@ -24,10 +23,6 @@ fits_set x views seat w others mine j u e = ⊎_elim
     (λ (t : (j ≡ seat) × (w ≡ u)). subst (Fits x) t.1 mine)
     (λ (t : (j ≢ seat) × (get_elem? views j ≡ some u)). others j u t.1)
     (at_set views seat j w u e)
-
-pub begins : (x : Published) → Keeps x (None ∷ [])
-begins x zero v e = subst (Fits x) (some-injective _ _ e) tt
-begins x (suc j) v e = absurd (some-ne-none v (sym e))
 
 pub admits : Admits Keeps None
 admits x views h j v e = ⊎_elim (h j v) (λ (t : None ≡ v). subst (Fits x) t tt) (at_snoc views None v j e)
@@ -54,18 +49,6 @@ merges seat v other w x views h at apart there =
     (at_set views seat other w w there) in
     fits_set x (set views seat w) other None (fits_set x views seat w h theirs) tt
 
--- an end that saw a later value is of the same desk
-pub of_later : (book : Book) (n : ℕ) (v : Option Published) (y : Published) → Fits y v → IsOf book n v
-    → IsOf book n (Some y)
-of_later book n None y fits of = absurd of
-of_later book n (Some p) y fits of = (fits.0 ∙ of.0, fits.1 ∙ of.1)
-
--- an end of a desk sees a later value whose history is kept just where it was
-pub keeps_later : (book : Book) (n : ℕ) (v : Option Published) (y : Published) → Fits y v → IsOf book n v
-    → y.view.keeps ≡ seen_keeps v
-keeps_later book n None y fits of = absurd of
-keeps_later book n (Some p) y fits of = fits.2
-
 -- the last of the operations decides
 pub last_decides : (s : Published) (ops : List Published) (next : Published)
     → fold (λ (x y : Published). y) s (ops ++ next ∷ []) ≡ next
@@ -77,12 +60,3 @@ pub both_ways : {A E : Type 0} (P Q S : A → Type 0) (P' Q' S' : E → Type 0) 
     → MatchResult r Q Q' → ((a : A) → P a → Q a → S a) → ((e : E) → P' e → Q' e → S' e) → MatchResult r S S'
 both_ways P Q S P' Q' S' (Ok a) p q f g = f a p q
 both_ways P Q S P' Q' S' (Err e) p q f g = g e p q
-
-pub stays_same : (v : Option Published) → StaysOf v v
-stays_same v = record { of = λ b n h. h; keeps = λ b n h. refl }
-
-pub stays_seen : (v w : Option Published) (y : Published) → w ≡ Some y → Fits y v → StaysOf v w
-stays_seen v w y is fits = record {
-  of = λ b n h. subst (IsOf b n) (sym is) (of_later b n v y fits h);
-  keeps = λ b n h. ap seen_keeps is ∙ keeps_later b n v y fits h;
-}

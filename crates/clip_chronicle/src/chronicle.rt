@@ -1,4 +1,10 @@
 //! The history as a token that can be copied: what was seen of it stays a beginning of it for good.
+//!
+//!     the history   r1 r2 d1 r3      its word, `Head`, is 4
+//!     seen before   r1 r2            a `SeenHistory` of count 2: a beginning of it, now and later
+//!     seen now      r1 r2 d1 r3      what `follow` made of it, by the right of the caller who gave r3
+//!
+//! Of two that were seen the shorter begins the longer. All of it is tokens of no bytes; the counts alone are kept.
 ghost use Rattle.std.specs.Prelude.{◌≡◌, ◌+◌, ◌==◌, ◌<◌, ◌≤◌, ◌^◌, ◌++◌, ◌∷◌, ◌⊎◌, [], length, MatchBool};
 ghost use mathlib.Core.List.{IsPrefix};
 ghost use Rattle.clip_chronicle.specs.Chronicle.{head_of};

@@ -1,9 +1,8 @@
 -- Laws of histories.
-use Rattle.std.proofs.Common.{◌≡◌, ℕ, zero, suc, ◌<◌, ◌≤◌, ◌==◌, Bool, List, [], ◌∷◌, ◌++◌, length, take, map, filter}
-use Rattle.std.proofs.Common.{Some, slice_get, refl, ap, sym, subst, ◌∙◌, eq-eqb, if◌then◌else◌, ◌⊎◌, inl, inr, ⊎_elim}
-use Rattle.std.proofs.lemmas.List.{map-append, take-append-le}
+use Rattle.std.proofs.Common.{◌≡◌, ℕ, zero, suc, ◌<◌, ◌≤◌, ◌==◌, Bool, List, [], ◌∷◌, ◌++◌, map, filter}
+use Rattle.std.proofs.Common.{Some, slice_get, refl, ap, subst, ◌∙◌, eq-eqb, if◌then◌else◌, ◌⊎◌, inl, inr, ⊎_elim}
+use Rattle.std.proofs.lemmas.List.{map-append}
 use Rattle.std.proofs.lemmas.List.Elements.{filter-append}
-use mathlib.Core.List.{IsPrefix}
 use Rattle.clip_model.specs.History.{History, HistoryEntry, Command, own, next_entry, with_command}
 use Rattle.clip_chronicle.specs.Callers.{IsBy}
 
@@ -24,13 +23,6 @@ pub own_next : (h : History) (c : ℕ) (command : Command) → own (with_command
 own_next h c command = own_append h (next_entry h c command ∷ []) c
     ∙ ap (λ (ys : List Command). own h c ++ ys) (own_last (next_entry h c command))
 
-pub own_prefix : (g h : History) (c : ℕ) → IsPrefix g h → IsPrefix (own g c) (own h c)
-own_prefix g h c p = (own p.0 c, sym (own_append g p.0 c) ∙ ap (λ (l : History). own l c) p.1)
-
--- of a list and a longer one, the first k
-pub prefix_take : {A : Type 0} (xs ys : List A) (k : ℕ) → IsPrefix xs ys → k ≤ length xs → take k ys ≡ take k xs
-prefix_take xs ys k p le = ap (take k) (sym p.1) ∙ take-append-le k xs p.0 le
-
 get_last : (h : History) (e x : HistoryEntry) (k : ℕ) → slice_get (h ++ e ∷ []) k ≡ Some x → (slice_get h k ≡ Some x)
     ⊎ (e ≡ x)
 get_last [] e x zero is = inr (cc is)
@@ -42,6 +34,3 @@ pub by_more : (n : ℕ) (h : History) (e : HistoryEntry) → IsBy n h → 0 < e.
 by_more n h e all low high k x is =
     ⊎_elim (λ (t : slice_get h k ≡ Some x). all k x t)
     (λ (t : e ≡ x). subst (λ (z : HistoryEntry). (0 < z.caller) × (z.caller ≤ n)) t (low, high)) (get_last h e x k is)
-
-pub by_none : (n : ℕ) → IsBy n []
-by_none n k e is = absurd (cc is)

@@ -15,9 +15,6 @@ get_more (y ∷ xs) e x zero is = inl is
 get_more (y ∷ xs) e x (suc k) is =
     ⊎_elim (λ t. inl t) (λ (t : (k ≡ length xs) × (e ≡ x)). inr (ap suc t.0, t.1)) (get_more xs e x k is)
 
-pub seated_none : (tag callers : ℕ) (keeps : Bool) (book : Book) → AreSeated tag callers keeps book []
-seated_none tag callers keeps book = record { each = λ k s is. absurd (cc is) }
-
 pub seated_more : (tag callers : ℕ) (keeps : Bool) (book : Book) (xs : List SeatIs) (s : SeatIs) (n : ℕ)
     → AreSeated tag callers keeps book xs → length xs ≡ n → s ≡ new_seat tag callers keeps book (n + 1)
     → AreSeated tag callers keeps book (xs ++ s ∷ [])
@@ -58,21 +55,3 @@ pub seated_of : (tag callers n : ℕ) (keeps : Bool) (book b : Book) (xs : List 
     → AreSeated tag callers keeps book xs → book ≡ b → callers ≡ n → AreSeatsOf b n xs
 seated_of tag callers n keeps book b xs seated is as_many =
     record { each = λ k s at. let e = seated.each k s at in (ap (λ x. x.book) e ∙ is, ap (λ x. x.callers) e ∙ as_many) }
-
-get_front : (xs : List SeatIs) (e s : SeatIs) (k : ℕ) → slice_get xs k ≡ Some s → slice_get (xs ++ e ∷ []) k ≡ Some s
-get_front [] e s k at = absurd (cc at)
-get_front (x ∷ xs) e s zero at = at
-get_front (x ∷ xs) e s (suc k) at = get_front xs e s k at
-
-get_end : (xs : List SeatIs) (e : SeatIs) → slice_get (xs ++ e ∷ []) (length xs) ≡ Some e
-get_end [] e = refl
-get_end (x ∷ xs) e = get_end xs e
-
-pub of_front : (book : Book) (n : ℕ) (all xs : List SeatIs) (e : SeatIs) → AreSeatsOf book n all → all ≡ xs ++ e ∷ []
-    → AreSeatsOf book n xs
-of_front book n all xs e of is =
-    record { each = λ k s at. of.each k s (ap (λ l. slice_get l k) is ∙ get_front xs e s k at) }
-
-pub of_last : (book : Book) (n : ℕ) (all xs : List SeatIs) (e : SeatIs) → AreSeatsOf book n all → all ≡ xs ++ e ∷ []
-    → (e.book ≡ book) × (e.callers ≡ n)
-of_last book n all xs e of is = of.each (length xs) e (ap (λ l. slice_get l (length xs)) is ∙ get_end xs e)

@@ -1,10 +1,9 @@
 -- A group in the best case or the worst, clause by clause.
-use Rattle.std.proofs.lemmas.List.{drop_all, drop_more}
-use Rattle.std.proofs.Common.{◌≡◌, ℕ, ◌+◌, ◌<◌, ◌≤◌, Bool, true, false, ◌&&◌, ◌||◌, List, [], ◌∷◌, map, length, drop}
-use Rattle.std.proofs.Common.{get_or, refl, sym, ap, ◌∙◌}
+use Rattle.std.proofs.Common.{◌≡◌, Bool, true, false, ◌&&◌, ◌||◌, List, [], ◌∷◌, map}
+use Rattle.std.proofs.Common.{refl, sym, ap}
 use Rattle.std.specs.List.{list_any, list_all}
 use Rattle.clip_grammar.specs.declared.query.Occur.{Occur}
-use Rattle.clip_grammar.specs.declared.query.Occur.TheVariants.{Must, Should, MustNot}
+use Rattle.clip_grammar.specs.declared.query.Occur.TheVariants.{Must, Should}
 use Rattle.clip_grammar.specs.declared.query.Query.{Query}
 use Rattle.clip_grammar.specs.Tree.{clauses_of, tree_of}
 use Rattle.clip_meaning.specs.Meaning.{group_holds, meets_must, meets_must_not, is_must, meets_should}
@@ -15,25 +14,6 @@ abbrev pub group_from : (enough : Bool) → List (Occur × Bool) → Bool
 group_from enough vs =
     list_all meets_must vs && list_all meets_must_not vs
     && (enough || (list_any is_must vs || list_any meets_should vs))
-
-pub must_held : (enough : Bool) (vs : List (Occur × Bool))
-    → group_from enough ((Must, true) ∷ vs) ≡ group_from true vs
-must_held true vs = refl
-must_held false vs = refl
-
-pub must_missed : (enough : Bool) (vs : List (Occur × Bool)) → group_from enough ((Must, false) ∷ vs) ≡ false
-must_missed enough vs = refl
-
-pub must_not_missed : (enough : Bool) (vs : List (Occur × Bool)) → group_from enough ((MustNot, true) ∷ vs) ≡ false
-must_not_missed enough vs = at (list_all meets_must vs)
-  where
-    at : (b : Bool) → (b && false && (enough || (list_any is_must vs || list_any meets_should vs))) ≡ false
-    at true = refl
-    at false = refl
-
-pub must_not_held : (enough : Bool) (vs : List (Occur × Bool))
-    → group_from enough ((MustNot, false) ∷ vs) ≡ group_from enough vs
-must_not_held enough vs = refl
 
 pub should : (enough held : Bool) (vs : List (Occur × Bool))
     → group_from enough ((Should, held) ∷ vs) ≡ group_from (enough || held) vs
@@ -59,23 +39,3 @@ pub group_start : (cs : List (Occur × Query)) (best : Bool)
     ≡ group_holds (verdicts_in (clauses_of (map (λ c. (c.0, tree_of c.1)) cs)) best)
 unfolding group_holds
 group_start cs best = ap group_holds (sym (verdicts_map cs best))
-
--- all clauses are read
-pub all_read : (enough best : Bool) (cs : List (Occur × Query)) (i : ℕ) (held : Bool) → length cs ≤ i
-    → group_from enough (verdicts_of best (drop i cs)) ≡ held → enough ≡ held
-all_read enough best cs i held le e = at enough
-    ∙ ap (λ x. group_from enough (verdicts_of best x)) (sym (drop_all i cs le)) ∙ e
-  where
-    at : (b : Bool) → b ≡ (b || false)
-    at true = refl
-    at false = refl
-
--- a clause is read
-pub next_verdict : (best : Bool) (cs : List (Occur × Query)) (i : ℕ) (c : Occur × Query) → i < length cs
-    → c ≡ get_or cs i c
-    → verdicts_of best (drop i cs)
-    ≡ (c.0, holds_in (tree_of c.1) (for_child c.0 best)) ∷ verdicts_of best (drop (i + 1) cs)
-next_verdict best cs i c lt is =
-    ap (verdicts_of best) (drop_more cs i c lt)
-    ∙ ap (λ (x : Occur × Query). (x.0, holds_in (tree_of x.1) (for_child x.0 best)) ∷ verdicts_of best
-    (drop (i + 1) cs)) (sym is)

@@ -54,10 +54,6 @@ unfolded c = Stepped-at_values full_folding full_folding_stepped (λ v. list_all
 joins_none : (far left far_right : WordBreak) → joins far left Other far_right ≡ false
 joins_none far left far_right = simp and-false
 
-or_false : (b : Bool) → b ≡ false → (b || false) ≡ false
-or_false true e = e
-or_false false e = refl
-
 -- there is a boundary before it
 breaks_before : (last : ℕ) (before : List ℕ) (c : ℕ) (after : List ℕ) → is_parting c ≡ true
     → is_word_break (last ∷ before) (c ∷ after) ≡ true

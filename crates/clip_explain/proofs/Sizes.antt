@@ -1,10 +1,9 @@
 -- The size of a query that was read.
 use Rattle.std.proofs.Common.{◌≡◌, ℕ, ◌+◌, ◌<◌, ◌≤◌, Bool, true, false, not, nat_lt, List, map, length, drop}
-use Rattle.std.proofs.Common.{get_or, refl, sym, ap, subst, ◌∙◌, arith, inl}
+use Rattle.std.proofs.Common.{refl, ap, subst, arith, inl}
 use Rattle.std.proofs.Common.{Vec, Global}
 use Rattle.clip_grammar.proofs.Trees.{tree_of_group}
 use Rattle.clip_grammar.specs.declared.query.Query.TheViews.{Group}
-use Rattle.std.proofs.lemmas.List.{drop_all, drop_more}
 use Rattle.std.proofs.lemmas.Bool.Decides.{nat_tests}
 use Rattle.clip_grammar.specs.Reading.{Reads, HasNoFault, Says, Writes}
 use Rattle.clip_grammar.specs.Shape.{tokens, lacks_words}
@@ -56,14 +55,3 @@ nodes_from i cs = clause_nodes (clauses_of (map (λ c. (c.0, tree_of c.1)) (drop
 
 pub from_start : (v : Vec (Occur × Query) Global) → 1 + nodes_from 0 v.items ≡ nodes (tree_of (Group v))
 from_start v = omega (arith, ap nodes (tree_of_group v))
-
-pub none_left : (i : ℕ) (cs : List (Occur × Query)) → length cs ≤ i → nodes_from i cs ≡ 0
-none_left i cs le =
-    ap (λ (x : List (Occur × Query)). clause_nodes (clauses_of (map (λ c. (c.0, tree_of c.1)) x))) (drop_all i cs le)
-
-pub one_more : (i : ℕ) (cs : List (Occur × Query)) (c : Occur × Query) → i < length cs → c ≡ get_or cs i c
-    → nodes_from i cs ≡ nodes (tree_of c.1) + nodes_from (i + 1) cs
-one_more i cs c lt is =
-    ap (λ (x : List (Occur × Query)). clause_nodes (clauses_of (map (λ d. (d.0, tree_of d.1)) x)))
-    (drop_more cs i c lt)
-    ∙ ap (λ (d : Occur × Query). nodes (tree_of d.1) + nodes_from (i + 1) cs) (sym is)

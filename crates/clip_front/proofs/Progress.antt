@@ -303,32 +303,6 @@ goes_first answers IsSettled first devices reading gathered fresh settled new no
       progress = progress_first answers first devices.left reading devices.taken gathered new.0 none;
     }
 
--- What was gathered was handed over, a line was found and answered, and its answer is gathered.
-pub goes_on : {S : Type 0} {answers : Answering S} {IsSettled : S
-    → Type 0} {first now next : S} {old before devices : Devices} {reading new_reading : Reading}
-    {gathered held more line text : List ℕ} {has_more new_more : Bool} {n : ℕ}
-    → Goes answers IsSettled first now old before reading gathered has_more n
-    → HandsOver before.taken gathered devices.taken held → devices.write_failed ≡ before.write_failed
-    → FindsLine true reading new_reading before.left devices.left line → devices.reads + new_reading.reads_left
-    ≡ MOST_READS → (new_reading.is_at_end ≡ true → IsAtEnd devices.left) → devices.met_end ≡ new_reading.is_at_end
-    → devices.read_failed ≡ before.read_failed
-    → fuel new_reading < fuel reading → new_more ≡ has_feed new_reading.pending → (new_more ≡ false → IsSettled next)
-    → answers now next (n + 1) line text → more ≡ held ++ text
-    → Goes answers IsSettled first next old devices new_reading more new_more (n + 1)
-goes_on goes handed write_well found budget ended met read_well less pending settled answered grown =
-    let left = goes.fuel_left in
-    record {
-      budget = budget;
-      ended = ended;
-      met = met;
-      reader_well = read_well ∙ goes.reader_well;
-      writer_well = write_well ∙ goes.writer_well;
-      pending = pending;
-      settled = settled;
-      fuel_left = omega (arith, less, left);
-      progress = progress_line (progress_handed goes.progress handed) found refl answered grown;
-    }
-
 -- What was gathered was handed over, a line was found and answered, and its answer flows.
 pub goes_flowing : {S : Type 0} {answers : Answering S} {IsSettled : S
     → Type 0} {first now next : S} {old before : Devices} {taken : Option (List ℕ)} {well : Bool} {devices : Devices}
@@ -389,17 +363,6 @@ pub breaks_reading : {S : Type 0} {answers : Answering S} {breaks : Breaking S} 
     → OfLinesRead old.left left met_end (ServesFront answers breaks first now old.taken taken)
 breaks_reading goes handed read met = fault_held (progress_handed goes.progress handed) read met
 
--- The answering of the line was broken off, and nothing of it was written.
-pub breaks_answering : {S : Type 0} {answers : Answering S} {breaks : Breaking S} {IsSettled : S
-    → Type 0} {first now next : S} {old before : Devices} {left taken : Option (List ℕ)} {met_end : Bool}
-    {reading new_reading : Reading} {gathered held line : List ℕ} {has_more : Bool} {n : ℕ} (text : List ℕ)
-    → Goes answers IsSettled first now old before reading gathered has_more n
-    → HandsOver before.taken gathered taken held → FindsLine true reading new_reading before.left left line
-    → met_end ≡ new_reading.is_at_end → breaks now next (n + 1) line text
-    → OfLinesRead old.left left met_end (ServesFront answers breaks first next old.taken taken)
-breaks_answering {taken = taken} text goes handed found met broken =
-    fault_broken text (progress_handed goes.progress handed) found met refl broken (0, appends_none taken)
-
 broken_or_answered : {S : Type 0} {answers : Answering S} {breaks : Breaking S} {first now next : S}
     {left_first left left_new : Option (List ℕ)} {reading new_reading : Reading} {met_end : Bool} {line : List ℕ}
     {taken_first taken new_taken : Option (List ℕ)} {gathered : List ℕ} {n k : ℕ} (text : List ℕ)
@@ -423,18 +386,6 @@ pub breaks_flowing : {S : Type 0} {answers : Answering S} {breaks : Breaking S} 
     → OfLinesRead old.left left met_end (ServesFront answers breaks first next old.taken new_taken)
 breaks_flowing goes handed found met b =
     broken_or_answered b.text (progress_handed goes.progress handed) found met refl b.broken b.written
-
--- The answer was not gathered.
-pub breaks_gathering : {S : Type 0} {answers : Answering S} {breaks : Breaking S} {IsSettled : S
-    → Type 0} {first now next : S} {old before : Devices} {left taken : Option (List ℕ)} {met_end : Bool}
-    {reading new_reading : Reading} {gathered held line text : List ℕ} {has_more : Bool} {n : ℕ}
-    → Goes answers IsSettled first now old before reading gathered has_more n
-    → HandsOver before.taken gathered taken held → FindsLine true reading new_reading before.left left line
-    → met_end ≡ new_reading.is_at_end → answers now next (n + 1) line text
-    → OfLinesRead old.left left met_end (ServesFront answers breaks first next old.taken taken)
-breaks_gathering {left = left} {new_reading = new_reading} {held = held} {text = text} goes handed found met answered =
-    fault_held (progress_line {more = held ++ text} (progress_handed goes.progress handed) found refl answered refl)
-    (reads_none new_reading left) met
 
 -- ---- by what the writer has taken in the end
 

@@ -39,10 +39,6 @@ whole_bytes text ls rest utf8 finds =
     ∙ encodes-chars text utf8 in
     sym (length-append (encode_utf8_all front) (encode_utf8_all rest)) ∙ ap length whole
 
-pub rest_fits : (text : List ℕ) (ls : List Lexeme) (rest : List ℕ) → IsUtf8 text → Finds (chars text) ls rest
-    → length (encode_utf8_all rest) ≤ length text
-rest_fits text ls rest utf8 finds = omega (arith, whole_bytes text ls rest utf8 finds)
-
 -- the lexer stops before the end
 pub lexical_fault : (text : List ℕ) (ls : List Lexeme) (rest : List ℕ) (at : ℕ) → IsUtf8 text
     → length text ≤ MOST_TEXT_BYTES → Finds (chars text) ls rest → lexeme_at rest ≡ None → 0 < length rest

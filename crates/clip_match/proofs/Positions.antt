@@ -1,6 +1,6 @@
 -- The positions of entries that share a key.
 use Rattle.std.proofs.Common.{◌≡◌, ℕ, ◌+◌, ◌<◌, Bool, true, false, cond, ◌&&◌, List, [], ◌∷◌, ◌++◌, map, length, get_or}
-use Rattle.std.proofs.Common.{filter, take, Option, Some, None, unwrap_or, option_to_list, refl, sym, ap, ◌∙◌, subst}
+use Rattle.std.proofs.Common.{filter, take, Some, None, unwrap_or, option_to_list, refl, sym, ap, ◌∙◌, subst}
 use Rattle.std.proofs.Common.{arith}
 use Rattle.std.specs.List.{enumerate_from, slice_get, All}
 use Rattle.std.proofs.lemmas.Option.{none-some}
@@ -141,30 +141,6 @@ module _ (h : History) (ks : List KeyValue) (es : List Registered) (ps : List �
 pub entries_more : (es : List Registered) (positions : List ℕ) (p : ℕ) → entries_at es (positions ++ p ∷ [])
     ≡ entries_at es positions ++ option_to_list (slice_get es p)
 entries_more es positions p = sym (flat_map_more (λ (n : ℕ). option_to_list (slice_get es n)) [] positions p)
-
--- the same of those that pass a test, where `b` says whether the entry at the position does
-pub kept_more : (p : Registered → Bool) (es : List Registered) (positions kept : List ℕ) (i x : ℕ) (b : Bool)
-    → i < length positions → x ≡ get_or positions i x
-    → ((e : Registered) → slice_get es x ≡ Some e → b ≡ p e)
-    → entries_at es kept ≡ filter p (entries_at es (take i positions))
-    → entries_at es (cond b (kept ++ x ∷ []) kept) ≡ filter p (entries_at es (take (i + 1) positions))
-kept_more p es positions kept i x b lt is says before =
-    by_entry (slice_get es x) b refl says
-    ∙ ap (λ xs. xs ++ filter p (option_to_list (slice_get es x))) before
-    ∙ sym (filter-append p (entries_at es (take i positions)) (option_to_list (slice_get es x)))
-    ∙ ap (filter p) (sym (entries_more es (take i positions) x))
-    ∙ ap (λ ps. filter p (entries_at es ps)) (sym (take_more positions i x lt
-    ∙ ap (λ q. take i positions ++ q ∷ []) (sym is)))
-  where
-    by_entry : (o : Option Registered) (b : Bool) → slice_get es x ≡ o → ((e : Registered) → o ≡ Some e → b ≡ p e)
-        → entries_at es (cond b (kept ++ x ∷ []) kept) ≡ entries_at es kept ++ filter p (option_to_list o)
-    by_entry None true there says = entries_more es kept x ∙ ap (λ o. entries_at es kept ++ option_to_list o) there
-    by_entry None false there says = sym (append-nil (entries_at es kept))
-    by_entry (Some e) true there says =
-        entries_more es kept x ∙ ap (λ o. entries_at es kept ++ option_to_list o) there
-        ∙ ap (λ c. entries_at es kept ++ cond c (e ∷ []) []) (says e refl)
-    by_entry (Some e) false there says =
-        sym (append-nil (entries_at es kept)) ∙ ap (λ c. entries_at es kept ++ cond c (e ∷ []) []) (says e refl)
 
 -- ---- one segment after another
 

@@ -16,9 +16,6 @@ pub record Divided (n level rest : ℕ) : Type 0 where
   pub high : n < (rest + 1) * RUN_LENGTH ^ level
   pub some : 0 < level → 0 < rest
 
-pub undivided : (n : ℕ) → Divided n 0 n
-undivided n = record { low = omega arith; high = omega arith; some = λ h. omega arith }
-
 pub divided_more : (n level rest : ℕ) → Divided n level rest → RUN_LENGTH ≤ rest
     → Divided n (level + 1) (rest / RUN_LENGTH)
 divided_more n level rest is large =

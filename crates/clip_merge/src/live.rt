@@ -34,7 +34,7 @@ impl Live {
         Live { seqs }
     }
 
-    /// Whether the seq is one of them. Takes no memory. Cost: a search by halves.
+    /// Whether the seq is one of them. Takes no memory. Cost: a binary search.
     pub fn names(&self, seq: u64) -> bool
         ensures { result ≡ names self.now seq }
     {

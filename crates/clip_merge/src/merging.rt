@@ -27,7 +27,7 @@ fn live_flags(alloc: Global, segment: &Segment, live: &Live) -> Result<Vec<bool>
 /// A segment of just the live entries of these segments, in order, which it shares. Their seqs rise through all
 /// segments, and at most `MOST_POSITIONS` of them are live.
 ///
-/// `NoMemory` where an allocation failed. Cost: a search by halves among the live seqs for each entry, and that of
+/// `NoMemory` where an allocation failed. Cost: a binary search among the live seqs for each entry, and that of
 /// `Segment::select`; no key is extracted and no text is copied.
 pub fn merge(alloc: Global, segments: &[Arc<Segment>], live: &Live) -> Result<Segment, NoMemory>
     requires rising { IsRising (all_entries (map arc_value segments.now)) }

@@ -1,6 +1,6 @@
 -- A legal history that goes on, and its fronts.
 use Rattle.std.proofs.Common.{◌≡◌, ℕ, ◌<◌, ◌≤◌, ◌&&◌, nat_le, nat_lt, Bool, true, false, refl, suc, List, [], ◌∷◌, ◌++◌}
-use Rattle.std.proofs.Common.{length, sym, ap, subst, ◌∙◌, arith, inl, inr, append_assoc, IsTrue, IsFalse}
+use Rattle.std.proofs.Common.{length, sym, ap, subst, ◌∙◌, arith, inl, inr, append_assoc, IsTrue}
 use Rattle.std.proofs.Common.{length-append}
 use Rattle.std.proofs.lemmas.Bool.Decides.{nat_tests}
 use Rattle.std.specs.FinMap as finite
@@ -92,8 +92,3 @@ room_from h command small short = both _ _ (small_test _ small) (short_test _ sh
 
     short_test : (n : ℕ) → n < MOST_ENTRIES → nat_lt n MOST_ENTRIES ≡ true
     short_test n h = grind (arith, nat_tests)
-
--- where too many queries would be live, there is no room
-pub no_room_live : (h : History) (command : Command)
-    → MOST_LIVE < finite.len (after_command (listed h) command (replay h)) → IsFalse (has_room h command)
-no_room_live h command many = grind (arith, nat_tests)

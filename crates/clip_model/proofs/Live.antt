@@ -23,9 +23,6 @@ pub inserted_else : (m : Registry) (id : List ℕ) (r : Registered) (q : List �
     → finite.get (finite.insert m id r) q ≡ finite.get m q
 inserted_else m id r q e = get-insert nat_list_cmp_total m id r q ∙ ap (λ b. cond b (Some r) (finite.get m q)) e
 
-pub removed_at : (m : Registry) (id : List ℕ) → finite.get (finite.remove m id) id ≡ None
-removed_at m id = get-remove nat_list_cmp_total m id id ∙ ap (λ b. cond b None (finite.get m id)) (bytes_itself id)
-
 pub removed_else : (m : Registry) (id : List ℕ) (q : List ℕ) → eq_by_cmp bytes_cmp q id ≡ false
     → finite.get (finite.remove m id) q ≡ finite.get m q
 removed_else m id q e = get-remove nat_list_cmp_total m id q ∙ ap (λ b. cond b None (finite.get m q)) e

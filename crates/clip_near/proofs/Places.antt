@@ -69,10 +69,6 @@ stands_nothing (Tree.Span field low high) = refl
 stands_nothing Tree.All = refl
 stands_nothing (Tree.Group clauses) = refl
 
--- where no word is, no query stands
-pub stands_none : (query : Tree) (words : List (List ℕ)) → words ≡ [] → stands query words ≡ false
-stands_none query words e = ap (stands query) e ∙ stands_nothing query
-
 pub stands_inside : (query : Tree) (words : List (List ℕ)) (k : ℕ) → stands_at query words k ≡ true → k < length words
 stands_inside query [] zero h = absurd (true≢false (sym h ∙ stands_nothing query))
 stands_inside query [] (suc k) h = absurd (true≢false (sym h ∙ stands_nothing query))

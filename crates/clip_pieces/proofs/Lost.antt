@@ -11,7 +11,6 @@ use Rattle.std.proofs.lemmas.Nat.Bits.{bit_at_and, bit_at_not, bit_at_above, bit
 use Rattle.std.proofs.lemmas.Nat.Bits.{bit_at-trailing_zeros}
 use Rattle.clip_pieces.specs.Marked.{is_lost}
 use Rattle.clip_pieces.specs.Steps.Bits.{flags_of, is_set, HoldFlags}
-use Rattle.clip_pieces.proofs.Words.{length-flags_of}
 use Rattle.clip_pieces.proofs.Both.{all_held, flag_read}
 
 -- ---- the bits of a word that another word has not
@@ -134,15 +133,3 @@ module _ (words others : List ℕ) (flags more : List Bool) (from word first los
           told place reached (omega arith)
           ∙ ap (λ n. nat_eq n 1) ((bit_at-trailing_zeros w64 lost some small).2 (place - first) (omega arith))
     ]
-
--- none is lost behind the last word
-pub none_behind_all : (words : List ℕ) (flags more : List Bool) (from word : ℕ)
-    → ((place : ℕ) → get_or (flags_of words) place false ≡ get_or flags place false)
-    → ((place : ℕ) → from ≤ place → place < 64 * word → is_lost flags more place ≡ false) → length words ≤ word
-    → (place : ℕ) → from ≤ place → is_lost flags more place ≡ false
-none_behind_all words flags more from word mine before all place after = elim (cases_lt place (64 * word)) [
-  | inl inside ↦ before place after inside
-  | inr past ↦
-      ap (λ b. b && not (get_or more place false))
-      (sym (mine place) ∙ get_or_past (flags_of words) place false (omega (arith, length-flags_of words)))
-]

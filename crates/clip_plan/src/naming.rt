@@ -179,7 +179,7 @@ impl Plans {
     /// are those of the field's terms. Past the last plan it raises none.
     ///
     /// Takes no memory. Cost: a step for each leaf and group of the query; a term of the field that the article has
-    /// costs a search by halves among the field's words and a step for each place where it stands, and a phrase a look
+    /// costs a binary search among the field's words and a step for each place where it stands, and a phrase a look
     /// at each place of its first word.
     pub fn mark_hits(&self, place: usize, spots: &FieldSpots, flags: &mut FieldFlags)
         requires { length flags.old ≡ length spots.now.field.1 }

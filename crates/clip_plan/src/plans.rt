@@ -1,4 +1,11 @@
 //! Plans, and how a query becomes one.
+//!
+//!     `+tea -(milk "green tea")` over the terms 0: green, 1: milk, 2: tea
+//!
+//!     Term(Must, 2)   Open(MustNot, 2)   Term(Should, 1)   Pair(Should, 0, 2)   Close(MustNot)
+//!
+//! A step that opens a group knows how many stand before its end, so a group that can't hold is passed in one step.
+//! Phrases of three words and more stand in `runs`, and what a step can't say, as a range, stands in `queries`.
 ghost use Rattle.std.specs.Prelude.{◌≡◌, ℕ, ◌-◌, ◌<◌, ◌≤◌, ◌++◌, ◌∷◌, [], List, OnOk, OnErr, IfOk, length, map, set};
 ghost use Rattle.std.specs.Prelude.{unwrap_or, slice_get, IsTrue, IfSome, None};
 ghost use Rattle.std.specs.Arc.{arc_str_bytes};

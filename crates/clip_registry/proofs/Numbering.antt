@@ -1,5 +1,5 @@
 -- Numbered registries, after each change.
-use Rattle.std.proofs.Common.{◌≡◌, ℕ, suc, ◌<◌, ◌≤◌, Bool, true, false, cond, List, refl, sym, ap, subst, ◌∙◌, Option}
+use Rattle.std.proofs.Common.{◌≡◌, ℕ, suc, Bool, true, false, cond, List, refl, sym, ap, ◌∙◌, Option}
 use Rattle.std.proofs.Common.{Some, None, ◌==◌}
 use Rattle.std.proofs.lemmas.Bool.{false≢true}
 use Rattle.std.proofs.lemmas.Option.{none-some}
@@ -42,11 +42,6 @@ elsewhere m id q s given none =
       | true ↦ λ e. let at : finite.get m id ≡ Some s = ap (finite.get m) (sym (bytes_same q id e)) ∙ given in
           absurd (false≢true (sym none ∙ ap (λ o. has_seq o s.seq) at ∙ numbers_same s.seq s.seq refl))
     ] refl
-
-pub live_within : (n : ℕ) (m : Registry) (seq : ℕ) → IsNumbered n m → is_live_in m seq ≡ true → (0 < seq) × (seq ≤ n)
-live_within n m seq is h =
-    let at = live_given m seq h in
-    subst (λ (k : ℕ). (0 < k) × (k ≤ n)) at.is (is.within at.id at.entry at.given)
 
 picked : (b c l : Bool) → c ≡ false → l ≡ true → cond b true (cond c false l) ≡ true
 picked true c l none live = refl

@@ -102,7 +102,7 @@ module _ (xs : Items) (m : Registry) (sorted : T (is_sorted bytes_cmp (map keyed
   ends_empty q none = ap (λ es. list_all (λ (e : Pair). is_gt (bytes_cmp q e.0)) es) (sym kept
       ∙ ap (map keyed) (empty_list xs none))
 
--- what a search by halves answers
+-- what a binary search answers
 module _ (q : List ℕ) where
   pub searched_found : (xs : Items) (m : Registry) (r : Result ℕ ℕ) → T (is_sorted bytes_cmp (map keyed xs))
       → finite.from_sorted (map keyed xs) ≡ m → IsSearchInRange r (length xs)

@@ -1,4 +1,9 @@
 //! Entries by the ids of their standing queries.
+//!
+//!     pieces  [ a1 a7 b2 | c3 c4 | k9 ]   len 6
+//!
+//! `c4` is in the first piece whose last id is not below it, and is looked for there by a second binary search.
+//! A clone shares the pieces; a change copies the one that it touches, and one that is full is cut in two.
 ghost use Rattle.std.specs.Prelude.{◌≡◌, option_map, option_copied, IfOk, OnOk, OnErr};
 ghost use Rattle.std.specs.Arc.{arc_value};
 ghost use Rattle.std.specs.FinMap as finite;
@@ -15,7 +20,7 @@ use std::marker::Model;
 use std::sync::Arc;
 
 /// Entries by the ids of their standing queries: a list in the order of the ids, which is cut into pieces that clones
-/// share. An id is read from its entry, and copied nowhere. A look-up costs two searches by halves; a change also moves
+/// share. An id is read from its entry, and copied nowhere. A look-up costs two binary searches; a change also moves
 /// entries within one piece, which is copied where it is shared or full; and a clone costs a step for each piece.
 #[derive(Drop)]
 pub struct ById {

@@ -75,7 +75,7 @@ fn clear(
 }
 
 /// Clears the flag of the seq that is gone, if one is. `NoMemory` where an allocation failed. It costs a step for each
-/// segment, and a search by halves in those that have a seq that is not below it.
+/// segment, and a binary search in those that have a seq that is not below it.
 pub fn clear_gone(
     live: &mut Vec<Shared<SharedFlags>>,
     segments: &[Arc<Segment>],
@@ -174,7 +174,7 @@ fn clear_dead_of(
 }
 
 /// Clears the flags of those entries of the sources that were live when a merge was begun and died since. `NoMemory`
-/// where an allocation failed. It costs a step for each 64 entries of the sources, and a search by halves among those
+/// where an allocation failed. It costs a step for each 64 entries of the sources, and a binary search among those
 /// of the merge for each that died.
 pub fn clear_dead(
     live: &mut Shared<SharedFlags>,

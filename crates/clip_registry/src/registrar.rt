@@ -106,7 +106,7 @@ impl Registrar {
     /// the entry of the history and for each query listed, replaced or deleted, at most two pieces of 128 are copied,
     /// and for each id that is listed one piece of the map, of each piece just once. For each query that is replaced or
     /// deleted at most two such pieces of the live flags of its segment are copied too; the segment is found by a step
-    /// for each segment, and a search by halves in those that have a seq that is not below it. No text of a query and
+    /// for each segment, and a binary search in those that have a seq that is not below it. No text of a query and
     /// no id of one is copied; the ids of a delete are, into its history entry.
     pub fn apply(&mut self, caller: u32, command: Command) -> Result<Applied, (Command, Refused)>
         requires fits { IsTrue (fits (command_of command)) }
@@ -176,8 +176,8 @@ impl Registrar {
     /// `NoMemory` where an allocation failed, with nothing changed and the merge dropped.
     ///
     /// Cost: a step for each segment, each of which is shared by a new list; for each entry of the sources a comparison
-    /// of its seq and texts; a step for each 64 of them; for each that died since the merge was begun a search by
-    /// halves; and a copy like that of a command, of which nothing else is changed. A stale merge copies nothing.
+    /// of its seq and texts; a step for each 64 of them; for each that died since the merge was begun a binary
+    /// search; and a copy like that of a command, of which nothing else is changed. A stale merge copies nothing.
     pub fn install(&mut self, merged: Merged) -> Result<Installed, NoMemory>
         ensures done { result ≡ Ok Installed.Done → IsInstalled self.old self.new merged }
         ensures stale { result ≡ Ok Installed.Stale → IsStale self.old merged }

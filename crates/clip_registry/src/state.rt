@@ -1,4 +1,12 @@
 //! What a registrar and its views share: the segments, the history and the roster.
+//!
+//!     segments  [ s0: seqs 1 2 3 | s1: seqs 4 5 ]   one `Arc` each, never changed
+//!     live      [     1 0 1      |     1 1      ]   a bit for each entry, in shared pieces
+//!     roster    a: 1, b: 3, c: 4, d: 5              entries by id
+//!     log       how many commands there were, the last of them, and all where they are kept
+//!     counts    how many of them each caller gave
+//!
+//! Here b was registered as 2 and once more as 3: the entry of seq 2 stays in `s0` until a merge, and its bit is 0.
 ghost use Rattle.std.specs.Prelude.{◌≡◌, ◌<◌, ◌≤◌, length, map, IfOk, IfErr, IsTrue, IsFalse};
 ghost use Rattle.std.specs.Arc.{arc_value};
 ghost use Rattle.clip_model.specs.History.{IsLegal, fits, has_room, next_entry, own, replay};

@@ -8,7 +8,7 @@ use Rattle.std.proofs.lemmas.List.{map-append}
 use Rattle.clip_model.specs.Alerts.{Alert}
 use Rattle.clip_model.specs.History.{History}
 use Rattle.clip_listen.specs.Heard.{Hearer, told_all, HearsFront}
-use Rattle.clip_listen.proofs.Hearing.{told_none, told_more, names_told, no_front, front_after, front_of_more}
+use Rattle.clip_listen.proofs.Hearing.{told_none, told_more, no_front, front_after, front_of_more}
 use Rattle.clip_meaning.specs.Article.{ArticleValue}
 use Rattle.clip_ledger.specs.Rows.{RowValue}
 use Rattle.clip_protocol.specs.LineMeaning.{Meaning, Means, after, nothing, refusal, refusal_at, command, purging}
@@ -45,13 +45,6 @@ owes_kept front hearers (o ∷ owed) = ap₂ followed_by (owed_kept front hearer
 pub owes_told : (front : List Alert) (old new : List Hearer) (owed : List Owed) → new ≡ told_all front old
     → owes new owed ≡ owes old owed
 owes_told front old new owed e = ap (λ hs. owes hs owed) e ∙ owes_kept front old owed
-
-given_told : (front : List Alert) (old new : List Hearer) (n : ℕ) (h : History) (m : Meaning)
-    → new ≡ told_all front old → given new n h m ≡ given old n h m
-given_told front old new n h m e = ap (λ hs. given hs n h m) e ∙ given_kept front old n h m
-
-names_after : (front : List Alert) (old new : List Hearer) → new ≡ told_all front old → names_in new ≡ names_in old
-names_after front old new e = ap names_in e ∙ names_told front old
 
 -- ---- lists
 
@@ -159,32 +152,6 @@ turns_then s t u n line a b p q = record {
       ∙ ap (followed_by q.out) (owes_told p.out.alerts s.hearers t.hearers u.owed p.gave.heard) in
       p.rest ∙ ap (followed_by p.out) there ∙ sym (followed_assoc p.out q.out (owes s.hearers u.owed));
 }
-
-pub turns_after : (s t u : Course) (n : ℕ) (line a b : List ℕ) → Pays s t a → Turns t u n line b
-    → Turns s u n line (a ++ b)
-turns_after s t u n line a b p q =
-    let heard = p.gave.heard in
-    let same : owes t.hearers t.owed ≡ owes s.hearers t.owed =
-    owes_told p.out.alerts s.hearers t.hearers t.owed heard in
-    let now : given t.hearers n t.history q.meaning ≡ given s.hearers n s.history q.meaning =
-    ap (λ h. given t.hearers n h q.meaning) p.history
-    ∙ given_told p.out.alerts s.hearers t.hearers n s.history q.meaning heard in
-    record {
-      meaning = q.meaning;
-      means = subst (λ h. Means (names_in s.hearers) h line q.meaning) p.history
-          (subst (λ ns. Means ns t.history line q.meaning) (names_after p.out.alerts s.hearers t.hearers heard)
-          q.means);
-      history = q.history ∙ ap (λ h. after h q.meaning) p.history;
-      out = followed_by p.out q.out;
-      gave = gave_more s t u p.out q.out p.gave q.gave;
-      printed = ap₂ (λ x y. x ++ y) p.printed (printed_before q.out.text p.gave.settings q.printed);
-      rest =
-          ap (λ x. followed_by x (given s.hearers n s.history q.meaning)) p.rest
-          ∙ followed_assoc p.out (owes s.hearers t.owed) (given s.hearers n s.history q.meaning)
-          ∙ ap (followed_by p.out) (ap₂ followed_by (sym same) (sym now) ∙ q.rest
-          ∙ ap (followed_by q.out) (owes_told p.out.alerts s.hearers t.hearers u.owed heard))
-          ∙ sym (followed_assoc p.out q.out (owes s.hearers u.owed));
-    }
 
 -- ---- where a run is broken off
 

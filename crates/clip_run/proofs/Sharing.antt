@@ -1,7 +1,7 @@
 -- What is due to articles that are shared out.
-use Rattle.std.proofs.Common.{◌≡◌, ℕ, zero, suc, ◌+◌, ◌<◌, List, [], ◌∷◌, ◌++◌, length, take, map, All, get_or, refl}
-use Rattle.std.proofs.Common.{sym, ap, subst, ◌∙◌, arith, add-one, Bool, true, false, if◌then◌else◌}
-use Rattle.std.specs.Prelude.{Option, Some, None, Result, Ok, Err, IfOk}
+use Rattle.std.proofs.Common.{◌≡◌, ℕ, zero, suc, ◌+◌, ◌<◌, List, [], ◌∷◌, ◌++◌, length, map, All, get_or, refl}
+use Rattle.std.proofs.Common.{sym, ap, subst, ◌∙◌, arith, Bool, true, false, if◌then◌else◌}
+use Rattle.std.specs.Prelude.{Some, Result}
 use Rattle.std.specs.List.{slice_get}
 use Rattle.clip_meaning.specs.Article.{ArticleValue}
 use Rattle.clip_standing.specs.Alerts.{AlertsValue}
@@ -11,15 +11,13 @@ use Rattle.clip_protocol.specs.declared.found.Found.{Found}
 use Rattle.clip_stream.specs.declared.fault.RunFault.{RunFault}
 use Rattle.clip_registry.specs.RegistryState.{RegistryState}
 use Rattle.clip_front.specs.Giving.{GivesArticle, GivesDue, Giving}
-use Rattle.clip_front.specs.Steps.Found.{IsFor}
 use Rattle.clip_front.specs.declared.settings.Settings.{Settings}
-use Rattle.clip_run.specs.declared.batch.Batch.{Batch}
 use Rattle.clip_run.specs.declared.batch.Pending.{Pending}
 use Rattle.clip_run.specs.declared.batch.Pending.TheVariants as pending
 use Rattle.clip_run.specs.declared.group.Answer.{Answer}
 use Rattle.std.proofs.lemmas.List.Elements.{All-append}
 use Rattle.clip_run.specs.declared.helpers.Helper.{Helper}
-use Rattle.clip_run.specs.Due.{IsDue, IsDueAt, AreDue, IsAskedFor, due_by, due_to}
+use Rattle.clip_run.specs.Due.{IsDue, IsDueAt, AreDue, IsAskedFor}
 
 -- an element of a mapped list
 pub get_mapped : {X Y : Type 0} (f : X → Y) (xs : List X) (k : ℕ) (d : X) → k < length xs
@@ -27,16 +25,6 @@ pub get_mapped : {X Y : Type 0} (f : X → Y) (xs : List X) (k : ℕ) (d : X) �
 get_mapped f [] k d l = absurd (omega arith)
 get_mapped f (x ∷ xs) zero d l = refl
 get_mapped f (x ∷ xs) (suc k) d l = get_mapped f xs k d (omega arith)
-
--- one element more of a list
-take_suc : {Y : Type 0} (xs : List Y) (k : ℕ) (y : Y) → slice_get xs k ≡ Some y → take (suc k) xs ≡ take k xs ++ y ∷ []
-take_suc [] k y e = absurd (cc e)
-take_suc (x ∷ xs) zero y e = ap (λ z. z ∷ []) (cc e)
-take_suc (x ∷ xs) (suc k) y e = ap (λ zs. x ∷ zs) (take_suc xs k y e)
-
-pub take_got : {Y : Type 0} (xs : List Y) (k : ℕ) (y : Y) → slice_get xs k ≡ Some y
-    → take (k + 1) xs ≡ take k xs ++ y ∷ []
-take_got xs k y e = ap (λ n. take n xs) (add-one k) ∙ take_suc xs k y e
 
 -- an element that was read
 pub got : {X : Type 0} (xs : List X) (k : ℕ) (x : X) → k < length xs → x ≡ get_or xs k x → slice_get xs k ≡ Some x
@@ -62,36 +50,6 @@ pub gives_found : {T : Type 0} (settings : Settings) (due : List AlertsValue) (a
     → GivesArticle old new (found_value found) result → GivesDue due article old new result
 gives_found settings due article found old new result is given =
     record { value = found_value found; here = is.alerts; given = given }
-
--- what is found of an article of a batch
-pub due_in : (settings : Settings) (batch : Batch) (article : ℕ) (draft : ArticleValue) (found : Found)
-    → article < length batch.drafts.items → draft ≡ get_or batch.drafts.items article draft
-    → found_value found ≡ alerts_due batch.view draft → IsFor settings found
-    → IsDue settings (due_to batch) article found
-due_in settings batch article draft found within is due fit = record {
-  alerts = get_mapped (alerts_due batch.view) batch.drafts.items article draft within
-      ∙ ap (λ d. Some (alerts_due batch.view d)) (sym is) ∙ ap Some (sym due);
-  fit = fit;
-}
-
--- it is due at the place of its line
-pub due_at : (settings : Settings) (items : List Pending) (line : ℕ) (batch : Batch) (article : ℕ) (found : Found)
-    → slice_get items line ≡ Some (pending.Waiting batch) → IsDue settings (due_to batch) article found
-    → IsDue settings (due_by (slice_get items line)) article found
-due_at settings items line batch article found is due =
-    subst (λ item. IsDue settings (due_by item) article found) (sym is) due
-
-pub due_there : (settings : Settings) (items : List Pending) (line : ℕ) (batch : Batch) (article : ℕ) (found : Found)
-    → slice_get items line ≡ Some (pending.Waiting batch)
-    → IsDue settings (due_by (slice_get items line)) article found → IsDue settings (due_to batch) article found
-due_there settings items line batch article found is due =
-    subst (λ item. IsDue settings (due_by item) article found) is due
-
--- what holds of a value by two facts
-pub if_ok_both : {A E : Type 0} (r : Result A E) (P Q R : A → Type 0) → IfOk r P → IfOk r Q
-    → ((a : A) → P a → Q a → R a) → IfOk r R
-if_ok_both (Ok a) P Q R p q f = f a p q
-if_ok_both (Err e) P Q R p q f = tt
 
 -- what was added, where there was room for it
 pub adds_due : (settings : Settings) (items : List Pending) (old new more : List Answer) (ok : Bool)

@@ -1,4 +1,11 @@
 //! The server of a run with workers.
+//!
+//!     lines    1 register   2 match [x y]      3 match [z]   4 register
+//!     pending  text of 1    batch of x y       batch of z
+//!     helpers                    y             z
+//!
+//! Each batch waits with the registry that the lines before it leave. Where no more lines stand read, or 32 batches
+//! wait, this thread matches what no helper took (here x), and puts all that is owed in the order of the lines.
 ghost use Rattle.std.specs.Prelude.{◌≡◌, ◌≢◌, ◌<◌, [], ◌∷◌, ◌++◌, map, vec_len, false, true, Err, IfErr};
 ghost use Rattle.std.specs.Prelude.{OnErr, OnOk};
 ghost use Rattle.clip_stream.specs.Device.{AppendsFront, HandsOver};

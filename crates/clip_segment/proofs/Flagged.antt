@@ -2,8 +2,8 @@
 use Rattle.std.proofs.Common.{◌≡◌, ℕ, zero, suc, ◌+◌, ◌<◌, ◌≤◌, Bool, true, false, cond, ◌||◌, ◌&&◌, nat_eq, ltb, List}
 use Rattle.std.proofs.Common.{[], ◌∷◌, ◌++◌, length, map, flat_map, filter, take, drop, set, replicate, get_or}
 use Rattle.std.proofs.Common.{unwrap_or, slice_get, Option, Some, None, refl, sym, ap, ap₂, ◌∙◌, arith, add-one}
-use Rattle.std.proofs.Common.{append-nil, append_assoc, length-append, eq-eqb, ne_eqb, get_or-set_same}
-use Rattle.std.proofs.Common.{get_or-set_other, inl, inr}
+use Rattle.std.proofs.Common.{append-nil, append_assoc, length-append, eq-eqb, ne_eqb}
+use Rattle.std.proofs.Common.{inl, inr}
 use Rattle.std.specs.Prelude.{option_to_list}
 use Rattle.std.specs.List.{AllByRecursion, list_any, enumerate_from, count_by}
 use Rattle.std.specs.List.Sorted.{IsStrictlySortedBy}
@@ -11,7 +11,7 @@ use Rattle.std.specs.declared.cmp.Ordering.TheVariants.{Less}
 use Rattle.std.proofs.Math.Bool.{or-true, or-false}
 use Rattle.std.proofs.lemmas.Bool.{cases_eq, false≢true}
 use Rattle.std.proofs.lemmas.Bool.Decides.{nat_tests}
-use Rattle.std.proofs.lemmas.List.{drop_all, map_more}
+use Rattle.std.proofs.lemmas.List.{drop_all}
 use Rattle.std.proofs.lemmas.List.Folds.{list_any_more}
 use Rattle.std.proofs.lemmas.List.Sums.{sum_by-cons}
 use Rattle.std.proofs.lemmas.Option.{unwrap_or-slice_get}
@@ -19,7 +19,7 @@ use Rattle.clip_grammar.specs.Tree.{Tree}
 use Rattle.clip_grammar.proofs.Booleans.{either}
 use Rattle.clip_extract.specs.Keys.{KeyValue, key_cmp}
 use Rattle.clip_segment.specs.Index.{query_positions}
-use Rattle.clip_segment.specs.Selecting.{AreFlagsOf, flagged, kept_of, count_set}
+use Rattle.clip_segment.specs.Selecting.{flagged, kept_of, count_set}
 use Rattle.clip_segment.specs.Steps.Parts.{flag_at, moved, new_position, new_positions}
 
 -- nothing is kept of none
@@ -76,13 +76,6 @@ module _ {A B : Type 0} (G : List A → List B) (g : A → List B) (step : (x : 
       ∙ ap (λ l. before ++ l) (sym none ∙ ap G (sym (flagged_none (drop i flags)))
       ∙ ap (λ l. G (flagged (drop i flags) l)) (sym (drop_all i xs far)))
       ∙ so
-
-pub flagged_map : {A B : Type 0} (f : A → B) (flags : List Bool) (xs : List A)
-    → flagged flags (map f xs) ≡ map f (flagged flags xs)
-flagged_map f [] xs = refl
-flagged_map f (flag ∷ flags) [] = refl
-flagged_map f (true ∷ flags) (x ∷ xs) = ap (λ l. f x ∷ l) (flagged_map f flags xs)
-flagged_map f (false ∷ flags) (x ∷ xs) = flagged_map f flags xs
 
 -- what is kept of keys in order is in order
 all_flagged : (P : KeyValue → Type 0) (flags : List Bool) (ks : List KeyValue) → AllByRecursion P ks
@@ -296,53 +289,7 @@ kept_few (xs ∷ lists) (fs ∷ flags) =
       count_from (fs ∷ flags) 0,
     )
 
--- with a flag for each item just as many are kept as flags are set
-flagged_many : {A : Type 0} (flags : List Bool) (xs : List A) → length flags ≡ length xs
-    → length (flagged flags xs) ≡ count_by (λ flag. flag) flags
-flagged_many [] [] long = refl
-flagged_many [] (x ∷ xs) long = absurd (omega arith)
-flagged_many (flag ∷ flags) [] long = absurd (omega arith)
-flagged_many (true ∷ flags) (x ∷ xs) long = omega (arith, flagged_many flags xs (omega arith), count_first true flags)
-flagged_many (false ∷ flags) (x ∷ xs) long = omega (arith, flagged_many flags xs (omega arith), count_first false flags)
-
-pub kept_many : {A : Type 0} (lists : List (List A)) (flags : List (List Bool)) → AreFlagsOf lists flags
-    → length (kept_of lists flags) ≡ count_set flags
-kept_many [] [] are = refl
-kept_many [] (fs ∷ flags) are = cc
-kept_many (xs ∷ lists) [] are = cc
-kept_many (xs ∷ lists) (fs ∷ flags) are =
-    let here : length fs ≡ length xs = cc in
-    let others : AreFlagsOf lists flags = cc in
-    omega (
-      arith,
-      length-append (flagged fs xs) (kept_of lists flags),
-      flagged_many fs xs here,
-      kept_many lists flags others,
-      count_from (fs ∷ flags) 0,
-    )
-
 -- ---- flags that are set
-
-pub flag_set : (flags : List Bool) (m n : ℕ) → n < length flags → flag_at (set flags m true) n
-    ≡ (flag_at flags n || nat_eq n m)
-flag_set flags m n lt =
-    let read = unwrap_or-slice_get (set flags m true) n false in
-    elim (cases_eq n m) [
-      | inl e ↦
-          read ∙ ap (λ k. get_or (set flags m true) k false) e
-          ∙ get_or-set_same flags m true false (omega (arith, e, lt))
-          ∙ sym (ap (λ b. flag_at flags n || b) (eq-eqb n m e) ∙ or-true (flag_at flags n))
-      | inr ne ↦
-          read ∙ get_or-set_other flags m n true false ne ∙ sym (unwrap_or-slice_get flags n false)
-          ∙ sym (ap (λ b. flag_at flags n || b) (ne_eqb n m ne) ∙ or-false (flag_at flags n))
-    ]
-
--- a number past the last flag sets none
-pub flag_unset : (flags : List Bool) (m n : ℕ) → n < length flags → length flags ≤ m
-    → flag_at flags n ≡ (flag_at flags n || nat_eq n m)
-flag_unset flags m n lt far =
-    sym (ap (λ b. flag_at flags n || b) (ne_eqb n m (λ e. absurd (omega (arith, e, lt, far))))
-    ∙ or-false (flag_at flags n))
 
 -- one number more
 pub flags_more : (n : ℕ) (numbers : List ℕ) (i d : ℕ) (old before new : Bool) → i < length numbers
@@ -384,12 +331,3 @@ none_set (suc count) zero = refl
 none_set (suc count) (suc n) = none_set count n
 
 -- ---- lists, one after another
-
-pub next_tested : {A B : Type 0} (f : List A → B) (lists : List (List A)) (i : ℕ) (before new : List B) (here : List A)
-    (b : B) → i < length lists
-    → before ≡ map f (take i lists) → here ≡ unwrap_or (slice_get lists i) [] → b ≡ f here → new ≡ before ++ b ∷ []
-    → new ≡ map f (take (i + 1) lists)
-next_tested f lists i before new here b lt so at is e =
-    e ∙ ap (λ l. l ++ b ∷ []) so
-    ∙ ap (λ y. map f (take i lists) ++ y ∷ []) (is ∙ ap f (at ∙ unwrap_or-slice_get lists i []))
-    ∙ sym (map_more f lists i [] lt)

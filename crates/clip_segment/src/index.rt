@@ -112,8 +112,8 @@ impl Index {
         made_index(alloc, terms, positions, seconds, plans)
     }
 
-    /// The positions, from 0 and rising, of just the queries that have the key. Takes no memory. Cost: a search by
-    /// halves among the terms.
+    /// The positions, from 0 and rising, of just the queries that have the key. Takes no memory. Cost: a binary
+    /// search among the terms.
     pub(crate) fn with_key(&self, key: &Key) -> &[u32]
         ensures { (trees : List Tree) → IsIndexOf trees self.now
             → result.now ≡ query_positions_with query_keys (key_of key.now) trees }

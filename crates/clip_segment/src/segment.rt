@@ -1,4 +1,11 @@
 //! Segments: entries in the order of their seqs, with an index over their queries.
+//!
+//!     entries  0: q7 `tea`    1: q9 `+tea +milk`    one `Arc` each, shared with the roster
+//!     seqs     0: 7           1: 9                  rising; found without touching an entry
+//!     index    who has which key, and a plan of each query
+//!
+//! `entry(1)` is q9, `position_of(9)` is 1, and `positions_with(text=milk)` is `[1]`: the weakest word of a query that
+//! asks for both is its key.
 ghost use Rattle.std.specs.Prelude.{◌≡◌, ℕ, ◌==◌, ◌<◌, ◌≤◌, IfOk, IfSome, None, Some, length, map, option_map};
 ghost use Rattle.std.specs.Prelude.{vec_items};
 ghost use Rattle.std.specs.Arc.{arc_value};
@@ -148,8 +155,8 @@ impl Segment {
         &self.index
     }
 
-    /// The positions, from 0 and rising, of just the entries that hold the key. Takes no memory. Cost: a search by
-    /// halves among the index's terms.
+    /// The positions, from 0 and rising, of just the entries that hold the key. Takes no memory. Cost: a binary
+    /// search among the index's terms.
     pub fn with_key(&self, key: &Key) -> &[u32]
         ensures holders { result.now ≡ positions_with (key_of key.now) self.now }
         ensures within { All (λ position. position < length self.now) result.now }

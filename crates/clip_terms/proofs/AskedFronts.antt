@@ -114,9 +114,6 @@ known_append (x ∷ xs) ys terms =
     ∙ sym (append_assoc (option_to_list (number_of terms x)) (known (map (number_of terms) xs))
     (known (map (number_of terms) ys)))
 
-pub none_added : (terms : List KeyValue) (numbers : List ℕ) → AddsNumbersOf terms [] numbers numbers
-none_added terms numbers = record { within = λ all. all; among = λ n lt. sym (or_none (list_any (nat_eq n) numbers)) }
-
 added_more : (terms keys more : List KeyValue) (old now new : List ℕ) → AddsNumbersOf terms keys old now
     → AddsNumbersOf terms more now new → AddsNumbersOf terms (keys ++ more) old new
 added_more terms keys more old now new before next = record {

@@ -120,7 +120,7 @@ upto_still x y z le upto = by_order (heading_cmp y z) refl upto
     by_order Equal e h = ap (λ v. is_le (heading_cmp x v)) (sym (same_heading y z e)) ∙ not_above (heading_cmp x y) le
     by_order Greater e h = absurd (false≢true h)
 
--- ---- a search by halves for the terms under a heading
+-- ---- a binary search for the terms under a heading
 
 level : (o : Ordering) → is_lt o ≡ false → is_le o ≡ true → o ≡ Equal
 level Less a b = absurd (true≢false a)
@@ -204,7 +204,7 @@ module _ (keys : List Key) where
     pub part_found : IsPart terms h start end
     part_found = record { rises = ends_rise; within = omega (arith, long); just = just_these; all = all_these }
 
--- ---- a search by halves for a text
+-- ---- a binary search for a text
 
 pub texts_rise : (ts : List KeyValue) (h : Heading) (start end : ℕ) → IsRising ts → IsPart ts h start end
     → TextsRise ts start end

@@ -1,7 +1,7 @@
 -- Two lists of keys, each in order, in one.
 use Rattle.std.proofs.Common.{◌≡◌, ℕ, suc, ◌+◌, ◌-◌, ◌<◌, Bool, true, false, ◌||◌, List, [], ◌∷◌, ◌++◌, Less, length}
 use Rattle.std.proofs.Common.{take, drop, get_or, length-drop, add-one, drop-cons, refl, sym, ap, ◌∙◌, subst}
-use Rattle.std.proofs.Common.{append-nil, append_assoc, arith}
+use Rattle.std.proofs.Common.{append_assoc, arith}
 use Rattle.std.specs.List.{list_any, AllByRecursion}
 use Rattle.std.specs.List.Sorted.{IsStrictlySortedBy}
 use Rattle.std.proofs.lemmas.List.Folds.{list_any-append}
@@ -53,10 +53,6 @@ swapped false false c = refl
 twice : (a c : Bool) → (a || (a || c)) ≡ (a || c)
 twice true c = refl
 twice false c = refl
-
-either_first : (a b c : Bool) → ((a || b) || c) ≡ (a || (b || c))
-either_first true b c = refl
-either_first false b c = refl
 
 any_moved : (p : KeyValue → Bool) (xs : List KeyValue) (y : KeyValue) (ys : List KeyValue)
     → list_any p (xs ++ y ∷ ys) ≡ (p y || list_any p (xs ++ ys))
@@ -121,36 +117,7 @@ module _ (left right : List KeyValue) (i j : ℕ) (x y : KeyValue) (in_left : i 
       (subst (λ (r : List KeyValue). IsLesser (x ∷ drop (i + 1) left) r y (x ∷ drop (i + 1) left) (drop (j + 1) right))
       (sym (dropped right j y in_right there)) (lesser_right x y (drop (i + 1) left) (drop (j + 1) right) less))
 
-pub no_left : (left right before : List KeyValue) → left ≡ [] → IsRising (before ++ right)
-    → IsRising ((before ++ left) ++ right)
-no_left left right before none up =
-    subst (λ (l : List KeyValue). IsRising (l ++ right)) (sym (ap (λ l. before ++ l) none ∙ append-nil before)) up
-
-pub no_right : (left right before : List KeyValue) → right ≡ [] → IsRising (before ++ left)
-    → IsRising ((before ++ left) ++ right)
-no_right left right before none up =
-    subst IsRising (sym (ap (λ l. (before ++ left) ++ l) none ∙ append-nil (before ++ left))) up
-
 -- ---- a list so far, and what is left
-
--- behind one key more
-pub pushed : (heads rest : List KeyValue) (first : KeyValue) (new : List KeyValue) → new ≡ heads ++ first ∷ []
-    → IsRising (heads ++ first ∷ rest) → IsRising (new ++ rest)
-pushed heads rest first new e up =
-    subst IsRising (sym (ap (λ l. l ++ rest) e ∙ append_assoc heads (first ∷ []) rest)) up
-
-pub among_pushed : (p : KeyValue
-    → Bool) (heads : List KeyValue) (first : KeyValue) (new left right lefts rights all : List KeyValue)
-    → new ≡ heads ++ first ∷ []
-    → list_any p (left ++ right) ≡ (p first || list_any p (lefts ++ rights))
-    → (list_any p heads || list_any p (left ++ right)) ≡ list_any p all
-    → (list_any p new || list_any p (lefts ++ rights)) ≡ list_any p all
-among_pushed p heads first new left right lefts rights all e moved so =
-    ap (λ l. list_any p l || list_any p (lefts ++ rights)) e
-    ∙ ap (λ b. b || list_any p (lefts ++ rights)) (list_any-append p heads (first ∷ []))
-    ∙ either_first (list_any p heads) (list_any p (first ∷ [])) (list_any p (lefts ++ rights))
-    ∙ ap (λ b. list_any p heads || b) (either_first (p first) false (list_any p (lefts ++ rights)) ∙ sym moved)
-    ∙ so
 
 -- with all that is left it is in order
 pub all_merged : (heads left right all : List KeyValue) → IsRising ((heads ++ left) ++ right)

@@ -1,4 +1,4 @@
--- The number of a key among terms in order, by a search by halves.
+-- The number of a key among terms in order, by a binary search.
 use Rattle.std.proofs.Common.{◌≡◌, ℕ, suc, zero, ◌<◌, false, cond, List, [], ◌∷◌, length, map, get_or, Some, None}
 use Rattle.std.proofs.Common.{option_map, is_eq, is_lt, refl, sym, ap, ◌∙◌, subst, arith, add-one, inl, inr}
 use Rattle.std.specs.Prelude.{Result, Ok, Err, MatchResult}
@@ -84,7 +84,7 @@ not_tied k q less = ap is_eq (reversed k q less)
 not_tied_above : (k q : KeyValue) → key_cmp k q ≡ Greater → is_same q k ≡ false
 not_tied_above k q greater = ap is_eq (key_cmp_total.antisymm q k ∙ ap ordering_reverse greater)
 
--- what a search by halves answers, by the order of keys as contracts see them
+-- what a binary search answers, by the order of keys as contracts see them
 pub searched_key : (keys : List Key) (q : KeyValue) (r : Result ℕ ℕ) → IsRising (map key_of keys)
     → IsSearchInRange r (length keys) → IsBinarySearchResult (λ k. key_cmp (key_of k) q) keys r
     → MatchResult r (λ i. Some i ≡ number_of (map key_of keys) q) (λ i. None ≡ number_of (map key_of keys) q)

@@ -1,5 +1,5 @@
 -- How the beginnings of a run repeat, and where it can't stand.
-use Rattle.std.proofs.Common.{◌≡◌, ℕ, zero, suc, ◌+◌, ◌-◌, ◌*◌, ◌/◌, ◌<◌, ◌≤◌, Bool, true, false, ◌&&◌, List, [], ◌∷◌}
+use Rattle.std.proofs.Common.{◌≡◌, ℕ, zero, suc, ◌+◌, ◌-◌, ◌/◌, ◌<◌, ◌≤◌, true, false, List, [], ◌∷◌}
 use Rattle.std.proofs.Common.{length, drop, set, get_or, Option, Some, None, refl, sym, ap, ◌∙◌, subst, arith, eqb-true}
 use Rattle.std.proofs.Common.{get_or-set_same, get_or-set_other, length-set, inl, inr}
 use Rattle.std.proofs.lemmas.Bool.{cases_eq, cases_lt, and_parts, and_from, false_from_ne_true, false≢true, true≢false}
@@ -18,10 +18,6 @@ returns_less run d m n r le = record { same = λ j lt. r.same j (omega arith) }
 
 pub none_more : (run : List ℕ) (d m n : ℕ) → NoneBelow run d m → m ≤ n → NoneBelow run d n
 none_more run d m n none le e some lt r = none e some lt (returns_less run e n m r le)
-
--- nothing returns but to itself
-pub returns_none : (run : List ℕ) (d n : ℕ) → n ≤ d → Returns run d n
-returns_none run d n le = record { same = λ j lt. absurd (omega arith) }
 
 -- one number more
 pub returns_more : (run : List ℕ) (d n : ℕ) → Returns run d (d + n) → get_or run (d + n) 0 ≡ get_or run n 0

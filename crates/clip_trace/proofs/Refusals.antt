@@ -1,6 +1,6 @@
 -- Which answers are due to refused events, and to those that are not.
 use Rattle.std.proofs.Common.{◌≡◌, true, false, Option, Some, None, refl, sym, subst}
-use Rattle.clip_trace.specs.Event.{Event, Answer, Unknown, Used, TooMany, Full}
+use Rattle.clip_trace.specs.Event.{Event, Answer, Unknown, Used, TooMany}
 use Rattle.clip_trace.specs.Schedule.{Stand, is_unknown, is_used, is_too_many, is_full, refusal, IsAnswer, IsDone}
 use Rattle.clip_trace.specs.Schedule.{IsDueTo}
 
@@ -16,10 +16,6 @@ due_used s e known h = by s e Used (Some Used) (simp (known, h)) refl
 pub due_too_many : (s : Stand) (e : Event) → is_unknown s e ≡ false → is_used s e ≡ false → is_too_many s e ≡ true
     → IsDueTo s e TooMany
 due_too_many s e known free h = by s e TooMany (Some TooMany) (simp (known, free, h)) refl
-
-pub due_full : (s : Stand) (e : Event) → is_unknown s e ≡ false → is_used s e ≡ false → is_too_many s e ≡ false
-    → is_full s e ≡ true → IsDueTo s e Full
-due_full s e known free few h = by s e Full (Some Full) (simp (known, free, few, h)) refl
 
 pub due_done : (s : Stand) (e : Event) (a : Answer) → is_unknown s e ≡ false → is_used s e ≡ false
     → is_too_many s e ≡ false → is_full s e ≡ false → IsDone s e a → IsDueTo s e a

@@ -24,16 +24,6 @@ due_push steps step due is = record {
   ];
 }
 
-pub nothing_due : IsDue []
-nothing_due = record {
-  each =
-      λ before later step h. elim before as (λ b. [] ≡ b ++ step ∷ later → IsDueTo (stand b) step.0 step.1) [
-        | [] ↦
-            λ e. absurd (cc)
-        | x ∷ xs ↦ λ e. absurd (cc)
-      ] h;
-}
-
 -- The schedule goes on by a step that is due as things stand, and things stand then as they do after that step.
 pub goes_on : (s t : Stand) (e : Event) (a : Answer) → IsDueTo s e a → t ≡ after s e a
     → (steps : List Step) → IsDue steps → stand steps ≡ s → IsDue (steps ++ (e, a) ∷ [])

@@ -19,7 +19,7 @@ use std::sync::Arc;
 pub const MOST_IN_PIECE: usize = 512;
 
 /// Entries in the order of the ids of their standing queries, each id once; seen as the map from id to entry. A
-/// look-up costs a search by halves, and a change also the move of the entries above its place.
+/// look-up costs a binary search, and a change also the move of the entries above its place.
 #[derive(Drop)]
 pub struct Piece {
     entries: Vec<Arc<Entry>>,

@@ -13,7 +13,7 @@ use std::alloc::Global;
 use std::sync::Arc;
 
 /// The place of the piece in which the entry of an id stands, or else would stand: the first that has an id that is not
-/// below it, or else the last. `None` where there is no piece. It costs a search by halves.
+/// below it, or else the last. `None` where there is no piece. It costs a binary search.
 pub fn place_of(pieces: &[Arc<Piece>], id: &str) -> Option<usize>
     requires { AreInOrder (map arc_value pieces.now) }
     ensures found { IfSome result (IsPlaceFor id.now (map arc_value pieces.now)) }
