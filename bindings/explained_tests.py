@@ -39,6 +39,9 @@ LINES: tuple[tuple[bytes, str, str | None, int | None], ...] = (
     (b'{"op":"count"', "json", None, 13),
     ('{"é":1'.encode(), "json", None, 7),
     (b"\xff", "json", None, 0),
+    (b'{"op":"\xff"}', "json", None, 7),
+    (b'{7:"\xff"}', "json", None, 1),
+    (b"x" * 1_048_577, "long", None, 1_048_576),
     (b'{"op":"counts"}', "shape", "op", None),
     (b'{"op":"delete","ids":["a",""]}', "limit", "ids[1]", None),
     (b'{"op":"register","queries":[{"id":"q1","query":"tea AND"}]}', "query", "queries[0].query", None))

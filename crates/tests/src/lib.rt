@@ -4,8 +4,6 @@
 #![tactic(auto)]
 
 #[cfg(test)]
-mod causes;
-#[cfg(test)]
 mod command_line;
 #[cfg(test)]
 mod desk;
@@ -35,8 +33,6 @@ mod merge;
 mod pieces;
 #[cfg(test)]
 mod registry;
-#[cfg(test)]
-mod remarks;
 #[cfg(test)]
 mod runs;
 #[cfg(test)]
