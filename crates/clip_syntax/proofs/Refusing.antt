@@ -1,7 +1,8 @@
 -- What a text says, or why it is refused, from what the passes over it tell.
 use Rattle.std.proofs.Common.{◌≡◌, ℕ, zero, ◌+◌, ◌<◌, ◌≤◌, ◌↔◌, Bool, true, false, not, List, length, map}
-use Rattle.std.proofs.Common.{encode_utf8_all, IsTrue, sym, ap, subst, ◌∙◌}
+use Rattle.std.proofs.Common.{encode_utf8_all, flat_map, length-append, IsTrue, sym, ap, subst, ◌∙◌, arith}
 use Rattle.std.specs.Str.{chars, IsUtf8}
+use Rattle.std.proofs.lemmas.Str.{encodes-append, encodes-chars}
 use Rattle.std.proofs.lemmas.Bool.{false≢true, not-true, not-false}
 use Rattle.clip_grammar.specs.Reading.{HasNoFault, IsFault, IsTooBig, Says, Writes}
 use Rattle.clip_grammar.specs.Shape.{Written, tokens, lacks_words, written_tree}
@@ -11,6 +12,8 @@ use Rattle.clip_grammar.specs.Tokens.{Token}
 use Rattle.clip_grammar.specs.declared.fault.QueryFault.TheVariants.{Lexical, NoWords, TooBig}
 use Rattle.clip_grammar.specs.declared.limits.TheConstants.{MOST_TEXT_BYTES}
 use Rattle.clip_grammar.specs.declared.stage.Stage.TheVariants.{Fresh}
+use Rattle.clip_grammar.specs.Lexemes.{spell}
+use Rattle.clip_grammar.proofs.Lexing.{found_spells}
 use Rattle.clip_grammar.proofs.Refusals as refusals
 use Rattle.clip_syntax.specs.Steps.Lexing.{IsLexed}
 use Rattle.clip_syntax.specs.Steps.TokenOf.{token_of}
@@ -20,8 +23,10 @@ use Rattle.clip_syntax.specs.declared.token.Token as code
 pub rest_fits : (text cs : List ℕ) (ts : List Token) (rest : List ℕ) → IsUtf8 text → cs ≡ chars text
     → IsLexed cs ts rest → length (encode_utf8_all rest) ≤ length text
 rest_fits text cs ts rest utf8 e lexed =
-    let all = subst (λ x. IsLexed x ts rest) e lexed in
-    refusals.rest_fits text all.0.lexemes rest utf8 all.0.finds
+    let all = subst (λ x. IsLexed x ts rest) e lexed in let front = flat_map spell all.0.lexemes in
+    let whole = sym (encodes-append front rest) ∙ ap encode_utf8_all (found_spells all.0.lexemes (chars text) rest
+    all.0.finds) ∙ encodes-chars text utf8 in
+    omega (arith, sym (length-append (encode_utf8_all front) (encode_utf8_all rest)) ∙ ap length whole)
 
 pub lexical_fault : (text cs : List ℕ) (ts : List Token) (rest : List ℕ) (at : ℕ) → IsUtf8 text
     → length text ≤ MOST_TEXT_BYTES → cs ≡ chars text → IsLexed cs ts rest → 0 < length rest
