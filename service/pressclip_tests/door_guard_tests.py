@@ -273,7 +273,7 @@ http {{
 
 
 def it_stands_behind_nginx() -> None:
-    """With the configuration of the page on operating: TLS, alerts and lines that stream, and a token."""
+    """With the server that is shipped: TLS, alerts and lines that stream, and a token."""
     with folder() as name:
         make_certificate(name)
         path = Path(name) / "tokens"
@@ -281,7 +281,7 @@ def it_stands_behind_nginx() -> None:
         path.chmod(0o600)
         with Door("--tokens", str(path)) as door:
             port = free_port()
-            server = page_server().replace("443", str(port)).replace("8080", str(door.port)).replace(
+            server = shipped_server().replace("443", str(port)).replace("8080", str(door.port)).replace(
                 "/etc/pressclip/tls", name).replace("alerts.example", "localhost")
             (Path(name) / "nginx.conf").write_text(NGINX.format(folder=name, server=server))
             proxy = subprocess.Popen([nginx(), "-e", "stderr", "-c", f"{name}/nginx.conf"], stderr=subprocess.DEVNULL)
@@ -299,11 +299,9 @@ def nginx() -> str:
     return shutil.which("nginx", path=f"/usr/sbin:{os.environ['PATH']}") or "nginx"
 
 
-def page_server() -> str:
-    """The part of a server that the page on operating shows."""
-    text = (Path(__file__).resolve().parents[2] / "docs" / "OPERATING.md").read_text()
-    start = text.index("server {\n    listen 443 ssl;")
-    return text[start:text.index("```", start)]
+def shipped_server() -> str:
+    """The server that is shipped for nginx."""
+    return (Path(__file__).resolve().parents[1] / "units" / "nginx.conf").read_text()
 
 
 def make_certificate(name: str) -> None:

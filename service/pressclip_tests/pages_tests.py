@@ -1,4 +1,4 @@
-"""Tests of `docs/test` by pages of the test's own, of a unit that a page shows, and of an example that marks words."""
+"""Tests of `docs/test` by pages of the test's own, of a unit for systemd, and of an example that marks words."""
 
 from __future__ import annotations
 
@@ -56,10 +56,10 @@ def examples_are_run_and_compared() -> None:
 
 
 def unit_of_workers() -> str:
-    """The command of the unit for workers, as docs/OPERATING.md shows it."""
-    page = (TOP / "docs" / "OPERATING.md").read_text()
+    """The command of the unit for workers."""
+    unit = (SERVICE / "units" / "pressclip-worker@.service").read_text()
     command: str
-    (command,) = re.findall(r"^ExecStart=(/bin/bash -c .*grid worker.*)$", page, re.MULTILINE)
+    (command,) = re.findall(r"^ExecStart=(/bin/bash -c .*grid worker.*)$", unit, re.MULTILINE)
     return command
 
 
