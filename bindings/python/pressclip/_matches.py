@@ -1,0 +1,94 @@
+"""Articles as they are handed in, and what is found of them."""
+
+from __future__ import annotations
+
+from ctypes import Array, c_void_p
+from itertools import repeat
+from typing import Any, Callable, Dict, Mapping, NamedTuple
+
+from . import _calls
+from ._calls import all_of, encoded, fields_of, numbers_at, texts_at
+from ._words import FieldWords
+
+
+class Hit(NamedTuple):
+    """A word of an article that a query names: of the field's text it is `text[start:end]`, in characters."""
+
+    field: str
+    position: int
+    start: int
+    end: int
+
+
+class Found(NamedTuple):
+    """A query that holds of an article, and where, in a monitor that shows hits."""
+
+    query: str
+    hits: list[Hit]
+
+
+# Makes what is found of a pair, as `Found._make` does, with no call of a function in Python.
+_MAKE: Callable[[type[Found], tuple[str, list[Hit]]], Found] = tuple.__new__
+
+
+class Given:
+    """An article `{"id": .., "fields": {name: text, ..}}`, as C sees it.
+
+    `TypeError` where a part of it is of another type, and `KeyError` where it has no id or no fields.
+    """
+
+    def __init__(self, article: Mapping[str, Any]) -> None:
+        if not isinstance(article, Mapping) or not isinstance(fields := article["fields"], Mapping):
+            raise TypeError("an article and its fields are dictionaries: {\"id\": .., \"fields\": {name: text, ..}}")
+        self.id = encoded(article["id"], "an article's id")
+        self.texts = [(encoded(name, "a field's name"), encoded(text, "a field's text"))
+                      for name, text in fields.items()]
+        self.fields: Array[_calls.Field] = fields_of(self.texts)
+
+    def arguments(self) -> tuple[bytes, int, Array[_calls.Field], int]:
+        """What a call is handed of it."""
+        return self.id, len(self.id), self.fields, len(self.texts)
+
+    def found(self, result: c_void_p) -> list[Found]:
+        """All that a result has of it."""
+        return found_in(result, FieldWords(self.texts))
+
+
+class _FieldHits(Dict[int, Hit]):
+    """The hits in a field by their positions; each is made when it is first asked for."""
+
+    def __init__(self, field: str, words: FieldWords) -> None:
+        super().__init__()
+        self._field, self._words = field, words
+
+    def __missing__(self, position: int) -> Hit:
+        hit = self[position] = Hit(self._field, position, *self._words.span(self._field.encode(), position))
+        return hit
+
+
+def _hits(all: _calls.Found, words: FieldWords) -> list[list[Hit]]:
+    """The hits of each id."""
+    if all.hit_count == 0:
+        return [[] for _ in range(all.count)]
+    fields = [_FieldHits(name, words) for name in texts_at(all.names, all.name_at, all.name_count)]
+    names, positions = numbers_at(all.hit_name, all.hit_count), numbers_at(all.hit_position, all.hit_count)
+    hits = [fields[name][position] for name, position in zip(names, positions)]
+    at = numbers_at(all.hit_at, all.count + 1)
+    return [hits[begin:end] for begin, end in zip(at, at[1:])]
+
+
+def ids_in(result: c_void_p) -> list[str]:
+    """The ids that a result has."""
+    if _calls.LIBRARY.pressclip_result_count(result) == 0:
+        return []
+    all = all_of(result)
+    return texts_at(all.ids, all.id_at, all.count)
+
+
+def found_in(result: c_void_p, words: FieldWords) -> list[Found]:
+    """All that a result has."""
+    if _calls.LIBRARY.pressclip_result_count(result) == 0:
+        return []
+    all = all_of(result)
+    pairs = zip(texts_at(all.ids, all.id_at, all.count), _hits(all, words))
+    return list(map(_MAKE, repeat(Found), pairs))
