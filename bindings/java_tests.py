@@ -5,8 +5,10 @@ from __future__ import annotations
 import base64
 import json
 import os
+import re
 import subprocess
 import sys
+import tempfile
 from pathlib import Path
 from typing import Any, Callable, Iterator
 
@@ -16,6 +18,7 @@ from skips import need_file, need_package
 TOP = Path(__file__).resolve().parent.parent
 JAVA = TOP / "bindings" / "java"
 CLASSES_OF_LUCENE = JAVA / "out" / "lucene" / "classes"
+LUCENE_IS_BUILT_BY = "Lucene's Monitor is built by: bindings/java/lucene"
 JARS = "/usr/share/java"
 PARTS = 5
 DOCUMENTS = 10_000
@@ -112,7 +115,7 @@ def java_gives_what_the_program_replies() -> None:
 
 def java_gives_the_ids_of_lucenes_monitor() -> None:
     """Both in one JVM, on the queries of the benchmark and 10,000 documents of some 80 words."""
-    need_file(CLASSES_OF_LUCENE, "Lucene's Monitor is built by: bindings/java/lucene")
+    need_file(CLASSES_OF_LUCENE, LUCENE_IS_BUILT_BY)
     built()
     sys.path.append(str(TOP / "bench"))
     from workload import Workload
@@ -128,5 +131,21 @@ def java_gives_the_ids_of_lucenes_monitor() -> None:
     assert int(last[2].split()[0]) > DOCUMENTS, last
 
 
+def the_caller_on_the_page_runs_on_lucenes_monitor() -> None:
+    """With the imports of before it prints what stands on the page for those of after."""
+    need_file(CLASSES_OF_LUCENE, LUCENE_IS_BUILT_BY)
+    page = (TOP / "docs" / "FROM_LUCENE_MONITOR.md").read_text()
+    before, after = re.findall(r"^```java\n(.*?)^```$", page, re.DOTALL | re.MULTILINE)
+    (due,) = re.findall(r"^<!-- test: output -->\n```\n(.*?)^```$", page, re.DOTALL | re.MULTILINE)
+    assert after.count("import pressclip.monitor.*;\n") == 1
+    paths = [str(CLASSES_OF_LUCENE), *sorted(map(str, Path(JARS).glob("lucene-*-8*.jar")))]
+    with tempfile.TemporaryDirectory() as folder:
+        Path(folder, "Desk.java").write_text(after.replace("import pressclip.monitor.*;\n", before))
+        run = subprocess.run(["java", "-cp", ":".join(paths), "Desk.java"], cwd=folder, stdout=subprocess.PIPE,
+                             check=True, text=True)
+    assert run.stdout == due, run.stdout
+
+
 TESTS: tuple[Callable[[], None], ...] = (
-    the_tests_in_java_pass, java_gives_what_the_program_replies, java_gives_the_ids_of_lucenes_monitor)
+    the_tests_in_java_pass, java_gives_what_the_program_replies, java_gives_the_ids_of_lucenes_monitor,
+    the_caller_on_the_page_runs_on_lucenes_monitor)

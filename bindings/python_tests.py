@@ -155,6 +155,7 @@ def after_a_close_each_call_is_refused() -> None:
     assert ids_of(view.match(article("tea"))) == ["q"] and list(ids) == ["q"], "a snapshot stays"
     view.close()
     view.close()
+    call: Callable[[], object]
     for monitor in (closed, unopened):
         for call in (lambda: monitor.register("q", "tea"), lambda: monitor.register_many([]),
                      lambda: monitor.delete("q"), monitor.clear, monitor.purge, monitor.count, lambda: len(monitor),
@@ -162,8 +163,10 @@ def after_a_close_each_call_is_refused() -> None:
                      monitor.snapshot, lambda: monitor.match(article("tea")), lambda: monitor.match_many([]),
                      lambda: monitor.line(b"")):
             assert raised(Closed, call).word == "closed"
-    for call in (lambda: view.match(article("tea")), lambda: view.get("q"), lambda: "q" in view, lambda: len(view),
-                 lambda: list(view)):
+    of_view: list[Callable[[], object]] = [
+        lambda: view.match(article("tea")), lambda: view.match_many([]), lambda: view.get("q"), lambda: "q" in view,
+        lambda: len(view), lambda: list(view)]
+    for call in of_view:
         assert raised(Closed, call).word == "closed"
     closed.__init__()  # type: ignore[misc]
     assert len(closed) == 0
@@ -187,6 +190,9 @@ def many_are_registered_or_none() -> None:
         assert {id: monitor.get(id) for id in monitor} == {"a": "milk", "b": "coffee"}
         monitor.register_many((f"q{number}", "tea") for number in range(3_000))
         assert len(monitor) == 3_002
+        error = raised(QueryError, lambda: monitor.register_many(
+            (f"r{number}", "(" if number == 2_050 else "tea") for number in range(3_000)))
+        assert error.which == 2_050 and len(monitor) == 3_002 + 2_048, (error, len(monitor))
 
 
 def many_are_matched_or_none() -> None:
@@ -202,8 +208,8 @@ def many_are_matched_or_none() -> None:
         assert [(hit.field, hit.start, hit.end) for hit in found[1][0].hits] == [("title", 0, 3)]
         with monitor.snapshot() as view:
             assert view.match_many(articles) == found and view.match_many([]) == [] == monitor.match_many([])
-            for calls in (monitor, view):
-                error = raised(LimitError, lambda: calls.match_many([articles[0], article("", **{"no name": ""})]))
+            for calls in (monitor.match_many, view.match_many):
+                error = raised(LimitError, lambda: calls([articles[0], article("", **{"no name": ""})]))
                 assert (error.which, error.word) == (1, "limit"), error
 
 
@@ -261,7 +267,8 @@ def a_snapshot_is_what_stood_at_its_moment() -> None:
                 changed(dice, monitor, queries)
                 if dice.random() < 0.3:
                     kept.append((monitor.snapshot(), dict(queries)))
-            for view, due in [*kept, (monitor, queries)]:
+            checks: list[tuple[Any, dict[str, str]]] = [*kept, (monitor, queries)]
+            for view, due in checks:
                 assert len(view) == len(due) and list(view) == sorted(due, key=str.encode), seed
                 assert all(view.get(f"q{number}") == due.get(f"q{number}") for number in range(31)), seed
                 text = " ".join(dice.choices(WORDS, k=6))
@@ -389,12 +396,12 @@ def no_memory_is_a_memory_error() -> None:
     with Monitor() as monitor:
         monitor.register("q", "tea")
         with library_as(Empty):
-            for call in (Monitor, lambda: monitor.register("a", "tea"), lambda: monitor.register_many([("a", "tea")]),
-                         lambda: monitor.match(article("tea")), lambda: monitor.match_many([article("tea")]),
-                         monitor.snapshot, monitor.count, monitor.clear, lambda: monitor.get("q"),
-                         lambda: explain("tea")):
-                error = raised(NoMemory, call)
-                assert isinstance(error, MemoryError) and error.word == "memory"
+            calls: list[Callable[[], object]] = [
+                Monitor, lambda: monitor.register("a", "tea"), lambda: monitor.register_many([("a", "tea")]),
+                lambda: monitor.match(article("tea")), lambda: monitor.match_many([article("tea")]),
+                monitor.snapshot, monitor.count, monitor.clear, lambda: monitor.get("q"), lambda: explain("tea")]
+            for call in calls:
+                assert raised(NoMemory, call).word == "memory" and issubclass(NoMemory, MemoryError)
         assert ids_of(monitor.match(article("tea"))) == ["q"] and list(monitor) == ["q"]
 
 
@@ -464,7 +471,7 @@ def is_plain(request: dict[str, Any]) -> bool:
     """Whether a request has the members that calls have, and its texts are such."""
     wanted: dict[Any, set[str]] = {"register": {"op", "queries"}, "delete": {"op", "ids"}, "clear": {"op"},
                                    "purge": {"op"}, "show": {"op", "id"}, "count": {"op"}, "match": {"op", "articles"}}
-    if request.keys() != wanted.get(request.get("op")):
+    if set(request) != wanted.get(request.get("op")):
         return False
     if request["op"] == "delete":
         return all(0 < len(id.encode()) <= 256 for id in request["ids"] if isinstance(id, str))

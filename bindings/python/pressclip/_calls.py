@@ -68,6 +68,7 @@ _ARGUMENTS: dict[str, list[Any]] = {
     "shared_match_many": [c_void_p, POINTER(Article), c_size_t, _TO_POINTER, _TO_SIZE],
     "snapshot_free": [_TO_POINTER],
     "snapshot_match": [c_void_p, *_TEXT, *_FIELDS, _TO_POINTER],
+    "snapshot_match_many": [c_void_p, POINTER(Article), c_size_t, _TO_POINTER, _TO_SIZE],
     "snapshot_count": [c_void_p, _TO_NUMBER],
     "snapshot_show": [c_void_p, *_TEXT, *_REPLY],
     "snapshot_ids": [c_void_p, *_TEXT, c_size_t, _TO_POINTER],

@@ -2,9 +2,10 @@
 
 from __future__ import annotations
 
-from ctypes import Array, c_void_p
+from ctypes import Array, byref, c_size_t, c_void_p
 from itertools import repeat
-from typing import Any, Callable, Dict, Mapping, NamedTuple
+from types import TracebackType
+from typing import Any, Callable, Dict, Iterable, Mapping, NamedTuple
 
 from . import _calls
 from ._calls import all_of, encoded, fields_of, numbers_at, texts_at
@@ -52,6 +53,33 @@ class Given:
     def found(self, result: c_void_p) -> list[Found]:
         """All that a result has of it."""
         return found_in(result, FieldWords(self.texts))
+
+
+class GivenMany:
+    """Articles, as C sees them, and room for their results, which go back to the library at the end of a `with`."""
+
+    def __init__(self, articles: Iterable[Mapping[str, Any]]) -> None:
+        self._given = [Given(article) for article in articles]
+        handed = [_calls.Article(*each.arguments()) for each in self._given]
+        self._articles = (_calls.Article * max(1, len(handed)))(*handed)
+        self._results = (c_void_p * max(1, len(handed)))()
+        self.which = c_size_t()
+
+    def __enter__(self) -> GivenMany:
+        return self
+
+    def __exit__(self, kind: type[BaseException] | None, error: BaseException | None,
+                 trace: TracebackType | None) -> None:
+        for result in self._results:
+            _calls.LIBRARY.pressclip_result_free(result)
+
+    def arguments(self) -> tuple[Any, ...]:
+        """What a call is handed of them."""
+        return self._articles, len(self._given), self._results, byref(self.which)
+
+    def found(self) -> list[list[Found]]:
+        """All that the results have of them."""
+        return [each.found(c_void_p(result)) for each, result in zip(self._given, self._results)]
 
 
 class _FieldHits(Dict[int, Hit]):

@@ -9,12 +9,14 @@ from typing import Any, Iterable, Iterator, Mapping, NamedTuple, NoReturn, Tuple
 from . import _calls
 from ._calls import QUERY, answer_of, answer_or_none, count_of, encoded, well
 from ._explain import explain
-from ._matches import Found, Given
+from ._matches import Found, Given, GivenMany
 from ._refusals import Closed, LimitError, QueryError
 from ._snapshot import Snapshot
 
 # An id, a query, and the listener that hears of it, where there is one.
 Listing = Union[Tuple[str, str], Tuple[str, str, Union[str, None]]]
+# The most queries that one call registers.
+_PART = 1_024
 
 
 class _Shared:
@@ -125,9 +127,11 @@ class Monitor:
         _registered(_calls.LIBRARY.pressclip_shared_register(shared.at, *texts.arguments()), [texts])
 
     def register_many(self, queries: Iterable[Listing]) -> None:
-        """Registers `(id, query)` and `(id, query, listener)`, one after another, in one call: all of them or none.
+        """Registers `(id, query)` and `(id, query, listener)`, one after another: all of them or none, up to 1,024.
 
-        The errors of `register`, whose `which` is the place of the first query that is refused, from 0.
+        More are registered in parts of so many, and where a part is refused, those before it stay. The errors of
+        `register`, whose `which` is the place of the first query that is refused, from 0; of a part for which there is
+        no room it is the place behind its last.
 
         >>> monitor = Monitor()
         >>> monitor.register_many([("tea", "+tea pric*"), ("milk", "milk", "mail")])
@@ -135,9 +139,11 @@ class Monitor:
         2
         """
         shared, texts, which = self._open(), [_Texts.of(*query) for query in queries], c_size_t()
-        listings = (_calls.Listing * max(1, len(texts)))(*[_calls.Listing(*each.arguments()) for each in texts])
-        status = _calls.LIBRARY.pressclip_shared_register_many(shared.at, listings, len(texts), byref(which))
-        _registered(status, texts, which.value)
+        for start in range(0, len(texts), _PART):
+            part = [_calls.Listing(*each.arguments()) for each in texts[start:start + _PART]]
+            listings = (_calls.Listing * len(part))(*part)
+            status = _calls.LIBRARY.pressclip_shared_register_many(shared.at, listings, len(part), byref(which))
+            _registered(status, texts, start + which.value)
 
     def delete(self, id: str) -> bool:
         """Takes a query out, and says whether there was one. `LimitError`, `Closed`, `NoMemory`."""
@@ -224,16 +230,10 @@ class Monitor:
         The errors of `match`, whose `which` is the place of the first article that is refused, from 0. The cost is that
         of the matches; what is found of all is held at once.
         """
-        shared, given, which = self._open(), [Given(article) for article in articles], c_size_t()
-        handed = (_calls.Article * max(1, len(given)))(*[_calls.Article(*each.arguments()) for each in given])
-        results = (c_void_p * max(1, len(given)))()
-        try:
-            status = _calls.LIBRARY.pressclip_shared_match_many(shared.at, handed, len(given), results, byref(which))
-            well(status, which.value)
-            return [each.found(c_void_p(result)) for each, result in zip(given, results)]
-        finally:
-            for result in results:
-                _calls.LIBRARY.pressclip_result_free(result)
+        shared = self._open()
+        with GivenMany(articles) as given:
+            well(_calls.LIBRARY.pressclip_shared_match_many(shared.at, *given.arguments()), given.which.value)
+            return given.found()
 
     def line(self, line: bytes) -> bytes:
         """The reply to a line of the protocol without its line feed, and nothing to a blank one.

@@ -9,7 +9,7 @@ from typing import Any, Iterable, Iterator, Mapping, NoReturn
 
 from . import _calls
 from ._calls import answer_or_none, count_of, encoded, well
-from ._matches import Found, Given, ids_in
+from ._matches import Found, Given, GivenMany, ids_in
 from ._refusals import Closed, LimitError
 
 # So many ids are asked for at once.
@@ -72,13 +72,11 @@ class Snapshot:
 
     def match_many(self, articles: Iterable[Mapping[str, Any]]) -> list[list[Found]]:
         """What `Monitor.match_many` would have given at that moment, and with its errors."""
-        found = []
-        for which, article in enumerate(articles):
-            try:
-                found.append(self.match(article))
-            except LimitError as error:
-                raise LimitError(error.word, which) from None
-        return found
+        with GivenMany(articles) as given:
+            with self._lock:
+                status = _calls.LIBRARY.pressclip_snapshot_match_many(self._open(), *given.arguments())
+            well(status, given.which.value)
+            return given.found()
 
     def get(self, id: str) -> str | None:
         """The query with this id, or None where there was none. `LimitError`, `Closed`, `NoMemory`."""

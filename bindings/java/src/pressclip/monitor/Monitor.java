@@ -29,6 +29,8 @@ public class Monitor implements Closeable {
   private static final Cleaner CLEANER = Cleaner.create();
   /** So many ids are asked for at once. */
   private static final long PAGE = 10_000;
+  /** The most queries that one call registers. */
+  private static final int PART = 1_024;
   /** The bytes of a pressclip_listing: three pointers and three sizes. */
   private static final int LISTING = 48;
 
@@ -66,7 +68,10 @@ public class Monitor implements Closeable {
     listeners.add(Objects.requireNonNull(listener, "a listener is null"));
   }
 
-  /** Registers queries, one after another, each in the place of the one with its id: all of them or none. */
+  /**
+   * Registers queries, one after another, each in the place of the one with its id: all of them or none, up to 1,024.
+   * More are registered in parts of so many, and where a part is refused, those before it stay.
+   */
   public void register(Iterable<MonitorQuery> queries) throws IOException {
     List<MonitorQuery> updates = new ArrayList<>();
     List<byte[]> texts = new ArrayList<>();
@@ -75,17 +80,29 @@ public class Monitor implements Closeable {
       texts.add(Utf8.of(query.getId(), "an id"));
       texts.add(Utf8.of(query.getQueryString(), "a query"));
     }
+    if (updates.isEmpty()) {
+      shared.with(at -> Library.OK);
+    }
+    for (int start = 0; start < updates.size(); start += PART) {
+      int end = Math.min(start + PART, updates.size());
+      registerPart(updates, start, texts.subList(2 * start, 2 * end));
+      List<MonitorQuery> part = Collections.unmodifiableList(updates.subList(start, end));
+      listeners.forEach(listener -> listener.afterUpdate(part));
+    }
+  }
+
+  /** Registers the queries from a place on whose ids and texts these are. */
+  private void registerPart(List<MonitorQuery> updates, int start, List<byte[]> texts) {
     LongByReference which = new LongByReference();
     int status;
     try (Memory listings = listings(texts)) {
-      status = shared.with(at -> Library.pressclip_shared_register_many(at, listings, updates.size(), which));
+      status = shared.with(at -> Library.pressclip_shared_register_many(at, listings, texts.size() / 2, which));
     }
-    int place = Math.toIntExact(which.getValue());
+    int place = Math.toIntExact(start + which.getValue());
     if (status == Library.QUERY) {
       throw new QueryException(place, Fault.of(updates.get(place).getQueryString()));
     }
     Library.well(status, place);
-    listeners.forEach(listener -> listener.afterUpdate(Collections.unmodifiableList(updates)));
   }
 
   /** The texts of ids and queries, two for each, as an array of pressclip_listing and behind it what it points to. */
