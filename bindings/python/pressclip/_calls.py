@@ -51,7 +51,7 @@ _TEXT = [c_char_p, c_size_t]
 _TO_POINTER, _TO_SIZE, _TO_NUMBER = POINTER(c_void_p), POINTER(c_size_t), POINTER(c_uint64)
 _REPLY = [_TO_POINTER, _TO_SIZE]
 _FIELDS = [POINTER(Field), c_size_t]
-# What each call is handed. Where C gives no status, the last two dictionaries have it.
+# What each call is handed. It gives a status, where it is not among those that follow.
 _ARGUMENTS: dict[str, list[Any]] = {
     "shared_open": [c_bool, _TO_POINTER],
     "shared_close": [_TO_POINTER],

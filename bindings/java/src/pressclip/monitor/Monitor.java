@@ -80,9 +80,7 @@ public class Monitor implements Closeable {
       texts.add(Utf8.of(query.getId(), "an id"));
       texts.add(Utf8.of(query.getQueryString(), "a query"));
     }
-    if (updates.isEmpty()) {
-      shared.with(at -> Library.OK);
-    }
+    shared.check();
     for (int start = 0; start < updates.size(); start += PART) {
       int end = Math.min(start + PART, updates.size());
       registerPart(updates, start, texts.subList(2 * start, 2 * end));
@@ -132,6 +130,7 @@ public class Monitor implements Closeable {
     for (String id : queryIds) {
       ids.add(idOf(id, ids.size()));
     }
+    shared.check();
     for (byte[] id : ids) {
       Library.well(
           shared.with(at -> Library.pressclip_shared_delete(at, id, id.length, new LongByReference())), 0);

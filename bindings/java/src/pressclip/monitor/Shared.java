@@ -29,6 +29,11 @@ final class Shared implements Runnable {
     }
   }
 
+  /** Throws after its end. */
+  void check() {
+    with(at -> at);
+  }
+
   /** Ends it. */
   @Override
   public void run() {

@@ -261,7 +261,8 @@ public class MonitorTest {
     monitor.close();
     monitor.close();
     List<ThrowingRunnable> calls = List.of(() -> monitor.register(new MonitorQuery("a", "tea")),
-        () -> monitor.deleteById("a"), monitor::clear, monitor::purgeCache, () -> monitor.getQuery("a"),
+        () -> monitor.register(List.of()), () -> monitor.deleteById("a"), () -> monitor.deleteById(List.of()),
+        monitor::clear, monitor::purgeCache, () -> monitor.getQuery("a"),
         monitor::getQueryCount, monitor::getQueryIds, () -> matched(document()),
         () -> monitor.match(new Document[0], HighlightsMatch.MATCHER));
     for (ThrowingRunnable call : calls) {
