@@ -5,7 +5,7 @@ from __future__ import annotations
 from ctypes import Array, byref, c_size_t, c_void_p
 from itertools import repeat
 from types import TracebackType
-from typing import Any, Callable, Dict, Iterable, Mapping, NamedTuple
+from typing import Any, Callable, Dict, Iterable, Iterator, Mapping, NamedTuple
 
 from . import _calls
 from ._calls import all_of, encoded, fields_of, numbers_at, texts_at
@@ -25,11 +25,11 @@ class Found(NamedTuple):
     """A query that holds of an article, and where, in a monitor that shows hits."""
 
     query: str
-    hits: list[Hit]
+    hits: tuple[Hit, ...]
 
 
 # Makes what is found of a pair, as `Found._make` does, with no call of a function in Python.
-_MAKE: Callable[[type[Found], tuple[str, list[Hit]]], Found] = tuple.__new__
+_MAKE: Callable[[type[Found], tuple[str, tuple[Hit, ...]]], Found] = tuple.__new__
 
 
 class Given:
@@ -94,15 +94,19 @@ class _FieldHits(Dict[int, Hit]):
         return hit
 
 
-def _hits(all: _calls.Found, words: FieldWords) -> list[list[Hit]]:
-    """The hits of each id."""
+def _hits(all: _calls.Found, words: FieldWords) -> Iterator[tuple[Hit, ...]]:
+    """The hits of each id: no end of nothing where there are none. It makes no object for each id and hit but these."""
     if all.hit_count == 0:
-        return [[] for _ in range(all.count)]
+        return repeat(())
     fields = [_FieldHits(name, words) for name in texts_at(all.names, all.name_at, all.name_count)]
-    names, positions = numbers_at(all.hit_name, all.hit_count), numbers_at(all.hit_position, all.hit_count)
-    hits = [fields[name][position] for name, position in zip(names, positions)]
+    positions = numbers_at(all.hit_position, all.hit_count)
+    if len(fields) == 1:
+        hits = tuple(map(fields[0].__getitem__, positions))
+    else:
+        names = numbers_at(all.hit_name, all.hit_count)
+        hits = tuple([fields[name][position] for name, position in zip(names, positions)])
     at = numbers_at(all.hit_at, all.count + 1)
-    return [hits[begin:end] for begin, end in zip(at, at[1:])]
+    return map(hits.__getitem__, map(slice, at, at[1:]))
 
 
 def ids_in(result: c_void_p) -> list[str]:

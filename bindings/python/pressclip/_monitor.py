@@ -215,7 +215,7 @@ class Monitor:
         >>> monitor = Monitor()
         >>> monitor.register_many([("tea", "+tea pric*"), ("milk", "milk")])
         >>> monitor.match({"id": "a1", "fields": {"text": "Tea prices rise"}})
-        [Found(query='tea', hits=[])]
+        [Found(query='tea', hits=())]
         """
         shared, given, result = self._open(), Given(article), c_void_p()
         try:

@@ -28,7 +28,7 @@ class Snapshot:
     >>> with monitor.snapshot() as before:
     ...     monitor.clear()
     ...     print(before.match({"id": "a1", "fields": {"text": "Tea prices rise"}}), len(monitor))
-    [Found(query='tea', hits=[])] 0
+    [Found(query='tea', hits=())] 0
     """
 
     def __init__(self, shared: c_void_p) -> None:
