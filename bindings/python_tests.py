@@ -462,20 +462,43 @@ def requests_of(seed: int) -> list[dict[str, Any]]:
             request = json.loads(line)
         except ValueError:
             continue
-        if isinstance(request, dict) and is_plain(request):
+        if isinstance(request, dict) and is_plain(request) and is_small(request):
             found.append(request)
     return found
 
 
+def is_small(request: dict[str, Any]) -> bool:
+    """Whether a request lists so little that no line is refused for it, and deletes ids that each can be deleted."""
+    lists = [value for value in request.values() if isinstance(value, list)]
+    return all(len(one) <= 256 for one in lists) and all(0 < len(id.encode()) <= 256 for id in request.get("ids", []))
+
+
 def is_plain(request: dict[str, Any]) -> bool:
-    """Whether a request has the members that calls have, and its texts are such."""
-    wanted: dict[Any, set[str]] = {"register": {"op", "queries"}, "delete": {"op", "ids"}, "clear": {"op"},
-                                   "purge": {"op"}, "show": {"op", "id"}, "count": {"op"}, "match": {"op", "articles"}}
-    if set(request) != wanted.get(request.get("op")):
+    """Whether calls can be made of a request: it has the members of its operation, and they are lists and texts."""
+    members: dict[Any, dict[str, Any]] = {
+        "register": {"queries": [{"id": "", "query": ""}]}, "delete": {"ids": [""]}, "clear": {}, "purge": {},
+        "count": {}, "show": {"id": ""}, "match": {"articles": [{"id": "", "fields": {}}]}}
+    own, op = {name: value for name, value in request.items() if name != "op"}, request.get("op")
+    if not isinstance(op, str) or op not in members:
         return False
-    if request["op"] == "delete":
-        return all(0 < len(id.encode()) <= 256 for id in request["ids"] if isinstance(id, str))
-    return True
+    return is_like(own, members[op]) if members[op] else not own
+
+
+def is_like(value: Any, sample: Any) -> bool:
+    """Whether a value is made as a sample is: a list of what its first item is like, a text in Unicode, or an object.
+
+    A query may have a listener too, and an empty object is one of texts.
+    """
+    if isinstance(sample, list):
+        return isinstance(value, list) and all(is_like(one, sample[0]) for one in value)
+    if isinstance(sample, str):
+        return isinstance(value, str) and not any("\ud800" <= character <= "\udfff" for character in value)
+    if not isinstance(value, dict):
+        return False
+    if not sample:
+        return all(is_like(name, "") and is_like(text, "") for name, text in value.items())
+    return sample.keys() == value.keys() - {"listener"} and all(
+        is_like(one, sample.get(name, "")) for name, one in value.items())
 
 
 def calls_give_what_the_program_replies() -> None:

@@ -63,6 +63,11 @@ public class Monitor implements Closeable {
         "no presearcher can be chosen here, as the engine has its own: leave it out");
   }
 
+  /** The version of the library. */
+  public static String version() {
+    return Library.pressclip_version();
+  }
+
   /** Has a listener hear of all changes that are made after this. */
   public void addQueryIndexUpdateListener(MonitorUpdateListener listener) {
     listeners.add(Objects.requireNonNull(listener, "a listener is null"));

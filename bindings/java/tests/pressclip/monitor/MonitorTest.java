@@ -5,6 +5,8 @@ import static org.junit.Assert.assertNull;
 import static org.junit.Assert.assertThrows;
 import static org.junit.Assert.assertTrue;
 
+import java.nio.file.Files;
+import java.nio.file.Path;
 import java.util.ArrayList;
 import java.util.Arrays;
 import java.util.List;
@@ -42,6 +44,11 @@ public class MonitorTest {
     RefusedException error = assertThrows(RefusedException.class, call);
     assertEquals(word + " " + which, error.getWord() + " " + error.getWhich());
     assertTrue(error.getMessage(), error.getMessage().length() > word.length());
+  }
+
+  @Test
+  public void theVersionIsThatOfTheRepository() throws Exception {
+    assertEquals(Files.readString(Path.of("../../VERSION")), Monitor.version() + "\n");
   }
 
   @Test
@@ -116,15 +123,25 @@ public class MonitorTest {
   }
 
   @Test
-  public void manyIdsComeInPages() throws Exception {
+  public void manyAreRegisteredInPartsAndTheirIdsComeInPages() throws Exception {
     List<MonitorQuery> queries = new ArrayList<>();
     List<String> ids = new ArrayList<>();
+    List<Integer> parts = new ArrayList<>();
     for (int number = 100_000; number < 125_000; number++) {
       ids.add("q" + number);
       queries.add(new MonitorQuery("q" + number, "tea"));
     }
+    monitor.addQueryIndexUpdateListener(new MonitorUpdateListener() {
+      @Override
+      public void afterUpdate(List<MonitorQuery> updates) {
+        parts.add(updates.size());
+      }
+    });
     monitor.register(queries);
     assertEquals(ids, List.copyOf(monitor.getQueryIds()));
+    assertEquals(25_000, parts.stream().mapToInt(size -> size).sum());
+    queries.set(2_000, new MonitorQuery("q", "("));
+    assertEquals(2_000, assertThrows(QueryException.class, () -> monitor.register(queries)).getWhich());
   }
 
   @Test
