@@ -15,9 +15,9 @@ import org.apache.lucene.queryparser.classic.QueryParser;
 import pressclip.monitor.MonitorQuery;
 
 /**
- * Lucene's Monitor and the one here, in one JVM, on the queries and documents of standard input: a line each, its letter
- * (r or m) and its texts in Base64. Prints how many there were, how many alerts the one here gave, and of how many
- * documents the ids differ; the status is 1 where there are such.
+ * Lucene's Monitor and the one here, in one JVM, on the queries and documents of standard input: a line each, its
+ * letter (r or m) and its texts in Base64. Prints how many there were, how many alerts the one here gave, and of how
+ * many documents the ids differ; the status is 1 where there are such, and 2 where one of both fails.
  */
 public final class Beside {
   private final StandardAnalyzer analyzer = new StandardAnalyzer();
@@ -27,6 +27,7 @@ public final class Beside {
   private int alerts;
 
   private Beside() throws IOException {
+    parser.setSplitOnWhitespace(true);
     parser.setAutoGeneratePhraseQueries(true);
   }
 
@@ -74,29 +75,39 @@ public final class Beside {
     return texts;
   }
 
-  /** Compares both. */
-  public static void main(String[] words) throws IOException, ParseException {
-    Beside both = new Beside();
+  /** Compares both. A thread of Lucene's Monitor would keep a program alive whose main thread has failed. */
+  public static void main(String[] words) {
+    int status = 2;
+    try {
+      status = new Beside().compared() == 0 ? 0 : 1;
+    } catch (IOException | ParseException | RuntimeException | Error error) {
+      error.printStackTrace();
+    }
+    System.exit(status);
+  }
+
+  /** Compares both on standard input, and gives of how many documents they differ. */
+  private int compared() throws IOException, ParseException {
     List<List<String>> queries = new ArrayList<>();
     List<List<String>> documents = new ArrayList<>();
     BufferedReader in = new BufferedReader(new InputStreamReader(System.in, StandardCharsets.US_ASCII));
     for (String line = in.readLine(); line != null; line = in.readLine()) {
       (line.charAt(0) == 'r' ? queries : documents).add(texts(line));
     }
-    both.register(queries);
+    register(queries);
     int different = 0;
     for (List<String> document : documents) {
-      Collection<String> theirs = both.idsOfLucene(document);
-      Collection<String> own = both.idsOfHere(document);
+      Collection<String> theirs = idsOfLucene(document);
+      Collection<String> own = idsOfHere(document);
       if (!theirs.equals(own)) {
         System.out.println("Lucene: " + theirs + ", here: " + own);
         different++;
       }
     }
-    System.out.println(queries.size() + " queries, " + documents.size() + " documents, " + both.alerts + " alerts, "
+    System.out.println(queries.size() + " queries, " + documents.size() + " documents, " + alerts + " alerts, "
         + different + " different");
-    both.lucene.close();
-    both.here.close();
-    System.exit(different == 0 ? 0 : 1);
+    lucene.close();
+    here.close();
+    return different;
   }
 }
