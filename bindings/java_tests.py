@@ -9,6 +9,7 @@ import re
 import subprocess
 import sys
 import tempfile
+from functools import cache
 from pathlib import Path
 from typing import Any, Callable, Iterator
 
@@ -25,6 +26,7 @@ DOCUMENTS = 10_000
 LUCENES_QUERIES = 3_000
 
 
+@cache
 def built() -> None:
     """Builds the jar, from the library that stands now; `Skipped` where Debian's packages for it are missing."""
     need_package("/usr/bin/javac", "openjdk-17-jdk-headless")
