@@ -276,7 +276,7 @@ def a_snapshot_is_what_stood_at_its_moment() -> None:
 
 
 class Growing:
-    """A monitor in which one thread registers `q0`, `q1`, .. in order, the even ones for tea and the others for milk."""
+    """A monitor in which one thread registers `q0`, `q1`, .. in order, the even ones for tea and the odd for milk."""
 
     def __init__(self, monitor: Any) -> None:
         self.monitor, self.start = monitor, threading.Barrier(THREADS + 1)

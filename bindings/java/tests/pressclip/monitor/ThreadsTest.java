@@ -4,6 +4,8 @@ import static org.junit.Assert.assertEquals;
 import static org.junit.Assert.assertThrows;
 import static org.junit.Assert.assertTrue;
 
+import java.nio.file.Files;
+import java.nio.file.Path;
 import java.util.ArrayList;
 import java.util.List;
 import java.util.concurrent.Callable;
@@ -116,15 +118,26 @@ public class ThreadsTest {
     }
   }
 
+  private static long residentKibibytes() throws Exception {
+    for (String line : Files.readAllLines(Path.of("/proc/self/status"))) {
+      if (line.startsWith("VmRSS:")) {
+        return Long.parseLong(line.replaceAll("\\D", ""));
+      }
+    }
+    throw new AssertionError("no VmRSS");
+  }
+
+  /** Each has some 6 KiB, so without an end these would take 350 MB. */
   @Test
   public void whoeverForgetsToCloseLosesNoMemory() throws Exception {
-    for (int turn = 0; turn < 20_000; turn++) {
+    long before = residentKibibytes();
+    for (int turn = 0; turn < 60_000; turn++) {
       new Monitor().register(new MonitorQuery("a", "tea"));
+      if (turn % 3_000 == 0) {
+        System.gc();
+      }
     }
-    System.gc();
-    try (Monitor monitor = new Monitor()) {
-      monitor.register(new MonitorQuery("a", "tea"));
-      assertEquals(1, monitor.getQueryCount());
-    }
+    long more = residentKibibytes() - before;
+    assertTrue(more + " KiB more", more < 200_000);
   }
 }
