@@ -195,7 +195,7 @@ def words_stand_where_hand_says() -> None:
 
 def queries_are_near_as_hand_says() -> None:
     """As far as their words stand apart, in one field; a phrase from its end and to its start."""
-    from pressclip import Monitor, Refused, near_holds
+    from pressclip import LimitError, Monitor, Refused, near_holds
 
     fields = {"text": NEAR_TEXT, "title": "Office press"}
     for first, second, between, in_order, in_any in NEAR:
@@ -209,7 +209,7 @@ def queries_are_near_as_hand_says() -> None:
     for query in NO_PLACES:
         for pair in ((query, "tea"), ("tea", query)):
             assert raised(Refused, lambda: near_holds(*pair, 0, False, fields)).word == "query", pair
-    assert raised(Refused, lambda: near_holds("a", "b", 0, False, {"no name": ""})).word == "limit"
+    assert raised(LimitError, lambda: near_holds("a", "b", 0, False, {"no name": ""})).word == "limit"
     raised(ValueError, lambda: near_holds("a", "b", -1, False, fields))
 
 
@@ -287,7 +287,7 @@ def a_fault_is_told_at_its_character() -> None:
             calls: tuple[Callable[[], object], ...] = (lambda: explain(query), lambda: monitor.register("q", query))
             for call in calls:
                 error = raised(QueryError, call)
-                assert (error.word, error.fault, error.at) == ("query", fault, at), (query[:40], error)
+                assert (error.word, error.which, error.fault, error.at) == ("query", 0, fault, at), (query[:40], error)
                 assert len(error.message.split()) > 5 and str(error).endswith(error.message), error
                 again = pickle.loads(pickle.dumps(error))
                 assert type(again) is QueryError and vars(again) == vars(error), again

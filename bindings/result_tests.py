@@ -9,8 +9,9 @@ from contextlib import contextmanager
 from ctypes import POINTER, byref, c_size_t, c_uint64, c_void_p
 from pathlib import Path
 from random import Random
-from typing import Any, Callable, Iterator, List, Tuple
+from typing import Callable, Iterator, List, Tuple
 
+import engines
 from pressclip_tests.inputs import Source, WORDS
 
 TOP = Path(__file__).resolve().parent.parent
@@ -63,33 +64,30 @@ def result_of(engine: c_void_p, fields: dict[str, str]) -> Iterator[c_void_p]:
     from pressclip import _calls
 
     pairs = [(name.encode(), text.encode()) for name, text in fields.items()]
-    given = (_calls.Field * len(pairs))(*[_calls.Field(name, len(name), text, len(text)) for name, text in pairs])
-    result = c_void_p()
-    assert _calls.LIBRARY.pressclip_match(engine, b"a", 1, given, len(pairs), byref(result)) == 0
+    result, library = c_void_p(), engines.library()
+    assert library.pressclip_match(engine, b"a", 1, _calls.fields_of(pairs), len(pairs), byref(result)) == 0
     try:
         yield result
     finally:
-        _calls.LIBRARY.pressclip_result_free(result)
+        library.pressclip_result_free(result)
 
 
 def hits_one_by_one(result: c_void_p) -> list[tuple[bytes, int]]:
     """The hits of the id that was given last which were not given yet."""
-    from pressclip._calls import LIBRARY
-
+    library = engines.library()
     name, length, position = c_void_p(), c_size_t(), c_uint64()
     hits = []
-    while LIBRARY.pressclip_next_hit(result, byref(name), byref(length), byref(position)):
+    while library.pressclip_next_hit(result, byref(name), byref(length), byref(position)):
         hits.append((ctypes.string_at(name, length.value), position.value))
     return hits
 
 
 def one_by_one(result: c_void_p, most: int = 2 ** 63) -> Listed:
     """What was not given yet, by so many calls of pressclip_next_id at most."""
-    from pressclip._calls import LIBRARY
-
+    library = engines.library()
     id, length = c_void_p(), c_size_t()
     found: Listed = []
-    while len(found) < most and LIBRARY.pressclip_next_id(result, byref(id), byref(length)):
+    while len(found) < most and library.pressclip_next_id(result, byref(id), byref(length)):
         found.append((ctypes.string_at(id, length.value), hits_one_by_one(result)))
     return found
 
@@ -130,19 +128,25 @@ def at_once(result: c_void_p) -> Listed:
     return [(id, hits[begin:end]) for id, begin, end in zip(ids, at, at[1:])]
 
 
-def registered(seed: int, hits: bool) -> Any:
-    """A monitor with the queries of random lines, and some under ids with a byte 0 within and in other fields."""
-    from pressclip import Monitor
-
+def listed(seed: int) -> tuple[list[bytes], list[tuple[str, str]]]:
+    """Random lines, and queries under ids with a byte 0 within and in other fields."""
     source, dice = Source(seed, 12), Random(seed)
-    monitor = Monitor(hits)
-    for line in source.lines(20 + seed % 20):
-        monitor.line(line)
-    for id in dice.sample(WITH_ZEROS, dice.choice([0, 0, 1, 5])):
-        monitor.register(id, source.text(3))
-    for name in FIELDS:
-        monitor.register(f"in {name}", f"{name}:({source.text(3)}) {dice.choice(WORDS)} é{name}")
-    return monitor
+    lines = source.lines(20 + seed % 20)
+    queries = [(id, source.text(3)) for id in dice.sample(WITH_ZEROS, dice.choice([0, 0, 1, 5]))]
+    queries += [(f"in {name}", f"{name}:({source.text(3)}) {dice.choice(WORDS)} é{name}") for name in FIELDS]
+    return lines, queries
+
+
+@contextmanager
+def registered(seed: int, hits: bool) -> Iterator[c_void_p]:
+    """An engine with the queries of a seed."""
+    lines, queries = listed(seed)
+    with engines.opened(hits) as engine:
+        for line in lines:
+            engines.answer(engine, line)
+        for id, query in queries:
+            engines.register(engine, id, query)
+        yield engine
 
 
 def article(dice: Random) -> dict[str, str]:
@@ -156,9 +160,9 @@ def all_at_once_is_what_comes_one_by_one() -> None:
     had_hits = had_none = 0
     for seed in range(SEEDS):
         dice, hits = Random(seed), seed % 4 != 0
-        with registered(seed, hits) as monitor:
+        with registered(seed, hits) as engine:
             for _ in range(4):
-                with result_of(monitor._engine, article(dice)) as result:
+                with result_of(engine, article(dice)) as result:
                     before = one_by_one(result, dice.randint(0, 3))
                     every = at_once(result)
                     assert before + one_by_one(result) == every and at_once(result) == every, seed
@@ -169,26 +173,25 @@ def all_at_once_is_what_comes_one_by_one() -> None:
 
 
 def the_package_gives_what_c_gives() -> None:
-    """Each id in its order, and each hit with its word's place; lists that are changed are the caller's own."""
-    from pressclip import Found, Hit, word_spans
+    """Each id in its order, and each hit with its word's place."""
+    from pressclip import Found, Hit, Monitor, word_spans
 
     for seed in range(SEEDS):
-        dice = Random(seed)
-        with registered(seed, seed % 4 != 0) as monitor:
-            fields = article(dice)
+        fields, hits = article(Random(seed)), seed % 4 != 0
+        lines, queries = listed(seed)
+        with Monitor(hits) as monitor:
+            for line in lines:
+                monitor.line(line)
+            monitor.register_many(queries)
             found = monitor.match({"id": "a", "fields": fields})
-            with result_of(monitor._engine, fields) as result:
-                due = one_by_one(result)
+        with registered(seed, hits) as engine, result_of(engine, fields) as result:
+            due = one_by_one(result)
         spans = {name: word_spans(text) for name, text in fields.items()}
         assert [(one.query.encode(), [(hit.field.encode(), hit.position) for hit in one.hits]) for one in found] == due
         for one in found:
-            assert type(one) is Found and type(one.query) is str and type(one.hits) is list, one
+            assert type(one) is Found and type(one.query) is str and type(one.hits) is tuple, one
             for hit in one.hits:
                 assert type(hit) is Hit and (hit.start, hit.end) == spans[hit.field][hit.position], (seed, hit)
-        for one in found:
-            one.hits.clear()
-            one.hits.append(Hit("own", 0, 0, 0))
-        assert all(len(one.hits) == 1 for one in found), seed
 
 
 def ids_with_a_zero_are_told_apart() -> None:
@@ -207,15 +210,14 @@ def ids_with_a_zero_are_told_apart() -> None:
 
 def null_gives_nothing() -> None:
     """A null pointer is refused, and nothing is written."""
-    from pressclip import Monitor
     from pressclip._calls import LIBRARY, Found
 
     found = POINTER(Found)()
     assert LIBRARY.pressclip_word(LIBRARY.pressclip_result_all(None, byref(found))) == b"null" and not found
     assert LIBRARY.pressclip_word(LIBRARY.pressclip_result_all(None, None)) == b"null"
-    with Monitor(True) as monitor:
-        monitor.register("q", "tea")
-        with result_of(monitor._engine, {"text": "tea"}) as result:
+    with engines.opened(True) as engine:
+        engines.register(engine, "q", "tea")
+        with result_of(engine, {"text": "tea"}) as result:
             assert LIBRARY.pressclip_word(LIBRARY.pressclip_result_all(result, None)) == b"null"
             assert at_once(result) == [(b"q", [(b"text", 0)])]
 
@@ -233,13 +235,11 @@ def no_memory_is_told_and_asked_for_again() -> None:
 
 def a_result_stays_when_its_engine_is_closed() -> None:
     """What is found at once too, put together after the end of the engine."""
-    from pressclip import Monitor
-
-    monitor = Monitor(True)
-    monitor.register("q", "title:tea milk")
-    with result_of(monitor._engine, {"title": "green tea", "text": "milk"}) as result:
-        monitor.close()
-        assert at_once(result) == [(b"q", [(b"text", 0), (b"title", 1)])] == one_by_one(result)
+    with engines.opened(True) as engine:
+        engines.register(engine, "q", "title:tea milk")
+        with result_of(engine, {"title": "green tea", "text": "milk"}) as result:
+            engines.library().pressclip_close(byref(engine))
+            assert at_once(result) == [(b"q", [(b"text", 0), (b"title", 1)])] == one_by_one(result)
 
 
 TESTS: tuple[Callable[[], None], ...] = (

@@ -1,4 +1,4 @@
-"""The calls of the library, and what they are refused for."""
+"""The calls of the library: their arguments as C sees them, and their answers."""
 
 from __future__ import annotations
 
@@ -7,26 +7,29 @@ from ctypes import POINTER, Array, Structure, byref, c_bool, c_char_p, c_int, c_
 from typing import Any, Callable
 
 from ._library import load
-
+from ._refusals import refusal
 
 # The status of a text that is no query, as pressclip_status has it.
 QUERY = 2
 
 
-class Refused(Exception):
-    """A call was refused, and changed nothing. `word` says why, as `limit` or `full`: pressclip.h has all of them."""
-
-    __module__ = "pressclip"
-
-    def __init__(self, word: str) -> None:
-        super().__init__(word)
-        self.word = word
-
-
 class Field(Structure):
-    """A field of an article, as C sees it."""
+    """A field of an article, as C sees it: pressclip_field."""
 
     _fields_ = [("name", c_char_p), ("name_length", c_size_t), ("text", c_char_p), ("text_length", c_size_t)]
+
+
+class Article(Structure):
+    """An article, as C sees it: pressclip_article."""
+
+    _fields_ = [("id", c_char_p), ("id_length", c_size_t), ("fields", POINTER(Field)), ("count", c_size_t)]
+
+
+class Listing(Structure):
+    """A query to be registered, as C sees it: pressclip_listing."""
+
+    _fields_ = [("id", c_char_p), ("id_length", c_size_t), ("query", c_char_p), ("query_length", c_size_t),
+                ("listener", c_char_p), ("listener_length", c_size_t)]
 
 
 class Pair(Structure):
@@ -44,36 +47,72 @@ class Found(Structure):
                 ("name_count", c_size_t), ("names", c_void_p), ("name_at", c_void_p)]
 
 
-LIBRARY = load()
-LIBRARY.pressclip_word.restype = c_char_p
-LIBRARY.pressclip_result_count.restype = c_size_t
-LIBRARY.pressclip_next_id.restype = c_bool
-LIBRARY.pressclip_next_hit.restype = c_bool
-LIBRARY.pressclip_open.argtypes = [c_bool, POINTER(c_void_p)]
-LIBRARY.pressclip_close.argtypes = [POINTER(c_void_p)]
-LIBRARY.pressclip_close.restype = None
-LIBRARY.pressclip_free.argtypes = [c_void_p]
-LIBRARY.pressclip_free.restype = None
-LIBRARY.pressclip_line.argtypes = [c_void_p, c_char_p, c_size_t, POINTER(c_void_p), POINTER(c_size_t)]
-LIBRARY.pressclip_register.argtypes = [c_void_p, c_char_p, c_size_t, c_char_p, c_size_t, c_char_p, c_size_t]
-LIBRARY.pressclip_delete.argtypes = [c_void_p, c_char_p, c_size_t, POINTER(c_uint64)]
-LIBRARY.pressclip_count.argtypes = [c_void_p, POINTER(c_uint64)]
-LIBRARY.pressclip_match.argtypes = [c_void_p, c_char_p, c_size_t, POINTER(Field), c_size_t, POINTER(c_void_p)]
-LIBRARY.pressclip_next_id.argtypes = [c_void_p, POINTER(c_void_p), POINTER(c_size_t)]
-LIBRARY.pressclip_next_hit.argtypes = [c_void_p, POINTER(c_void_p), POINTER(c_size_t), POINTER(c_uint64)]
-LIBRARY.pressclip_result_all.argtypes = [c_void_p, POINTER(POINTER(Found))]
-LIBRARY.pressclip_result_free.argtypes = [c_void_p]
-LIBRARY.pressclip_result_free.restype = None
-LIBRARY.pressclip_explain.argtypes = [c_char_p, c_size_t, POINTER(c_void_p), POINTER(c_size_t)]
-LIBRARY.pressclip_explain_line.argtypes = [c_char_p, c_size_t, POINTER(c_void_p), POINTER(c_size_t)]
-LIBRARY.pressclip_words.argtypes = [c_char_p, c_size_t, POINTER(c_void_p), POINTER(c_size_t)]
-LIBRARY.pressclip_near.argtypes = [POINTER(Field), c_size_t, POINTER(Pair), POINTER(c_bool)]
+_TEXT = [c_char_p, c_size_t]
+_TO_POINTER, _TO_SIZE, _TO_NUMBER = POINTER(c_void_p), POINTER(c_size_t), POINTER(c_uint64)
+_REPLY = [_TO_POINTER, _TO_SIZE]
+_FIELDS = [POINTER(Field), c_size_t]
+# What each call is handed. It gives a status, where it is not among those that follow.
+_ARGUMENTS: dict[str, list[Any]] = {
+    "shared_open": [c_bool, _TO_POINTER],
+    "shared_close": [_TO_POINTER],
+    "shared_register": [c_void_p, *_TEXT, *_TEXT, *_TEXT],
+    "shared_register_many": [c_void_p, POINTER(Listing), c_size_t, _TO_SIZE],
+    "shared_delete": [c_void_p, *_TEXT, _TO_NUMBER],
+    "shared_clear": [c_void_p],
+    "shared_purge": [c_void_p],
+    "shared_count": [c_void_p, _TO_NUMBER],
+    "shared_show": [c_void_p, *_TEXT, *_REPLY],
+    "shared_line": [c_void_p, *_TEXT, *_REPLY],
+    "shared_snapshot": [c_void_p, _TO_POINTER],
+    "shared_match": [c_void_p, *_TEXT, *_FIELDS, _TO_POINTER],
+    "shared_match_many": [c_void_p, POINTER(Article), c_size_t, _TO_POINTER, _TO_SIZE],
+    "snapshot_free": [_TO_POINTER],
+    "snapshot_match": [c_void_p, *_TEXT, *_FIELDS, _TO_POINTER],
+    "snapshot_match_many": [c_void_p, POINTER(Article), c_size_t, _TO_POINTER, _TO_SIZE],
+    "snapshot_count": [c_void_p, _TO_NUMBER],
+    "snapshot_show": [c_void_p, *_TEXT, *_REPLY],
+    "snapshot_ids": [c_void_p, *_TEXT, c_size_t, _TO_POINTER],
+    "result_count": [c_void_p],
+    "result_all": [c_void_p, POINTER(POINTER(Found))],
+    "result_free": [c_void_p],
+    "free": [c_void_p],
+    "explain": [*_TEXT, *_REPLY],
+    "explain_line": [*_TEXT, *_REPLY],
+    "words": [*_TEXT, *_REPLY],
+    "near": [*_FIELDS, POINTER(Pair), POINTER(c_bool)],
+    "word": [c_int],
+    "version": [],
+}
+_GIVES: dict[str, Any] = {"word": c_char_p, "version": c_char_p, "result_count": c_size_t}
+_GIVE_NOTHING = ["shared_close", "snapshot_free", "result_free", "free"]
 
 
-def well(status: int) -> None:
+def _declared(library: ctypes.CDLL) -> ctypes.CDLL:
+    """The library, whose calls know what they are handed; `ImportError` where it is older than this package."""
+    try:
+        for name, arguments in _ARGUMENTS.items():
+            call = getattr(library, f"pressclip_{name}")
+            call.argtypes = arguments
+            call.restype = None if name in _GIVE_NOTHING else _GIVES.get(name, c_int)
+    except AttributeError as error:
+        raise ImportError(f"pressclip: the library is older than this package: {error}") from None
+    return library
+
+
+LIBRARY = _declared(load())
+
+
+def well(status: int, which: int = 0) -> None:
     """Raises where a call did not go well."""
     if status != 0:
-        raise Refused(LIBRARY.pressclip_word(c_int(status)).decode())
+        raise refusal(LIBRARY.pressclip_word(status).decode(), which)
+
+
+def encoded(text: str, what: str) -> bytes:
+    """A text in UTF-8. `TypeError` where it is none, and `UnicodeEncodeError` where it has half of a surrogate pair."""
+    if not isinstance(text, str):
+        raise TypeError(f"{what} is a str, and not {type(text).__name__}")
+    return text.encode()
 
 
 def fields_of(pairs: list[tuple[bytes, bytes]]) -> Array[Field]:
@@ -103,11 +142,35 @@ def texts_at(address: int, places: int, count: int) -> list[str]:
     return [encoded[begin:end - 1].decode() for begin, end in zip(at, at[1:])]
 
 
-def answer_of(call: Callable[..., int], *arguments: Any, size: int = 1) -> bytes:
-    """The bytes that a call hands out in items of so many bytes; they go back to the library."""
+def answer_or_none(call: Callable[..., int], *arguments: Any, size: int = 1) -> bytes | None:
+    """The bytes that a call hands out in items of so many bytes, or None for a null pointer; they go back to it."""
     answer, count = c_void_p(), c_size_t()
     try:
         well(call(*arguments, byref(answer), byref(count)))
-        return copied(answer, count.value * size)
+        return copied(answer, count.value * size) if answer else None
     finally:
         LIBRARY.pressclip_free(answer)
+
+
+def answer_of(call: Callable[..., int], *arguments: Any, size: int = 1) -> bytes:
+    """The bytes that a call hands out in items of so many bytes; they go back to the library."""
+    return answer_or_none(call, *arguments, size=size) or b""
+
+
+def count_of(call: Callable[..., int], *arguments: Any) -> int:
+    """The number that a call gives."""
+    count = c_uint64()
+    well(call(*arguments, byref(count)))
+    return count.value
+
+
+def version() -> str:
+    """The version of the library."""
+    return LIBRARY.pressclip_version().decode()  # type: ignore[no-any-return]
+
+
+def all_of(result: c_void_p) -> Found:
+    """All that a result has, which lies in it as long as it is not freed."""
+    given = POINTER(Found)()
+    well(LIBRARY.pressclip_result_all(result, byref(given)))
+    return given.contents

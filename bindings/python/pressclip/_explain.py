@@ -6,7 +6,8 @@ import json
 from typing import Any, Dict, List, Literal, NamedTuple, TypedDict, Union
 
 from . import _calls
-from ._calls import Refused
+from ._calls import encoded
+from ._refusals import QueryError
 from ._words import characters_at
 
 
@@ -48,26 +49,6 @@ class Explanation(NamedTuple):
     remarks: list[Remark]
 
 
-class QueryError(Refused):
-    """A text is no query. `fault` is the fault's word, `at` the character at which it is, and `message` a sentence.
-
-    `at` counts the characters of the `str`, as slices do, and is its length where something is missing at the end.
-    """
-
-    __module__ = "pressclip"
-
-    def __init__(self, fault: str, at: int, message: str) -> None:
-        super().__init__("query")
-        self.fault, self.at, self.message = fault, at, message
-
-    def __str__(self) -> str:
-        return f"{self.fault} at {self.at}: {self.message}"
-
-    def __reduce__(self) -> tuple[type[QueryError], tuple[str, int, str]]:
-        """What `pickle` and `copy` make it of."""
-        return QueryError, (self.fault, self.at, self.message)
-
-
 class LineFault(NamedTuple):
     """Why a line is refused: by which word, and a sentence; the path of the member that is wrong, or else the byte."""
 
@@ -80,14 +61,17 @@ class LineFault(NamedTuple):
 def explain(query: str) -> Explanation:
     """How a text is read as a query. `QueryError` where it is none.
 
-    The places of remarks count the characters of the `str`, and not the bytes of UTF-8 as the engine does. `Refused`
-    with `memory`; `UnicodeEncodeError` where the text has half of a surrogate pair.
+    The places of remarks count the characters of the `str`, and not the bytes of UTF-8 as the engine does. `NoMemory`;
+    `TypeError` where the query is no `str`, and `UnicodeEncodeError` where it has half of a surrogate pair.
+
+    >>> explain("tea AND coffee").reads
+    '+text:tea +text:coffee'
     """
-    encoded = query.encode()
-    told = json.loads(_calls.answer_of(_calls.LIBRARY.pressclip_explain, encoded, len(encoded)))
+    text = encoded(query, "a query")
+    told = json.loads(_calls.answer_of(_calls.LIBRARY.pressclip_explain, text, len(text)))
     if "fault" in told:
-        raise QueryError(told["fault"], characters_at(encoded, [told["at"]])[told["at"]], told["says"])
-    characters = characters_at(encoded, [remark["at"] for remark in told["remarks"]])
+        raise QueryError(0, told["fault"], characters_at(text, [told["at"]])[told["at"]], told["says"])
+    characters = characters_at(text, [remark["at"] for remark in told["remarks"]])
     told["remarks"] = [Remark(**remark)._replace(at=characters[remark["at"]]) for remark in told["remarks"]]
     return Explanation(**told)
 
@@ -95,8 +79,13 @@ def explain(query: str) -> Explanation:
 def explain_line(line: bytes) -> LineFault | None:
     """What a line of the protocol, without its line feed, would be refused for whatever is registered, if anything.
 
-    `at` counts bytes, as the line is bytes. `Refused` with `feed` or `memory`.
+    `at` counts bytes, as the line is bytes. `Refused` with `feed`, `NoMemory`; `TypeError` where it is no `bytes`.
+
+    >>> explain_line(b'{"op":"delete","ids":["a",""]}')
+    LineFault(refused='limit', says='an id has at least 1 byte', member='ids[1]', at=None)
     """
+    if not isinstance(line, bytes):
+        raise TypeError(f"a line is bytes, and not {type(line).__name__}")
     told = json.loads(_calls.answer_of(_calls.LIBRARY.pressclip_explain_line, line, len(line)))
     if told["refused"] is None:
         return None

@@ -1,99 +1,97 @@
-"""Registered queries, and what they hold of."""
+"""Registered queries that threads share."""
 
 from __future__ import annotations
 
-import threading
-from ctypes import POINTER, byref, c_uint64, c_void_p
-from itertools import repeat
+from ctypes import byref, c_size_t, c_void_p
 from types import TracebackType
-from typing import Any, Callable, Dict, Mapping, NamedTuple, NoReturn
+from typing import Any, Iterable, Iterator, Mapping, NamedTuple, NoReturn, Tuple, Union
 
 from . import _calls
-from ._calls import QUERY, answer_of, fields_of, numbers_at, texts_at, well
+from ._calls import QUERY, answer_of, answer_or_none, count_of, encoded, well
 from ._explain import explain
-from ._words import FieldWords
+from ._matches import Found, Given, GivenMany
+from ._refusals import Closed, LimitError, QueryError
+from ._snapshot import Snapshot
+
+# An id, a query, and the listener that hears of it, where there is one.
+Listing = Union[Tuple[str, str], Tuple[str, str, Union[str, None]]]
+# The most queries that one call registers.
+_PART = 1_024
 
 
-class Hit(NamedTuple):
-    """A word of an article that a query names: of the field's text it is `text[start:end]`, in characters."""
+class _Shared:
+    """A registry in C, which is ended when nothing has it any more: no call is in it then."""
 
-    field: str
-    position: int
-    start: int
-    end: int
+    def __init__(self, hits: bool) -> None:
+        self.at = c_void_p()
+        well(_calls.LIBRARY.pressclip_shared_open(hits, byref(self.at)))
 
-
-class Found(NamedTuple):
-    """A query that holds of an article, and where, in a monitor that shows hits."""
-
-    query: str
-    hits: list[Hit]
+    def __del__(self) -> None:
+        _calls.LIBRARY.pressclip_shared_close(byref(self.at))
 
 
-# Makes what is found of a pair, as `Found._make` does, with no call of a function in Python.
-_MAKE: Callable[[type[Found], tuple[str, list[Hit]]], Found] = tuple.__new__
+class _Texts(NamedTuple):
+    """A query to be registered, in UTF-8."""
+
+    id: bytes
+    query: bytes
+    listener: bytes | None
+
+    @staticmethod
+    def of(id: str, query: str, listener: str | None = None) -> _Texts:
+        """`TypeError` where one is no `str`."""
+        return _Texts(encoded(id, "an id"), encoded(query, "a query"),
+                      None if listener is None else encoded(listener, "a listener"))
+
+    def arguments(self) -> tuple[bytes, int, bytes, int, bytes | None, int]:
+        """What a call is handed of it."""
+        return (self.id, len(self.id), self.query, len(self.query), self.listener, len(self.listener or b""))
 
 
-class _FieldHits(Dict[int, Hit]):
-    """The hits in a field by their positions; each is made when it is first asked for."""
-
-    def __init__(self, field: str, words: FieldWords) -> None:
-        super().__init__()
-        self._field, self._words = field, words
-
-    def __missing__(self, position: int) -> Hit:
-        hit = self[position] = Hit(self._field, position, *self._words.span(self._field.encode(), position))
-        return hit
-
-
-def _hits(all: _calls.Found, words: FieldWords) -> list[list[Hit]]:
-    """The hits of each id."""
-    if all.hit_count == 0:
-        return [[] for _ in range(all.count)]
-    fields = [_FieldHits(name, words) for name in texts_at(all.names, all.name_at, all.name_count)]
-    names, positions = numbers_at(all.hit_name, all.hit_count), numbers_at(all.hit_position, all.hit_count)
-    hits = [fields[name][position] for name, position in zip(names, positions)]
-    at = numbers_at(all.hit_at, all.count + 1)
-    return [hits[begin:end] for begin, end in zip(at, at[1:])]
-
-
-def _found(result: c_void_p, words: FieldWords) -> list[Found]:
-    """All that a result has."""
-    if _calls.LIBRARY.pressclip_result_count(result) == 0:
-        return []
-    given = POINTER(_calls.Found)()
-    well(_calls.LIBRARY.pressclip_result_all(result, byref(given)))
-    all = given.contents
-    pairs = zip(texts_at(all.ids, all.id_at, all.count), _hits(all, words))
-    return list(map(_MAKE, repeat(Found), pairs))
+def _registered(status: int, texts: list[_Texts], which: int = 0) -> None:
+    """Raises where a registering did not go well: of a text that is no query, what `explain` says of it."""
+    if status == QUERY:
+        try:
+            explain(texts[which].query.decode())
+        except QueryError as error:
+            raise QueryError(which, error.fault, error.at, error.message) from None
+    well(status, which)
 
 
 class Monitor:
-    """An engine. With `hits`, replies and matches show where in an article a query holds.
+    """Registered queries, which any number of threads may share. With `hits`, matches show where queries hold.
 
-    Threads may share it: a call waits until that of another thread is over. A signal handler of the thread that is in a
-    call may make calls too, since what one of them answers lies outside the engine. Where a `str` has half of a
-    surrogate pair, a call raises `UnicodeEncodeError` and changes nothing.
+    Matches of several threads go side by side, as the interpreter's lock is let go while the library works; a change
+    that is made in between is in the next match of each thread. A `close` waits for nobody: calls that have begun end
+    as they would have. Where a `str` has half of a surrogate pair, a call raises `UnicodeEncodeError`; where an
+    argument is of another type, `TypeError`. Both change nothing.
+
+    >>> from pressclip import Monitor
+    >>> with Monitor(hits=True) as monitor:
+    ...     monitor.register("tea-prices", "+tea pric*")
+    ...     (found,) = monitor.match({"id": "a1", "fields": {"text": "Tea prices rise"}})
+    >>> found.query, [(hit.start, hit.end) for hit in found.hits]
+    ('tea-prices', [(0, 3), (4, 10)])
     """
 
-    _engine: c_void_p
-    _lock: threading.RLock
+    _shared: _Shared | None
 
     def __new__(cls, *arguments: Any, **named: Any) -> Monitor:
-        """A monitor without an engine, which `__init__` opens."""
+        """A monitor that is closed, until `__init__` opens it."""
         monitor = super().__new__(cls)
-        monitor._engine, monitor._lock = c_void_p(), threading.RLock()
+        monitor._shared = None
         return monitor
 
     def __init__(self, hits: bool = False) -> None:
-        """Opens the engine; called again, it ends the one before. `Refused` with `memory`."""
-        with self._lock:
-            self.close()
-            well(_calls.LIBRARY.pressclip_open(hits, byref(self._engine)))
+        """Opens it; called again, it ends what was before. `NoMemory`."""
+        if not isinstance(hits, bool):
+            raise TypeError(f"hits is a bool, and not {type(hits).__name__}")
+        self._shared = None
+        self._shared = _Shared(hits)
 
     def __reduce__(self) -> NoReturn:
         """Refuses `copy.copy`, `copy.deepcopy` and `pickle`."""
-        raise TypeError("a Monitor can't be copied: its engine has one owner")
+        raise TypeError("a Monitor can't be copied: its registry has one owner")
 
     def __enter__(self) -> Monitor:
         return self
@@ -102,60 +100,151 @@ class Monitor:
                  trace: TracebackType | None) -> None:
         self.close()
 
-    def __del__(self) -> None:
-        self.close()
-
     def close(self) -> None:
-        """Ends the engine. Every other call is refused after it, by the word `closed`."""
-        with self._lock:
-            _calls.LIBRARY.pressclip_close(byref(self._engine))
+        """Ends it. Every other call is refused after it, by `Closed`."""
+        self._shared = None
+
+    def _open(self) -> _Shared:
+        """The registry, which stays as long as the caller has it."""
+        shared = self._shared
+        if shared is None:
+            raise Closed("closed")
+        return shared
 
     def register(self, id: str, query: str, listener: str | None = None) -> None:
         """Registers a query, in the place of the one with its id, for the listener `mail` or `feed`, or for none.
 
-        `Refused` with `limit`, `listener`, `full` or `memory`, and where the text is no query `QueryError`.
+        `QueryError` where the text is no query, `LimitError`, `Closed`, `NoMemory`, and `Refused` with `listener`.
+
+        >>> monitor = Monitor()
+        >>> try:
+        ...     monitor.register("open", "the (tea")
+        ... except QueryError as error:
+        ...     print(error.fault, error.at)
+        Structure 8
         """
-        name, text, heard = id.encode(), query.encode(), None if listener is None else listener.encode()
-        with self._lock:
-            status = _calls.LIBRARY.pressclip_register(self._engine, name, len(name), text, len(text), heard,
-                                                       len(heard or b""))
-        if status == QUERY:
-            explain(query)  # which raises
-        well(status)
+        shared, texts = self._open(), _Texts.of(id, query, listener)
+        _registered(_calls.LIBRARY.pressclip_shared_register(shared.at, *texts.arguments()), [texts])
+
+    def register_many(self, queries: Iterable[Listing]) -> None:
+        """Registers `(id, query)` and `(id, query, listener)`, one after another: all of them or none, up to 1,024.
+
+        More are registered in parts of so many, and where a part is refused, those before it stay. The errors of
+        `register`, whose `which` is the place of the first query that is refused, from 0; of a part for which there is
+        no room it is the place behind its last.
+
+        >>> monitor = Monitor()
+        >>> monitor.register_many([("tea", "+tea pric*"), ("milk", "milk", "mail")])
+        >>> len(monitor)
+        2
+        """
+        shared, texts, which = self._open(), [_Texts.of(*query) for query in queries], c_size_t()
+        for start in range(0, len(texts), _PART):
+            part = [_calls.Listing(*each.arguments()) for each in texts[start:start + _PART]]
+            listings = (_calls.Listing * len(part))(*part)
+            status = _calls.LIBRARY.pressclip_shared_register_many(shared.at, listings, len(part), byref(which))
+            _registered(status, texts, start + which.value)
 
     def delete(self, id: str) -> bool:
-        """Takes a query out, and says whether there was one. `Refused` with `limit`, `full` or `memory`."""
-        name, deleted = id.encode(), c_uint64()
-        with self._lock:
-            well(_calls.LIBRARY.pressclip_delete(self._engine, name, len(name), byref(deleted)))
-        return deleted.value == 1
+        """Takes a query out, and says whether there was one. `LimitError`, `Closed`, `NoMemory`."""
+        shared, name = self._open(), encoded(id, "an id")
+        return count_of(_calls.LIBRARY.pressclip_shared_delete, shared.at, name, len(name)) == 1
+
+    def clear(self) -> None:
+        """Takes all queries out. `LimitError` with `full`, `Closed`, `NoMemory`."""
+        well(_calls.LIBRARY.pressclip_shared_clear(self._open().at))
+
+    def purge(self) -> None:
+        """Gives memory back that deleted and replaced queries hold; answers stay as they are. `Closed`, `NoMemory`."""
+        well(_calls.LIBRARY.pressclip_shared_purge(self._open().at))
 
     def count(self) -> int:
-        """How many queries are registered."""
-        count = c_uint64()
-        with self._lock:
-            well(_calls.LIBRARY.pressclip_count(self._engine, byref(count)))
-        return count.value
+        """How many queries are registered. `Closed`, `NoMemory`."""
+        shared = self._open()
+        return count_of(_calls.LIBRARY.pressclip_shared_count, shared.at)
+
+    def __len__(self) -> int:
+        """How many queries are registered, as `count` gives it."""
+        return self.count()
+
+    def get(self, id: str) -> str | None:
+        """The query with this id, or None where there is none. `LimitError`, `Closed`, `NoMemory`.
+
+        >>> monitor = Monitor()
+        >>> monitor.register("tea", "+tea pric*")
+        >>> monitor.get("tea"), monitor.get("milk"), "tea" in monitor
+        ('+tea pric*', None, True)
+        """
+        shared, name = self._open(), encoded(id, "an id")
+        query = answer_or_none(_calls.LIBRARY.pressclip_shared_show, shared.at, name, len(name))
+        return None if query is None else query.decode()
+
+    def __contains__(self, id: str) -> bool:
+        """Whether a query has this id. `TypeError` where that is no `str`."""
+        try:
+            return self.get(id) is not None
+        except LimitError:
+            return False
+
+    def ids(self) -> Iterator[str]:
+        """The ids that are registered now, in the byte order of their UTF-8; later changes show in none of them.
+
+        `Closed` and `NoMemory`, at once.
+
+        >>> monitor = Monitor()
+        >>> monitor.register_many([("b", "tea"), ("a", "milk")])
+        >>> list(monitor.ids())
+        ['a', 'b']
+        """
+        return self.snapshot().ids()
+
+    def __iter__(self) -> Iterator[str]:
+        """The ids that are registered now, as `ids` gives them."""
+        return self.ids()
+
+    def snapshot(self) -> Snapshot:
+        """What is registered now, for matches that no later change shows in. In constant time. `Closed`, `NoMemory`."""
+        shared = self._open()
+        return Snapshot(shared.at)
 
     def match(self, article: Mapping[str, Any]) -> list[Found]:
         """The queries that hold of `{"id": .., "fields": {name: text, ..}}`, in the byte order of their ids.
 
-        `Refused` with `limit` or `memory`. Hits cost one call of `word_spans` for each field that has one.
+        `LimitError`, `Closed`, `NoMemory`. Hits cost one call of `word_spans` for each field that has one.
+
+        >>> monitor = Monitor()
+        >>> monitor.register_many([("tea", "+tea pric*"), ("milk", "milk")])
+        >>> monitor.match({"id": "a1", "fields": {"text": "Tea prices rise"}})
+        [Found(query='tea', hits=())]
         """
-        id = article["id"].encode()
-        pairs = [(name.encode(), text.encode()) for name, text in article["fields"].items()]
-        fields, result = fields_of(pairs), c_void_p()
+        shared, given, result = self._open(), Given(article), c_void_p()
         try:
-            with self._lock:
-                well(_calls.LIBRARY.pressclip_match(self._engine, id, len(id), fields, len(pairs), byref(result)))
-            return _found(result, FieldWords(pairs))
+            well(_calls.LIBRARY.pressclip_shared_match(shared.at, *given.arguments(), byref(result)))
+            return given.found(result)
         finally:
             _calls.LIBRARY.pressclip_result_free(result)
+
+    def match_many(self, articles: Iterable[Mapping[str, Any]]) -> list[list[Found]]:
+        """What `match` gives of each article, on what stood registered at one moment: of all of them or of none.
+
+        The errors of `match`, whose `which` is the place of the first article that is refused, from 0. The cost is that
+        of the matches; what is found of all is held at once.
+        """
+        shared = self._open()
+        with GivenMany(articles) as given:
+            well(_calls.LIBRARY.pressclip_shared_match_many(shared.at, *given.arguments()), given.which.value)
+            return given.found()
 
     def line(self, line: bytes) -> bytes:
         """The reply to a line of the protocol without its line feed, and nothing to a blank one.
 
-        `Refused` with `feed`, `lines` or `memory`; refusals by the protocol are replies.
+        `Refused` with `feed` where it has one, `LimitError` with `lines`, `Closed`, `NoMemory`; refusals by the
+        protocol are replies.
+
+        >>> Monitor().line(b'{"op":"count"}')
+        b'{"count":0,"line":1}\\n'
         """
-        with self._lock:
-            return answer_of(_calls.LIBRARY.pressclip_line, self._engine, line, len(line))
+        shared = self._open()
+        if not isinstance(line, bytes):
+            raise TypeError(f"a line is bytes, and not {type(line).__name__}")
+        return answer_of(_calls.LIBRARY.pressclip_shared_line, shared.at, line, len(line))

@@ -48,10 +48,14 @@ def _spans_in(encoded: bytes) -> list[Span]:
 def word_spans(text: str) -> list[Span]:
     """Where the words of a text stand as the engine cuts it; the n-th, from 0, is the one at position n of a `Hit`.
 
-    They count the characters of the `str`, as slices do, and not the bytes of UTF-8 as the engine does. `Refused` with
-    `memory`; `UnicodeEncodeError` where the text has half of a surrogate pair. One call, and one walk over the text.
+    They count the characters of the `str`, as slices do, and not the bytes of UTF-8 as the engine does. `NoMemory`;
+    `TypeError` where it is no `str`, and `UnicodeEncodeError` where it has half of a surrogate pair. One call, and one
+    walk over the text.
+
+    >>> word_spans("Crème brûlée")
+    [Span(start=0, end=5), Span(start=6, end=12)]
     """
-    return _spans_in(text.encode())
+    return _spans_in(_calls.encoded(text, "a text"))
 
 
 class FieldWords:
