@@ -7,7 +7,7 @@ use Rattle.clip_standing.specs.Alerts.{AlertsValue}
 use Rattle.clip_match.specs.Alerts.{alert_due}
 use Rattle.clip_match.specs.declared.held.Held.{Held}
 use Rattle.clip_match.specs.declared.held.HitPlaces.{HitPlaces}
-use Rattle.clip_match.specs.declared.matching.DueEntries.{DueEntries}
+use Rattle.clip_match.specs.declared.entries.DueEntries.{DueEntries}
 
 -- these hits stand in the list at the places
 pub record StandAt (all found : List HitValue) (places : HitPlaces) : Type 0 where

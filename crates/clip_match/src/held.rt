@@ -1,5 +1,6 @@
 //! Entries whose queries hold of an article, and when their hits are found.
-ghost use Rattle.std.specs.Prelude.{◌≡◌, is_some, map, true, IfOk};
+ghost use Rattle.std.specs.Prelude.{◌≡◌, ◌++◌, ◌||◌, is_some, map, true, IfOk, OnOk};
+ghost use Rattle.std.specs.List.{list_any};
 ghost use Rattle.clip_words.specs.Order.{bytes_cmp};
 
 use clip_meaning::{compare_by_leads, lead_of};
@@ -83,7 +84,7 @@ pub(crate) struct HitPlaces {
 }
 
 /// An entry whose query holds of an article, with the places of its hits where they were found at once.
-#[derive(Drop)]
+#[derive(Clone, Copy)]
 pub(crate) struct Held<'a> {
     pub(crate) registered: &'a Entry,
     pub(crate) hits: Option<HitPlaces>,
@@ -96,6 +97,13 @@ impl<'a> Held<'a> {
         ensures hits { result.hits ≡ hits }
     {
         Held { registered, hits }
+    }
+
+    /// Whether the query has a listener.
+    fn has_listener(&self) -> bool
+        ensures { result ≡ is_some self.now.registered.now.standing.listener }
+    {
+        self.registered.standing().listener().is_some()
     }
 }
 
@@ -123,13 +131,6 @@ impl<'a> Named<'a> {
         self.id.id
     }
 
-    /// Whether the query has a listener.
-    pub(crate) fn has_listener(&self) -> bool
-        ensures { result ≡ is_some self.now.held.registered.now.standing.listener }
-    {
-        self.held.registered.standing().listener().is_some()
-    }
-
     /// The order of the ids of two entries. A text is looked at only where both have the same lead.
     pub(crate) fn order(&self, other: &Named<'a>) -> Ordering
         ensures { result
@@ -139,40 +140,88 @@ impl<'a> Named<'a> {
     }
 }
 
-/// Finds where the ids stand, and looks at no text: each of these look-ups is a line of places in memory, and they wait
-/// for them side by side.
-fn with_ids<'a>(alloc: Global, held: Vec<Held<'a>>) -> Result<Vec<Identified<'a>>, NoMemory>
-    ensures { IfOk result (λ found. map (λ i. i.held) found.items ≡ held.entry.items) }
+/// So many entries are looked at together. Their look-ups wait for places in memory side by side, and what one look
+/// brings is near when the next needs it.
+const BLOCK: usize = 256;
+
+/// Finds where the ids of these entries stand, in place of those that were in `found`, and looks at no text: each of
+/// these look-ups is a line of places in memory, and they wait for them side by side.
+fn find_ids<'a>(block: &[Held<'a>], found: &mut Vec<Identified<'a>>) -> Result<(), NoMemory>
+    ensures { OnOk result (map (λ i. i.held) found.new.items ≡ block.now) }
 {
-    let mut found = Vec::with_capacity(alloc, held.len())?;
-    for held in held {
+    found.clear();
+    for held in block {
         let id = held.registered.standing().id();
-        found.push(Identified { held, id })?;
+        found.push(Identified { held: *held, id })?;
     }
-    Ok(found)
+    Ok(())
 }
 
-/// The entries with the first eight bytes of their queries' ids.
-fn with_leads<'a>(alloc: Global, found: Vec<Identified<'a>>) -> Result<Vec<Named<'a>>, NoMemory>
-    ensures { IfOk result (λ named. map (λ n. n.held) named.items ≡ map (λ i. i.held) found.entry.items) }
+/// Adds the entries with the first eight bytes of their queries' ids.
+fn add_leads<'a>(found: &[Identified<'a>], named: &mut Vec<Named<'a>>) -> Result<(), NoMemory>
+    ensures { OnOk result (map (λ n. n.held) named.new.items
+        ≡ map (λ n. n.held) named.old.items ++ map (λ i. i.held) found.now) }
 {
-    let mut named = Vec::with_capacity(alloc, found.len())?;
     for one in found {
-        let Identified { held, id, .. } = one;
         named.push(Named {
-            held,
-            id: LedId::of(id),
+            held: one.held,
+            id: LedId::of(one.id),
         })?;
     }
-    Ok(named)
+    Ok(())
 }
 
-/// The entries with the ids of their queries.
-pub(crate) fn with_led_ids<'a>(
-    alloc: Global,
-    held: Vec<Held<'a>>,
-) -> Result<Vec<Named<'a>>, NoMemory>
-    ensures { IfOk result (λ named. map (λ n. n.held) named.items ≡ held.entry.items) }
+/// Adds the entries of a block with the ids of their queries. `found` is room for them.
+fn add_block<'a>(
+    block: &[Held<'a>],
+    found: &mut Vec<Identified<'a>>,
+    named: &mut Vec<Named<'a>>,
+) -> Result<(), NoMemory>
+    ensures { OnOk result (map (λ n. n.held) named.new.items
+        ≡ map (λ n. n.held) named.old.items ++ block.now) }
 {
-    with_leads(alloc, with_ids(alloc, held)?)
+    find_ids(block, found)?;
+    add_leads(found, named)
+}
+
+/// Whether the query of one of the entries has a listener.
+fn have_listener(block: &[Held<'_>]) -> bool
+    ensures { result ≡ list_any (λ h. is_some h.registered.now.standing.listener) block.now }
+{
+    block.iter().any(|one| one.has_listener())
+}
+
+/// Whether somebody hears, where it is known of what is before a block.
+fn is_heard_with(before: bool, block: &[Held<'_>]) -> bool
+    ensures { result ≡ (before || list_any (λ h. is_some h.registered.now.standing.listener) block.now) }
+{
+    before || have_listener(block)
+}
+
+/// Entries with the ids of their queries, and whether one of these has a listener.
+#[derive(Drop)]
+pub(crate) struct WithIds<'a> {
+    pub(crate) named: Vec<Named<'a>>,
+    pub(crate) is_heard: bool,
+}
+
+/// The entries with the ids of their queries, and whether one of these has a listener. They are looked at block by
+/// block, each of them once.
+pub(crate) fn with_led_ids<'a>(alloc: Global, held: &[Held<'a>]) -> Result<WithIds<'a>, NoMemory>
+    ensures held { IfOk result (λ found. map (λ n. n.held) found.named.items ≡ held.now) }
+    ensures heard { IfOk result (λ found. found.is_heard
+        ≡ list_any (λ h. is_some h.registered.now.standing.listener) held.now) }
+{
+    let mut named = Vec::with_capacity(alloc, held.len())?;
+    let mut found = Vec::with_capacity(alloc, held.len().min(BLOCK))?;
+    let mut is_heard = false;
+    let mut at = 0;
+    while at < held.len() {
+        let end = held.len().min(at.saturating_add(BLOCK));
+        let block = &held[at..end];
+        add_block(block, &mut found, &mut named)?;
+        is_heard = is_heard_with(is_heard, block);
+        at = end;
+    }
+    Ok(WithIds { named, is_heard })
 }

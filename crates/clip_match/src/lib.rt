@@ -4,13 +4,15 @@
 
 ghost use Rattle.std.specs.Prelude.{◌≡◌};
 
+mod entries;
 mod gate;
 mod held;
 mod matching;
 mod pieces;
 mod trying;
 
+pub use entries::DueEntries;
 pub use gate::{Gate, OpenGate};
 pub use held::HitsFound;
-pub use matching::{DueEntries, entries_due, match_article, match_batch};
+pub use matching::{entries_due, match_article, match_batch};
 pub use pieces::{match_piece, match_pieces};

@@ -1,6 +1,6 @@
 //! The alerts of an article, and of a batch of articles.
 ghost use Rattle.std.specs.Prelude.{◌≡◌, true, map, is_some, IfOk, IsPermutation};
-ghost use Rattle.std.specs.List.{All, list_any};
+ghost use Rattle.std.specs.List.{All};
 ghost use Rattle.std.specs.List.Sorted.{IsSortedByKey};
 ghost use Rattle.clip_words.specs.Order.{bytes_cmp};
 ghost use Rattle.clip_meaning.specs.Hits.{hit_value};
@@ -8,7 +8,8 @@ ghost use Rattle.clip_standing.specs.Alerts.{alert_value, alerts_value, has_hits
 ghost use Rattle.clip_match.specs.Alerts.{alert_due, alerts_due};
 ghost use Rattle.clip_match.specs.Due.{due_value, AreItsHits, AreTheirHits, HaveTheirHits};
 
-use crate::held::{Held, HitPlaces, HitsFound, Named, with_led_ids};
+use crate::entries::DueEntries;
+use crate::held::{Held, HitPlaces, HitsFound, Named, WithIds, with_led_ids};
 use crate::trying::{Judged, judge_candidates};
 use clip_meaning::{Article, Hit};
 use clip_registry::View;
@@ -49,7 +50,7 @@ fn alert_of(held: Held<'_>, article: &Article, all_hits: &Arc<Vec<Hit>>) -> Resu
 
 /// The alerts of queries that hold of the article, in their order, with their hits where these were found, which stand
 /// among those of all.
-fn alerts(
+pub(crate) fn alerts(
     alloc: Global,
     named: Vec<Named<'_>>,
     article: &Article,
@@ -66,85 +67,6 @@ fn alerts(
         alerts.push(alert_of(one.held, article, all_hits)?)?;
     }
     Ok(alerts)
-}
-
-/// Whether the query of one of the entries has a listener.
-fn have_listener(named: &[Named<'_>]) -> bool
-    ensures { result ≡ list_any (λ n. is_some n.held.registered.now.standing.listener) named.now }
-{
-    named.iter().any(|one| one.has_listener())
-}
-
-/// What is due to an article at a view, before an alert is made of it: the entries of the queries that hold of it, in
-/// the byte order of their ids. An alert counts as a holder of its query and of its article; what nobody hears can be
-/// shown from here, with no alert made.
-#[derive(Drop)]
-pub struct DueEntries<'a> {
-    article: &'a Article,
-    place: u64,
-    asked: u64,
-    named: Vec<Named<'a>>,
-    all_hits: Arc<Vec<Hit>>,
-}
-
-impl<'a> DueEntries<'a> {
-    ghost use Rattle.std.specs.Prelude.{◌≡◌, true, map, is_some, IfOk};
-    ghost use Rattle.std.specs.List.{All, list_any};
-    ghost use Rattle.clip_standing.specs.Alerts.{alerts_value, has_hits};
-    ghost use Rattle.clip_match.specs.Due.{due_value, AreTheirHits, HaveTheirHits};
-
-    /// The id of the article. Constant time.
-    pub fn article_id(&self) -> &'a str
-        ensures { result.now ≡ (due_value self.now).article }
-    {
-        self.article.shared_id().as_str()
-    }
-
-    /// Whether one of the queries has a listener. Cost: a look at each of them, up to the first that has one.
-    pub fn has_listener(&self) -> bool
-        ensures { result ≡ list_any (λ a. is_some a.listener) (due_value self.now).alerts }
-    {
-        have_listener(&self.named)
-    }
-
-    /// The ids of the queries, in their byte order.
-    ///
-    /// `NoMemory` where an allocation failed. Cost: a step for each of them.
-    pub fn queries(&self, alloc: Global) -> Result<Vec<&'a str>, NoMemory>
-        ensures { IfOk result (λ ids. map (λ id. id.now) ids.items ≡ map (λ a. a.query) (due_value self.now).alerts) }
-    {
-        let mut ids = Vec::with_capacity(alloc, self.named.len())?;
-        let named = self.named.as_slice();
-        for one in named {
-            ids.push(one.id())?;
-        }
-        Ok(ids)
-    }
-
-    /// The alerts, with their hits where these were found: each carries its own, where those of each query were.
-    ///
-    /// `NoMemory` where an allocation failed, or where the count of holders of a query or of the article is at its end.
-    /// Cost: a step for each of them.
-    pub fn alerts(self, alloc: Global) -> Result<Alerts, NoMemory>
-        requires { AreTheirHits self }
-        ensures value { IfOk result (λ found. alerts_value found ≡ due_value self.entry) }
-        ensures found { HaveTheirHits self.entry → IfOk result (λ found.
-            All (λ alert. has_hits alert ≡ true) found.alerts.items) }
-    {
-        let DueEntries {
-            article,
-            place,
-            asked,
-            named,
-            all_hits,
-        } = self;
-        Ok(Alerts {
-            article: article.shared_id().clone()?,
-            place,
-            asked,
-            alerts: alerts(alloc, named, article, &all_hits)?,
-        })
-    }
 }
 
 /// What is due to an article at a view: of each registered query that holds of it one entry, in the byte order of their
@@ -172,7 +94,10 @@ pub fn entries_due<'a>(
         all_hits,
     } = judge_candidates(alloc, view, article, hits)?;
     let all_hits = Arc::new(alloc, all_hits)?;
-    let mut named = with_led_ids(alloc, held)?;
+    let WithIds {
+        mut named,
+        is_heard,
+    } = with_led_ids(alloc, &held)?;
     sort_by_id(&mut named);
     Ok(DueEntries {
         article,
@@ -180,6 +105,7 @@ pub fn entries_due<'a>(
         asked,
         named,
         all_hits,
+        is_heard,
     })
 }
 

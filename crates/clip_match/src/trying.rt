@@ -108,6 +108,7 @@ fn add_entries<'a>(
         → All (HasItsHits HitsFound.WhenAsked reading.now.article all) held.old.items
         → All (HasItsHits HitsFound.WhenAsked reading.now.article all) held.new.items) }
 {
+    held.reserve(positions.len())?;
     for position in positions {
         let Some(registered) = reading.entry(*position) else {
             continue;
@@ -138,6 +139,7 @@ fn add_with_hits<'a>(
         All (HasItsHits hits reading.now.article (map hit_value all_hits.old.items)) held.old.items
         → All (HasItsHits hits reading.now.article (map hit_value all_hits.new.items)) held.new.items) }
 {
+    held.reserve(positions.len())?;
     all_hits.reserve(positions.len().saturating_mul(HITS_FOR_A_QUERY))?;
     for position in positions {
         let Some(registered) = reading.entry(*position) else {

@@ -4,7 +4,7 @@ use Rattle.std.proofs.lemmas.Simd.{map-map}
 use Rattle.clip_model.specs.History.{Registered}
 use Rattle.clip_match.specs.Alerts.{alert_due}
 use Rattle.clip_match.specs.declared.held.Named.{Named}
-use Rattle.clip_match.proofs.matching.DueEntries.queries.Goals as goal
+use Rattle.clip_match.proofs.entries.DueEntries.queries.Goals as goal
 
 pub returns : goal.returns
 returns c =

@@ -1,5 +1,5 @@
 use Rattle.std.proofs.Common.{◌≡◌, map, take}
-use Rattle.clip_match.proofs.matching.DueEntries.queries.Given as goal
+use Rattle.clip_match.proofs.entries.DueEntries.queries.Given as goal
 
 abbrev pub invariant-loop-one : goal.invariant-loop-one
 invariant-loop-one l = map (λ id. id.now) l.ids.items

@@ -3,7 +3,7 @@ use Rattle.std.specs.List.{list_any}
 use Rattle.clip_meaning.specs.Article.{ArticleValue}
 use Rattle.clip_match.specs.Alerts.{alert_due}
 use Rattle.clip_match.specs.declared.held.Named.{Named}
-use Rattle.clip_match.proofs.matching.DueEntries.has_listener.Goals as goal
+use Rattle.clip_match.proofs.entries.DueEntries.has_listener.Goals as goal
 
 -- whether one has a listener, asked of the alerts
 heard : (article : ArticleValue) (named : List Named)
@@ -13,7 +13,4 @@ heard article [] = refl
 heard article (n ∷ named) = ap (λ b. is_some n.held.registered.now.standing.listener || b) (heard article named)
 
 pub returns : goal.returns
-returns c =
-    let asks : List Named → _ = list_any (λ (n : Named). is_some n.held.registered.now.standing.listener) in
-    c.have_listener.ensures ∙ ap asks c.deref.ensures.value
-    ∙ sym (heard c.args.self.now.article.now c.args.self.now.named.items)
+returns c = c.args.self.now.heard ∙ sym (heard c.args.self.now.article.now c.args.self.now.named.items)
