@@ -14,7 +14,7 @@ TOP = Path(__file__).resolve().parent.parent
 C = TOP / "bindings" / "c"
 HEADER = TOP / "include" / "pressclip.h"
 WARNINGS = ["-Wall", "-Wextra", "-Wpedantic", "-Werror"]
-VERSION = "1.0"
+VERSION = (TOP / "VERSION").read_text().strip()
 
 
 def told(*command: str | Path, **named: Any) -> str:
