@@ -9,8 +9,14 @@ ghost use Rattle.clip_engine.specs.Calls.{
   Keeps,
   LineTo,
   RegisterTo,
+  ManyTo,
   DeleteTo,
+  ClearTo,
+  PurgeTo,
   CountTo,
+  ShowTo,
+  IdsTo,
+  SnapshotTo,
   MatchTo,
   ExplainTo,
   WordsTo,
@@ -19,7 +25,7 @@ ghost use Rattle.clip_engine.specs.Calls.{
 ghost use Rattle.clip_engine.specs.Near.{IsNear};
 ghost use Rattle.clip_engine.specs.Texts.{fields_of};
 
-use clip_engine::{Field, Kept, Pair, Slot, near};
+use clip_engine::{Field, Kept, Listed, Pair, Slot, near, snapshot_into};
 use std::alloc::Global;
 
 /// How many bytes of memory a slot needs, at an address that 8 divides.
@@ -44,6 +50,21 @@ pub extern "C" fn clip_close(slot: &mut Slot)
     ensures { slot.new.kept ≡ None }
 {
     slot.clear();
+}
+
+/// Takes a snapshot of an engine, which the other slot keeps then, where the answer is 0. It is an engine itself, which
+/// nothing that is done to the first changes.
+#[unsafe(no_mangle)]
+pub extern "C" fn clip_snapshot(alloc: Global, slot: &mut Slot, snapshot: &mut Slot) -> u32
+    requires kept { IsSome slot.old.kept }
+    requires room { snapshot.old.kept ≡ None }
+    ensures engine { Between slot.old.kept slot.new.kept (λ old new. new.engine ≡ old.engine) }
+    ensures taken { SnapshotTo result slot.old.kept snapshot.new.kept }
+{
+    let kept = slot.take();
+    let code = snapshot_into(alloc, &kept, snapshot);
+    slot.put(kept);
+    code
 }
 
 /// Answers a line. The reply is kept, to be taken by `clip_take`, and `size` is how many bytes it has.
@@ -79,6 +100,23 @@ pub extern "C" fn clip_register(
     code
 }
 
+/// Registers queries in one change, all or none; where one is refused, `which` is its place from 0.
+#[unsafe(no_mangle)]
+pub extern "C" fn clip_register_many(
+    alloc: Global,
+    slot: &mut Slot,
+    listed: &[Listed<'_>],
+    which: &mut u64,
+) -> u32
+    requires { IsSome slot.old.kept }
+    ensures { Between slot.old.kept slot.new.kept (ManyTo listed.now result which.new) }
+{
+    let mut kept = slot.take();
+    let code = kept.register_many(alloc, listed, which);
+    slot.put(kept);
+    code
+}
+
 /// Takes the query with this id out; `deleted` is how many there were, 0 or 1.
 #[unsafe(no_mangle)]
 pub extern "C" fn clip_delete(alloc: Global, slot: &mut Slot, id: &[u8], deleted: &mut u64) -> u32
@@ -87,6 +125,66 @@ pub extern "C" fn clip_delete(alloc: Global, slot: &mut Slot, id: &[u8], deleted
 {
     let mut kept = slot.take();
     let code = kept.delete(alloc, id, deleted);
+    slot.put(kept);
+    code
+}
+
+/// Takes all queries out.
+#[unsafe(no_mangle)]
+pub extern "C" fn clip_clear(slot: &mut Slot) -> u32
+    requires { IsSome slot.old.kept }
+    ensures { Between slot.old.kept slot.new.kept (ClearTo result) }
+{
+    let mut kept = slot.take();
+    let code = kept.clear();
+    slot.put(kept);
+    code
+}
+
+/// Gives back the memory of queries that were replaced or taken out.
+#[unsafe(no_mangle)]
+pub extern "C" fn clip_purge(slot: &mut Slot) -> u32
+    requires { IsSome slot.old.kept }
+    ensures { Between slot.old.kept slot.new.kept (PurgeTo result) }
+{
+    let mut kept = slot.take();
+    let code = kept.purge();
+    slot.put(kept);
+    code
+}
+
+/// Finds the text of the query with this id, and says whether there is one. It is kept, to be taken by `clip_take`, and
+/// `size` is how many bytes it has.
+#[unsafe(no_mangle)]
+pub extern "C" fn clip_show(
+    alloc: Global,
+    slot: &mut Slot,
+    id: &[u8],
+    has: &mut bool,
+    size: &mut usize,
+) -> u32
+    requires { IsSome slot.old.kept }
+    ensures shows { Between slot.old.kept slot.new.kept (ShowTo id.now result has.new) }
+    ensures size { Keeps slot.new.kept (λ kept. size.new ≡ length kept.text.items) }
+{
+    let mut kept = slot.take();
+    let code = kept.show(alloc, id, has);
+    *size = kept.text.len();
+    slot.put(kept);
+    code
+}
+
+/// Lists the ids of the registered queries in their byte order. They are kept as bytes, to be taken by `clip_take`, and
+/// `size` is how many there are.
+#[unsafe(no_mangle)]
+pub extern "C" fn clip_ids(slot: &mut Slot, size: &mut usize) -> u32
+    requires { IsSome slot.old.kept }
+    ensures lists { Between slot.old.kept slot.new.kept (IdsTo result) }
+    ensures size { Keeps slot.new.kept (λ kept. size.new ≡ length kept.text.items) }
+{
+    let mut kept = slot.take();
+    let code = kept.ids();
+    *size = kept.text.len();
     slot.put(kept);
     code
 }

@@ -1,4 +1,7 @@
 mod Answered
+mod Asking
 mod Keeping
+mod Ordered
 mod Sent
 mod Telling
+mod Together

@@ -25,5 +25,13 @@ abbrev pub alert_bytes : Bool → Alert → List ℕ
 alert_bytes shows alert = text_bytes alert.query ++ hits_bytes (if shows then alert.hits else [])
 
 -- alerts after their count
-abbrev pub found_bytes : Bool → List Alert → List ℕ
-found_bytes shows alerts = number_bytes (length alerts) ++ flat_map (alert_bytes shows) alerts
+abbrev pub alerts_bytes : Bool → List Alert → List ℕ
+alerts_bytes shows alerts = number_bytes (length alerts) ++ flat_map (alert_bytes shows) alerts
+
+-- how many queries were tried, and the alerts
+abbrev pub found_bytes : Bool → ℕ → List Alert → List ℕ
+found_bytes shows asked alerts = number_bytes asked ++ alerts_bytes shows alerts
+
+-- ids after their count
+abbrev pub ids_bytes : List (List ℕ) → List ℕ
+ids_bytes ids = number_bytes (length ids) ++ flat_map text_bytes ids

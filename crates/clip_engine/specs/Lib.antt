@@ -1,7 +1,11 @@
+pub mod Asked
 pub mod Calls
+pub mod Code
 pub mod Engine
 pub mod Explained
 pub mod Found
+pub mod Listed
+pub mod Many
 pub mod Near
 pub mod Slot
 pub mod Texts

@@ -1,5 +1,6 @@
 //! What a call comes to, as a number. `include/pressclip.h` has the same.
 ghost use Rattle.std.specs.Prelude.{◌≡◌};
+ghost use Rattle.clip_engine.specs.Code.{number_of};
 
 use crate::engine::LineFault;
 use clip_protocol::{Refusal, Unread};
@@ -7,7 +8,7 @@ use clip_protocol::{Refusal, Unread};
 /// All went well.
 pub const OK: u32 = 0;
 
-/// An id or a field is beyond its limit.
+/// An id, a field or a list is beyond its limit.
 pub const LIMIT: u32 = 1;
 
 /// The text is no query.
@@ -33,7 +34,8 @@ pub const LINES: u32 = 8;
 
 /// The number of a refusal. A line's own refusals stand in its reply, and no call answers them.
 pub fn code_of(why: Unread) -> u32
-    ensures { result ≡ 0 → ⊥ }
+    ensures some { result ≡ 0 → ⊥ }
+    ensures is { result ≡ number_of why }
 {
     match why {
         Unread::Refused(Refusal::Query) => QUERY,

@@ -1,9 +1,8 @@
 //! An engine: lines and plain calls over one registrar.
 ghost use Rattle.std.specs.Prelude.{◌≡◌, ◌⊎◌, [], ◌∷◌, IfOk, IfErr, OnOk, OnErr, Err, None, IsTrue, IsFalse, true};
-ghost use Rattle.std.specs.Prelude.{false};
-ghost use Rattle.std.specs.Prelude.{string_bytes};
+ghost use Rattle.std.specs.Prelude.{false, map, option_map, string_bytes};
 ghost use Rattle.std.specs.FinMap as finite;
-ghost use Rattle.clip_model.specs.History.{Delete, applied, fits, has_room, replay};
+ghost use Rattle.clip_model.specs.History.{Clear, Delete, applied, fits, has_room, replay};
 ghost use Rattle.clip_model.specs.Alerts.{alerts};
 ghost use Rattle.clip_meaning.specs.Article.{article_value, fault_of, pairs_of};
 ghost use Rattle.clip_listen.specs.Heard.{alerts_of};
@@ -11,14 +10,21 @@ ghost use Rattle.clip_words.specs.Ids.{is_id};
 ghost use Rattle.clip_protocol.specs.Steps.Views.{listing_view};
 ghost use Rattle.clip_protocol.specs.declared.refusal.Unread.TheVariants as unread;
 ghost use Rattle.clip_standing.specs.Command.{command_of};
+ghost use Rattle.clip_engine.specs.Asked.{IsAsked};
 ghost use Rattle.clip_engine.specs.Engine.{Registers, Replies, commanded, fresh, has_feed};
+ghost use Rattle.clip_engine.specs.Found.{ids_bytes};
+ghost use Rattle.clip_engine.specs.Many.{RegistersMany};
 
 use crate::answer::answer;
 use crate::house::House;
+use crate::ids::bytes_of_ids;
+use crate::many::take_many;
 use clip_front::take_listing;
 use clip_match::{HitsFound, entries_due};
 use clip_meaning::{Article, ArticleFault};
-use clip_protocol::{Form, Listing, Refusal, Unread};
+use clip_model::MOST_LISTED;
+use clip_protocol::{Form, ListFault, Listing, Refusal, Unread};
+use clip_registry::View;
 use clip_run::OwnRegistrar;
 use clip_standing::{Alerts, Applied, Command, Refused};
 use clip_words::{NoMemory, WordPool, is_id};
@@ -74,6 +80,21 @@ fn read_article(
         Err(ArticleFault::NoMemory) => Err(Unread::NoMemory),
         Err(_) => Err(Unread::Refused(Refusal::Limit)),
     }
+}
+
+/// The alerts of an article at a view, and how many queries were tried.
+fn alerts_at(
+    alloc: Global,
+    view: &View,
+    article: &Article,
+    hits: HitsFound,
+) -> Result<Alerts, NoMemory>
+    ensures alerts { IfOk result (λ found. alerts_of found ≡ alerts view.now.history article.now) }
+    ensures asked { IfOk result (λ found. IsAsked view.now.history article.now found.asked) }
+{
+    // What it ensures of the view makes the count one of registered queries.
+    let _segments = view.segments();
+    entries_due(alloc, view, article, hits)?.alerts(alloc)
 }
 
 impl Engine {
@@ -186,6 +207,34 @@ impl Engine {
         Ok(())
     }
 
+    /// Registers queries in order, each in the place of the one with its id, in one change: all or none. The lines and
+    /// calls after it see them.
+    ///
+    /// With nothing changed: `Limit` at the first place past `MOST_LISTED`, where there are more; the reason of the
+    /// first query that `register` would refuse by itself, at its place; `Full`, at the place behind all, where the
+    /// registry has no room for them; and `NoMemory` where an allocation failed. Places count from 0.
+    ///
+    /// Cost: the reading of the texts, and that of `Registrar::apply` and of `merge_all`, once for all.
+    #[tactic(auto, using(crate::proofs::Together::refused_for_one))]
+    pub fn register_many(&mut self, listings: Vec<Listing>) -> Result<(), ListFault>
+        ensures registers { RegistersMany self.old self.new (map listing_view listings.items) result }
+        ensures unchanged { OnErr result (self.new ≡ self.old) }
+    {
+        let count = listings.len();
+        if count > MOST_LISTED {
+            return Err(ListFault::Refused(Refusal::Limit, MOST_LISTED as u64));
+        }
+        let Ok(listeners) = House::new(self.alloc) else {
+            return Err(ListFault::NoMemory);
+        };
+        let standings = take_many(self.alloc, &listeners, listings)?;
+        match self.command(Command::Register(standings)) {
+            Ok(_) => Ok(()),
+            Err(Unread::Refused(reason)) => Err(ListFault::Refused(reason, count as u64)),
+            Err(Unread::NoMemory) => Err(ListFault::NoMemory),
+        }
+    }
+
     /// Takes the query with this id out: 1, or 0 where none has it.
     ///
     /// With nothing changed: `Limit` where the id is not 1 to 256 bytes long, `Full` where the registry has no room for
@@ -209,18 +258,87 @@ impl Engine {
         self.command(Command::Delete(ids))
     }
 
+    /// Takes all queries out. Gives how many there were.
+    ///
+    /// With nothing changed: `Full` where the registry has no room for one command more, `NoMemory` where an allocation
+    /// failed. Cost: the dropping of what no snapshot holds.
+    pub fn clear(&mut self) -> Result<u64, Unread>
+        ensures cleared { OnOk result (self.new ≡ commanded self.old Clear) }
+        ensures counted { IfOk result (λ count. count ≡ finite.len (replay self.old.history)) }
+        ensures refused { IfErr result (λ why. (why ≡ unread.NoMemory) ⊎ ((why ≡ unread.Refused Refusal.Full)
+            × IsFalse (has_room self.old.history Clear))) }
+        ensures unchanged { OnErr result (self.new ≡ self.old) }
+    {
+        self.command(Command::Clear)
+    }
+
+    /// Gives back the memory of queries that were replaced or taken out. What is registered stays. `NoMemory` where an
+    /// allocation failed. Cost: that of `Registrar::purge`.
+    pub fn purge(&mut self) -> Result<(), NoMemory>
+        ensures { self.new ≡ self.old }
+    {
+        self.owned.registrar.purge()?;
+        Ok(())
+    }
+
+    /// A snapshot: an engine with the same history and the same count of lines, and words of its own. What is changed
+    /// later in one of the two shows in nothing that the other answers. `NoMemory` where the count of the registry's
+    /// holders is at its end. Constant time.
+    pub fn snapshot(&self) -> Result<Engine, NoMemory>
+        ensures { IfOk result (λ snapshot. snapshot ≡ self.now) }
+    {
+        Ok(Engine {
+            alloc: self.alloc,
+            owned: self.owned.copy()?,
+            pool: WordPool::new(self.alloc),
+            lines: self.lines,
+            hits: self.hits,
+        })
+    }
+
+    /// A copy of the text of the query that is registered under the id, if one is.
+    ///
+    /// `Limit` where the id is not 1 to 256 bytes long, `NoMemory` where an allocation failed. Cost: one search among
+    /// the ids, and the copy.
+    pub fn show(&self, id: &str) -> Result<Option<String>, Unread>
+        ensures shown { IfOk result (λ text. option_map string_bytes text
+            ≡ option_map (λ r. r.standing.text) (finite.get (replay self.now.history) id.now)) }
+        ensures kept { OnOk result (is_id id.now ≡ true) }
+        ensures refused { IfErr result (λ why. (why ≡ unread.NoMemory) ⊎ ((why ≡ unread.Refused Refusal.Limit)
+            × (is_id id.now ≡ false))) }
+    {
+        if !is_id(id) {
+            return Err(Unread::Refused(Refusal::Limit));
+        }
+        Ok(self.owned.registrar.view()?.copied_text(self.alloc, id)?)
+    }
+
+    /// The ids of the registered queries in their byte order, as bytes: their count, and each after its length; numbers
+    /// are eight bytes, the lowest first.
+    ///
+    /// `NoMemory` where an allocation failed. Cost: a step for each entry of a segment, a sort of those of registered
+    /// queries by their ids, and a copy of these.
+    pub fn ids(&self) -> Result<Vec<u8>, NoMemory>
+        ensures { IfOk result (λ bytes. bytes.items ≡ ids_bytes (finite.keys (replay self.now.history))) }
+    {
+        bytes_of_ids(self.alloc, &self.owned.registrar.view()?)
+    }
+
     /// The alerts of an article: of each registered query that holds of it one, in the byte order of their ids, and of
-    /// no other. No listener hears them, and the count of lines stays. They carry their hits where the replies show
-    /// hits.
+    /// no other; with how many queries were tried. No listener hears them, and the count of lines stays. They carry
+    /// their hits where the replies show hits.
     ///
     /// `Limit` where the id or a field is beyond its limits, the first that `Article::read` refuses; `NoMemory` where
     /// an allocation failed. Whatever it answers, the engine stays as it is.
     ///
     /// Cost: that of `Article::read_sharing`, with the words of the engine's last articles, of `clip_match::entries_due`
     /// and of `DueEntries::alerts`.
+    #[tactic(auto, using(crate::proofs::Asking::asked_at))]
     pub fn match_article(&mut self, id: &str, fields: &[(String, String)]) -> Result<Alerts, Unread>
         ensures alerts { IfOk result (λ found. alerts_of found
             ≡ alerts self.old.history (article_value id.now (pairs_of fields.now))) }
+        ensures asked { IfOk result (λ found.
+            IsAsked self.old.history (article_value id.now (pairs_of fields.now)) found.asked) }
         ensures kept { OnOk result (fault_of id.now (pairs_of fields.now) ≡ None) }
         ensures refused { IfErr result (λ why. (why ≡ unread.NoMemory) ⊎ ((why ≡ unread.Refused Refusal.Limit)
             × (fault_of id.now (pairs_of fields.now) ≡ None → ⊥))) }
@@ -233,7 +351,7 @@ impl Engine {
         } else {
             HitsFound::WhenAsked
         };
-        Ok(entries_due(self.alloc, &view, &article, hits)?.alerts(self.alloc)?)
+        Ok(alerts_at(self.alloc, &view, &article, hits)?)
     }
 
     /// How many queries are registered. `NoMemory` where the count of the registry's holders is at its end. Constant

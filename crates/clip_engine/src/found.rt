@@ -3,7 +3,7 @@ ghost use Rattle.std.specs.Prelude.{◌≡◌, ◌++◌, [], IfOk, OnOk, map, if
 ghost use Rattle.clip_listen.specs.Heard.{alerts_of};
 ghost use Rattle.clip_meaning.specs.Hits.{hit_value};
 ghost use Rattle.clip_standing.specs.Alerts.{alert_value};
-ghost use Rattle.clip_engine.specs.Found.{alert_bytes, found_bytes, hits_bytes, number_bytes, text_bytes};
+ghost use Rattle.clip_engine.specs.Found.{alert_bytes, alerts_bytes, found_bytes, hits_bytes, number_bytes, text_bytes};
 
 use clip_meaning::Hit;
 use clip_standing::{Alert, Alerts};
@@ -19,7 +19,7 @@ pub(crate) fn add_number(bytes: &mut Vec<u8>, number: u64) -> Result<(), NoMemor
 }
 
 /// Adds a text after its length.
-fn add_text(bytes: &mut Vec<u8>, text: &str) -> Result<(), NoMemory>
+pub(crate) fn add_text(bytes: &mut Vec<u8>, text: &str) -> Result<(), NoMemory>
     ensures { OnOk result (bytes.new.items ≡ bytes.old.items ++ text_bytes text.now) }
 {
     add_number(bytes, text.len() as u64)?;
@@ -71,19 +71,33 @@ fn add_alert(
     add_shown_hits(alloc, bytes, alert, shows_hits)
 }
 
-/// The alerts of an article as bytes: their count, and then for each the id of the query and its hits, of which there
+/// Adds alerts after their count.
+fn add_alerts(
+    alloc: Global,
+    bytes: &mut Vec<u8>,
+    alerts: &[Alert],
+    shows_hits: bool,
+) -> Result<(), NoMemory>
+    ensures { OnOk result (bytes.new.items ≡ bytes.old.items ++ alerts_bytes shows_hits (map alert_value alerts.now)) }
+{
+    add_number(bytes, alerts.len() as u64)?;
+    for alert in alerts {
+        add_alert(alloc, bytes, alert, shows_hits)?;
+    }
+    Ok(())
+}
+
+/// The alerts of an article as bytes: how many queries were tried, the count of alerts, and then for each the id of the query and its hits, of which there
 /// are none where they are not shown. A text stands after its length, hits after their count, and a hit is a field's
 /// name and a position; numbers are eight bytes, the lowest first.
 ///
 /// `NoMemory` where an allocation failed. Cost: a copy of the texts, and where hits are shown that of `Alert::hits` for
 /// each alert that doesn't carry them.
 pub fn bytes_of_found(alloc: Global, found: &Alerts, shows_hits: bool) -> Result<Vec<u8>, NoMemory>
-    ensures { IfOk result (λ bytes. bytes.items ≡ found_bytes shows_hits (alerts_of found.now)) }
+    ensures { IfOk result (λ bytes. bytes.items ≡ found_bytes shows_hits found.now.asked (alerts_of found.now)) }
 {
     let mut bytes = Vec::new(alloc);
-    add_number(&mut bytes, found.alerts.len() as u64)?;
-    for alert in &found.alerts {
-        add_alert(alloc, &mut bytes, alert, shows_hits)?;
-    }
+    add_number(&mut bytes, found.asked)?;
+    add_alerts(alloc, &mut bytes, &found.alerts, shows_hits)?;
     Ok(bytes)
 }

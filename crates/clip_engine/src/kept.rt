@@ -1,15 +1,35 @@
 //! What C keeps: an engine, and the bytes that its last call left to be taken.
-ghost use Rattle.std.specs.Prelude.{◌≡◌, IfOk, IfErr, Ok, string_bytes, true};
+ghost use Rattle.std.specs.Prelude.{◌≡◌, [], ◌∷◌, IfOk, IfErr, OnOk, OnErr, Ok, map, option_map, string_bytes, true};
+ghost use Rattle.std.specs.FinMap as finite;
 ghost use Rattle.clip_meaning.specs.Article.{pairs_of};
 ghost use Rattle.clip_engine.specs.Engine.{fresh};
 ghost use Rattle.clip_protocol.specs.Steps.Views.{listing_view};
-ghost use Rattle.clip_engine.specs.Texts.{fields_of, found_at, listing_at};
-ghost use Rattle.clip_engine.specs.Calls.{CountTo, DeleteTo, ExplainLineTo, ExplainTo, LineTo, MatchTo, RegisterTo, WordsTo};
+ghost use Rattle.clip_model.specs.History.{replay};
+ghost use Rattle.clip_engine.specs.Texts.{HasNoText, IsFoundAt, IsNoText, fields_of, listing_at, listings_at};
+ghost use Rattle.clip_engine.specs.Many.{RegistersMany};
+ghost use Rattle.clip_engine.specs.Calls.{
+  ClearTo,
+  CountTo,
+  DeleteTo,
+  ExplainLineTo,
+  ExplainTo,
+  IdsTo,
+  IsNoId,
+  IsRefusedAt,
+  LineTo,
+  ManyTo,
+  MatchTo,
+  PurgeTo,
+  RegisterTo,
+  ShowTo,
+  WordsTo,
+};
 
 use crate::code;
 use crate::engine::Engine;
 use crate::explained::{line_told, query_told, words_told};
 use crate::found::bytes_of_found;
+use crate::listed::{Listed, Which, listings_of, which_of};
 use clip_protocol::Listing;
 use clip_words::NoMemory;
 use std::alloc::Global;
@@ -37,6 +57,7 @@ pub struct Kept {
 fn text_of(alloc: Global, bytes: &[u8]) -> Result<String, u32>
     ensures ok { IfOk result (λ text. string_bytes text ≡ bytes.now) }
     ensures err { IfErr result (λ code. code ≡ 0 → ⊥) }
+    ensures why { IfErr result (IsNoText bytes.now) }
 {
     let Ok(text) = str::from_utf8(bytes) else {
         return Err(code::UTF8);
@@ -47,8 +68,8 @@ fn text_of(alloc: Global, bytes: &[u8]) -> Result<String, u32>
     }
 }
 
-/// The query to register.
-fn listing_of(
+/// The query to register, or why its texts are not read.
+pub(crate) fn listing_of(
     alloc: Global,
     id: &[u8],
     query: &[u8],
@@ -57,6 +78,7 @@ fn listing_of(
 ) -> Result<Listing, u32>
     ensures ok { IfOk result (λ listing. listing_view listing ≡ listing_at id.now query.now has_listener listener.now) }
     ensures err { IfErr result (λ code. code ≡ 0 → ⊥) }
+    ensures why { IfErr result (HasNoText (id.now ∷ query.now ∷ listener.now ∷ [])) }
 {
     let id = text_of(alloc, id)?;
     let query = text_of(alloc, query)?;
@@ -135,6 +157,109 @@ impl Kept {
         }
     }
 
+    /// Registers queries, all or none, or says which is refused.
+    #[tactic(auto, using(crate::proofs::Together::refused_at))]
+    fn registered_many(&mut self, alloc: Global, listed: &[Listed<'_>]) -> Result<(), Which>
+        ensures ok { OnOk result (RegistersMany self.old.engine self.new.engine (listings_at listed.now) (Ok tt)) }
+        ensures err { IfErr result (λ which.
+            IsRefusedAt listed.now self.old.engine self.new.engine which.code which.place) }
+        ensures unchanged { OnErr result (self.new.engine ≡ self.old.engine) }
+    {
+        let listings = listings_of(alloc, listed)?;
+        match self.engine.register_many(listings) {
+            Ok(()) => Ok(()),
+            Err(why) => Err(which_of(why)),
+        }
+    }
+
+    /// Registers queries, all or none; `which` is the place of the one that is refused.
+    pub fn register_many(&mut self, alloc: Global, listed: &[Listed<'_>], which: &mut u64) -> u32
+        ensures { ManyTo listed.now result which.new self.old self.new }
+    {
+        match self.registered_many(alloc, listed) {
+            Ok(()) => code::OK,
+            Err(Which { code, place }) => {
+                *which = place;
+                code
+            }
+        }
+    }
+
+    /// Takes all queries out.
+    pub fn clear(&mut self) -> u32
+        ensures { ClearTo result self.old self.new }
+    {
+        match self.engine.clear() {
+            Ok(_) => code::OK,
+            Err(why) => code::code_of(why),
+        }
+    }
+
+    /// Gives back the memory of queries that were replaced or taken out.
+    pub fn purge(&mut self) -> u32
+        ensures { PurgeTo result self.old self.new }
+    {
+        match self.engine.purge() {
+            Ok(()) => code::OK,
+            Err(NoMemory) => code::NO_MEMORY,
+        }
+    }
+
+    /// A snapshot of what it keeps, which has no bytes to be taken. Constant time.
+    pub fn snapshot(&self, alloc: Global) -> Result<Kept, NoMemory>
+        ensures { IfOk result (λ snapshot. snapshot.engine ≡ self.now.engine) }
+    {
+        Ok(Kept {
+            engine: self.engine.snapshot()?,
+            text: Vec::new(alloc),
+        })
+    }
+
+    /// The text of the query with this id, if one has it.
+    fn shown(&self, alloc: Global, id: &[u8]) -> Result<Option<String>, u32>
+        ensures ok { IfOk result (λ text. option_map string_bytes text
+            ≡ option_map (λ r. r.standing.text) (finite.get (replay self.now.engine.history) id.now)) }
+        ensures err { IfErr result (IsNoId id.now) }
+    {
+        let id = text_of(alloc, id)?;
+        match self.engine.show(id.as_str()) {
+            Ok(text) => Ok(text),
+            Err(why) => Err(code::code_of(why)),
+        }
+    }
+
+    /// Keeps the text of the query with this id, and says whether one has it.
+    #[tactic(auto, using(crate::proofs::Together::shown_some, crate::proofs::Together::shown_none))]
+    pub fn show(&mut self, alloc: Global, id: &[u8], has: &mut bool) -> u32
+        ensures { ShowTo id.now result has.new self.old self.new }
+    {
+        match self.shown(alloc, id) {
+            Ok(Some(text)) => {
+                *has = true;
+                self.text = text.into_bytes();
+                code::OK
+            }
+            Ok(None) => {
+                *has = false;
+                code::OK
+            }
+            Err(code) => code,
+        }
+    }
+
+    /// Keeps the ids of the registered queries, in their byte order.
+    pub fn ids(&mut self) -> u32
+        ensures { IdsTo result self.old self.new }
+    {
+        match self.engine.ids() {
+            Ok(ids) => {
+                self.text = ids;
+                code::OK
+            }
+            Err(NoMemory) => code::NO_MEMORY,
+        }
+    }
+
     /// Takes a query out.
     pub fn delete(&mut self, alloc: Global, id: &[u8], deleted: &mut u64) -> u32
         ensures { DeleteTo id.now result deleted.new self.old self.new }
@@ -165,8 +290,9 @@ impl Kept {
     }
 
     /// What is found of an article, as bytes.
+    #[tactic(auto, using(crate::proofs::Asking::found_at))]
     fn found(&mut self, alloc: Global, id: &[u8], fields: &[Field<'_>]) -> Result<Vec<u8>, u32>
-        ensures ok { IfOk result (λ bytes. bytes.items ≡ found_at self.old.engine id.now (fields_of fields.now)) }
+        ensures ok { IfOk result (λ bytes. IsFoundAt self.old.engine id.now (fields_of fields.now) bytes.items) }
         ensures err { IfErr result (λ code. code ≡ 0 → ⊥) }
         ensures unchanged { (self.new.engine ≡ self.old.engine) × (self.new.text ≡ self.old.text) }
     {

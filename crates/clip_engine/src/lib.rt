@@ -8,12 +8,16 @@ mod engine;
 mod explained;
 mod found;
 mod house;
+mod ids;
 mod kept;
+mod listed;
+mod many;
 mod pair;
 mod slot;
 
 pub use engine::{Engine, LineFault};
 pub use found::bytes_of_found;
 pub use kept::{Field, Kept};
+pub use listed::Listed;
 pub use pair::{Pair, near};
-pub use slot::Slot;
+pub use slot::{Slot, snapshot_into};

@@ -1,9 +1,13 @@
 //! Where a caller outside of Rattle keeps an engine.
 ghost use Rattle.std.specs.Prelude.{◌≡◌, Option, Some, None, IsSome};
+ghost use Rattle.clip_engine.specs.Calls.{SnapshotTo};
 ghost use Rattle.clip_engine.specs.Slot.{kept_code, lies_in};
 ghost use Rattle.clip_engine.specs.declared.kept.Kept as keeps;
 
+use crate::code;
 use crate::kept::Kept;
+use clip_words::NoMemory;
+use std::alloc::Global;
 use std::marker::Model;
 
 /// The address of room that the caller gives and takes away. Whether something is kept there, contracts alone see.
@@ -43,6 +47,20 @@ impl Slot {
         ensures { self.new.kept ≡ None }
     {
         drop(self.take());
+    }
+}
+
+/// Keeps a snapshot of what is kept elsewhere, where nothing is kept; nothing is kept after a refusal. Constant time.
+pub fn snapshot_into(alloc: Global, kept: &Kept, slot: &mut Slot) -> u32
+    requires { slot.old.kept ≡ None }
+    ensures { SnapshotTo result (Some kept.now) slot.new.kept }
+{
+    match kept.snapshot(alloc) {
+        Ok(snapshot) => {
+            slot.put(snapshot);
+            code::OK
+        }
+        Err(NoMemory) => code::NO_MEMORY,
     }
 }
 

@@ -2,10 +2,10 @@ use Rattle.std.proofs.Common.{◌≡◌, ◌++◌, length, map, take}
 use Rattle.std.specs.Prelude.{flat_map}
 use Rattle.clip_standing.specs.Alerts.{alert_value}
 use Rattle.clip_engine.specs.Found.{number_bytes, alert_bytes}
-use Rattle.clip_engine.proofs.found.bytes_of_found.Given as goal
+use Rattle.clip_engine.proofs.found.add_alerts.Given as goal
 
 -- the count and the first alerts were added
 abbrev pub invariant-loop-alert : goal.invariant-loop-alert
-invariant-loop-alert l =
-    l.bytes.items ≡ number_bytes (length l.found.alerts.items)
-    ++ flat_map (alert_bytes l.shows_hits) (map alert_value (take l.alert-index l.found.alerts.items))
+invariant-loop-alert l = l.bytes.items
+    ≡ l.fn.bytes.items
+    ++ (number_bytes (length l.alerts) ++ flat_map (alert_bytes l.shows_hits) (map alert_value (take l.alert-index l.alerts)))
