@@ -91,14 +91,17 @@ one_cut link place (p ∷ ps) [] x y lt e nx ny =
 one_cut link place (p ∷ ps) (q ∷ qs) x y lt e nx ny =
     let left = append_assoc (entry link place p) (entries (link_after link place p) (suc place) ps) x in
     let right = append_assoc (entry link place q) (entries (link_after link place q) (suc place) qs) y in
-    let sp = said_small link place p (entries (link_after link place p) (suc place) ps ++ x) (omega (arith, lt, ap length left)) in
-    let sq = said_small link place q (entries (link_after link place q) (suc place) qs ++ y) (omega (arith, lt, ap length e, ap length right)) in
+    let sp = said_small link place p (entries (link_after link place p) (suc place) ps ++ x)
+    (omega (arith, lt, ap length left)) in
+    let sq = said_small link place q (entries (link_after link place q) (suc place) qs ++ y)
+    (omega (arith, lt, ap length e, ap length right)) in
     let o = one_entry link place p q (entries (link_after link place p) (suc place) ps ++ x)
     (entries (link_after link place q) (suc place) qs ++ y) sp.0 sq.0 (sym left ∙ (e ∙ right)) in
     let next = link_after link place p in
     let same : next ≡ link_after link place q = ap (link_after link place) o.0 in
     let tails = o.1 ∙ ap (λ (l : List ℕ). entries l (suc place) qs ++ y) (sym same) in
-    let nx' = subst (λ (n : ℕ). StartsNone (link_behind next (suc place) ps) n x) (sym (next_place place (length ps))) nx in
+    let nx' = subst (λ (n : ℕ). StartsNone (link_behind next (suc place) ps) n x)
+    (sym (next_place place (length ps))) nx in
     let ny' = subst (λ (l : List ℕ). StartsNone (link_behind l (suc place) qs) (suc place + length qs) y) (sym same)
     (subst (λ (n : ℕ). StartsNone (link_behind (link_after link place q) (suc place) qs) n y)
     (sym (next_place place (length qs))) ny) in

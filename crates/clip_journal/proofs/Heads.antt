@@ -69,8 +69,11 @@ pub one_head : (link : List ℕ) (place a b : ℕ) (x y : List ℕ) → a < 2 ^ 
 one_head link place a b x y la lb e =
     let parts = sym (head_parts link place a x) ∙ e ∙ head_parts link place b y in
     let sized = ap (λ (l : List ℕ). drop 8 l) parts in
-    let same = (one_number a b _ _ la lb sized).0 in
-    (same, append_cancel_left (head link place b) x y (subst (λ (n : ℕ). head link place n ++ x ≡ head link place b ++ y) same e))
+    let same = (one_number a b _ _ la lb sized).0 in (
+      same,
+      append_cancel_left (head link place b) x y
+          (subst (λ (n : ℕ). head link place n ++ x ≡ head link place b ++ y) same e),
+    )
 
 -- ---- a head that is read
 
@@ -101,7 +104,8 @@ head_none link place told size bytes sized checked sum lt lp ls front second sum
 
 -- ---- an entry that is read
 
-pub same_front : {A : Type 0} (q x said tail : List A) → length q ≡ length said → q ++ x ≡ said ++ tail → (q ≡ said) × (x ≡ tail)
+pub same_front : {A : Type 0} (q x said tail : List A) → length q ≡ length said → q ++ x ≡ said ++ tail
+    → (q ≡ said) × (x ≡ tail)
 same_front q x said tail len e = (
   sym (take_at q x (length q) refl) ∙ ap (take (length q)) e ∙ take_at said tail (length q) (sym len),
   sym (drop_at q x (length q) refl) ∙ ap (drop (length q)) e ∙ drop_at said tail (length q) (sym len),

@@ -24,7 +24,8 @@ pub spelled_first : (first given none written last : List ℕ) → given ≡ fir
     → IsSpelled first [] written last
 unfolding first_link
 spelled_first first given none written last is e w l = record {
-  bytes = w ∙ ap₂ (λ (x y : List ℕ). x ++ entry (replicate 32 0) 0 y) e is ∙ sym (append-nil (entry (replicate 32 0) 0 first));
+  bytes = w ∙ ap₂ (λ (x y : List ℕ). x ++ entry (replicate 32 0) 0 y) e is
+      ∙ sym (append-nil (entry (replicate 32 0) 0 first));
   link = l ∙ ap (link_after (replicate 32 0) 0) is;
 }
 
@@ -52,7 +53,8 @@ says_more vs i v lt is =
 -- all of them
 pub spelled_all : (changes n : ℕ) (live said : List (List ℕ)) (written last : List ℕ)
     → IsSpelled (numbers changes n) said written last → n ≡ length live → said ≡ live
-    → (written ≡ bytes_of (compacted changes live)) × (last ≡ link_behind first_link 0 (said_by (compacted changes live)))
+    → (written ≡ bytes_of (compacted changes live))
+    × (last ≡ link_behind first_link 0 (said_by (compacted changes live)))
 spelled_all changes n live said written last s len e =
     let same : numbers changes n ∷ said ≡ said_by (compacted changes live) =
     ap₂ (λ (m : ℕ) (l : List (List ℕ)). numbers changes m ∷ l) len (e ∙ sym (append-nil live)) in

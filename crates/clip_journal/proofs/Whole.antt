@@ -1,9 +1,12 @@
 -- What the reader of a journal keeps as it goes, and what its bytes are in the end.
-use Rattle.std.proofs.Common.{◌≡◌, ℕ, suc, ◌+◌, ◌-◌, ◌<◌, ◌≤◌, ◌^◌, List, [], ◌∷◌, ◌++◌, length, take, drop, replicate, Vec}
+use Rattle.std.proofs.Common.{◌≡◌, ℕ, suc, ◌+◌, ◌-◌, ◌<◌, ◌≤◌, ◌^◌, List, [], ◌∷◌, ◌++◌, length, take, drop}
+use Rattle.std.proofs.Common.{replicate, Vec}
 use Rattle.std.proofs.Common.{refl, sym, ap, ap₂, ◌∙◌, subst, append_assoc, arith, length-append}
-use Rattle.std.proofs.lemmas.List.{drop_at, take-map, drop-map, take_rest, length-map, length-take-le, length-drop, take-append-drop, map_push, take_at}
+use Rattle.std.proofs.lemmas.List.{drop_at, take-map, drop-map, take_rest, length-map, length-take-le, length-drop}
+use Rattle.std.proofs.lemmas.List.{take-append-drop, map_push, take_at}
 use Rattle.std.specs.declared.alloc.Global.{Global}
-use Rattle.clip_journal.specs.Entries.{numbers, entry, entries, link_after, link_behind, first_link, IsTorn, IsWrong, StartsNone}
+use Rattle.clip_journal.specs.Entries.{numbers, entry, entries, link_after, link_behind, first_link, IsTorn, IsWrong}
+use Rattle.clip_journal.specs.Entries.{StartsNone}
 use Rattle.clip_journal.specs.Kept.{Kept, Reads, said_by, kept_in, says, IsNone}
 use Rattle.clip_journal.specs.Parts.{Parts, IsWrongFrom, IsBroken}
 use Rattle.clip_journal.specs.declared.fault.ReadFault.{ReadFault}
@@ -149,7 +152,8 @@ kept_one a b la lb small e =
     let lens = ap length e in
     let la' = length-append a.live a.since in
     let lb' = length-append b.live b.since in
-    let p = one_pair a.changes (length a.live) b.changes (length b.live) (omega arith) (omega arith) (omega arith) (omega arith)
+    let p = one_pair a.changes (length a.live) b.changes (length b.live) (omega arith) (omega arith) (omega arith)
+    (omega arith)
     (ap first_of e) in
     let t = same_front a.live a.since b.live b.since p.1 (ap (λ (l : List (List ℕ)). drop 1 l) e) in
     made a b p.0 t.0 t.1
@@ -191,7 +195,8 @@ says_push vs ws v one e is =
 pub opening_some : (changes live behind : ℕ) (first : List ℕ) (said : List (List ℕ)) → behind ≡ length said
     → live ≤ behind → changes + (behind - live) < 2 ^ 63
     → changes + length (drop (1 + live) (first ∷ said)) < 2 ^ 63
-opening_some changes live behind first said len le small = omega (arith, len, le, small, length-drop (1 + live) (first ∷ said))
+opening_some changes live behind first said len le small =
+    omega (arith, len, le, small, length-drop (1 + live) (first ∷ said))
 
 pub opening_none : (behind : ℕ) (first : List ℕ) (said : List (List ℕ)) → behind ≡ length said
     → ((a b : ℕ) → b ≤ behind → a + (behind - b) < 2 ^ 63 → first ≡ numbers a b → ⊥)
@@ -210,7 +215,8 @@ opening_none behind first said len none kept small e =
 -- what is wrong is broken
 pub broken_of : (bytes : List ℕ) (fault : ReadFault) → length bytes < 2 ^ 64 → IsWrongFrom bytes fault
     → IsBroken bytes fault
-broken_of bytes (faults.Broken place) small w = (none_if_wrong bytes w.0 w.1 small w.2 w.4, w.0, w.1, w.2, w.3, w.4.none)
+broken_of bytes (faults.Broken place) small w =
+    (none_if_wrong bytes w.0 w.1 small w.2 w.4, w.0, w.1, w.2, w.3, w.4.none)
 broken_of bytes faults.NoMemory small w = tt
 
 -- the whole entries of bytes, without what stands torn behind them

@@ -86,15 +86,17 @@ impl<S: Store> Journal<S> {
     ///
     /// # Errors
     ///
-    /// `Ended` where the store failed before, `Full` where 2^63 - 1 commands were accepted, `NoMemory` where an allocation
-    /// failed: nothing is done then. `Store` where the store failed.
+    /// `Ended` where the store failed before, `Full` where 2^63 - 1 commands were accepted, `NoMemory` where an
+    /// allocation failed: nothing is done then. `Store` where the store failed.
     pub fn append(&mut self, alloc: Global, said: &[u8]) -> Result<(), JournalFault>
         ensures appended { (kept : Kept) (safe : ℕ) → Stands S.seen S.may_leave self.old kept safe
             → OnOk result (Stands S.seen S.may_leave self.new (with_command kept said.now) safe) }
         ensures any_moment { (kept : Kept) (safe : ℕ) → Stands S.seen S.may_leave self.old kept safe
-            → LeavesOnly S.moment S.left_since self.old.store self.new.store (IsFront (with_command kept said.now) safe) }
+            → LeavesOnly S.moment S.left_since self.old.store self.new.store
+            (IsFront (with_command kept said.now) safe) }
         ensures ended { self.old.is_open ≡ false → IsErrOf result JournalFault.Ended }
-        ensures full { IsErrOf result JournalFault.Full → (2 ^ 63 - 1 ≤ self.old.accepted) ⊎ (2 ^ 63 - 1 ≤ self.old.place) }
+        ensures full { IsErrOf result JournalFault.Full
+            → (2 ^ 63 - 1 ≤ self.old.accepted) ⊎ (2 ^ 63 - 1 ≤ self.old.place) }
         ensures unchanged { IsErrOf result JournalFault.Ended ⊎ IsErrOf result JournalFault.Full
             ⊎ IsErrOf result JournalFault.NoMemory → self.new ≡ self.old }
     {
@@ -144,8 +146,8 @@ impl<S: Store> Journal<S> {
     ///
     /// # Errors
     ///
-    /// `Ended` where the store failed before, `Full` where 2^63 - 1 commands were accepted, `NoMemory` where an allocation
-    /// failed: nothing is done then. `Store` where the store failed.
+    /// `Ended` where the store failed before, `Full` where 2^63 - 1 commands were accepted, `NoMemory` where an
+    /// allocation failed: nothing is done then. `Store` where the store failed.
     pub fn compact(&mut self, alloc: Global, live: &[Vec<u8>]) -> Result<(), JournalFault>
         ensures compacted { OnOk result (Stands S.seen S.may_leave self.new
             (compacted self.old.accepted (says live.now)) 0) }
@@ -153,7 +155,8 @@ impl<S: Store> Journal<S> {
             → LeavesOnly S.moment S.left_since self.old.store self.new.store (λ left.
             IsFront kept safe left ⊎ IsFront (compacted self.old.accepted (says live.now)) 0 left) }
         ensures ended { self.old.is_open ≡ false → IsErrOf result JournalFault.Ended }
-        ensures full { IsErrOf result JournalFault.Full → (2 ^ 63 - 1 ≤ self.old.accepted) ⊎ (2 ^ 63 - 1 ≤ length live.now) }
+        ensures full { IsErrOf result JournalFault.Full
+            → (2 ^ 63 - 1 ≤ self.old.accepted) ⊎ (2 ^ 63 - 1 ≤ length live.now) }
         ensures unchanged { IsErrOf result JournalFault.Ended ⊎ IsErrOf result JournalFault.Full
             ⊎ IsErrOf result JournalFault.NoMemory → self.new ≡ self.old }
     {

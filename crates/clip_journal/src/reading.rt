@@ -1,5 +1,6 @@
 //! A journal's bytes read back.
-ghost use Rattle.std.specs.Prelude.{◌≡◌, ◌≢◌, ◌<◌, ◌≤◌, ◌+◌, ◌-◌, ◌^◌, ℕ, List, length, drop, IfOk, IfErr, IfSome, IfNone};
+ghost use Rattle.std.specs.Prelude.{◌≡◌, ◌≢◌, ◌<◌, ◌≤◌, ◌+◌, ◌-◌, ◌^◌, ℕ, List, length, drop};
+ghost use Rattle.std.specs.Prelude.{IfOk, IfErr, IfSome, IfNone};
 ghost use Rattle.clip_journal.specs.Entries.{numbers};
 ghost use Rattle.clip_journal.specs.Kept.{Kept, Reads, kept_in, said_by, says};
 ghost use Rattle.clip_journal.specs.Parts.{Parts, IsWrongFrom, IsBroken};

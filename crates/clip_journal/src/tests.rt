@@ -64,6 +64,28 @@ fn each_front_is_a_front_of_the_commands_and_what_is_torn(rt: HostRuntime) -> Re
 }
 
 #[test]
+fn what_was_said_is_read_back(rt: HostRuntime) -> Result<(), Fail> {
+    let alloc = rt.alloc();
+    let found = read_back(alloc, &sample(alloc)?)?;
+    match found.live() {
+        [first, second] => {
+            assert_eq!(rt; first.as_slice(), b"q1".as_slice());
+            assert_eq!(rt; second.as_slice(), b"query".as_slice());
+        }
+        _ => return Err("two queries were live".into()),
+    }
+    match found.since() {
+        [first, second, third] => {
+            assert_eq!(rt; first.as_slice(), b"a".as_slice());
+            assert_eq!(rt; second.as_slice(), b"".as_slice());
+            assert_eq!(rt; third.as_slice(), b"bcd".as_slice());
+        }
+        _ => return Err("three commands were accepted since".into()),
+    }
+    Ok(())
+}
+
+#[test]
 fn each_flipped_byte_is_told_at_its_entry(rt: HostRuntime) -> Result<(), Fail> {
     let alloc = rt.alloc();
     let bytes = sample(alloc)?;

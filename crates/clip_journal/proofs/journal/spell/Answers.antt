@@ -33,8 +33,8 @@ loop-query-preserved c =
     (omega (arith, at, c.loop-query.invariant.place)) c.in_ok-next.ensures.bytes c.in_ok-next.ensures.link in
     let all = one ∙ ap (λ (x : List ℕ). says (take i live) ++ x ∷ []) (sym c.deref-in-loop-query.ensures.value) in
     record {
-      spelled = subst (λ (s : List (List ℕ)). IsSpelled first s c.put_entry-in-loop-query.new.out.items c.in_ok-next.next)
-          (sym all) more;
+      spelled = subst (λ (s : List (List ℕ)). IsSpelled first s c.put_entry-in-loop-query.new.out.items
+          c.in_ok-next.next) (sym all) more;
       place = omega (arith, c.loop-query.invariant.place);
     }
 

@@ -52,7 +52,8 @@ returns-in_err-settle-clause-any_moment g c =
     let cut = cut_front c.deref-2.result.now (bytes_of kept) torn _ parts
     (omega (arith, ap length c.torn.ensures, ap length c.deref-2.ensures.value)) in
     let seen = subst (λ (b : List ℕ). Reads b kept torn) (c.deref.ensures.value ∙ c.in_ok-bytes.ensures.bytes) r in
-    moved g.S.Store.moment g.S.Store.left_since g.S.Store.may_leave c.args.store.now c.read.new.self c.settle.new.store _
+    moved g.S.Store.moment g.S.Store.left_since g.S.Store.may_leave c.args.store.now c.read.new.self
+    c.settle.new.store _
     (moved g.S.Store.moment g.S.Store.left_since g.S.Store.may_leave c.args.store.now c.args.store.now c.read.new.self _
     (unmoved g.S.Store.moment g.S.Store.left_since g.S.Store.may_leave c.args.store.now _
     (g.met.S.Store.only_now c.args.store.now) (λ left l. inl l)) c.read.ensures.time
@@ -69,7 +70,8 @@ returns-clause-any_moment g c =
     let cut = cut_front c.deref-2.result.now (bytes_of kept) torn _ parts
     (omega (arith, ap length c.torn.ensures, ap length c.deref-2.ensures.value)) in
     let seen = subst (λ (b : List ℕ). Reads b kept torn) (c.deref.ensures.value ∙ c.in_ok-bytes.ensures.bytes) r in
-    moved g.S.Store.moment g.S.Store.left_since g.S.Store.may_leave c.args.store.now c.read.new.self c.settle.new.store _
+    moved g.S.Store.moment g.S.Store.left_since g.S.Store.may_leave c.args.store.now c.read.new.self
+    c.settle.new.store _
     (moved g.S.Store.moment g.S.Store.left_since g.S.Store.may_leave c.args.store.now c.args.store.now c.read.new.self _
     (unmoved g.S.Store.moment g.S.Store.left_since g.S.Store.may_leave c.args.store.now _
     (g.met.S.Store.only_now c.args.store.now) (λ left l. inl l)) c.read.ensures.time

@@ -30,10 +30,12 @@ pub returns-clause-found : goal.returns-clause-found
 returns-clause-found c =
     let is = c.deref.ensures.value in
     let at = λ (vs : List (Vec ℕ Global)). says vs ≡ said_by (kept_in c.in-Some.told.0 c.in-Some.told.1 (says vs)) in
-    let few = λ (vs : List (Vec ℕ Global)). c.in-Some.told.0 + length (drop (1 + c.in-Some.told.1) (says vs)) < 2 ^ 63 in
+    let few = λ (vs : List (Vec ℕ Global)).
+    c.in-Some.told.0 + length (drop (1 + c.in-Some.told.1) (says vs)) < 2 ^ 63 in
     let bytes = c.args.bytes.now in
     let cut = take_rest bytes c.in_ok-said.field-0.at in
-    let torn_is : c.in_ok-torn.torn.items ≡ drop c.in_ok-said.field-0.at bytes = cc (c.in_ok-torn.ensures.items, cut) in
+    let torn_is : c.in_ok-torn.torn.items ≡ drop c.in_ok-said.field-0.at bytes =
+    cc (c.in_ok-torn.ensures.items, cut) in
     reads_of c.args.bytes.now (says c.in_ok-said.field-0.said.items) c.in_ok-said.field-0.link c.in_ok-said.field-0.at _ _
     c.in_ok-said.ensures.whole (subst at is c.in-Some.ensures.some) (subst few is c.in-Some.ensures.counted)
     torn_is
@@ -44,12 +46,15 @@ returns-clause-only c =
     let said = says c.in_ok-said.field-0.said.items in
     let found = kept_in c.in-Some.told.0 c.in-Some.told.1 said in
     let at = λ (vs : List (Vec ℕ Global)). says vs ≡ said_by (kept_in c.in-Some.told.0 c.in-Some.told.1 (says vs)) in
-    let few = λ (vs : List (Vec ℕ Global)). c.in-Some.told.0 + length (drop (1 + c.in-Some.told.1) (says vs)) < 2 ^ 63 in
+    let few = λ (vs : List (Vec ℕ Global)).
+    c.in-Some.told.0 + length (drop (1 + c.in-Some.told.1) (says vs)) < 2 ^ 63 in
     let some = subst at is c.in-Some.ensures.some in
     let bytes = c.args.bytes.now in
     let cut = take_rest bytes c.in_ok-said.field-0.at in
-    let torn_is : c.in_ok-torn.torn.items ≡ drop c.in_ok-said.field-0.at bytes = cc (c.in_ok-torn.ensures.items, cut) in
-    let long = parts_small c.args.bytes.now said c.in_ok-said.field-0.link c.in_ok-said.field-0.at c.in_ok-said.ensures.whole in
+    let torn_is : c.in_ok-torn.torn.items ≡ drop c.in_ok-said.field-0.at bytes =
+    cc (c.in_ok-torn.ensures.items, cut) in
+    let long = parts_small c.args.bytes.now said c.in_ok-said.field-0.link c.in_ok-said.field-0.at
+    c.in_ok-said.ensures.whole in
     λ kept torn r.
     let one = parts_one c.args.bytes.now said c.in_ok-said.field-0.link c.in_ok-said.field-0.at kept torn
     c.whole_entries.ensures.small c.in_ok-said.ensures.whole r in (
