@@ -36,7 +36,7 @@ returns-clause-found c =
     let cut = take_rest bytes c.in_ok-said.field-0.at in
     let torn_is : c.in_ok-torn.torn.items ≡ drop c.in_ok-said.field-0.at bytes =
     cc (c.in_ok-torn.ensures.items, cut) in
-    reads_of c.args.bytes.now (says c.in_ok-said.field-0.said.items) c.in_ok-said.field-0.link c.in_ok-said.field-0.at _ _
+    reads_of bytes (says c.in_ok-said.field-0.said.items) c.in_ok-said.field-0.link c.in_ok-said.field-0.at _ _
     c.in_ok-said.ensures.whole (subst at is c.in-Some.ensures.some) (subst few is c.in-Some.ensures.counted)
     torn_is
 
