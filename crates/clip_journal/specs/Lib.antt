@@ -1,0 +1,6 @@
+pub mod Entries
+pub mod Found
+pub mod Kept
+pub mod Parts
+pub mod Stands
+pub mod Stop
