@@ -17,12 +17,21 @@ from setuptools.command.build_py import build_py
 from wheel.bdist_wheel import bdist_wheel
 
 NAME = "libpressclip.so"
-OF_CHECKOUT = Path(__file__).resolve().parent.parent / "c"
+HERE = Path(__file__).resolve().parent
+OF_CHECKOUT = HERE.parent / "c"
 MISSING = """pressclip: {path} is missing. This builds it, in a checkout of pressclip:
 
     bindings/c/build
 
 Or set PRESSCLIP_LIBRARY to its path, or to nothing for a package without it."""
+
+
+def bring_files_of_the_checkout() -> None:
+    """The licence and the version stand at the top of a checkout, and beside this file in a source archive."""
+    top = HERE.parent.parent
+    for name in ("LICENSE", "VERSION"):
+        if (OF_CHECKOUT / "build").exists():
+            shutil.copyfile(top / name, HERE / name)
 
 
 def library() -> Path | None:
@@ -68,4 +77,5 @@ class WheelWithLibrary(bdist_wheel):
         return "py3", "none", platform
 
 
+bring_files_of_the_checkout()
 setup(distclass=WithLibrary, cmdclass={"build_py": BuildWithLibrary, "bdist_wheel": WheelWithLibrary})
