@@ -26,10 +26,17 @@ def as_called(text: str) -> str:
                   lambda found: f"pressclip-{found[1]}" if found[1] else f"  pressclip-{found[2]}", text)
 
 
-def command_line(name: str, text: str | None) -> argparse.ArgumentParser:
+class CommandLine(argparse.ArgumentParser):
+    """A command line whose help names these commands as they are called here."""
+
+    def format_help(self) -> str:
+        """The help."""
+        return as_called(super().format_help())
+
+
+def command_line(name: str, text: str | None) -> CommandLine:
     """The command line of a command of this name, which the text describes."""
-    return argparse.ArgumentParser(prog=name, description=as_called(text or ""),
-                                   formatter_class=argparse.RawDescriptionHelpFormatter)
+    return CommandLine(prog=name, description=text, formatter_class=argparse.RawDescriptionHelpFormatter)
 
 
 def add_version(parser: argparse.ArgumentParser) -> None:
