@@ -13,15 +13,15 @@ from .source import TOP, NotMade, Source, output_of, toolchain
 
 Json = dict[str, Any]
 ROOT = "SPDXRef-pressclip"
-# What the promises rest on, beside the toolchain's contracts of the crates that it ships; docs/PROMISES.md says it whole.
+# What the promises rest on; docs/PROMISES.md says it whole.
 TRUSTED = (
     ("definitions", "The definitions in specs/ of the crates, in whose words the contracts are.", "trusted, reviewed"),
     ("crates' logic", "That the contracts hold of the crates' code is proved by the toolchain, whose prover, compilers"
      " and contracts of C functions are trusted.", "proved, by what is trusted"),
     ("C edge", "bindings/c/edge.c, which stands between the proved calls and programs in C.", "tested"),
     ("services and bindings", "service/, bindings/python and bindings/java.", "tested"),
-    ("C library", "glibc: linked in the shared library and the package as the system has it, in the static programs from"
-     " the archive of the package that is named here.", "trusted"),
+    ("C library", "glibc: as the system has it, or in the static programs of the package that is named here.",
+     "trusted"),
     ("Linux", "The kernel's calls, its threads, and that what is synced is kept.", "trusted"),
 )
 
@@ -93,8 +93,9 @@ class Bill:
         content = path.read_bytes()
         mark = "SPDXRef-file-" + re.sub(r"[^A-Za-z0-9.-]", "-", path.name)
         self._relate(ROOT, "CONTAINS", mark)
-        return {"SPDXID": mark, "fileName": f"./{path.name}", "fileTypes": ["BINARY"], "licenseConcluded": "NOASSERTION",
-                "licenseInfoInFiles": ["NOASSERTION"], "copyrightText": "NOASSERTION",
+        return {"SPDXID": mark, "fileName": f"./{path.name}", "fileTypes": ["BINARY"],
+                "licenseConcluded": "NOASSERTION", "licenseInfoInFiles": ["NOASSERTION"],
+                "copyrightText": "NOASSERTION",
                 "checksums": [{"algorithm": "SHA1", "checksumValue": sha1(content).hexdigest()},
                               {"algorithm": "SHA256", "checksumValue": sha256(content).hexdigest()}]}
 

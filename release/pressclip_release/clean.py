@@ -103,7 +103,8 @@ class Debian:
 
     def has(self, name: str) -> bool:
         """Whether a command is on the path there."""
-        return any(os.path.lexists(self.path(f"{folder}/{name}")) for folder in ("usr/bin", "usr/sbin", "usr/local/bin"))
+        folders = ("usr/bin", "usr/sbin", "usr/local/bin")
+        return any(os.path.lexists(self.path(f"{folder}/{name}")) for folder in folders)
 
 
 class Unit:

@@ -12,7 +12,8 @@ from pathlib import Path
 
 from .files import PROGRAM
 from .manual import SERVICES, Command, completion, page, written_page
-from .source import LIBRARY, MACHINE, PROGRAMS, TOP, Source, archive, glibc_of, output_of, program, shared_library, stripped
+from .source import (LIBRARY, MACHINE, PROGRAMS, TOP, Source, archive, glibc_of, output_of, program, shared_library,
+                     stripped)
 
 HERE = TOP / "release" / "debian"
 HOME = "usr/lib/pressclip"
@@ -21,7 +22,8 @@ DOC = "usr/share/doc/pressclip"
 UNITS = ("pressclip-keep.service", "pressclip-door.service")
 CONFIGURATION = {"etc/pressclip/door.toml": "door.toml", "etc/default/pressclip-keep": "pressclip-keep.default"}
 # What of service/ is for who changes it.
-NOT_INSTALLED = ("service/bench", "service/test", "service/pressclip_tests/", "service/pressclip_door/page/jsconfig.json")
+NOT_INSTALLED = ("service/bench", "service/test", "service/pressclip_tests/",
+                 "service/pressclip_door/page/jsconfig.json")
 # A version in CHANGELOG.md, and its day.
 _ENTRY = re.compile(r"^## (\S+)(?: \((\d{4}-\d{2}-\d{2})\))?$", re.MULTILINE)
 
@@ -41,7 +43,8 @@ class Tree:
 
     def copy(self, source: Path, name: str, mode: int | None = None) -> None:
         """A file as it is elsewhere; it may be run where it may be there."""
-        self.put(name, source.read_bytes(), mode if mode is not None else 0o755 if os.access(source, os.X_OK) else 0o644)
+        usual = 0o755 if os.access(source, os.X_OK) else 0o644
+        self.put(name, source.read_bytes(), usual if mode is None else mode)
 
     def link(self, target: str, name: str) -> None:
         """A name for another one."""

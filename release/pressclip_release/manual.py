@@ -71,7 +71,8 @@ def paragraphs(told: str) -> list[str]:
     lines: list[str] = []
     for paragraph in told.split("\n\n"):
         is_plain = paragraph.startswith("  ")
-        lines += [".PP", *([".nf"] if is_plain else []), *map(text, paragraph.split("\n")), *([".fi"] if is_plain else [])]
+        front, back = ([".nf"], [".fi"]) if is_plain else ([], [])
+        lines += [".PP", *front, *map(text, paragraph.split("\n")), *back]
     return lines
 
 

@@ -68,14 +68,16 @@ class Image:
         labels = {"org.opencontainers.image.title": "pressclip", "org.opencontainers.image.licenses": "Apache-2.0",
                   "org.opencontainers.image.version": self._source.version,
                   "org.opencontainers.image.revision": self._source.commit}
-        settings: dict[str, object] = {"Entrypoint": ["/usr/bin/pressclip"], "Cmd": ["run"], "User": "65534:65534", "Labels": labels,
-                    "Env": ["PATH=/usr/bin"]}
-        config: dict[str, object] = {"architecture": "amd64", "os": "linux", "created": moment, "config": settings,
-                  "rootfs": {"type": "layers", "diff_ids": [f"sha256:{sha256(layer).hexdigest()}"]},
-                  "history": [{"created": moment, "created_by": "release/make"}]}
-        manifest: dict[str, object] = {"schemaVersion": 2, "mediaType": "application/vnd.oci.image.manifest.v1+json",
-                    "config": self._add("config.v1+json", json_of(config)),
-                    "layers": [self._add("layer.v1.tar+gzip", packed(layer))]}
+        settings: dict[str, object] = {"Entrypoint": ["/usr/bin/pressclip"], "Cmd": ["run"], "User": "65534:65534",
+                                       "Labels": labels, "Env": ["PATH=/usr/bin"]}
+        config: dict[str, object] = {
+            "architecture": "amd64", "os": "linux", "created": moment, "config": settings,
+            "rootfs": {"type": "layers", "diff_ids": [f"sha256:{sha256(layer).hexdigest()}"]},
+            "history": [{"created": moment, "created_by": "release/make"}]}
+        manifest: dict[str, object] = {
+            "schemaVersion": 2, "mediaType": "application/vnd.oci.image.manifest.v1+json",
+            "config": self._add("config.v1+json", json_of(config)),
+            "layers": [self._add("layer.v1.tar+gzip", packed(layer))]}
         told = self._add("manifest.v1+json", json_of(manifest))
         name = f"pressclip:{self._source.version}"
         named: dict[str, object] = {**told, "annotations": {"org.opencontainers.image.ref.name": name}}

@@ -24,8 +24,8 @@ class NotMade(Exception):
 def output_of(*command: str | Path, folder: Path = TOP, **more: str) -> str:
     """What a command prints, with more variables in its environment; `NotMade` where it fails or is not there."""
     try:
-        done = subprocess.run(command, cwd=folder, stdout=subprocess.PIPE, stderr=subprocess.PIPE, text=True, check=True,
-                              env={**environment(), **more})
+        done = subprocess.run(command, cwd=folder, stdout=subprocess.PIPE, stderr=subprocess.PIPE, text=True,
+                              check=True, env={**environment(), **more})
     except FileNotFoundError:
         raise NotMade(f"{command[0]} is missing") from None
     except subprocess.CalledProcessError as error:
@@ -36,7 +36,8 @@ def output_of(*command: str | Path, folder: Path = TOP, **more: str) -> str:
 def environment() -> dict[str, str]:
     """The environment of what is started: nothing of the user's that could show in the bytes."""
     kept = {name: value for name, value in os.environ.items() if name in ("PATH", "HOME", "TMPDIR", "JAVA_HOME")}
-    return {**kept, "LC_ALL": "C.UTF-8", "TZ": "UTC", "COLUMNS": "100", "SOURCE_DATE_EPOCH": os.environ["SOURCE_DATE_EPOCH"]}
+    return {**kept, "LC_ALL": "C.UTF-8", "TZ": "UTC", "COLUMNS": "100",
+            "SOURCE_DATE_EPOCH": os.environ["SOURCE_DATE_EPOCH"]}
 
 
 @dataclass(frozen=True)
