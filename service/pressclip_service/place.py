@@ -4,6 +4,7 @@ from __future__ import annotations
 
 import argparse
 import re
+import sys
 from pathlib import Path
 
 TOP = Path(__file__).resolve().parents[2]
@@ -37,6 +38,13 @@ class CommandLine(argparse.ArgumentParser):
 def command_line(name: str, text: str | None) -> CommandLine:
     """The command line of a command of this name, which the text describes."""
     return CommandLine(prog=name, description=text, formatter_class=argparse.RawDescriptionHelpFormatter)
+
+
+def tell_version_alone(name: str) -> None:
+    """Prints the version and ends, where that is all that is asked for: also where what the command needs is missing."""
+    if sys.argv[1:] == ["--version"]:
+        print(f"{name} {VERSION}")
+        sys.exit(0)
 
 
 def add_version(parser: argparse.ArgumentParser) -> None:
