@@ -12,8 +12,7 @@ from pathlib import Path
 
 from .files import PROGRAM
 from .manual import SERVICES, Command, completion, page, written_page
-from .source import (LIBRARY, MACHINE, PROGRAMS, TOP, Source, archive, glibc_of, output_of, program, shared_library,
-                     stripped)
+from .source import LIBRARY, MACHINE, PROGRAMS, TOP, Source, glibc_of, output_of, program, shared_library, stripped
 
 HERE = TOP / "release" / "debian"
 HOME = "usr/lib/pressclip"
@@ -21,6 +20,7 @@ TRIPLET = "x86_64-linux-gnu"
 DOC = "usr/share/doc/pressclip"
 UNITS = ("pressclip-keep.service", "pressclip-door.service")
 CONFIGURATION = {"etc/pressclip/door.toml": "door.toml", "etc/default/pressclip-keep": "pressclip-keep.default"}
+FOR_ARCHIVES = ("--strip-debug", "--enable-deterministic-archives")
 # What of service/ is for who changes it.
 NOT_INSTALLED = ("service/bench", "service/test", "service/pressclip_tests/",
                  "service/pressclip_door/page/jsconfig.json")
@@ -112,21 +112,20 @@ class Package:
         return re.sub(rb"\A#!/usr/bin/env python3\n", b"#!/usr/bin/python3\n", text)
 
     def _library(self) -> None:
-        """The library for C with what links it, and the package for Python that loads it."""
+        """The library with what links it, as its Makefile installs it, and the package for Python that loads it."""
         folder = f"usr/lib/{TRIPLET}"
-        self._tree.copy(stripped(shared_library(), self._work), f"{folder}/libpressclip.so.1", 0o644)
-        self._tree.link("libpressclip.so.1", f"{folder}/libpressclip.so")
-        self._tree.copy(stripped(archive(), self._work, "--strip-debug", "--enable-deterministic-archives"),
-                        f"{folder}/libpressclip.a", 0o644)
-        self._tree.copy(TOP / "include" / "pressclip.h", "usr/include/pressclip.h")
-        words = (LIBRARY / "pressclip.pc.in").read_text()
-        for name, value in (("PREFIX", "/usr"), ("LIBDIR", f"/{folder}"), ("INCLUDEDIR", "/usr/include"),
-                            ("VERSION", self._source.version)):
-            words = words.replace(f"@{name}@", value)
-        self._tree.put(f"{folder}/pkgconfig/pressclip.pc", words)
-        self._tree.pack(output_of(LIBRARY / "manual"), "usr/share/man/man3/pressclip.3.gz")
-        for name in output_of(LIBRARY / "manual", "--names").split():
-            self._tree.link("pressclip.3.gz", f"usr/share/man/man3/{name}.3.gz")
+        output_of("make", "--silent", "-C", LIBRARY, "install", f"DESTDIR={self._tree.root}", "PREFIX=/usr",
+                  f"LIBDIR=/{folder}", f"VERSION={self._source.version}")
+        for name, options in (("libpressclip.so.1", ()), ("libpressclip.a", FOR_ARCHIVES)):
+            path = self._tree.root / folder / name
+            self._tree.copy(stripped(path, self._work, *options), f"{folder}/{name}", 0o644)
+        for path in sorted((self._tree.root / "usr/share/man/man3").iterdir()):
+            name = f"usr/share/man/man3/{path.name}.gz"
+            if path.is_symlink():
+                self._tree.link(f"{path.readlink()}.gz", name)
+            else:
+                self._tree.pack(path.read_bytes(), name)
+            path.unlink()
         for path in self._source.tracked("bindings/python/pressclip"):
             self._tree.copy(TOP / path, f"usr/lib/python3/dist-packages/pressclip/{path.name}", 0o644)
 

@@ -80,11 +80,6 @@ def shared_library() -> Path:
     return built(LIBRARY / "libpressclip.so", "bindings/c/build")
 
 
-def archive() -> Path:
-    """The library that is linked in."""
-    return built(LIBRARY / "libpressclip.a", "bindings/c/build")
-
-
 @cache
 def toolchain() -> str:
     """The toolchain's version, as it tells it."""
