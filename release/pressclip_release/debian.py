@@ -18,6 +18,8 @@ HERE = TOP / "release" / "debian"
 HOME = "usr/lib/pressclip"
 TRIPLET = "x86_64-linux-gnu"
 DOC = "usr/share/doc/pressclip"
+# What of the examples is for the checkout alone.
+OF_TESTS = ("Makefile", "stdout", "tests.rs")
 UNITS = ("pressclip-keep.service", "pressclip-door.service")
 CONFIGURATION = {"etc/pressclip/door.toml": "door.toml", "etc/default/pressclip-keep": "pressclip-keep.default"}
 FOR_ARCHIVES = ("--strip-debug", "--enable-deterministic-archives")
@@ -140,7 +142,8 @@ class Package:
             if path.suffix in (".md", ".png", ".svg"):
                 self._tree.copy(TOP / path, f"{DOC}/{path}", 0o644)
         for path in self._source.tracked("examples"):
-            self._tree.copy(TOP / path, f"{DOC}/{path}")
+            if path.name not in OF_TESTS:
+                self._tree.copy(TOP / path, f"{DOC}/{path}")
         self._tree.copy(HERE / "copyright", f"{DOC}/copyright")
         self._tree.pack(changelog(self._source), f"{DOC}/changelog.gz")
         self._tree.copy(HERE / "lintian-overrides", "usr/share/lintian/overrides/pressclip", 0o644)
