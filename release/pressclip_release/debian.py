@@ -17,6 +17,7 @@ from .source import LIBRARY, MACHINE, PROGRAMS, TOP, Source, glibc_of, output_of
 HERE = TOP / "release" / "debian"
 HOME = "usr/lib/pressclip"
 TRIPLET = "x86_64-linux-gnu"
+PYTHON = "usr/lib/python3/dist-packages/pressclip"
 DOC = "usr/share/doc/pressclip"
 # What of the examples is for the checkout alone.
 OF_TESTS = ("Makefile", "stdout", "tests.rs")
@@ -129,7 +130,8 @@ class Package:
                 self._tree.pack(path.read_bytes(), name)
             path.unlink()
         for path in self._source.tracked("bindings/python/pressclip"):
-            self._tree.copy(TOP / path, f"usr/lib/python3/dist-packages/pressclip/{path.name}", 0o644)
+            self._tree.copy(TOP / path, f"{PYTHON}/{path.name}", 0o644)
+        self._tree.link(f"../../../{TRIPLET}/libpressclip.so.1", f"{PYTHON}/libpressclip.so")
 
     def _manual(self, words: str, name: str) -> None:
         self._tree.pack(words, f"usr/share/man/man1/{name}.1.gz")

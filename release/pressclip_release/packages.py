@@ -28,6 +28,11 @@ def platform_of(library: Path) -> str:
     return f"manylinux_{major}_{minor}_x86_64"
 
 
+def shortened(version: str) -> str:
+    """A version without the zeros at its end, with which it is one version for Python."""
+    return re.sub(r"(\.0)+$", "", version)
+
+
 def sources(work: Path) -> Path:
     """A copy of the Python package beside a library without symbols, so that nothing is left in the checkout."""
     bindings = work / "bindings"
@@ -47,7 +52,7 @@ def wheel(source: Source, work: Path, into: Path) -> Path:
               "--wheel-dir", work, bindings / "python", folder=work)
     [made] = work.glob("*.whl")
     name, version, *_ = made.name.split("-")
-    if version != source.version:
+    if shortened(version) != shortened(source.version):
         raise NotMade(f"bindings/python is of version {version}, and VERSION says {source.version}")
     tag = f"py3-none-{platform_of(bindings / 'c' / 'libpressclip.so')}"
     info = f"{name}-{version}.dist-info"
