@@ -93,7 +93,7 @@ class Bill:
         content = path.read_bytes()
         mark = "SPDXRef-file-" + re.sub(r"[^A-Za-z0-9.-]", "-", path.name)
         self._relate(ROOT, "CONTAINS", mark)
-        return {"SPDXID": mark, "fileName": f"./{path.name}", "fileTypes": ["BINARY"],
+        return {"SPDXID": mark, "fileName": f"./{path.name}", "fileTypes": ["ARCHIVE"],
                 "licenseConcluded": "NOASSERTION", "licenseInfoInFiles": ["NOASSERTION"],
                 "copyrightText": "NOASSERTION",
                 "checksums": [{"algorithm": "SHA1", "checksumValue": sha1(content).hexdigest()},

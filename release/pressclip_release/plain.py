@@ -12,8 +12,8 @@ from .source import PROGRAMS, TOP, Source, static_program
 
 _READ_ME = """pressclip {version}
 
-Standing queries over articles. The programs are linked statically and run on every Linux of x86-64 with nothing beside
-them:
+Standing queries over articles. The programs are linked statically and run on every Linux of x86-64-v2 with nothing
+beside them:
 
     ./pressclip run < requests.jsonl
     echo 'tea AND' | ./pressclip-explain --plain
