@@ -14,6 +14,7 @@ from .source import TOP, NotMade, Source, glibc_of, output_of, shared_library, s
 
 _PYTHON = "/usr/bin/python3"
 _TAG = re.compile(r"^Tag: .*$", re.MULTILINE)
+_JNA = Path("/usr/share/java/jna.jar")
 _MANIFEST = "META-INF/MANIFEST.MF"
 
 
@@ -67,10 +68,10 @@ def wheel(source: Source, work: Path, into: Path) -> Path:
 
 
 def jar(source: Source, work: Path, into: Path) -> Path | None:
-    """The jar, as bindings/java/build makes it, laid out anew; None where that is not there or there is no javac."""
+    """The jar, as bindings/java/build makes it, laid out anew; None where that or what it needs is not there."""
     command = TOP / "bindings" / "java" / "build"
-    if not command.is_file() or shutil.which("javac") is None:
-        print("release/make: no jar: bindings/java/build or javac is missing", file=sys.stderr)
+    if not command.is_file() or shutil.which("javac") is None or not _JNA.is_file():
+        print("release/make: no jar: bindings/java/build, javac or Debian's libjna-java is missing", file=sys.stderr)
         return None
     output_of(command, PRESSCLIP_LIBRARY=str(stripped(shared_library(), work)))
     found = sorted((TOP / "bindings" / "java" / "out").glob("*.jar"))
