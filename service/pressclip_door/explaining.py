@@ -9,18 +9,21 @@ import time
 from pathlib import Path
 from typing import Any, Sequence
 
+from pressclip_service.place import program_of
+
 from .pipe import Awaited, Behind, Ended, Owed, Pipe
 
 Json = dict[str, Any]
-_BUILT = Path(__file__).resolve().parents[2] / "crates" / "pressclip_explain" / "out" / "pressclip-explain"
+_USUAL = program_of("pressclip_explain", "pressclip-explain")
 SECONDS_TO_END = 10.0
 MOST_OWED = 1_024
 MOST_BYTES_OWED = 16 << 20
 
 
 def explainer_command() -> list[str]:
-    """The command of the program: what the variable PRESSCLIP_EXPLAIN names, or what this checkout built."""
-    return [os.environ.get("PRESSCLIP_EXPLAIN") or str(_BUILT)]
+    """The command of the program: what the variable PRESSCLIP_EXPLAIN names, or what this checkout built;
+    `pressclip-explain` on the path where this is installed."""
+    return [os.environ.get("PRESSCLIP_EXPLAIN") or _USUAL]
 
 
 class Explainer:

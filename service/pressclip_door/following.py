@@ -8,6 +8,7 @@ import time
 from collections import deque
 from typing import Awaitable
 
+from pressclip_service.place import command_name
 from pressclip_service.replies import CHANGES, Kind, kind_of
 
 from .catalog import Catalog
@@ -26,7 +27,7 @@ _ALERTED = b'"queries":["'
 _OPERATIONS = {Kind.REGISTERED: "register", Kind.DELETED: "delete", Kind.CLEARED: "clear", Kind.COUNTED: "count",
                Kind.REFUSED: "refused"}
 _REFUSED = re.compile(rb'"refused":"([a-z]+)"')
-_KEPT = re.compile(r"service/keep: (\d+) changes are kept")
+_KEPT = re.compile(rf"{command_name('keep')}: (\d+) changes are kept")
 _REPLAYED = re.compile(r"replayed \d+ lines of the journal in (\d+\.\d+) s")
 _RESTARTED = "; it is started again"
 

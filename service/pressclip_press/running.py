@@ -14,6 +14,7 @@ from pressclip_service.errors import EngineDied, EngineFailed, tell, write_all
 from pressclip_service.keep import Input
 from pressclip_service.live import text_of
 from pressclip_service.patience import Patience
+from pressclip_service.place import command_name
 from pressclip_service.replies import Kind, kind_of, number_of, renumbered
 from pressclip_service.signals import Termination
 from pressclip_service.streams import INPUT, OUTPUT
@@ -25,7 +26,7 @@ from .registry import Registry
 from .sources import source_in
 from .tree import Level
 
-NAME = "service/press"
+NAME = command_name("press")
 MOST_LINES_IN_FLIGHT = 4_096
 MOST_BYTES_IN_FLIGHT = 8 << 20
 _WRITTEN_AT_ONCE = 1 << 16

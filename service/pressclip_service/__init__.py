@@ -1,3 +1,3 @@
 """What stands around the engine: a journal for one machine (`keep`) and a grid of engines over Redis (`grid`)."""
 
-VERSION = "1.1"
+from .place import VERSION as VERSION

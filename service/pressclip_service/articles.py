@@ -12,9 +12,10 @@ from typing import Sequence
 
 from .errors import NoReader, read_block, tell, write_all
 from .lines import BLOCK_BYTES, LineCutter, is_blank
+from .place import command_name
 from .streams import INPUT, OUTPUT, can_write
 
-NAME = "service/articles"
+NAME = command_name("articles")
 MOST_LINE_BYTES = 16 << 20
 MOST_FIELDS = 16
 _PART = re.compile(r"([A-Za-z_][A-Za-z0-9_]{0,63})=((?:\.[^.]+)+)")

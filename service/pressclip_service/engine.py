@@ -13,10 +13,11 @@ from typing import Callable, Iterable, Iterator, Sequence
 
 from .errors import EngineDied, EngineFailed
 from .lines import BLOCK_BYTES, LineCutter
+from .place import IS_CHECKOUT, program_of
 from .signals import held_back_from_children
 
 PROGRAM = "pressclip"
-_BUILT = Path(__file__).resolve().parents[2] / "crates" / PROGRAM / "out" / PROGRAM
+_USUAL = program_of(PROGRAM, PROGRAM)
 _PIPE_BYTES = 1 << 20
 _WRITTEN_AT_ONCE = 1 << 18
 _TURN_SECONDS = 0.5
@@ -26,8 +27,9 @@ _MEMORY = "glibc.malloc.tcache_count=500:glibc.malloc.hugetlb=1"
 
 
 def program() -> str:
-    """The engine's program: what the variable PRESSCLIP names, or what this checkout built."""
-    return os.environ.get("PRESSCLIP") or str(_BUILT)
+    """The engine's program: what the variable PRESSCLIP names, or what this checkout built; `pressclip` on the path where
+    this is installed."""
+    return os.environ.get("PRESSCLIP") or _USUAL
 
 
 def command_of(words: Sequence[str], workers: int | None = None) -> list[str]:
@@ -44,8 +46,8 @@ def need_program(command: Sequence[str]) -> None:
     """`EngineFailed` where the command's program is not there, or may not be run."""
     if shutil.which(command[0]):
         return
-    if command[0] == str(_BUILT):
-        raise EngineFailed(f"there is no engine at {_BUILT}: run ./build, or have PRESSCLIP name the program")
+    if command[0] == _USUAL and IS_CHECKOUT:
+        raise EngineFailed(f"there is no engine at {_USUAL}: run ./build, or have PRESSCLIP name the program")
     raise EngineFailed(f"the engine {command[0]} can't be started: there is no such program")
 
 
@@ -53,7 +55,7 @@ def mark_of(command: Sequence[str]) -> str:
     """What tells the command's program from another: its path and the digest of its file. Cost: reads that file."""
     path = shutil.which(command[0])
     if path is None:
-        return f"{command[0]}, which is not there: run ./build"
+        return f"{command[0]}, which is not there" + (": run ./build" if IS_CHECKOUT else "")
     return f"{path} (SHA-256 {sha256(Path(path).read_bytes()).hexdigest()})"
 
 

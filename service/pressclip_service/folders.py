@@ -51,6 +51,22 @@ def make_folder(folder: Path) -> None:
         sync_folder(new.parent)
 
 
+def put_text(path: Path, text: str) -> None:
+    """Has a file say just this text, by a rename and synced, where it does not yet; `OSError`."""
+    if path.exists() and path.read_bytes() == text.encode():
+        return
+    new = path.with_name(f"{path.name}.new")
+    new.unlink(missing_ok=True)
+    descriptor = os.open(new, os.O_WRONLY | os.O_CREAT | os.O_EXCL, FILE_MODE)
+    try:
+        write_whole(descriptor, text.encode())
+        os.fsync(descriptor)
+    finally:
+        os.close(descriptor)
+    os.rename(new, path)
+    sync_folder(path.parent)
+
+
 def set_aside(source: Path, start: int) -> Path:
     """Copies a file's bytes from a place on into a new file beside it, synced, and gives its path: the file's own with
     `.torn.` and the first number behind it that no file has."""

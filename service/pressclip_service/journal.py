@@ -2,6 +2,7 @@
 
 `DIR/journal` is the file, `DIR/lock` is held by the one process that writes it, `DIR/journal.new` is a file that is
 being written and takes the journal's place once it is whole, and `DIR/journal.torn.N` has what a crash tore.
+`DIR/version` says which version last had it open: the head of form 2 has no room for that, and nothing reads it.
 """
 
 from __future__ import annotations
@@ -13,12 +14,13 @@ from pathlib import Path
 from typing import Callable, Iterator
 
 from .errors import JournalLocked, StorageFailed
-from .folders import FILE_MODE, make_folder, set_aside, storage, sync_folder, write_whole
+from .folders import FILE_MODE, make_folder, put_text, set_aside, storage, sync_folder, write_whole
 from .frames import CHANGES, FORM, BadFrame, Frame, Head, link_after
 from .new_journal import NewJournal
+from .place import VERSION
 from .reading import Reading
 
-FILE, NEW_FILE, LOCK = "journal", "journal.new", "lock"
+FILE, NEW_FILE, LOCK, VERSION_FILE = "journal", "journal.new", "lock", "version"
 
 
 class NotReplaced(Exception):
@@ -72,6 +74,14 @@ class Journal:
                 self._renew(reading)
             self._file = os.open(self.path, os.O_WRONLY)
             os.lseek(self._file, self.end, os.SEEK_SET)
+        self._say_version()
+
+    def _say_version(self) -> None:
+        """Says beside the journal which version has it open now."""
+        try:
+            put_text(self.folder / VERSION_FILE, f"pressclip {VERSION}, journal form {FORM.number}\n")
+        except OSError as error:
+            self.notes.append(f"can't write {self.folder / VERSION_FILE}: {error.strerror}; nothing needs it")
 
     def _begin(self) -> None:
         """A journal with its head alone."""

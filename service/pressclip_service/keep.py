@@ -14,12 +14,13 @@ from .errors import EngineDied, EngineFailed, InputFailed, StorageFailed, read_b
 from .journal import Journal
 from .lines import BLOCK_BYTES, LineCutter, is_blank
 from .patience import Patience
+from .place import command_name
 from .replies import CHANGES, count_in, kind_of, number_of, renumbered
 from .rewriting import Rewriter
 from .signals import Terminated, Termination
 from .streams import INPUT, OUTPUT
 
-NAME = "service/keep"
+NAME = command_name("keep")
 MOST_LINES_IN_FLIGHT = 4_096
 MOST_BYTES_IN_FLIGHT = 8 << 20
 _COUNT = b'{"op":"count"}'

@@ -45,12 +45,13 @@ class Id(NamedTuple):
 @dataclass(frozen=True)
 class Settings:
     """What a grid is made of; it stays as it is for the grid's life. By its mark it is known from one that was made
-    later under its name."""
+    later under its name. The version is that which made it, from 1.0.0 on."""
 
     shards: int
     replicas: int
     limit: int
     mark: bytes = field(default=b"", compare=False)
+    version: str | None = field(default=None, compare=False)
 
     def __str__(self) -> str:
         return f"shards {self.shards}, replicas {self.replicas}, limit {self.limit}"
@@ -72,7 +73,7 @@ class Names:
 
     @property
     def settings(self) -> str:
-        """A hash: shards, replicas, limit, and the mark of the grid."""
+        """A hash: shards, replicas, limit, the mark of the grid, and the version that made it."""
         return self._key("settings")
 
     @property

@@ -12,6 +12,7 @@ from .folders import storage
 from .frames import (CHANGES, EMPTY, FIRST_LINK, FORM, HEAD, LIVE, MAGIC_FRONT, BadFrame, Form, Frame, Head, form_of,
                      link_after)
 from .live import LiveQueries
+from .place import command_name
 
 
 class Reading:
@@ -77,7 +78,7 @@ class Reading:
         if form:
             return form
         if data[:len(MAGIC_FRONT)] == MAGIC_FRONT:
-            raise self._broken(0, "it has a form that this service/keep doesn't know, maybe of a later one")
+            raise self._broken(0, f"it has a form that this {command_name('keep')} doesn't know, maybe of a later one")
         raise self._broken(0, "a journal's head doesn't stand there")
 
     def _begin(self, frame: Frame) -> None:

@@ -7,14 +7,16 @@ _WHEN_FULL = "#!lua flags=allow-oom\n"
 
 # The settings of a grid are written where they lack, and given: shards, replicas, limit, and the mark by which this
 # grid is known, which is not there where one of the others lacks.
-# KEYS: the hash of settings. ARGV: a mark, and to make a grid shards, replicas, limit.
+# The version that made it stands beside them. Grids of before have none.
+# KEYS: the hash of settings. ARGV: a mark, a version, and to make a grid shards, replicas, limit.
 SETTINGS = _WHEN_FULL + """
+if ARGV[3] and redis.call('EXISTS', KEYS[1]) == 0 then redis.call('HSET', KEYS[1], 'version', ARGV[2]) end
 for at, name in ipairs({'shards', 'replicas', 'limit'}) do
-  if ARGV[at + 1] then redis.call('HSETNX', KEYS[1], name, ARGV[at + 1]) end
+  if ARGV[at + 2] then redis.call('HSETNX', KEYS[1], name, ARGV[at + 2]) end
   if redis.call('HEXISTS', KEYS[1], name) == 0 then return {} end
 end
 redis.call('HSETNX', KEYS[1], 'mark', ARGV[1])
-return redis.call('HMGET', KEYS[1], 'shards', 'replicas', 'limit', 'mark')
+return redis.call('HMGET', KEYS[1], 'shards', 'replicas', 'limit', 'mark', 'version')
 """
 
 # A role gives a sign of life, in Redis's memory alone, and hears the last ones of others, each with the milliseconds

@@ -71,7 +71,7 @@ class Standings:
         """A line of JSON for the grid, and one for each role."""
         settings = self._settings
         yield json.dumps({"grid": self._store.names.grid, "shards": settings.shards, "replicas": settings.replicas,
-                          "limit": settings.limit, "requests": self.requests}).encode()
+                          "limit": settings.limit, "requests": self.requests, "version": settings.version}).encode()
         for standing in (*self.workers.values(), self.gatherer, self.tidier):
             yield standing.line()
 

@@ -14,6 +14,7 @@ from redis.exceptions import TimeoutError as TimedOut
 
 from .errors import ServiceError, tell
 from .names import Id, Names, Settings
+from .place import VERSION
 from .scripts import SETTINGS
 from .troubles import is_passing, words_of
 from .wire import Channel, Wire
@@ -133,11 +134,11 @@ class Store:
             raise ServiceError(f"the grid is there with other settings: {found}")
 
     def _settings(self, *wanted: int) -> Settings | None:
-        [found] = self.scripted(SETTINGS, [([self.names.settings], [secrets.token_hex(8), *wanted])])
+        [found] = self.scripted(SETTINGS, [([self.names.settings], [secrets.token_hex(8), VERSION, *wanted])])
         if not found:
             return None
-        shards, replicas, limit, mark = found
-        return Settings(int(shards), int(replicas), int(limit), mark)
+        shards, replicas, limit, mark, version = found
+        return Settings(int(shards), int(replicas), int(limit), mark, version.decode() if version else None)
 
     def tell_of_settings(self) -> None:
         """Tells which settings of Redis are others than a grid needs, as far as Redis says them."""

@@ -17,6 +17,7 @@ from pathlib import Path
 from typing import BinaryIO
 
 from .errors import BrokenFile, FileInUse
+from .place import command_name
 
 FOLDER, MANIFEST, LOCK = "appendonlydir", "appendonly.aof.manifest", "service-redis.lock"
 CHECK = "redis-check-aof"
@@ -98,7 +99,7 @@ def lock_folder(folder: Path) -> None:
             break
         except BlockingIOError:
             if time.monotonic() > deadline:
-                raise FileInUse(f"another service/redis has the folder {folder}; two would break its file") from None
+                raise FileInUse(f"another {command_name('redis')} has the folder {folder}; two would break its file") from None
         time.sleep(0.05)
     os.set_inheritable(held, True)
 

@@ -2,6 +2,7 @@
 
 from __future__ import annotations
 
+import hashlib
 import re
 import struct
 import time
@@ -291,6 +292,43 @@ def a_journal_of_a_later_form_is_left_alone() -> None:
         same(file.read_bytes(), b"\xffPJ9 of another time", "the journal")
 
 
+def frame_of_form_2(before: bytes, kind: int, number: int, payload: bytes) -> tuple[bytes, bytes]:
+    """A frame as form 2 has it behind a link, and its own link: magic, kind, length, number, link, CRC-32 of all of
+    that and the payload, payload."""
+    said = struct.pack("<BIQ", kind, len(payload), number)
+    link = hashlib.blake2b(before + said + payload, digest_size=16).digest()
+    front = b"\xffPJ2" + said + link
+    return front + struct.pack("<I", zlib.crc32(front + payload)) + payload, link
+
+
+def the_form_is_that_of_before_the_first_release() -> None:
+    """A journal that was written before there was a version is taken as it is, with no file beside it that names one,
+    and one that is written now has the bytes of that form, so what wrote that one reads it."""
+    line = b'{"op":"register","queries":[{"id":"q1","query":"tea"}]}'
+    nothing = bytes(16)
+    head, _ = frame_of_form_2(nothing, 0, 0, struct.pack("<QQ16s", 0, 69, nothing))
+    first, link = frame_of_form_2(nothing, 2, 0, line)
+    second, _ = frame_of_form_2(link, 2, 1, line)
+    with folder() as name:
+        journal = Path(name)
+        status, _, told = run_keep(journal, line + b"\n")
+        same((journal / "journal").read_bytes(), head + first, "what is written now")
+        version = Path(__file__).resolve().parents[2].joinpath("VERSION").read_text().strip()
+        same((journal / "version").read_bytes(), f"pressclip {version}, journal form 2\n".encode(), "the version")
+        (journal / "version").unlink()
+        status, replies, told = run_keep(journal, line + b"\n" + COUNT)
+        need(status == 0 and b'"count":1' in replies and "1 changes are kept" in told, f"{status} {told}")
+        same((journal / "journal").read_bytes(), head + first + second, "what goes on")
+
+
+def a_version_that_cannot_be_written_is_told() -> None:
+    """The file beside the journal can't be written, since a folder has its name: `keep` says so and goes on."""
+    with folder() as name:
+        (Path(name) / "version" / "in").mkdir(parents=True)
+        status, replies, told = run_keep(Path(name), COUNT)
+        need(status == 0 and b'"count":0' in replies and "nothing needs it" in told, f"{status} {told}")
+
+
 def random_changes_are_chained() -> None:
     """A random input, rewritten now and then, leaves a journal whose dump registers what is live."""
     source = Source(32)
@@ -309,4 +347,5 @@ def random_changes_are_chained() -> None:
 TESTS = (a_rewritten_journal_is_whole_or_broken, what_came_meanwhile_is_whole_too, records_of_two_journals_do_not_mix,
          other_bytes_are_refused_or_a_front, what_was_cut_off_is_kept, a_journal_of_form_1_is_taken_over,
          a_journal_of_form_1_that_is_not_whole, ended_while_it_is_taken_over, a_journal_of_a_later_form_is_left_alone,
+         the_form_is_that_of_before_the_first_release, a_version_that_cannot_be_written_is_told,
          random_changes_are_chained)

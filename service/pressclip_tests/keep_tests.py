@@ -28,6 +28,7 @@ from .keep_runs import Client, Keep, changes_in, dump_of, kill_engines, run_keep
 from .processes import PATIENCE_SECONDS
 
 KEEP_KILLS = 60
+VERSION = (SERVICE.parent / "VERSION").read_text().strip()
 ENGINE_KILLS = 40
 
 
@@ -248,6 +249,8 @@ def a_checkout_without_its_program() -> None:
     with folder() as name:
         top = Path(name)
         shutil.copytree(SERVICE, top / "service", ignore=shutil.ignore_patterns("__pycache__", "*_tests"))
+        shutil.copy(SERVICE.parent / "VERSION", top)
+        (top / "crates").mkdir()
         environment = {word: value for word, value in os.environ.items() if word != "PRESSCLIP"}
         done = subprocess.run([str(top / "service" / "keep"), "--journal", str(top / "j")], stdin=subprocess.DEVNULL,
                               capture_output=True, env=environment, check=False)
@@ -286,7 +289,7 @@ def files_are_for_their_owner_alone() -> None:
         status, _, told = run_keep(journal, b"", before=mask_nothing)
         need(status == 0, told)
         modes = {str(path.relative_to(name)): oct(path.stat().st_mode & 0o777) for path in Path(name).rglob("*")}
-        files = {f"a/b/c/{word}": "0o600" for word in ("journal", "lock", "journal.torn.1")}
+        files = {f"a/b/c/{word}": "0o600" for word in ("journal", "lock", "version", "journal.torn.1")}
         need(modes == {"a": "0o700", "a/b": "0o700", "a/b/c": "0o700", **files}, f"{modes}")
 
 
@@ -307,12 +310,16 @@ def each_new_folder_is_synced_in_its_parent() -> None:
 
 
 def versions_are_told() -> None:
-    """`--version` says what the service is, which form its journal has, and which engine it finds."""
+    """`--version` says what the service is, which form its journal has, and which engine it finds; the other commands
+    name themselves and the version that the file VERSION has."""
     digest = subprocess.run(["sha256sum", program()], stdout=subprocess.PIPE, check=True).stdout.split()[0].decode()
     done = subprocess.run([str(KEEP), "--version"], stdout=subprocess.PIPE, check=True)
     told = done.stdout.decode().splitlines()
-    need(len(told) == 3 and re.fullmatch(r"service/keep \d+\.\d+", told[0]) is not None, f"{told}")
+    need(len(told) == 3 and told[0] == f"service/keep {VERSION}", f"{told}")
     need(told[1].startswith("journal form 2;") and told[2] == f"engine {program()} (SHA-256 {digest})", f"{told}")
+    for name in ("door", "articles", "connect", "grid", "press", "redis"):
+        done = subprocess.run([str(SERVICE / name), "--version"], stdout=subprocess.PIPE, check=True)
+        need(done.stdout.decode() == f"service/{name} {VERSION}\n", f"{name}: {done.stdout.decode()}")
 
 
 def a_reply_follows_its_sync() -> None:

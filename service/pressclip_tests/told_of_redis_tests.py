@@ -3,6 +3,7 @@ hits through a grid."""
 
 from __future__ import annotations
 
+import json
 import os
 import shutil
 import signal
@@ -12,6 +13,7 @@ from pathlib import Path
 from pressclip_service.engine import program
 from pressclip_service.names import MATCH
 from pressclip_service.parts import Heard, match_answer, reply_of
+from pressclip_service.place import VERSION
 
 from .grid_runs import Grid, Role, end
 from .inputs import Source, joined
@@ -39,6 +41,18 @@ def settings_are_written_at_once() -> None:
         wait_until(lambda: "has the snapshot of 0-0" in Path(half.told.name).read_text(), grid.told)
         half.kill()
         half.told.close()
+
+
+def a_grid_names_the_version_that_made_it() -> None:
+    """The version stands beside the settings, which whoever made the grid before it did reads by their names. A grid
+    that lacks it, as one of before, is used as it is, and stays without."""
+    with folder() as name, Grid(Path(name), 1, 1) as grid:
+        need(grid.redis.asked("HGET", f"{PREFIX}settings", "version") == VERSION, "another version")
+        need(grid.redis.asked("HMGET", f"{PREFIX}settings", "shards", "replicas", "limit") == "1\n1\n1000000", "others")
+        grid.redis.asked("HSET", "pressclip:old:settings", "shards", "1", "replicas", "1", "limit", "9", "mark", "aa")
+        grid.run("--grid", "old", "init", "--shards", "1", "--limit", "9")
+        told = json.loads(grid.run("--grid", "old", "status").splitlines()[0])
+        need((told["limit"], told["version"]) == (9, None), str(told))
 
 
 def strange_entries_are_passed_over() -> None:
@@ -212,5 +226,6 @@ def what_frees_memory_goes_on() -> None:
         client.close()
 
 
-TESTS = (settings_are_written_at_once, strange_entries_are_passed_over, hits_are_put_together, hits_go_through_a_grid,
-         a_replica_is_told_and_waited_for, an_emptied_redis_is_told, an_older_file_is_told, what_frees_memory_goes_on)
+TESTS = (settings_are_written_at_once, a_grid_names_the_version_that_made_it, strange_entries_are_passed_over, hits_are_put_together,
+         hits_go_through_a_grid, a_replica_is_told_and_waited_for, an_emptied_redis_is_told, an_older_file_is_told,
+         what_frees_memory_goes_on)

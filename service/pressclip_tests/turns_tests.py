@@ -11,6 +11,7 @@ import time
 from pathlib import Path
 from typing import Callable
 
+from pressclip_service.place import VERSION
 from pressclip_service.turns import Sign, State, Turns
 
 from .grid_runs import Chaos, Grid, Role, end
@@ -137,7 +138,8 @@ def the_status_says_who_is_where() -> None:
         wait_until(lambda: standings(grid)["worker 0:0"]["request"] == 5, lambda: str(standings(grid)))
         time.sleep(2)
         found = standings(grid)
-        need(found["grid"] == {"grid": "grid", "shards": 2, "replicas": 1, "limit": 1_000_000, "requests": 5},
+        need(found["grid"] == {"grid": "grid", "shards": 2, "replicas": 1, "limit": 1_000_000, "requests": 5,
+                               "version": VERSION},
              str(found["grid"]))
         for role, request, behind, state in (("worker 0:0", 5, 0, "ready"), ("worker 1:0", 2, 3, "ready"),
                                              ("gather", 2, 3, "ready"), ("tidy", 0, 5, "ready")):

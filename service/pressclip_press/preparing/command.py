@@ -10,6 +10,7 @@ from typing import TYPE_CHECKING
 
 from pressclip_service.errors import NoReader, read_block, tell, write_all
 from pressclip_service.lines import BLOCK_BYTES, LineCutter, is_blank
+from pressclip_service.place import command_name
 from pressclip_service.streams import INPUT, OUTPUT, can_write
 
 from .preparer import Preparer
@@ -17,7 +18,7 @@ from .preparer import Preparer
 if TYPE_CHECKING:
     from ..profile import Profile
 
-NAME = "service/press"
+NAME = command_name("press")
 MOST_LINE_BYTES = 16 << 20
 
 
