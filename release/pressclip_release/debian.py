@@ -21,7 +21,9 @@ PYTHON = "usr/lib/python3/dist-packages/pressclip"
 DOC = "usr/share/doc/pressclip"
 # What of the examples is for the checkout alone.
 OF_TESTS = ("Makefile", "stdout", "tests.rs")
-UNITS = ("pressclip-keep.service", "pressclip-door.service")
+UNITS = TOP / "service" / "units"
+INSTALLED_UNITS = ("pressclip-keep.service", "pressclip-door.service")
+HARDENED = "hardened.conf"
 CONFIGURATION = {"etc/pressclip/door.toml": "door.toml", "etc/default/pressclip-keep": "pressclip-keep.default"}
 FOR_ARCHIVES = ("--strip-debug", "--enable-deterministic-archives")
 # What of service/ is for who changes it.
@@ -151,8 +153,9 @@ class Package:
         self._tree.copy(HERE / "lintian-overrides", "usr/share/lintian/overrides/pressclip", 0o644)
 
     def _settings(self) -> None:
-        for name in UNITS:
-            self._tree.copy(HERE / name, f"lib/systemd/system/{name}", 0o644)
+        for name in INSTALLED_UNITS:
+            self._tree.copy(UNITS / name, f"lib/systemd/system/{name}", 0o644)
+            self._tree.copy(UNITS / HARDENED, f"lib/systemd/system/{name}.d/{HARDENED}", 0o644)
         for name, here in CONFIGURATION.items():
             self._tree.copy(HERE / here, name, 0o644)
 

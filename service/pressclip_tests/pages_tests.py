@@ -76,7 +76,7 @@ def a_unit_starts_the_worker_of_its_name() -> None:
     words = re.fullmatch(r"/bin/bash -c '(.*)'", command)
     need(words is not None, command)
     assert words
-    script = words[1].replace("/opt/pressclip/service/grid", "echo").replace("exec ", "")
+    script = words[1].replace("/usr/bin/pressclip-grid", "echo").replace("exec ", "")
     told = subprocess.run(["/bin/bash", "-c", script], stdout=subprocess.PIPE, check=True).stdout.decode()
     need(told == "worker --shard 2 --replica 1 -- pressclip run 0\n", f"it starts {told!r}")
 
