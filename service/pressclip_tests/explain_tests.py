@@ -16,6 +16,7 @@ from .texts_in_scripts import TEXTS
 Told = dict[str, Any]
 BUILT = Path(__file__).resolve().parents[2] / "crates" / "pressclip_explain" / "out" / "pressclip-explain"
 ROWS = Path(__file__).resolve().parent / "queries_of_press_desks.jsonl"
+VERSION = (Path(__file__).resolve().parents[2] / "VERSION").read_bytes()
 USAGE = b"usage: pressclip-explain [--plain]\n"
 PIECES = ["tea", "Title", "wi-fi", "é", "日本", " ", " ", " ", "+", "-", "!", "(", ")", "\"", "*", "*:*", "title:", ":",
           "AND", "OR", "NOT", "&&", "||", "&", "|", "[", "]", "{", "}", "a TO b", "\\", "\\u0041", "\\u", "~", "^2",
@@ -81,11 +82,18 @@ def alerts_of(queries: Sequence[str], articles: Sequence[dict[str, str]]) -> lis
 
 def other_words_are_refused() -> None:
     """With what there is on standard error, status 2, and nothing read."""
-    for words in (["--help"], ["--plain", "--plain"], ["run"]):
+    for words in (["--help"], ["--plain", "--plain"], ["run"], ["--version", "--plain"]):
         done = explained(words, b'{"query":"tea"}\n')
         need(done.returncode == 2, f"{words} ended with status {done.returncode}")
         same(done.stderr, USAGE, f"{words} on standard error")
         same(done.stdout, b"", f"{words} on standard output")
+
+
+def the_explainer_tells_its_version() -> None:
+    """By the file VERSION, on standard output alone, with nothing read."""
+    done = explained(["--version"], b'{"query":"tea"}\n')
+    same(done.stdout, b"pressclip-explain " + VERSION, "the version")
+    need((done.returncode, done.stderr) == (0, b""), f"it ended with status {done.returncode}: {done.stderr!r}")
 
 
 def a_full_disk_ends_the_program() -> None:
@@ -213,6 +221,6 @@ def people_get_a_caret_under_the_place() -> None:
 
 
 TESTS: tuple[Callable[[], None], ...] = (
-    other_words_are_refused, a_full_disk_ends_the_program, other_lines_are_refused, each_fault_is_told, a_query_is_told,
+    other_words_are_refused, the_explainer_tells_its_version, a_full_disk_ends_the_program, other_lines_are_refused, each_fault_is_told, a_query_is_told,
     a_line_of_the_protocol_is_judged, desks_are_told_what_they_mean, both_programs_refuse_the_same_texts,
     words_stand_where_the_engine_hits, people_get_a_caret_under_the_place)

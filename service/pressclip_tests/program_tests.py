@@ -13,6 +13,7 @@ from pressclip_service.engine import program
 from .judge import need, same
 
 DATA = Path(__file__).resolve().parents[2] / "crates" / "examples" / "data"
+VERSION = (Path(__file__).resolve().parents[2] / "VERSION").read_bytes()
 USAGE = b"usage: pressclip run [workers] [hits] | pressclip trace\n"
 
 
@@ -39,12 +40,23 @@ def hits_are_shown_where_the_words_ask() -> None:
 
 def other_words_are_refused() -> None:
     """With what there is on standard error, status 2, and nothing read."""
-    refused: list[list[str]] = [[], ["run", "hits", "4"], ["run", "65", "hits"], ["trace", "hits"], ["hits"]]
+    refused: list[list[str]] = [[], ["run", "hits", "4"], ["run", "65", "hits"], ["trace", "hits"], ["hits"],
+                                ["--version", "run"]]
     for words in refused:
         done = run(words, b'{"op":"count"}\n')
         need(done.returncode == 2, f"{words} ended with status {done.returncode}")
         same(done.stderr, USAGE, f"{words} on standard error")
         same(done.stdout, b"", f"{words} on standard output")
+
+
+def the_version_is_told() -> None:
+    """By the file VERSION, on standard output alone, with nothing read; a full disk is its fault."""
+    done = run(["--version"], b'{"op":"count"}\n')
+    same(done.stdout, b"pressclip " + VERSION, "the version")
+    need((done.returncode, done.stderr) == (0, b""), f"it ended with status {done.returncode}: {done.stderr!r}")
+    with open("/dev/full", "wb") as full:
+        done = subprocess.run([str(program()), "--version"], stdout=full, stderr=subprocess.PIPE, check=False)
+    need((done.returncode, done.stderr) == (1, b"pressclip: write fault\n"), f"a full disk gives {done}")
 
 
 def faults_of_a_match(queries: int, articles: int) -> int:
@@ -66,4 +78,4 @@ def memory_of_an_article_serves_the_next() -> None:
 
 
 TESTS: tuple[Callable[[], None], ...] = (hits_are_shown_where_the_words_ask, other_words_are_refused,
-                                         memory_of_an_article_serves_the_next)
+                                         the_version_is_told, memory_of_an_article_serves_the_next)

@@ -85,13 +85,17 @@ _ARGUMENTS: dict[str, list[Any]] = {
 }
 _GIVES: dict[str, Any] = {"word": c_char_p, "version": c_char_p, "result_count": c_size_t}
 _GIVE_NOTHING = ["shared_close", "snapshot_free", "result_free", "free"]
+# Calls so short that the interpreter's lock is kept: to wait for it again would cost more, where threads match.
+_SHORT = ["result_count", "result_all", "result_free", "free", "word", "version"]
 
 
 def _declared(library: ctypes.CDLL) -> ctypes.CDLL:
     """The library, whose calls know what they are handed; `ImportError` where it is older than this package."""
+    keeping = ctypes.PyDLL(library._name, handle=library._handle)
     try:
         for name, arguments in _ARGUMENTS.items():
-            call = getattr(library, f"pressclip_{name}")
+            call = getattr(keeping if name in _SHORT else library, f"pressclip_{name}")
+            setattr(library, f"pressclip_{name}", call)
             call.argtypes = arguments
             call.restype = None if name in _GIVE_NOTHING else _GIVES.get(name, c_int)
     except AttributeError as error:

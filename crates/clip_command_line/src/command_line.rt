@@ -65,7 +65,8 @@ fn run_mode(words: &[String]) -> Option<Mode>
 }
 
 /// What the words after the program's name ask for: `run`, after it or not a number of workers of one or two digits and
-/// at most 64, and after that or not `hits`; or `trace`; `None` for all else. Linear in the words' first bytes.
+/// at most 64, and after that or not `hits`; or `trace`, or `--version`; `None` for all else. Linear in the words' first
+/// bytes.
 pub fn mode(words: &[String]) -> Option<Mode>
     ensures named { result ≡ mode_of words.now }
     ensures few { IfSome result HasFewWorkers }
@@ -75,6 +76,8 @@ pub fn mode(words: &[String]) -> Option<Mode>
         run_mode(rest)
     } else if word.as_str() == "trace" && rest.is_empty() {
         Some(Mode::Trace)
+    } else if word.as_str() == "--version" && rest.is_empty() {
+        Some(Mode::Version)
     } else {
         None
     }

@@ -4,7 +4,9 @@
 pub mod command_line;
 mod listeners;
 mod mode;
+mod version;
 
 pub use command_line::ending;
 pub use listeners::{FEED_NAME, MAIL_NAME, feed, mail, named};
 pub use mode::Mode;
+pub use version::VERSION;

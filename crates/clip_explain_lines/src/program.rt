@@ -4,6 +4,7 @@ ghost use Rattle.std.specs.Process.{exit_status};
 
 use crate::form::Form;
 use crate::session::explain_lines;
+use clip_command_line::VERSION;
 use clip_stream::{RunFault, StdSink, StdSource};
 use std::io::ErrorKind;
 use std::process::ExitCode;
@@ -38,18 +39,28 @@ fn end<R: Eprint>(rt: &R, fault: RunFault) -> ExitCode
     }
 }
 
-/// The form that the words after the program's name ask for: none, or `--plain`. An error where there is no memory for
-/// them, or where one is no text.
-fn form_of<R: Env + AllocGlobal>(rt: &R) -> io::Result<Option<Form>> {
+/// What the program is to do.
+enum Mode {
+    /// Explain lines, in this form.
+    Lines(Form),
+    /// Tell the version.
+    Version,
+}
+
+/// What the words after the program's name ask for, if anything: none, `--plain` or `--version`. An error where there is
+/// no memory for them, or where one is no text.
+fn mode_of<R: Env + AllocGlobal>(rt: &R) -> io::Result<Option<Mode>> {
     let mut words = Vec::new(rt.alloc());
     for word in env::args(rt)?.skip(1) {
         words.push(word)?;
     }
     match words.as_slice() {
-        [] => Ok(Some(Form::Json)),
+        [] => Ok(Some(Mode::Lines(Form::Json))),
         [word] => {
             if word.as_str() == "--plain" {
-                Ok(Some(Form::Plain))
+                Ok(Some(Mode::Lines(Form::Plain)))
+            } else if word.as_str() == "--version" {
+                Ok(Some(Mode::Version))
             } else {
                 Ok(None)
             }
@@ -58,15 +69,30 @@ fn form_of<R: Env + AllocGlobal>(rt: &R) -> io::Result<Option<Form>> {
     }
 }
 
-/// Explains the lines of standard input on standard output, as JSON lines or, with `--plain`, for people.
+/// Tells the version on standard output, as `pressclip-explain 1.0.0`.
+fn tell_version<R: Print + Eprint>(rt: &R) -> ExitCode
+    ensures { exit_status result ≤ 2 }
+{
+    let told = rt
+        .print("pressclip-explain ")
+        .and_then(|_| rt.println(VERSION));
+    match told {
+        Ok(()) => ExitCode::from(0),
+        Err(_) => end(rt, RunFault::Write),
+    }
+}
+
+/// Explains the lines of standard input on standard output, as JSON lines or, with `--plain`, for people; with
+/// `--version` it tells the version there.
 ///
 /// The status is 0 where it ended well, 1 after a fault, and 2 for other words; the fault, or the words that there are,
 /// is said on standard error. The cost is that of `explain_lines`.
 pub fn play<R: Env + Input + Print + Eprint + AllocGlobal>(rt: &R) -> ExitCode
     ensures { exit_status result ≤ 2 }
 {
-    let form = match form_of(rt) {
-        Ok(Some(form)) => form,
+    let form = match mode_of(rt) {
+        Ok(Some(Mode::Lines(form))) => form,
+        Ok(Some(Mode::Version)) => return tell_version(rt),
         Ok(None) => return end_with(rt, REFUSED, USAGE),
         Err(error) => {
             if error.kind() == ErrorKind::OutOfMemory {

@@ -3,7 +3,7 @@ ghost use Rattle.std.specs.Prelude.{◌≤◌};
 ghost use Rattle.std.specs.Process.{exit_status};
 
 use crate::ending::{end, end_refused};
-use crate::streams::{run_heard, run_traced};
+use crate::streams::{run_heard, run_traced, told_version};
 use crate::words::words_of;
 use clip_command_line::{Mode, command_line};
 use clip_stream::RunFault;
@@ -14,8 +14,8 @@ use std::sync::Wait;
 use std::thread::Threads;
 
 /// Does what the words after the program's name ask for: `run`, with a number of workers or without, and with `hits` or
-/// without, answers the requests of standard input on standard output, with the listeners `mail` and `feed`, and
-/// `trace` plays the events of standard input.
+/// without, answers the requests of standard input on standard output, with the listeners `mail` and `feed`, `trace`
+/// plays the events of standard input, and `--version` tells the version on standard output.
 ///
 /// The status is 0 where it ended well, 1 after a fault, and 2 for other words; the fault, or the words that there are,
 /// is said on standard error. The cost is that of `run`, or of `run_trace`.
@@ -28,6 +28,7 @@ pub fn play<R: Env + Input + Print + Eprint + Threads + Wait + Sync + AllocGloba
         Ok(words) => match command_line::mode(&words) {
             Some(Mode::Run(workers, form)) => end(rt, &run_heard(rt, workers, form)),
             Some(Mode::Trace) => end(rt, &run_traced(rt)),
+            Some(Mode::Version) => end(rt, &told_version(rt)),
             None => end_refused(rt),
         },
         Err(error) => {

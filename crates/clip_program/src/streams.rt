@@ -2,7 +2,7 @@
 ghost use Rattle.std.specs.Prelude.{◌≤◌};
 
 use crate::memory::keep_freed;
-use clip_command_line::{feed, mail, named};
+use clip_command_line::{VERSION, feed, mail, named};
 use clip_listen::Listeners;
 use clip_run::{Ended, Form, OpenGate, Settings, run};
 use clip_stream::{MOST_WORKERS, RunFault, StdSink, StdSource};
@@ -52,4 +52,10 @@ pub fn run_traced<R: Input + Print + AllocGlobal>(rt: &R) -> Result<Ended, RunFa
     let mut source = StdSource::new(rt.reader());
     let mut sink = StdSink::new(io::writer(rt));
     run_trace(rt.alloc(), &mut source, &mut sink)
+}
+
+/// Tells the version on standard output, as `pressclip 1.0.0`; `Write` where that fails.
+pub fn told_version<R: Print>(rt: &R) -> Result<(), RunFault> {
+    let told = rt.print("pressclip ").and_then(|_| rt.println(VERSION));
+    told.map_err(|_| RunFault::Write)
 }

@@ -7,7 +7,7 @@ use clip_stream::RunFault;
 use std::test::Fail;
 
 /// Rows: some words, and what they ask for.
-static WORDS: [(&[&str], Option<Mode>); 20] = [
+static WORDS: [(&[&str], Option<Mode>); 22] = [
     (&["run"], Some(Mode::Run(4, Form::Plain))),
     (&["trace"], Some(Mode::Trace)),
     (&["runs"], None),
@@ -28,6 +28,8 @@ static WORDS: [(&[&str], Option<Mode>); 20] = [
     (&["run", "hits", "4"], None),
     (&["run", "65", "hits"], None),
     (&["hits"], None),
+    (&["--version"], Some(Mode::Version)),
+    (&["--version", "run"], None),
 ];
 
 #[test]
