@@ -535,11 +535,18 @@ def an_interpreter_ends_whatever_is_open() -> None:
     assert run_python(LEFT_OPEN) == (0, "q0\n", "")
 
 
+def copy_package(source: Path) -> None:
+    """Copies the package, with the licence and the version that a source archive has."""
+    shutil.copytree(PACKAGE, source, ignore=shutil.ignore_patterns("__pycache__", "build", "*.egg-info"))
+    for name in ("LICENSE", "VERSION"):
+        shutil.copyfile(TOP / name, source / name)
+
+
 def built(folder: str, *words: str, **variables: str) -> Path:
     """The file that pip or the build backend makes of a copy of the package, and in which folder."""
     source, into = Path(folder, "source"), Path(folder, "made")
     shutil.rmtree(source, ignore_errors=True)
-    shutil.copytree(PACKAGE, source, ignore=shutil.ignore_patterns("__pycache__", "build", "*.egg-info"))
+    copy_package(source)
     shutil.rmtree(into, ignore_errors=True)
     into.mkdir()
     environment = {name: value for name, value in os.environ.items() if name != "PRESSCLIP_LIBRARY"}
@@ -592,7 +599,7 @@ def an_editable_install_uses_the_checkout() -> None:
     """Its modules are those of the folder, and no library is copied."""
     with tempfile.TemporaryDirectory() as folder:
         source, into = Path(folder, "source"), Path(folder, "environment")
-        shutil.copytree(PACKAGE, source, ignore=shutil.ignore_patterns("__pycache__", "build", "*.egg-info"))
+        copy_package(source)
         subprocess.run(["/usr/bin/python3", "-m", "venv", "--without-pip", "--system-site-packages", into], check=True)
         subprocess.run([into / "bin" / "python3", "-m", "pip", "install", "-q", "--no-index", "--no-build-isolation",
                         "-e", source], check=True, stdout=subprocess.DEVNULL, stderr=subprocess.DEVNULL,

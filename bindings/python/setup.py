@@ -28,10 +28,9 @@ Or set PRESSCLIP_LIBRARY to its path, or to nothing for a package without it."""
 
 def bring_files_of_the_checkout() -> None:
     """The licence and the version stand at the top of a checkout, and beside this file in a source archive."""
-    top = HERE.parent.parent
     for name in ("LICENSE", "VERSION"):
         if (OF_CHECKOUT / "build").exists():
-            shutil.copyfile(top / name, HERE / name)
+            shutil.copyfile(HERE.parent.parent / name, HERE / name)
 
 
 def library() -> Path | None:

@@ -39,6 +39,8 @@ def sources(work: Path) -> Path:
     bindings = work / "bindings"
     shutil.copytree(TOP / "bindings" / "python", bindings / "python",
                     ignore=shutil.ignore_patterns("build", "dist", "*.egg-info", "__pycache__", ".*"))
+    for name in ("LICENSE", "VERSION"):
+        shutil.copy(TOP / name, work)
     (bindings / "c").mkdir()
     shutil.copy(TOP / "bindings" / "c" / "build", bindings / "c")
     stripped(shared_library(), bindings / "c")
