@@ -95,6 +95,7 @@ impl<S: Store> Journal<S> {
             → LeavesOnly S.moment S.left_since self.old.store self.new.store
             (IsFront (with_command kept said.now) safe) }
         ensures ended { self.old.is_open ≡ false → IsErrOf result JournalFault.Ended }
+        ensures open { IsErrOf result JournalFault.Ended → self.old.is_open ≡ false }
         ensures full { IsErrOf result JournalFault.Full
             → (2 ^ 63 - 1 ≤ self.old.accepted) ⊎ (2 ^ 63 - 1 ≤ self.old.place) }
         ensures unchanged { IsErrOf result JournalFault.Ended ⊎ IsErrOf result JournalFault.Full
@@ -128,6 +129,7 @@ impl<S: Store> Journal<S> {
         ensures any_moment { (kept : Kept) (safe : ℕ) → Stands S.seen S.may_leave self.old kept safe
             → LeavesOnly S.moment S.left_since self.old.store self.new.store (IsFront kept safe) }
         ensures ended { self.old.is_open ≡ false → IsErrOf result JournalFault.Ended }
+        ensures open { IsErrOf result JournalFault.Ended → self.old.is_open ≡ false }
         ensures unchanged { IsErrOf result JournalFault.Ended → self.new ≡ self.old }
     {
         if !self.is_open {
@@ -155,6 +157,7 @@ impl<S: Store> Journal<S> {
             → LeavesOnly S.moment S.left_since self.old.store self.new.store (λ left.
             IsFront kept safe left ⊎ IsFront (compacted self.old.accepted (says live.now)) 0 left) }
         ensures ended { self.old.is_open ≡ false → IsErrOf result JournalFault.Ended }
+        ensures open { IsErrOf result JournalFault.Ended → self.old.is_open ≡ false }
         ensures full { IsErrOf result JournalFault.Full
             → (2 ^ 63 - 1 ≤ self.old.accepted) ⊎ (2 ^ 63 - 1 ≤ length live.now) }
         ensures unchanged { IsErrOf result JournalFault.Ended ⊎ IsErrOf result JournalFault.Full
