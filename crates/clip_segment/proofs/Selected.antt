@@ -7,21 +7,22 @@ use Rattle.clip_segment.specs.Selecting.{AreFlagsOf, AreIndexesOf, flagged, kept
 use Rattle.clip_model.specs.History.{Registered}
 use Rattle.clip_segment.specs.Segment.{trees_of}
 
--- the queries of flagged entries
-flagged_trees : (flags : List Bool) (es : List Registered) → flagged flags (trees_of es) ≡ trees_of (flagged flags es)
-flagged_trees [] es = refl
-flagged_trees (flag ∷ flags) [] = refl
-flagged_trees (true ∷ flags) (e ∷ es) = ap (λ ts. e.standing.tree ∷ ts) (flagged_trees flags es)
-flagged_trees (false ∷ flags) (e ∷ es) = flagged_trees flags es
+-- what is taken of the items whose flags are set
+flagged_map : {A B : Type 0} (f : A → B) (flags : List Bool) (xs : List A)
+    → flagged flags (map f xs) ≡ map f (flagged flags xs)
+flagged_map f [] xs = refl
+flagged_map f (flag ∷ flags) [] = refl
+flagged_map f (true ∷ flags) (x ∷ xs) = ap (λ ys. f x ∷ ys) (flagged_map f flags xs)
+flagged_map f (false ∷ flags) (x ∷ xs) = flagged_map f flags xs
 
-pub kept_trees : (segments : List (List Registered)) (flags : List (List Bool)) → kept_of (map trees_of segments) flags
-    ≡ trees_of (kept_of segments flags)
-kept_trees [] flags = refl
-kept_trees (segment ∷ segments) [] = refl
-kept_trees (segment ∷ segments) (flags ∷ more) =
-    ap (λ ts. ts ++ kept_of (map trees_of segments) more) (flagged_trees flags segment)
-    ∙ ap (λ ts. trees_of (flagged flags segment) ++ ts) (kept_trees segments more)
-    ∙ sym (map-append (λ (e : Registered). e.standing.tree) (flagged flags segment) (kept_of segments more))
+pub kept_map : {A B : Type 0} (f : A → B) (lists : List (List A)) (flags : List (List Bool))
+    → kept_of (map (map f) lists) flags ≡ map f (kept_of lists flags)
+kept_map f [] flags = refl
+kept_map f (xs ∷ lists) [] = refl
+kept_map f (xs ∷ lists) (flags ∷ more) =
+    ap (λ ys. ys ++ kept_of (map (map f) lists) more) (flagged_map f flags xs)
+    ∙ ap (λ ys. map f (flagged flags xs) ++ ys) (kept_map f lists more)
+    ∙ sym (map-append f (flagged flags xs) (kept_of lists more))
 
 lengths : (segments : List (List Registered)) → map length (map trees_of segments) ≡ map length segments
 lengths [] = refl

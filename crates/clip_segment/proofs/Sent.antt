@@ -3,6 +3,7 @@ use denote.Param.Send.{IsSend, IsSync, view_send, view_sync, sendable}
 use denote.Param.SendFields.{declared_send, declared_sync}
 use Rattle.std.proofs.alloc.Global.TheSendSync as global_sent
 use Rattle.std.below.std_heap.proofs.GlobalAllocator.TheSendSync as allocator_sent
+use Rattle.std.proofs.string.String.TheSendSync as string_sent
 use Rattle.std.proofs.sync.Arc.TheSendSync as arc_sent
 use Rattle.std.proofs.vec.Vec.TheSendSync as vec_sent
 use Rattle.clip_pieces.proofs.marks.Marks.TheSendSync as marks_sent
@@ -12,6 +13,9 @@ use Rattle.clip_plan.proofs.Sent.{plans_send, plans_sync}
 use Rattle.clip_standing.proofs.Sent.{entry_send, entry_sync}
 use Rattle.clip_segment.specs.contracts.index.Index as index
 use Rattle.clip_segment.specs.contracts.index.Index.TheInside as index_inside
+use Rattle.clip_segment.specs.contracts.labels.Labels as labels
+use Rattle.clip_segment.specs.contracts.packed_texts.PackedTexts as texts
+use Rattle.clip_segment.specs.contracts.packed_texts.PackedTexts.TheInside as texts_inside
 use Rattle.clip_segment.specs.contracts.segment.Segment as segment
 use Rattle.clip_segment.specs.contracts.segment.Segment.TheInside as segment_inside
 
@@ -37,16 +41,36 @@ index_sync = view_sync index_inside.the_row _ _ _ _
       ),
     ))
 
+texts_send : IsSend texts.the_row
+texts_send = view_send texts_inside.the_row _ _ _ _
+    (declared_send texts_inside.the_type (
+      search (global, string_sent.the_send),
+      (search (global, vec_sent.the_send), tt),
+    ))
+
+texts_sync : IsSync texts.the_row
+texts_sync = view_sync texts_inside.the_row _ _ _ _
+    (declared_sync texts_inside.the_type (
+      search (global, string_sent.the_sync),
+      (search (global, vec_sent.the_sync), tt),
+    ))
+
+labels_send : IsSend labels.the_row
+labels_send = declared_send labels.the_type (texts_send, (search (global, vec_sent.the_send), tt))
+
+labels_sync : IsSync labels.the_row
+labels_sync = declared_sync labels.the_type (texts_sync, (search (global, vec_sent.the_sync), tt))
+
 pub segment_send : IsSend segment.the_row
 segment_send = view_send segment_inside.the_row _ _ _ _
     (declared_send segment_inside.the_type (
       search (global, vec_sent.the_send, arc_sent.the_send, entry_send, entry_sync),
-      (search (global, vec_sent.the_send), (index_send, tt)),
+      (search (global, vec_sent.the_send), (labels_send, (index_send, tt))),
     ))
 
 pub segment_sync : IsSync segment.the_row
 segment_sync = view_sync segment_inside.the_row _ _ _ _
     (declared_sync segment_inside.the_type (
       search (global, vec_sent.the_sync, arc_sent.the_sync, entry_send, entry_sync),
-      (search (global, vec_sent.the_sync), (index_sync, tt)),
+      (search (global, vec_sent.the_sync), (labels_sync, (index_sync, tt))),
     ))

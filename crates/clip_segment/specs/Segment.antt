@@ -1,5 +1,5 @@
 -- The entries of segments, and the positions at which they hold keys.
-use Rattle.std.specs.Prelude.{ℕ, ◌<◌, Bool, List, [], ◌∷◌, ◌++◌, map, filter}
+use Rattle.std.specs.Prelude.{ℕ, ◌<◌, Bool, List, [], ◌∷◌, ◌++◌, map, filter, is_some}
 use Rattle.std.specs.List.{enumerate_from, list_any, AllPairs}
 use Rattle.clip_extract.specs.Extraction.{query_keys}
 use Rattle.clip_extract.specs.Keys.{KeyValue, is_same, share}
@@ -23,6 +23,14 @@ positions_sharing keys entries =
 -- the queries of entries
 abbrev pub trees_of : List Registered → List Tree
 trees_of entries = map (λ e. e.standing.tree) entries
+
+-- the ids of their queries
+abbrev pub ids_of : List Registered → List (List ℕ)
+ids_of entries = map (λ e. e.standing.id) entries
+
+-- whether each of their queries has a listener
+abbrev pub heard_of : List Registered → List Bool
+heard_of entries = map (λ e. is_some e.standing.listener) entries
 
 abbrev pub seqs_of : List Registered → List ℕ
 seqs_of entries = map (λ e. e.seq) entries

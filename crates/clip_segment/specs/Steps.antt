@@ -4,3 +4,4 @@ pub mod Parts
 pub mod ReadingView
 pub mod SegmentView
 pub mod SpotsView
+pub mod TextsView

@@ -8,7 +8,7 @@ ghost use Rattle.clip_extract.specs.Extraction.{query_keys};
 ghost use Rattle.clip_extract.specs.Keys.{share};
 ghost use Rattle.clip_meaning.specs.Meaning.{holds};
 ghost use Rattle.clip_model.specs.History.{Registered};
-ghost use Rattle.clip_segment.specs.Segment.{positions_sharing};
+ghost use Rattle.clip_segment.specs.Segment.{heard_of, ids_of, positions_sharing};
 
 use crate::marking::marks_under;
 use crate::segment::Segment;
@@ -101,6 +101,22 @@ impl<'a> SegmentReading<'a> {
         ensures { option_map arc_value (option_copied result) ≡ slice_get self.now.entries position }
     {
         self.segment.entry(position)
+    }
+
+    /// The id of the query of the entry at a position from 0, or `None` past the end; no entry is looked at. Takes no
+    /// memory. Constant time.
+    pub fn id(&self, position: u32) -> Option<&'a str>
+        ensures { option_copied result ≡ slice_get (ids_of self.now.entries) position }
+    {
+        self.segment.id(position)
+    }
+
+    /// Whether the query of the entry at a position from 0 has a listener; none has one past the end. No entry is
+    /// looked at. Takes no memory. Constant time.
+    pub fn has_listener(&self, position: u32) -> bool
+        ensures { result ≡ slice_index_or (heard_of self.now.entries) position false }
+    {
+        self.segment.has_listener(position)
     }
 
     /// Whether the query of the entry at a position may hold of the article: `false` rules it out, by its first clause,

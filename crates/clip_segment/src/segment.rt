@@ -2,12 +2,13 @@
 //!
 //!     entries  0: q7 `tea`    1: q9 `+tea +milk`    one `Arc` each, shared with the roster
 //!     seqs     0: 7           1: 9                  rising; found without touching an entry
+//!     labels   0: `q7`        1: `q9`, a listener   ids and who has a listener; so are these
 //!     index    who has which key, and a plan of each query
 //!
 //! `entry(1)` is q9, `position_of(9)` is 1, and `positions_with(text=milk)` is `[1]`: the weakest word of a query that
 //! asks for both is its key.
-ghost use Rattle.std.specs.Prelude.{◌≡◌, ℕ, ◌==◌, ◌<◌, ◌≤◌, IfOk, IfSome, None, Some, length, map, option_map};
-ghost use Rattle.std.specs.Prelude.{vec_items};
+ghost use Rattle.std.specs.Prelude.{◌≡◌, ℕ, ◌==◌, ◌<◌, ◌≤◌, IfOk, IfSome, None, Some, false, length, map};
+ghost use Rattle.std.specs.Prelude.{option_map, slice_index_or, vec_items};
 ghost use Rattle.std.specs.Arc.{arc_value};
 ghost use Rattle.std.specs.List.{All, AllPairs, slice_get};
 ghost use Rattle.std.specs.Option.{option_copied};
@@ -15,10 +16,11 @@ ghost use Rattle.clip_extract.specs.Keys.{key_of};
 ghost use Rattle.clip_grammar.specs.Tree.{tree_of};
 ghost use Rattle.clip_segment.specs.Index.{IsIndexOf};
 ghost use Rattle.clip_segment.specs.Selecting.{AreFlagsOf, count_set, kept_of};
-ghost use Rattle.clip_segment.specs.Segment.{IsRising, positions_with, trees_of, seqs_of};
+ghost use Rattle.clip_segment.specs.Segment.{IsRising, heard_of, ids_of, positions_with, seqs_of, trees_of};
 ghost use Rattle.clip_segment.specs.declared.segment.TheConstants.{MOST_POSITIONS};
 
 use crate::index::Index;
+use crate::labels::Labels;
 use crate::marking::marks_under;
 use crate::reading::SegmentReading;
 use crate::selecting::{kept_entries, kept_index};
@@ -39,6 +41,7 @@ pub const MOST_POSITIONS: usize = 4_294_967_295;
 pub struct Segment {
     entries: Vec<Arc<Entry>>,
     seqs: Vec<u64>,
+    labels: Labels,
     index: Index,
 }
 
@@ -47,6 +50,7 @@ impl Drop for Segment {
         let Segment {
             entries: _,
             seqs: _,
+            labels: _,
             index: _,
         } = self;
     }
@@ -102,19 +106,21 @@ fn seqs_of(alloc: Global, entries: &[Arc<Entry>]) -> Result<Vec<u64>, NoMemory>
 impl Segment {
     /// The segment of these entries, which it shares. Their seqs rise, and there are at most `MOST_POSITIONS`.
     ///
-    /// `NoMemory` where an allocation failed, and where their queries have more than 4,294,967,295 terms. Cost: the
-    /// reading of their texts, an extraction of each query's keys and second keys, a sort of these and of the words of
-    /// all, and a binary search for each of them. The queries aren't kept.
+    /// `NoMemory` where an allocation failed, and where their queries have more than 4,294,967,295 terms or as many
+    /// bytes of ids. Cost: the reading of their texts, an extraction of each query's keys and second keys, a sort of
+    /// these and of the words of all, a binary search for each of them, and a copy of each id. The queries aren't kept.
     pub fn build(alloc: Global, entries: Vec<Arc<Entry>>) -> Result<Segment, NoMemory>
         requires short { length entries.items ≤ MOST_POSITIONS }
         requires rising { IsRising (map arc_value entries.items) }
         ensures { IfOk result (λ segment. segment ≡ map arc_value entries.items) }
     {
         let seqs = seqs_of(alloc, &entries)?;
+        let labels = Labels::of(alloc, &entries)?;
         let index = index_of(alloc, &entries)?;
         Ok(Segment {
             entries,
             seqs,
+            labels,
             index,
         })
     }
@@ -123,10 +129,10 @@ impl Segment {
     /// segment, with a flag for each of its entries. The seqs of the kept entries rise, and there are at most
     /// `MOST_POSITIONS`.
     ///
-    /// `NoMemory` where an allocation failed, and where the kept queries have more than 4,294,967,295 terms. Cost: that
-    /// of `Index::select`, so a comparison for each term of each segment and of those before it; a step for each flag
-    /// and each position under a term; and for each kept query a step for each word and each leaf. No query is looked
-    /// at and no text is copied but ends of ranges.
+    /// `NoMemory` where an allocation failed, and where the kept queries have more than 4,294,967,295 terms or as many
+    /// bytes of ids. Cost: that of `Index::select`, so a comparison for each term of each segment and of those before
+    /// it; a step for each flag and each position under a term; and for each kept query a step for each word and each
+    /// leaf, and a copy of its id. No query is looked at and no text is copied but ids and ends of ranges.
     pub fn select(
         alloc: Global,
         segments: &[Arc<Segment>],
@@ -140,10 +146,12 @@ impl Segment {
     {
         let entries = kept_entries(alloc, segments, kept)?;
         let seqs = seqs_of(alloc, &entries)?;
+        let labels = Labels::kept(alloc, segments, kept)?;
         let index = kept_index(alloc, segments, kept)?;
         Ok(Segment {
             entries,
             seqs,
+            labels,
             index,
         })
     }
@@ -153,6 +161,14 @@ impl Segment {
         ensures { IsIndexOf (trees_of self.now) result.now }
     {
         &self.index
+    }
+
+    /// The ids of its entries' queries, and which of these have a listener.
+    pub(crate) fn labels(&self) -> &Labels
+        ensures ids { result.now.ids ≡ ids_of self.now }
+        ensures heard { result.now.heard.items ≡ heard_of self.now }
+    {
+        &self.labels
     }
 
     /// The positions, from 0 and rising, of just the entries that hold the key. Takes no memory. Cost: a binary
@@ -194,6 +210,25 @@ impl Segment {
         ensures { option_map arc_value (option_copied result) ≡ slice_get self.now position }
     {
         self.entries.get(position as usize)
+    }
+
+    /// The id of the query of the entry at a position from 0, or `None` past the end; no entry is looked at. Takes no
+    /// memory. Constant time.
+    pub fn id(&self, position: u32) -> Option<&str>
+        ensures { option_copied result ≡ slice_get (ids_of self.now) position }
+    {
+        self.labels().ids.get(position as usize)
+    }
+
+    /// Whether the query of the entry at a position from 0 has a listener; none has one past the end. No entry is
+    /// looked at. Takes no memory. Constant time.
+    pub fn has_listener(&self, position: u32) -> bool
+        ensures { result ≡ slice_index_or (heard_of self.now) position false }
+    {
+        match self.labels().heard.get(position as usize) {
+            Some(is_heard) => *is_heard,
+            None => false,
+        }
     }
 
     /// The position of the entry that has a seq, or `None` where none has it; no entry is looked at. Takes no memory.
