@@ -15,3 +15,4 @@ pub mod Merging
 pub mod Divided
 pub mod Parts
 pub mod ShardRows
+pub mod Private

@@ -5,3 +5,4 @@ pub mod Laws
 pub mod Shards
 pub mod Standing
 pub mod Steps
+pub mod Tenants

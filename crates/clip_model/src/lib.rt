@@ -7,9 +7,11 @@ ghost use Rattle.clip_model.specs.Laws.{SeqsAreListed, DeadStaysDead};
 
 mod limits;
 mod shards;
+mod tenants;
 
 pub use limits::{MOST_ARTICLES, MOST_CALLERS, MOST_ENTRIES, MOST_LISTED, MOST_LIVE, RUN_LENGTH};
 pub use shards::law_of_shards;
+pub use tenants::private_alerts;
 
 /// What holds of histories.
 pub fn laws_of_histories()
