@@ -1,3 +1,4 @@
+pub mod Added
 pub mod Due
 pub mod Places
 pub mod Positions

@@ -1,16 +1,16 @@
 -- The positions of entries that share a key.
 use Rattle.std.proofs.Common.{◌≡◌, ℕ, ◌+◌, ◌<◌, Bool, true, false, cond, ◌&&◌, List, [], ◌∷◌, ◌++◌, map, length, get_or}
 use Rattle.std.proofs.Common.{filter, take, Some, None, unwrap_or, option_to_list, refl, sym, ap, ◌∙◌, subst}
-use Rattle.std.proofs.Common.{arith}
-use Rattle.std.specs.List.{enumerate_from, slice_get, All}
-use Rattle.std.proofs.lemmas.Option.{none-some}
+use Rattle.std.proofs.Common.{arith, ap₂, ◌||◌, Option, option_map}
+use Rattle.std.specs.List.{enumerate_from, list_any, slice_get, All}
+use Rattle.std.proofs.lemmas.Option.{none-some, slice_get-map, unwrap_or-slice_get}
 use Rattle.std.proofs.lemmas.List.{length-append, append_assoc, append-nil, length-map, get_or-map, take_more}
 use Rattle.std.proofs.lemmas.List.{map-append, flat_map_more}
 use Rattle.std.proofs.lemmas.List.Elements.{All-filter, All-cons, All-nil, filter-append}
 use Rattle.clip_model.specs.History.{Registered, History, is_live}
 use Rattle.clip_extract.specs.Keys.{KeyValue}
 use Rattle.clip_segment.specs.Segment.{positions_sharing}
-use Rattle.clip_match.specs.Steps.Positions.{has_one, placed_with, live_with, entries_at}
+use Rattle.clip_match.specs.Steps.Positions.{has_listener, has_one, placed_with, live_with, entries_at}
 
 -- ---- the entry at a position
 
@@ -153,3 +153,22 @@ pub held_split : (p : Registered → Bool) (h : History) (ks : List KeyValue) (s
     ≡ filter p (live_with h ks (segment ++ others))
 held_split p h ks segment others = sym (filter-append p (live_with h ks segment) (live_with h ks others))
     ∙ ap (filter p) (live_split h ks segment others)
+
+-- ---- listeners
+
+heard_first : (found : Option Registered) (others : List Registered)
+    → unwrap_or (option_map has_listener found) false || list_any has_listener others
+    ≡ list_any has_listener (option_to_list found ++ others)
+heard_first (Some entry) others = refl
+heard_first None others = refl
+
+-- whether the query of one of the entries at these positions has a listener
+pub heard_at : (es : List Registered) (ps : List ℕ) → list_any (λ p. get_or (map has_listener es) p false) ps
+    ≡ list_any has_listener (entries_at es ps)
+heard_at es [] = refl
+heard_at es (p ∷ ps) =
+    ap₂ (λ a b. a || b)
+    (sym (unwrap_or-slice_get (map has_listener es) p false)
+    ∙ ap (λ o. unwrap_or o false) (slice_get-map has_listener es p))
+    (heard_at es ps)
+    ∙ heard_first (slice_get es p) (entries_at es ps)

@@ -25,14 +25,14 @@ due_value due = record {
   article = due.article.now.id;
   place = due.place;
   asked = due.asked;
-  alerts = map (alert_due due.article.now) (map (λ n. n.held.registered.now) due.named.items);
+  alerts = map (alert_due due.article.now) (map (λ h. h.registered.now) due.held.items);
 }
 
 -- the hits that were found are those of the queries in the article
 abbrev pub AreTheirHits : DueEntries → Type 0
 AreTheirHits due =
-    All (λ n. AreItsHits due.article.now (map hit_value due.all_hits.value.items) n.held) due.named.items
+    All (AreItsHits due.article.now (map hit_value due.all_hits.value.items)) due.held.items
 
 -- the hits of each query were found
 abbrev pub HaveTheirHits : DueEntries → Type 0
-HaveTheirHits due = All (λ n. is_some n.held.hits ≡ true) due.named.items
+HaveTheirHits due = All (λ h. is_some h.hits ≡ true) due.held.items

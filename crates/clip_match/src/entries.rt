@@ -1,8 +1,9 @@
 //! What is due to an article, before alerts are made of it.
-ghost use Rattle.std.specs.Prelude.{◌≡◌, is_some};
+ghost use Rattle.std.specs.Prelude.{◌≡◌, map};
 ghost use Rattle.std.specs.List.{list_any};
+ghost use Rattle.clip_match.specs.Steps.Positions.{has_listener};
 
-use crate::held::Named;
+use crate::held::Held;
 use crate::matching::alerts;
 use clip_meaning::{Article, Hit};
 use clip_standing::Alerts;
@@ -18,10 +19,10 @@ pub struct DueEntries<'a> {
     pub(crate) article: &'a Article,
     pub(crate) place: u64,
     pub(crate) asked: u64,
-    pub(crate) named: Vec<Named<'a>>,
+    pub(crate) held: Vec<Held<'a>>,
     pub(crate) all_hits: Arc<Vec<Hit>>,
     pub(crate) is_heard: bool,
-    pub(crate) ghost heard: { is_heard ≡ list_any (λ n. is_some n.held.registered.now.standing.listener) named.items },
+    pub(crate) ghost heard: { is_heard ≡ list_any has_listener (map (λ h. h.registered.now) held.items) },
 }
 
 impl<'a> DueEntries<'a> {
@@ -50,9 +51,9 @@ impl<'a> DueEntries<'a> {
     pub fn queries(&self, alloc: Global) -> Result<Vec<&'a str>, NoMemory>
         ensures { IfOk result (λ ids. map (λ id. id.now) ids.items ≡ map (λ a. a.query) (due_value self.now).alerts) }
     {
-        let mut ids = Vec::with_capacity(alloc, self.named.len())?;
-        let named = self.named.as_slice();
-        for one in named {
+        let mut ids = Vec::with_capacity(alloc, self.held.len())?;
+        let held = self.held.as_slice();
+        for one in held {
             ids.push(one.id())?;
         }
         Ok(ids)
@@ -72,7 +73,7 @@ impl<'a> DueEntries<'a> {
             article,
             place,
             asked,
-            named,
+            held,
             all_hits,
             ..
         } = self;
@@ -80,7 +81,7 @@ impl<'a> DueEntries<'a> {
             article: article.shared_id().clone()?,
             place,
             asked,
-            alerts: alerts(alloc, named, article, &all_hits)?,
+            alerts: alerts(alloc, held, article, &all_hits)?,
         })
     }
 }

@@ -1,12 +1,9 @@
 //! Entries whose queries hold of an article, and when their hits are found.
-ghost use Rattle.std.specs.Prelude.{◌≡◌, ◌++◌, ◌||◌, is_some, map, true, IfOk, OnOk};
-ghost use Rattle.std.specs.List.{list_any};
+ghost use Rattle.std.specs.Prelude.{◌≡◌, None, Some, true};
 ghost use Rattle.clip_words.specs.Order.{bytes_cmp};
 
 use clip_meaning::{compare_by_leads, lead_of};
 use clip_standing::Entry;
-use clip_words::NoMemory;
-use std::alloc::Global;
 use std::cmp::Ordering;
 use std::marker::Model;
 
@@ -83,145 +80,53 @@ pub(crate) struct HitPlaces {
     pub(crate) end: usize,
 }
 
-/// An entry whose query holds of an article, with the places of its hits where they were found at once.
-#[derive(Clone, Copy)]
+/// An entry whose query holds of an article, with the id of its query, and with the places of its hits where they were
+/// found at once.
+#[derive(Drop)]
 pub(crate) struct Held<'a> {
     pub(crate) registered: &'a Entry,
     pub(crate) hits: Option<HitPlaces>,
+    id: LedId<'a>,
+    ghost own: { id ≡ registered.now.standing.id },
 }
 
 impl<'a> Held<'a> {
-    /// An entry with the places of its hits, where they were found. The entry is not looked at.
-    pub(crate) fn of(registered: &'a Entry, hits: Option<HitPlaces>) -> Held<'a>
+    /// An entry whose query has this id, without hits. The entry is not looked at.
+    pub(crate) fn of(registered: &'a Entry, id: &'a str) -> Held<'a>
+        requires { id.now ≡ registered.now.standing.id }
         ensures registered { result.registered.now ≡ registered.now }
-        ensures hits { result.hits ≡ hits }
+        ensures hits { result.hits ≡ None }
     {
-        Held { registered, hits }
+        Held {
+            registered,
+            hits: None,
+            id: LedId::of(id),
+        }
     }
 
-    /// Whether the query has a listener.
-    fn has_listener(&self) -> bool
-        ensures { result ≡ is_some self.now.registered.now.standing.listener }
+    /// The same with the places of its hits, which were found.
+    pub(crate) fn with_hits(self, places: HitPlaces) -> Held<'a>
+        ensures registered { result.registered.now ≡ self.entry.registered.now }
+        ensures hits { result.hits ≡ Some places }
     {
-        self.registered.standing().listener().is_some()
+        Held {
+            registered: self.registered,
+            hits: Some(places),
+            id: self.id,
+        }
     }
-}
 
-/// An entry whose query holds of an article, with the text of its query's id.
-#[derive(Drop)]
-struct Identified<'a> {
-    held: Held<'a>,
-    id: &'a str,
-    ghost own: { id.now ≡ held.registered.now.standing.id },
-}
-
-/// An entry whose query holds of an article, with its query's id and the first eight bytes of that.
-#[derive(Drop)]
-pub(crate) struct Named<'a> {
-    pub(crate) held: Held<'a>,
-    id: LedId<'a>,
-    ghost own: { id ≡ held.registered.now.standing.id },
-}
-
-impl<'a> Named<'a> {
     /// The id of the query.
     pub(crate) fn id(&self) -> &'a str
-        ensures { result.now ≡ self.now.held.registered.now.standing.id }
+        ensures { result.now ≡ self.now.registered.now.standing.id }
     {
         self.id.id
     }
 
     /// The order of the ids of two entries. A text is looked at only where both have the same lead.
-    pub(crate) fn order(&self, other: &Named<'a>) -> Ordering
-        ensures { result
-            ≡ bytes_cmp self.now.held.registered.now.standing.id other.now.held.registered.now.standing.id }
+    pub(crate) fn order(&self, other: &Held<'a>) -> Ordering
+        ensures { result ≡ bytes_cmp self.now.registered.now.standing.id other.now.registered.now.standing.id }
     {
         self.id.order(&other.id)
     }
-}
-
-/// So many entries are looked at together. Their look-ups wait for places in memory side by side, and what one look
-/// brings is near when the next needs it.
-const BLOCK: usize = 256;
-
-/// Finds where the ids of these entries stand, in place of those that were in `found`, and looks at no text: each of
-/// these look-ups is a line of places in memory, and they wait for them side by side.
-fn find_ids<'a>(block: &[Held<'a>], found: &mut Vec<Identified<'a>>) -> Result<(), NoMemory>
-    ensures { OnOk result (map (λ i. i.held) found.new.items ≡ block.now) }
-{
-    found.clear();
-    for held in block {
-        let id = held.registered.standing().id();
-        found.push(Identified { held: *held, id })?;
-    }
-    Ok(())
-}
-
-/// Adds the entries with the first eight bytes of their queries' ids.
-fn add_leads<'a>(found: &[Identified<'a>], named: &mut Vec<Named<'a>>) -> Result<(), NoMemory>
-    ensures { OnOk result (map (λ n. n.held) named.new.items
-        ≡ map (λ n. n.held) named.old.items ++ map (λ i. i.held) found.now) }
-{
-    for one in found {
-        named.push(Named {
-            held: one.held,
-            id: LedId::of(one.id),
-        })?;
-    }
-    Ok(())
-}
-
-/// Adds the entries of a block with the ids of their queries. `found` is room for them.
-fn add_block<'a>(
-    block: &[Held<'a>],
-    found: &mut Vec<Identified<'a>>,
-    named: &mut Vec<Named<'a>>,
-) -> Result<(), NoMemory>
-    ensures { OnOk result (map (λ n. n.held) named.new.items
-        ≡ map (λ n. n.held) named.old.items ++ block.now) }
-{
-    find_ids(block, found)?;
-    add_leads(found, named)
-}
-
-/// Whether the query of one of the entries has a listener.
-fn have_listener(block: &[Held<'_>]) -> bool
-    ensures { result ≡ list_any (λ h. is_some h.registered.now.standing.listener) block.now }
-{
-    block.iter().any(|one| one.has_listener())
-}
-
-/// Whether somebody hears, where it is known of what is before a block.
-fn is_heard_with(before: bool, block: &[Held<'_>]) -> bool
-    ensures { result ≡ (before || list_any (λ h. is_some h.registered.now.standing.listener) block.now) }
-{
-    before || have_listener(block)
-}
-
-/// Entries with the ids of their queries, and whether one of these has a listener.
-#[derive(Drop)]
-pub(crate) struct WithIds<'a> {
-    pub(crate) named: Vec<Named<'a>>,
-    pub(crate) is_heard: bool,
-}
-
-/// The entries with the ids of their queries, and whether one of these has a listener. They are looked at block by
-/// block, each of them once.
-pub(crate) fn with_led_ids<'a>(alloc: Global, held: &[Held<'a>]) -> Result<WithIds<'a>, NoMemory>
-    ensures held { IfOk result (λ found. map (λ n. n.held) found.named.items ≡ held.now) }
-    ensures heard { IfOk result (λ found. found.is_heard
-        ≡ list_any (λ h. is_some h.registered.now.standing.listener) held.now) }
-{
-    let mut named = Vec::with_capacity(alloc, held.len())?;
-    let mut found = Vec::with_capacity(alloc, held.len().min(BLOCK))?;
-    let mut is_heard = false;
-    let mut at = 0;
-    while at < held.len() {
-        let end = held.len().min(at.saturating_add(BLOCK));
-        let block = &held[at..end];
-        add_block(block, &mut found, &mut named)?;
-        is_heard = is_heard_with(is_heard, block);
-        at = end;
-    }
-    Ok(WithIds { named, is_heard })
 }

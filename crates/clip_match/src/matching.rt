@@ -9,7 +9,7 @@ ghost use Rattle.clip_match.specs.Alerts.{alert_due, alerts_due};
 ghost use Rattle.clip_match.specs.Due.{due_value, AreItsHits, AreTheirHits, HaveTheirHits};
 
 use crate::entries::DueEntries;
-use crate::held::{Held, HitPlaces, HitsFound, Named, WithIds, with_led_ids};
+use crate::held::{Held, HitPlaces, HitsFound};
 use crate::trying::{Judged, judge_candidates};
 use clip_meaning::{Article, Hit};
 use clip_registry::View;
@@ -20,13 +20,13 @@ use std::cmp::Ordering;
 use std::sync::Arc;
 
 /// Sorts entries by the ids of their queries.
-fn sort_by_id(named: &mut Vec<Named>)
-    ensures moved { IsPermutation named.old.items named.new.items }
-    ensures sorted { IsSortedByKey (λ r. r.standing.id) bytes_cmp (map (λ n. n.held.registered.now) named.new.items) }
+fn sort_by_id(held: &mut Vec<Held>)
+    ensures moved { IsPermutation held.old.items held.new.items }
+    ensures sorted { IsSortedByKey (λ r. r.standing.id) bytes_cmp (map (λ h. h.registered.now) held.new.items) }
 {
-    named.sort_unstable_by(
-        |a: &Named, b: &Named| -> Ordering
-            ensures { result ≡ bytes_cmp a.now.held.registered.now.standing.id b.now.held.registered.now.standing.id }
+    held.sort_unstable_by(
+        |a: &Held, b: &Held| -> Ordering
+            ensures { result ≡ bytes_cmp a.now.registered.now.standing.id b.now.registered.now.standing.id }
         { a.order(b) },
     );
 }
@@ -38,7 +38,11 @@ fn alert_of(held: Held<'_>, article: &Article, all_hits: &Arc<Vec<Hit>>) -> Resu
     ensures value { IfOk result (λ alert. alert_value alert ≡ alert_due article.now held.entry.registered.now) }
     ensures found { IfOk result (λ alert. is_some held.entry.hits ≡ true → has_hits alert ≡ true) }
 {
-    let Held { registered, hits } = held;
+    let Held {
+        registered,
+        hits,
+        ..
+    } = held;
     match hits {
         Some(HitPlaces { start, end }) => {
             let hits = FoundHits::among(all_hits, start, end)?;
@@ -52,19 +56,19 @@ fn alert_of(held: Held<'_>, article: &Article, all_hits: &Arc<Vec<Hit>>) -> Resu
 /// among those of all.
 pub(crate) fn alerts(
     alloc: Global,
-    named: Vec<Named<'_>>,
+    held: Vec<Held<'_>>,
     article: &Article,
     all_hits: &Arc<Vec<Hit>>,
 ) -> Result<Vec<Alert>, NoMemory>
-    requires { All (λ n. AreItsHits article.now (map hit_value all_hits.now.value.items) n.held) named.items }
+    requires { All (AreItsHits article.now (map hit_value all_hits.now.value.items)) held.items }
     ensures value { IfOk result (λ alerts. map alert_value alerts.items
-        ≡ map (alert_due article.now) (map (λ n. n.held.registered.now) named.entry.items)) }
-    ensures found { IfOk result (λ alerts. All (λ n. is_some n.held.hits ≡ true) named.entry.items
+        ≡ map (alert_due article.now) (map (λ h. h.registered.now) held.entry.items)) }
+    ensures found { IfOk result (λ alerts. All (λ h. is_some h.hits ≡ true) held.entry.items
         → All (λ alert. has_hits alert ≡ true) alerts.items) }
 {
-    let mut alerts = Vec::with_capacity(alloc, named.len())?;
-    for one in named {
-        alerts.push(alert_of(one.held, article, all_hits)?)?;
+    let mut alerts = Vec::with_capacity(alloc, held.len())?;
+    for one in held {
+        alerts.push(alert_of(one, article, all_hits)?)?;
     }
     Ok(alerts)
 }
@@ -90,20 +94,17 @@ pub fn entries_due<'a>(
 {
     let Judged {
         asked,
-        held,
+        mut held,
         all_hits,
+        is_heard,
     } = judge_candidates(alloc, view, article, hits)?;
     let all_hits = Arc::new(alloc, all_hits)?;
-    let WithIds {
-        mut named,
-        is_heard,
-    } = with_led_ids(alloc, &held)?;
-    sort_by_id(&mut named);
+    sort_by_id(&mut held);
     Ok(DueEntries {
         article,
         place: view.place(),
         asked,
-        named,
+        held,
         all_hits,
         is_heard,
     })

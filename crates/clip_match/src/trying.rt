@@ -1,13 +1,14 @@
 //! The candidates of an article whose queries hold of it.
-ghost use Rattle.std.specs.Prelude.{◌≡◌, ◌+◌, ◌<◌, ◌^◌, ◌++◌, List, Some, map, filter, length, IfOk, OnOk};
-ghost use Rattle.std.specs.List.{All, slice_get};
+ghost use Rattle.std.specs.Prelude.{◌≡◌, ◌+◌, ◌<◌, ◌^◌, ◌++◌, ◌||◌, List, None, Some, map, filter, length, option_map};
+ghost use Rattle.std.specs.Prelude.{IfOk, IfSome, OnOk, false, slice_index_or};
+ghost use Rattle.std.specs.List.{All, list_any, slice_get};
 ghost use Rattle.clip_extract.specs.Covering.{article_keys};
 ghost use Rattle.clip_meaning.specs.Hits.{HitValue, hit_value};
 ghost use Rattle.clip_meaning.specs.Meaning.{holds};
-ghost use Rattle.clip_segment.specs.Segment.{IsRising};
+ghost use Rattle.clip_segment.specs.Segment.{IsRising, heard_of};
 ghost use Rattle.clip_match.specs.Candidates.{candidates_of, MissesNone, AreRegistered};
 ghost use Rattle.clip_match.specs.Steps.Held.{HasItsHits};
-ghost use Rattle.clip_match.specs.Steps.Positions.{entries_at, live_with};
+ghost use Rattle.clip_match.specs.Steps.Positions.{entries_at, has_listener, live_with};
 
 use crate::held::{Held, HitPlaces, HitsFound};
 use clip_extract::covering_law;
@@ -96,6 +97,26 @@ fn keep_holding(
     Ok(())
 }
 
+/// Whether the query of one of the segment's entries at these positions has a listener. No entry is looked at.
+fn is_one_heard(reading: &SegmentReading<'_>, positions: &[u32]) -> bool
+    ensures { result
+        ≡ list_any (λ position. slice_index_or (heard_of reading.now.entries) position false) positions.now }
+{
+    positions
+        .iter()
+        .any(|position| reading.has_listener(*position))
+}
+
+/// The segment's entry at a position, without hits. It is not looked at.
+fn held_at<'a>(reading: &SegmentReading<'a>, position: u32) -> Option<Held<'a>>
+    ensures entry { option_map (λ h. h.registered.now) result ≡ slice_get reading.now.entries position }
+    ensures hits { IfSome result (λ h. h.hits ≡ None) }
+{
+    let registered = reading.entry(position)?;
+    let id = reading.id(position)?;
+    Some(Held::of(registered, id))
+}
+
 /// Adds the entries of a segment at these positions, without their hits.
 fn add_entries<'a>(
     reading: &SegmentReading<'a>,
@@ -110,10 +131,10 @@ fn add_entries<'a>(
 {
     held.reserve(positions.len())?;
     for position in positions {
-        let Some(registered) = reading.entry(*position) else {
+        let Some(one) = held_at(reading, *position) else {
             continue;
         };
-        held.push(Held::of(registered, None))?;
+        held.push(one)?;
     }
     Ok(())
 }
@@ -142,17 +163,17 @@ fn add_with_hits<'a>(
     held.reserve(positions.len())?;
     all_hits.reserve(positions.len().saturating_mul(HITS_FOR_A_QUERY))?;
     for position in positions {
-        let Some(registered) = reading.entry(*position) else {
+        let Some(one) = held_at(reading, *position) else {
             continue;
         };
         if !hits.finds_more(all_hits.len()) {
-            held.push(Held::of(registered, None))?;
+            held.push(one)?;
             continue;
         }
         let start = all_hits.len();
         spots.add_hits(*position, flags, all_hits)?;
         let end = all_hits.len();
-        held.push(Held::of(registered, Some(HitPlaces { start, end })))?;
+        held.push(one.with_hits(HitPlaces { start, end }))?;
     }
     Ok(())
 }
@@ -194,6 +215,8 @@ pub(crate) struct Judged<'a> {
     pub(crate) held: Vec<Held<'a>>,
     /// The hits of all of them, where they were found.
     pub(crate) all_hits: Vec<Hit>,
+    /// Whether the query of one of them has a listener.
+    pub(crate) is_heard: bool,
 }
 
 /// Room that the judging of one segment leaves for the next.
@@ -264,8 +287,13 @@ impl Room {
             All (HasItsHits hits reading.now.article (map hit_value judged.old.all_hits.items)) judged.old.held.items
             → All (HasItsHits hits reading.now.article (map hit_value judged.new.all_hits.items))
             judged.new.held.items) }
+        ensures heard { OnOk result (judged.new.is_heard
+            ≡ (judged.old.is_heard || list_any has_listener
+            (filter (λ r. holds r.standing.tree reading.now.article.fields)
+            (live_with view.now.history (article_keys reading.now.article.fields) reading.now.entries)))) }
     {
         judged.asked += self.judge_segment(alloc, view, place, reading)?;
+        judged.is_heard = judged.is_heard || is_one_heard(reading, &self.holding);
         add_held(
             alloc,
             reading,
@@ -284,8 +312,8 @@ impl Room {
 ///
 /// `NoMemory` where an allocation failed. Cost: a step for each word of the article; in each segment that of
 /// `SegmentReading::sharer_marks`, a step for each 64 entries, one for each candidate that its second keys do not rule
-/// out, and for each that its first clause does not either that of `SegmentReading::holds`; and that of `add_held`. An
-/// entry is looked at only where its query holds.
+/// out, and for each that its first clause does not either that of `SegmentReading::holds`; and that of `add_held`. No
+/// entry is looked at.
 pub(crate) fn judge_candidates<'a>(
     alloc: Global,
     view: &'a View,
@@ -297,6 +325,8 @@ pub(crate) fn judge_candidates<'a>(
         ≡ filter (λ r. holds r.standing.tree article.now.fields) (candidates_of view.now article.now)) }
     ensures hits { IfOk result (λ found.
         All (HasItsHits hits article.now (map hit_value found.all_hits.items)) found.held.items) }
+    ensures heard { IfOk result (λ found.
+        found.is_heard ≡ list_any has_listener (map (λ h. h.registered.now) found.held.items)) }
     ensures misses_none { IfOk result (λ _. MissesNone view.now article.now (candidates_of view.now article.now)) }
     ensures registered { IfOk result (λ _. AreRegistered view.now (candidates_of view.now article.now)) }
     ensures rising { IfOk result (λ _. IsRising (candidates_of view.now article.now)) }
@@ -308,6 +338,7 @@ pub(crate) fn judge_candidates<'a>(
         asked: 0,
         held: Vec::new(alloc),
         all_hits: Vec::new(alloc),
+        is_heard: false,
     };
     let segments = view.segments();
     for (place, segment) in segments.iter().enumerate() {

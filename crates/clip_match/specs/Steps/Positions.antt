@@ -1,5 +1,5 @@
 -- The entries of a segment that share a key.
-use Rattle.std.specs.Prelude.{ℕ, Bool, ◌&&◌, List, filter, flat_map, option_to_list}
+use Rattle.std.specs.Prelude.{ℕ, Bool, ◌&&◌, List, filter, flat_map, is_some, option_to_list}
 use Rattle.std.specs.List.{enumerate_from, slice_get}
 use Rattle.clip_model.specs.History.{History, Registered, is_live}
 use Rattle.clip_extract.specs.Keys.{KeyValue, share}
@@ -8,6 +8,10 @@ use Rattle.clip_extract.specs.Extraction.{query_keys}
 -- the entry's query has one of the keys
 abbrev pub has_one : List KeyValue → Registered → Bool
 has_one keys r = share (query_keys r.standing.tree) keys
+
+-- the entry's query has a listener
+abbrev pub has_listener : Registered → Bool
+has_listener r = is_some r.standing.listener
 
 -- the entries that have one of the keys, each with its position
 abbrev pub placed_with : List KeyValue → List Registered → List (ℕ × Registered)

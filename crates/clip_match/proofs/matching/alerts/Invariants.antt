@@ -5,6 +5,6 @@ use Rattle.clip_match.proofs.matching.alerts.Given as goal
 
 abbrev pub invariant-loop-one : goal.invariant-loop-one
 invariant-loop-one l = record {
-  value : map alert_value l.alerts.items ≡ map (alert_due l.article) (map (λ n. n.held.registered.now) l.yielded);
-  found : All (λ n. is_some n.held.hits ≡ true) l.fn.named.items → All (λ alert. has_hits alert ≡ true) l.alerts.items;
+  value : map alert_value l.alerts.items ≡ map (alert_due l.article) (map (λ h. h.registered.now) l.yielded);
+  found : All (λ h. is_some h.hits ≡ true) l.fn.held.items → All (λ alert. has_hits alert ≡ true) l.alerts.items;
 }

@@ -1,10 +1,10 @@
-use Rattle.std.proofs.Common.{◌≡◌, ◌++◌, ◌∙◌, ◌∷◌, ◌+◌, List, [], Some, All, arith, length, map, take, get_or}
-use Rattle.std.proofs.Common.{option_map, option_to_list, sym, ap, subst}
+use Rattle.std.proofs.Common.{◌≡◌, ◌++◌, ◌∙◌, ◌∷◌, [], Some, All, arith, length, map, get_or}
+use Rattle.std.proofs.Common.{sym, ap, subst}
 use Rattle.std.specs.List.{slice_get}
-use Rattle.std.specs.Arc.{arc_value}
-use Rattle.std.specs.Option.{IfSome, option_copied}
+use Rattle.std.specs.Option.{IfSome}
 use Rattle.std.specs.Prelude.{is_some}
-use Rattle.std.proofs.lemmas.List.{append_assoc, length-map, map-append, take_more}
+use Rattle.std.proofs.lemmas.Bool.{false≢true}
+use Rattle.std.proofs.lemmas.List.{length-map}
 use Rattle.std.proofs.lemmas.List.Elements.{All-append, All-cons, All-nil}
 use Rattle.clip_meaning.specs.Hits.{hit_value, hits}
 use Rattle.clip_model.specs.History.{Registered}
@@ -13,9 +13,8 @@ use Rattle.clip_match.specs.declared.held.Held.{Held}
 use Rattle.clip_match.specs.declared.held.HitPlaces.{HitPlaces}
 use Rattle.clip_match.specs.Due.{StandAt}
 use Rattle.clip_match.specs.Steps.Held.{HasItsHits}
-use Rattle.clip_match.specs.Steps.Positions.{entries_at}
 use Rattle.clip_match.proofs.Places.{each_still, stand_last}
-use Rattle.clip_match.proofs.Positions.{entries_more}
+use Rattle.clip_match.proofs.Added.{added_without, entry_added}
 use Rattle.clip_match.proofs.trying.add_with_hits.Goals as goal
 
 pub loop-position-preserved : goal.loop-position-preserved
@@ -24,14 +23,10 @@ loop-position-preserved c =
     let ps = c.args.positions.now in
     let i = c.loop-position.position-index in
     let p = get_or ps i 0 in
-    let one : Held = c.of-in-loop-position.result in
-    let entry : List Held → List Registered = map (λ (h : Held). h.registered.now) in
-    let old = c.args.held.now.items in
+    let one : Held = c.with_hits.result in
     let now = c.loop-position.held.items in
     let there : slice_get es p ≡ Some one.registered.now =
-    sym c.entry.ensures
-    ∙ ap (λ o. option_map arc_value (option_copied o)) c.in-Some.is
-    ∙ ap Some (sym c.deref-in-loop-position.ensures ∙ sym c.of-in-loop-position.ensures.registered) in
+    sym c.in-Some.ensures.entry ∙ ap Some (sym c.with_hits.ensures.registered) in
     let article = c.args.reading.now.article in
     let all = map hit_value c.loop-position.all_hits.items in
     let found = hits one.registered.now.standing.tree article.fields in
@@ -44,17 +39,10 @@ loop-position-preserved c =
     omega (arith, c.len-start.ensures, length-map c.loop-position.all_hits.items hit_value) in
     let end : places.end ≡ length (all ++ found) =
     omega (arith, c.len-end.ensures, length-map c.add_hits.new.found.items hit_value, ap length made) in
-    let more : entries_at es (take i ps) ++ one.registered.now ∷ [] ≡ entries_at es (take (i + 1) ps) =
-    ap (λ o. entries_at es (take i ps) ++ option_to_list o) (sym there)
-    ∙ sym (entries_more es (take i ps) p)
-    ∙ ap (entries_at es) (sym (take_more ps i 0 c.loop-position-test.true)) in
     record {
       entries =
-          ap entry c.in_ok-push-2.ensures.items
-          ∙ map-append (λ (h : Held). h.registered.now) now (one ∷ [])
-          ∙ ap (λ xs. xs ++ one.registered.now ∷ []) c.loop-position.invariant.entries
-          ∙ append_assoc (entry old) (entries_at es (take i ps)) (one.registered.now ∷ [])
-          ∙ ap (λ xs. entry old ++ xs) more;
+          entry_added es ps i c.args.held.now.items now c.push-in-loop-position.new.self.items one c.loop-position-test.true there
+          c.in_ok-push-2.ensures.items c.loop-position.invariant.entries;
       hits =
           λ before.
           subst (All (HasItsHits c.args.hits article (map hit_value c.add_hits.new.found.items)))
@@ -64,9 +52,26 @@ loop-position-preserved c =
           (each_still c.args.hits article all found now (c.loop-position.invariant.hits before))
           (All-cons (HasItsHits c.args.hits article (all ++ found)) one []
           (record {
-            right = subst (λ o. IfSome o (StandAt (all ++ found) found)) (sym c.of-in-loop-position.ensures.hits)
+            right = subst (λ o. IfSome o (StandAt (all ++ found) found)) (sym c.with_hits.ensures.hits)
                 (stand_last all found places start end);
-            there = λ _. ap is_some c.of-in-loop-position.ensures.hits;
+            there = λ _. ap is_some c.with_hits.ensures.hits;
           })
           (All-nil (HasItsHits c.args.hits article (all ++ found))))));
+    }
+
+pub loop-position-preserved-then-not-finds_more : goal.loop-position-preserved-then-not-finds_more
+loop-position-preserved-then-not-finds_more c =
+    let now = c.loop-position.held.items in
+    let after = c.push.new.self.items in
+    record {
+      entries =
+          entry_added c.args.reading.now.entries c.args.positions.now c.loop-position.position-index
+          c.args.held.now.items now after c.in-Some.one c.loop-position-test.true (sym c.in-Some.ensures.entry)
+          c.in_ok-push.ensures.items c.loop-position.invariant.entries;
+      hits =
+          λ before.
+          added_without c.args.hits c.args.reading.now.article (map hit_value c.loop-position.all_hits.items) now after
+          c.in-Some.one c.in-Some.ensures.hits
+          (λ at_once. false≢true (sym c.if-not-finds_more.true ∙ c.finds_more.ensures at_once))
+          c.in_ok-push.ensures.items (c.loop-position.invariant.hits before);
     }

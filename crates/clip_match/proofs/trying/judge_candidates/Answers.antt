@@ -1,7 +1,9 @@
-use Rattle.std.proofs.Common.{◌≡◌, ◌+◌, ◌<◌, Bool, List, [], ◌∷◌, ◌++◌, All, Some, filter, length, map, drop}
+use Rattle.std.proofs.Common.{◌≡◌, ◌+◌, ◌<◌, Bool, List, [], ◌∷◌, ◌++◌, ◌||◌, All, Some, filter, length, map, drop}
 use Rattle.std.proofs.Common.{option_map, slice_get, refl, sym, ap, subst, ◌∙◌, arith}
+use Rattle.std.specs.List.{list_any}
 use Rattle.std.specs.Arc.{arc_value}
 use Rattle.std.proofs.lemmas.List.{append_assoc, append-nil, drop_all, drop_more}
+use Rattle.std.proofs.lemmas.List.Folds.{list_any-append}
 use Rattle.std.proofs.lemmas.Option.{slice_get-map, slice_get_read}
 use Rattle.clip_extract.specs.Covering.{article_keys}
 use Rattle.clip_meaning.specs.Article.{ArticleValue}
@@ -12,7 +14,7 @@ use Rattle.clip_segment.specs.Segment.{AskedValue, all_entries}
 use Rattle.clip_match.specs.Candidates.{candidates_of}
 use Rattle.clip_match.specs.declared.held.Held.{Held}
 use Rattle.clip_match.specs.Steps.Held.{HasItsHits}
-use Rattle.clip_match.specs.Steps.Positions.{live_with}
+use Rattle.clip_match.specs.Steps.Positions.{has_listener, live_with}
 use Rattle.clip_match.proofs.Few.{counted_next, few_candidates}
 use Rattle.clip_match.proofs.Positions.{held_split}
 use Rattle.clip_match.proofs.Whole.{misses_none, candidates_registered, candidates_rise}
@@ -121,6 +123,14 @@ loop-place-preserved c =
           → All (HasItsHits c.args.hits r.article (map hit_value c.try_segment.new.judged.all_hits.items))
           c.try_segment.new.judged.held.items)
           (value at) c.in_ok-try_segment.ensures.hits c.loop-place.invariant.hits;
+      heard =
+          subst (λ (r : AskedValue). c.try_segment.new.judged.is_heard
+          ≡ (c.loop-place.judged.is_heard || list_any has_listener (filter (λ x. holds x.standing.tree r.article.fields)
+          (live_with h (article_keys r.article.fields) r.entries))))
+          (value at) c.in_ok-try_segment.ensures.heard
+          ∙ ap (λ b. b || list_any has_listener (filter held (live_with h ks segment))) c.loop-place.invariant.heard
+          ∙ sym (list_any-append has_listener found (filter held (live_with h ks segment)))
+          ∙ ap (list_any has_listener) (sym holding);
     }
 
 pub returns : goal.returns
@@ -149,6 +159,7 @@ returns c =
           sym (append-nil found) ∙ ap (λ es. found ++ filter held (live_with state.history ks es)) (sym none)
           ∙ c.loop-place.invariant.held ∙ ap (filter held) all;
       hits = c.loop-place.invariant.hits;
+      heard = c.loop-place.invariant.heard;
       misses_none = misses_none c.covering_law.ensures state c.args.article.now whole;
       registered = candidates_registered state c.args.article.now whole;
       rising = candidates_rise state c.args.article.now whole;

@@ -1,4 +1,4 @@
-use Rattle.std.proofs.Common.{◌≡◌, filter, ap, ◌∙◌}
+use Rattle.std.proofs.Common.{filter, ap, ◌∙◌}
 use Rattle.clip_meaning.specs.Meaning.{holds}
 use Rattle.clip_model.specs.History.{Registered}
 use Rattle.clip_match.specs.Steps.Positions.{entries_at}
