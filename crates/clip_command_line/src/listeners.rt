@@ -1,6 +1,6 @@
 //! The listeners of the program: each says its alerts in its style and keeps nothing. What they hear is in contracts
 //! all the same.
-ghost use Rattle.std.specs.Prelude.{◌≡◌, [], ◌∷◌, codes, IfOk};
+ghost use Rattle.std.specs.Prelude.{◌≡◌, [], ◌∷◌, codes, map, IfOk};
 ghost use Rattle.clip_listen.specs.Heard.{names_of};
 
 use clip_listen::{Listener, Named, Render, Style, Teller};
@@ -39,7 +39,8 @@ pub fn named(
     mail: Box<dyn Listener + Send>,
     feed: Box<dyn Listener + Send>,
 ) -> Result<Vec<Named>, NoMemory>
-    ensures { IfOk result (λ parts. names_of parts.items ≡ codes "mail" ∷ codes "feed" ∷ []) }
+    ensures names { IfOk result (λ parts. names_of parts.items ≡ codes "mail" ∷ codes "feed" ∷ []) }
+    ensures under { IfOk result (λ parts. map (λ part. part.1) parts.items ≡ mail ∷ feed ∷ []) }
 {
     let mut parts: Vec<Named> = Vec::new(alloc);
     parts.push((String::from_str(alloc, MAIL_NAME)?, mail))?;

@@ -217,6 +217,15 @@ impl Seat {
         }
     }
 
+    /// Shows that of what two seats of one desk have seen one begins the other. It does nothing at run time.
+    pub fn meet(&self, other: &Seat)
+        requires desk { other.now.book ≡ self.now.book }
+        ensures shorter { length self.now.seen ≤ length other.now.seen → IsPrefix self.now.seen other.now.seen }
+        ensures longer { length other.now.seen ≤ length self.now.seen → IsPrefix other.now.seen self.now.seen }
+    {
+        self.seen_history.meet(&other.seen_history);
+    }
+
     /// Whether two numbers agree: the history is as long as what was seen at least, and has as many of the caller's
     /// commands as were committed with the seat. Constant time.
     pub(crate) fn agrees(&self, seen_history: &SeenHistory, there: u32) -> bool

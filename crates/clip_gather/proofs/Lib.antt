@@ -1,0 +1,4 @@
+pub mod Order
+pub mod Merges
+pub mod Lists
+pub mod Numbered
