@@ -79,9 +79,10 @@ def nothing_is_installed_before_a_build() -> None:
 
 
 def the_shared_library_gives_its_calls_alone() -> None:
-    """Those of the header, and no other name."""
+    """Those of the header, the one of bindings/c/python.c, and no other name."""
     lines = told("nm", "-D", "--defined-only", C / "libpressclip.so").splitlines()
-    assert sorted(line.split()[1:] for line in lines) == sorted(["T", call] for call in declared()), lines
+    calls = sorted([*declared(), "pressclip_python_found"])
+    assert sorted(line.split()[1:] for line in lines) == [["T", call] for call in calls], lines
 
 
 def the_header_is_clean_in_c() -> None:

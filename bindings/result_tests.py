@@ -2,8 +2,12 @@
 
 from __future__ import annotations
 
+import copy
 import ctypes
+import gc
+import pickle
 import subprocess
+import sys
 import tempfile
 from contextlib import contextmanager
 from ctypes import POINTER, byref, c_size_t, c_uint64, c_void_p
@@ -56,6 +60,27 @@ int main(void) {
     return 0;
 }
 '''
+# Calls of the interpreter that make objects, of which one is refused: the one that comes after `left` others.
+REFUSING = '''
+#include <stddef.h>
+
+long left;
+void *(*no_memory)(void);
+void *(*list)(ptrdiff_t), *(*tuple)(ptrdiff_t), *(*item)(void *, ptrdiff_t);
+void *(*text)(const char *, ptrdiff_t, const char *), *(*make)(void *, void *, void *);
+
+void *refusing_list(ptrdiff_t count) { return left-- == 0 ? no_memory() : list(count); }
+void *refusing_tuple(ptrdiff_t count) { return left-- == 0 ? no_memory() : tuple(count); }
+void *refusing_item(void *of, ptrdiff_t place) { return left-- == 0 ? no_memory() : item(of, place); }
+void *refusing_text(const char *bytes, ptrdiff_t length, const char *errors) {
+    return left-- == 0 ? no_memory() : text(bytes, length, errors);
+}
+void *refusing_make(void *class, void *arguments, void *names) {
+    return left-- == 0 ? no_memory() : make(class, arguments, names);
+}
+'''
+REFUSED_CALLS = {"list": "PyList_New", "tuple": "PyTuple_New", "item": "PyList_GetItem", "text": "PyUnicode_DecodeUTF8",
+                 "make": "tuple_new"}
 
 
 @contextmanager
@@ -208,6 +233,82 @@ def ids_with_a_zero_are_told_apart() -> None:
             assert all(len(one.hits) == hits for one in found), found
 
 
+def what_is_found_is_as_made_in_python() -> None:
+    """Equal to it, by its hash too, printed as it, and pickled; and what others hold stays when all of it goes."""
+    from pressclip import Found, Hit, Monitor
+
+    with Monitor(True) as monitor:
+        monitor.register_many([("all", "*:*"), ("thé", "thé title:tea")])
+        article = {"id": "a", "fields": {"title": "Tea", "text": "🍵 thé, thé"}}
+        for _ in range(3):
+            found = monitor.match(article)
+            gc.collect()
+            hits = (Hit("text", 0, 2, 5), Hit("text", 1, 7, 10), Hit("title", 0, 0, 3))
+            due = [Found("all", ()), Found("thé", hits)]
+            assert found == due and hash(found[1]) == hash(due[1]) and repr(found) == repr(due), found
+            assert hash(found[1].hits) == hash(hits) and {*found} == {*due}
+            assert pickle.loads(pickle.dumps(found)) == due == copy.deepcopy(found)
+            assert found[0]._replace(query="other") == Found(query="other", hits=())
+        kept = found[1].hits[2]
+        del found
+        gc.collect()
+        assert kept == Hit(field="title", position=0, start=0, end=3)
+
+
+@contextmanager
+def refusing_interpreter() -> Iterator[ctypes.CDLL]:
+    """What the library makes objects by refuses one of its calls, until the end of a `with`; `left` says which."""
+    from pressclip import _interpreter
+
+    before, refusing = _interpreter.INTERPRETER, _interpreter.Interpreter()
+    with tempfile.TemporaryDirectory() as folder:
+        subprocess.run(["gcc", "-std=c11", "-Wall", "-Wextra", "-Werror", "-shared", "-fPIC", "-x", "c", "-", "-o",
+                        f"{folder}/refusing.so"], input=REFUSING.encode(), check=True)
+        library = ctypes.CDLL(f"{folder}/refusing.so")
+    for name, _ in refusing._fields_:
+        setattr(refusing, name, getattr(before, name))
+    for name, call in REFUSED_CALLS.items():
+        c_void_p.in_dll(library, name).value = getattr(before, call)
+        setattr(refusing, call, ctypes.cast(getattr(library, f"refusing_{name}"), c_void_p))
+    no_memory = ctypes.cast(ctypes.pythonapi.PyErr_NoMemory, c_void_p)
+    c_void_p.in_dll(library, "no_memory").value = no_memory.value
+    _interpreter.INTERPRETER = refusing
+    try:
+        yield library
+    finally:
+        _interpreter.INTERPRETER = before
+
+
+def a_call_of_the_interpreter_that_is_refused_leaks_nothing() -> None:
+    """Each in turn: it raises, and nothing of what was made before it is left; no more is left of what goes well."""
+    from pressclip import Found, Monitor
+
+    def refused(left: ctypes.c_long) -> int:
+        number = 0
+        while True:
+            left.value = number
+            try:
+                found = monitor.match({"id": "a", "fields": {"title": "tea", "text": "tea milk"}})
+            except MemoryError:
+                number += 1
+                continue
+            assert [(one.query, len(one.hits)) for one in found] == [("a", 3), ("b", 0), ("c", 1)], found
+            return number
+
+    with Monitor(True) as monitor, refusing_interpreter() as library:
+        monitor.register_many([("a", "milk tea title:tea"), ("b", "*:*"), ("c", "milk")])
+        left = ctypes.c_long.in_dll(library, "left")
+        # A list, its arguments, three texts, tuples and what is made of them, and two looks for each hit.
+        assert refused(left) == 1 + 2 + 3 * 3 + 2 * 4
+        gc.collect()
+        before = sys.getallocatedblocks(), sys.getrefcount(Found), sys.getrefcount(())
+        for _ in range(20):
+            refused(left)
+        gc.collect()
+        after = sys.getallocatedblocks(), sys.getrefcount(Found), sys.getrefcount(())
+        assert after[0] - before[0] < 20 and after[1:] == before[1:], (before, after)
+
+
 def null_gives_nothing() -> None:
     """A null pointer is refused, and nothing is written."""
     from pressclip._calls import LIBRARY, Found
@@ -244,4 +345,5 @@ def a_result_stays_when_its_engine_is_closed() -> None:
 
 TESTS: tuple[Callable[[], None], ...] = (
     all_at_once_is_what_comes_one_by_one, the_package_gives_what_c_gives, ids_with_a_zero_are_told_apart,
-    null_gives_nothing, no_memory_is_told_and_asked_for_again, a_result_stays_when_its_engine_is_closed)
+    what_is_found_is_as_made_in_python, a_call_of_the_interpreter_that_is_refused_leaks_nothing, null_gives_nothing,
+    no_memory_is_told_and_asked_for_again, a_result_stays_when_its_engine_is_closed)

@@ -50,25 +50,36 @@ uint64_t pressclip_result_nanoseconds(const pressclip_result *result) {
 
 size_t pressclip_result_count(const pressclip_result *result) { return result == NULL ? 0 : result->count; }
 
-bool pressclip_next_hit(pressclip_result *result, const char **field, size_t *length, uint64_t *position) {
-    if (result == NULL || field == NULL || length == NULL || position == NULL || result->hits_left == 0) return false;
+/* What pressclip_next_hit does, where no pointer is null. */
+static bool next_hit(pressclip_result *result, const char **field, size_t *length, uint64_t *position) {
+    if (result->hits_left == 0) return false;
     result->hits_left--;
     next_text(result, field, length);
     *position = next_number(result);
     return true;
 }
 
-bool pressclip_next_id(pressclip_result *result, const char **id, size_t *length) {
+/* What pressclip_next_id does, where no pointer is null. */
+static bool next_id(pressclip_result *result, const char **id, size_t *length) {
     const char *field;
     size_t field_length;
     uint64_t position;
-    if (result == NULL || id == NULL || length == NULL) return false;
-    while (pressclip_next_hit(result, &field, &field_length, &position)) continue;
+    while (next_hit(result, &field, &field_length, &position)) continue;
     if (result->left == 0) return false;
     result->left--;
     next_text(result, id, length);
     result->hits_left = (size_t)next_number(result);
     return true;
+}
+
+bool pressclip_next_hit(pressclip_result *result, const char **field, size_t *length, uint64_t *position) {
+    if (result == NULL || field == NULL || length == NULL || position == NULL) return false;
+    return next_hit(result, field, length, position);
+}
+
+bool pressclip_next_id(pressclip_result *result, const char **id, size_t *length) {
+    if (result == NULL || id == NULL || length == NULL) return false;
+    return next_id(result, id, length);
 }
 
 /* Texts that are put one after another, a byte 0 behind each, and where they begin and end. */
@@ -113,7 +124,7 @@ static bool put_together(pressclip_result *result) {
     const char *text;
     size_t length, ids_size = 0, hit_count = 0, hit = 0, name = 0;
     begin(&walk);
-    while (pressclip_next_id(&walk, &text, &length)) {
+    while (next_id(&walk, &text, &length)) {
         ids_size += length + 1;
         hit_count += walk.hits_left;
     }
@@ -125,10 +136,10 @@ static bool put_together(pressclip_result *result) {
     texts ids = no_texts((char *)(room + numbers), room);
     texts names = no_texts(ids.bytes + ids_size, hit_position + hit_count);
     begin(&walk);
-    while (pressclip_next_id(&walk, &text, &length)) {
+    while (next_id(&walk, &text, &length)) {
         hit_at[ids.count] = hit;
         put(&ids, text, length);
-        for (; pressclip_next_hit(&walk, &text, &length, &hit_position[hit]); hit++)
+        for (; next_hit(&walk, &text, &length, &hit_position[hit]); hit++)
             hit_name[hit] = name = number_of(&names, name, text, length);
     }
     hit_at[ids.count] = hit;

@@ -3,9 +3,10 @@
 from __future__ import annotations
 
 import ctypes
-from ctypes import POINTER, Array, Structure, byref, c_bool, c_char_p, c_int, c_size_t, c_uint64, c_void_p
+from ctypes import POINTER, Array, Structure, byref, c_bool, c_char_p, c_int, c_size_t, c_uint64, c_void_p, py_object
 from typing import Any, Callable
 
+from ._interpreter import Interpreter
 from ._library import load
 from ._refusals import refusal
 
@@ -75,6 +76,7 @@ _ARGUMENTS: dict[str, list[Any]] = {
     "result_count": [c_void_p],
     "result_all": [c_void_p, POINTER(POINTER(Found))],
     "result_free": [c_void_p],
+    "python_found": [POINTER(Interpreter), POINTER(Found), py_object, py_object],
     "free": [c_void_p],
     "explain": [*_TEXT, *_REPLY],
     "explain_line": [*_TEXT, *_REPLY],
@@ -83,10 +85,11 @@ _ARGUMENTS: dict[str, list[Any]] = {
     "word": [c_int],
     "version": [],
 }
-_GIVES: dict[str, Any] = {"word": c_char_p, "version": c_char_p, "result_count": c_size_t}
+_GIVES: dict[str, Any] = {"word": c_char_p, "version": c_char_p, "result_count": c_size_t, "python_found": py_object}
 _GIVE_NOTHING = ["shared_close", "snapshot_free", "result_free", "free"]
-# Calls so short that the interpreter's lock is kept: to wait for it again would cost more, where threads match.
-_SHORT = ["result_count", "result_all", "result_free", "free", "word", "version"]
+# Calls that keep the interpreter's lock: the one that makes objects, and those so short that to wait for it again would
+# cost more, where threads match.
+_KEEPING = ["python_found", "result_count", "result_all", "result_free", "free", "word", "version"]
 
 
 def _declared(library: ctypes.CDLL) -> ctypes.CDLL:
@@ -94,7 +97,7 @@ def _declared(library: ctypes.CDLL) -> ctypes.CDLL:
     keeping = ctypes.PyDLL(library._name, handle=library._handle)
     try:
         for name, arguments in _ARGUMENTS.items():
-            call = getattr(keeping if name in _SHORT else library, f"pressclip_{name}")
+            call = getattr(keeping if name in _KEEPING else library, f"pressclip_{name}")
             setattr(library, f"pressclip_{name}", call)
             call.argtypes = arguments
             call.restype = None if name in _GIVE_NOTHING else _GIVES.get(name, c_int)
@@ -129,11 +132,6 @@ def copied(address: c_void_p, length: int) -> bytes:
     return ctypes.string_at(address, length)
 
 
-def numbers_at(address: int, count: int) -> list[int]:
-    """So many numbers of eight bytes at an address."""
-    return memoryview(ctypes.string_at(address, 8 * count)).cast("Q").tolist()
-
-
 def texts_at(address: int, places: int, count: int) -> list[str]:
     """So many texts at an address, a byte 0 behind each; `places` is the address of the numbers where they begin."""
     encoded = ctypes.string_at(address, c_uint64.from_address(places + 8 * count).value)
@@ -142,7 +140,7 @@ def texts_at(address: int, places: int, count: int) -> list[str]:
         texts.pop()
         return texts
     # A text has a character 0 within.
-    at = numbers_at(places, count + 1)
+    at = memoryview(copied(c_void_p(places), 8 * (count + 1))).cast("Q").tolist()
     return [encoded[begin:end - 1].decode() for begin, end in zip(at, at[1:])]
 
 

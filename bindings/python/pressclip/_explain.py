@@ -70,9 +70,9 @@ def explain(query: str) -> Explanation:
     text = encoded(query, "a query")
     told = json.loads(_calls.answer_of(_calls.LIBRARY.pressclip_explain, text, len(text)))
     if "fault" in told:
-        raise QueryError(0, told["fault"], characters_at(text, [told["at"]])[told["at"]], told["says"])
+        raise QueryError(0, told["fault"], characters_at(text, [told["at"]])[0], told["says"])
     characters = characters_at(text, [remark["at"] for remark in told["remarks"]])
-    told["remarks"] = [Remark(**remark)._replace(at=characters[remark["at"]]) for remark in told["remarks"]]
+    told["remarks"] = [Remark(**remark)._replace(at=at) for remark, at in zip(told["remarks"], characters)]
     return Explanation(**told)
 
 

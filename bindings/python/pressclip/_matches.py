@@ -3,13 +3,13 @@
 from __future__ import annotations
 
 from ctypes import Array, byref, c_size_t, c_void_p
-from itertools import repeat
+from itertools import count, repeat
 from types import TracebackType
-from typing import Any, Callable, Dict, Iterable, Iterator, Mapping, NamedTuple
+from typing import Any, Callable, Iterable, Mapping, NamedTuple
 
-from . import _calls
-from ._calls import all_of, encoded, fields_of, numbers_at, texts_at
-from ._words import FieldWords
+from . import _calls, _interpreter
+from ._calls import all_of, encoded, fields_of, texts_at
+from ._words import places_in
 
 
 class Hit(NamedTuple):
@@ -28,8 +28,8 @@ class Found(NamedTuple):
     hits: tuple[Hit, ...]
 
 
-# Makes what is found of a pair, as `Found._make` does, with no call of a function in Python.
-_MAKE: Callable[[type[Found], tuple[str, tuple[Hit, ...]]], Found] = tuple.__new__
+# Makes a hit of its parts, as `Hit._make` does, with no call of a function in Python.
+_MAKE: Callable[[type[Hit], tuple[str, int, int, int]], Hit] = tuple.__new__
 
 
 class Given:
@@ -52,7 +52,7 @@ class Given:
 
     def found(self, result: c_void_p) -> list[Found]:
         """All that a result has of it."""
-        return found_in(result, FieldWords(self.texts))
+        return found_in(result, dict(self.texts))
 
 
 class GivenMany:
@@ -82,31 +82,10 @@ class GivenMany:
         return [each.found(c_void_p(result)) for each, result in zip(self._given, self._results)]
 
 
-class _FieldHits(Dict[int, Hit]):
-    """The hits in a field by their positions; each is made when it is first asked for."""
-
-    def __init__(self, field: str, words: FieldWords) -> None:
-        super().__init__()
-        self._field, self._words = field, words
-
-    def __missing__(self, position: int) -> Hit:
-        hit = self[position] = Hit(self._field, position, *self._words.span(self._field.encode(), position))
-        return hit
-
-
-def _hits(all: _calls.Found, words: FieldWords) -> Iterator[tuple[Hit, ...]]:
-    """The hits of each id: no end of nothing where there are none. It makes no object for each id and hit but these."""
-    if all.hit_count == 0:
-        return repeat(())
-    fields = [_FieldHits(name, words) for name in texts_at(all.names, all.name_at, all.name_count)]
-    positions = numbers_at(all.hit_position, all.hit_count)
-    if len(fields) == 1:
-        hits = tuple(map(fields[0].__getitem__, positions))
-    else:
-        names = numbers_at(all.hit_name, all.hit_count)
-        hits = tuple([fields[name][position] for name, position in zip(names, positions)])
-    at = numbers_at(all.hit_at, all.count + 1)
-    return map(hits.__getitem__, map(slice, at, at[1:]))
+def _words_of(field: str, text: bytes) -> list[Hit]:
+    """The hits that the words of a field would be, whose text in UTF-8 this is."""
+    places = places_in(text)
+    return list(map(_MAKE, repeat(Hit), zip(repeat(field), count(), places[::2], places[1::2])))
 
 
 def ids_in(result: c_void_p) -> list[str]:
@@ -117,10 +96,11 @@ def ids_in(result: c_void_p) -> list[str]:
     return texts_at(all.ids, all.id_at, all.count)
 
 
-def found_in(result: c_void_p, words: FieldWords) -> list[Found]:
-    """All that a result has."""
+def found_in(result: c_void_p, texts: Mapping[bytes, bytes]) -> list[Found]:
+    """All that a result has of an article with these fields, by names and texts in UTF-8."""
     if _calls.LIBRARY.pressclip_result_count(result) == 0:
         return []
     all = all_of(result)
-    pairs = zip(texts_at(all.ids, all.id_at, all.count), _hits(all, words))
-    return list(map(_MAKE, repeat(Found), pairs))
+    fields = [_words_of(name, texts[name.encode()]) for name in texts_at(all.names, all.name_at, all.name_count)]
+    found: list[Found] = _calls.LIBRARY.pressclip_python_found(_interpreter.INTERPRETER, all, Found, fields)
+    return found

@@ -2,13 +2,15 @@
 
 from __future__ import annotations
 
-from collections.abc import Iterable
+from bisect import bisect_right
+from itertools import compress, count
 from typing import NamedTuple
 
 from . import _calls
 
 _SPAN_BYTES = 16
-_INNER_BYTES = bytes(range(0x80, 0xC0))
+# For each byte whether it is within a character, and not the first of it.
+_IS_INNER = bytes(0x80 <= byte < 0xC0 for byte in range(256))
 
 
 class Span(NamedTuple):
@@ -18,31 +20,21 @@ class Span(NamedTuple):
     end: int
 
 
-def characters_at(encoded: bytes, places: Iterable[int]) -> dict[int, int]:
+def characters_at(encoded: bytes, places: list[int]) -> list[int]:
     """The number of the character that each of these bytes of a text's UTF-8 is of; at the end, of all characters.
 
     One walk over the text.
     """
     if encoded.isascii():
-        return {place: place for place in places}
-    found: dict[int, int] = {}
-    byte = count = 0
-    for place in sorted(places):
-        first = place
-        while first < len(encoded) and encoded[first] & 0xC0 == 0x80:
-            first -= 1
-        count += len(encoded[byte:first].translate(None, _INNER_BYTES))
-        byte = first
-        found[place] = count
-    return found
+        return places
+    inner = list(compress(count(), encoded.translate(_IS_INNER)))
+    return [place - bisect_right(inner, place) for place in places]
 
 
-def _spans_in(encoded: bytes) -> list[Span]:
-    """Where the words of a text stand whose UTF-8 this is."""
+def places_in(encoded: bytes) -> list[int]:
+    """Where each word of a text begins and ends, in characters; the text is in UTF-8."""
     answer = _calls.answer_of(_calls.LIBRARY.pressclip_words, encoded, len(encoded), size=_SPAN_BYTES)
-    places = memoryview(answer).cast("Q").tolist()
-    characters = characters_at(encoded, places)
-    return [Span(characters[start], characters[end]) for start, end in zip(places[::2], places[1::2])]
+    return characters_at(encoded, memoryview(answer).cast("Q").tolist())
 
 
 def word_spans(text: str) -> list[Span]:
@@ -55,18 +47,5 @@ def word_spans(text: str) -> list[Span]:
     >>> word_spans("Crème brûlée")
     [Span(start=0, end=5), Span(start=6, end=12)]
     """
-    return _spans_in(_calls.encoded(text, "a text"))
-
-
-class FieldWords:
-    """The words of an article's fields, by names and texts in UTF-8; those of a field are read when they are needed."""
-
-    def __init__(self, fields: Iterable[tuple[bytes, bytes]]) -> None:
-        self._texts = dict(fields)
-        self._spans: dict[bytes, list[Span]] = {}
-
-    def span(self, field: bytes, position: int) -> Span:
-        """Where the word at a position of a field stands."""
-        if field not in self._spans:
-            self._spans[field] = _spans_in(self._texts[field])
-        return self._spans[field][position]
+    places = places_in(_calls.encoded(text, "a text"))
+    return list(map(Span, places[::2], places[1::2]))
