@@ -8,6 +8,7 @@ ghost use Rattle.clip_standing.specs.Steps.FoundHits.{AreFound, one_way_found};
 
 use crate::found::FoundHits;
 use crate::standing::Standing;
+use crate::view::AlertView;
 use clip_meaning::{Article, Hit};
 use clip_words::NoMemory;
 use std::alloc::Global;
@@ -104,19 +105,22 @@ impl Alert {
         }
     }
 
+    /// What it says, with its hits where they were found when it was made. Takes constant time.
+    pub fn as_view(&self) -> AlertView<'_>
+        ensures { result ≡ alert_value self.now }
+    {
+        AlertView::of(&self.standing, &self.article, self.found_hits())
+    }
+
     /// Where in the article the query holds: the positions of the words that its leaves name, by the bytes of their
     /// fields' names and then by position. They are copied where they were found when the alert was made, and else
     /// found at each call.
     ///
-    /// `NoMemory` where an allocation failed. Cost: a step for each hit where they were found, else that of
-    /// `Standing::hits_in`.
+    /// `NoMemory` where an allocation failed. Cost: that of `AlertView::hits`.
     pub fn hits(&self, alloc: Global) -> Result<Vec<Hit>, NoMemory>
         ensures { IfOk result (λ hits. map hit_value hits.items ≡ (alert_value self.now).hits) }
     {
-        match &self.found {
-            Some(hits) => Ok(hits.as_slice().to_vec(alloc)?),
-            None => self.standing.hits_in(alloc, &self.article),
-        }
+        self.as_view().hits(alloc)
     }
 
     /// A copy of the alert. It shares the query and the article; hits that were found are not copied, so `hits`
@@ -142,4 +146,22 @@ pub struct Alerts {
     pub asked: u64,
     /// One alert for each registered query that holds of the article, in the byte order of the queries' ids.
     pub alerts: Vec<Alert>,
+}
+
+impl Alerts {
+    ghost use Rattle.clip_standing.specs.Alerts.{alerts_value};
+
+    /// What each of the alerts says, in their order.
+    ///
+    /// `NoMemory` where an allocation failed. Cost: a step for each of them.
+    pub fn views(&self, alloc: Global) -> Result<Vec<AlertView<'_>>, NoMemory>
+        ensures { IfOk result (λ views. views.items ≡ (alerts_value self.now).alerts) }
+    {
+        let mut views = Vec::with_capacity(alloc, self.alerts.len())?;
+        let alerts = self.alerts.as_slice();
+        for alert in alerts {
+            views.push(alert.as_view())?;
+        }
+        Ok(views)
+    }
 }

@@ -9,9 +9,11 @@ mod found;
 mod fresh;
 mod reading;
 mod standing;
+mod view;
 
 pub use alert::{Alert, Alerts};
 pub use command::{Applied, Command, HistoryEntry, Refused};
 pub use entry::Entry;
 pub use found::FoundHits;
 pub use standing::{Standing, StandingFault};
+pub use view::AlertView;
