@@ -10,7 +10,7 @@ use std::rt::Files;
 /// Who may read a journal's files, and write them: their owner.
 const FILE_MODE: u32 = 0o600;
 
-/// The same of its folder.
+/// Who may look into a journal's folder, and change it: its owner.
 const FOLDER_MODE: u32 = 0o700;
 
 /// The most files that torn ends are kept in.

@@ -104,7 +104,7 @@ impl<'a> Held<'a> {
         }
     }
 
-    /// The same with the places of its hits, which were found.
+    /// This entry with the places of its hits, which were found.
     pub(crate) fn with_hits(self, places: HitPlaces) -> Held<'a>
         ensures registered { result.registered.now ≡ self.entry.registered.now }
         ensures hits { result.hits ≡ Some places }
