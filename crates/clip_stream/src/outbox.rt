@@ -27,7 +27,7 @@ impl Model for Outbox {
 }
 
 impl Outbox {
-    ghost use Rattle.std.specs.Prelude.{◌≡◌, ◌++◌, [], true, false, OnOk, OnErr, Err};
+    ghost use Rattle.std.specs.Prelude.{◌≡◌, ◌++◌, ◌<◌, [], length, true, false, OnOk, OnErr, Err};
     ghost use Rattle.std.specs.Io.KnownBytes.{Appends, Keeps};
     ghost use Rattle.clip_stream.specs.Device.{AppendsFront, HandsOver};
 
@@ -53,6 +53,7 @@ impl Outbox {
     pub fn hand_over<W: Sink>(&mut self, writer: &mut W, has_line: bool) -> Result<(), RunFault>
         ensures moved { OnOk result (HandsOver (W.taken writer.old) self.old (W.taken writer.new) self.new) }
         ensures none_held { OnOk result (has_line ≡ false → self.new ≡ []) }
+        ensures few_held { OnOk result (length self.new < MANY) }
         ensures flushed { OnOk result (has_line ≡ false → W.is_flushed writer.new ≡ true) }
         ensures well { OnOk result (W.has_failed writer.new ≡ W.has_failed writer.old) }
         ensures err { OnErr result ((result ≡ Err RunFault.Write) × (W.has_failed writer.new ≡ true)) }
