@@ -1,11 +1,15 @@
-use Rattle.std.proofs.Common.{◌≡◌, map, ◌++◌}
+use denote.Shadow.{shadow}
+use denote.Text.{Utf8}
+use Rattle.std.proofs.Common.{◌≡◌, map, length, ◌++◌}
 use Rattle.std.specs.Arc.{arc_str_bytes}
+use Rattle.unicode_segmentation.specs.Word.{words}
 use Rattle.clip_words.specs.Words.{fold_of, words_of}
-use Rattle.unicode_segmentation.specs.Iter.{unicode_words_left}
 use Rattle.clip_words.proofs.shared_words.Given as goal
 
--- the words so far and those to come are the words of the text
-abbrev pub invariant-loop-word : goal.invariant-loop-word
-invariant-loop-word l =
-    (goal.iterator-loop-word).can_next l.word-iterator × (goal.iterator-loop-word).is_finite l.word-iterator
-    × (map arc_str_bytes l.shared.items ++ map fold_of (unicode_words_left l.word-iterator) ≡ words_of l.text)
+-- the words so far and those of the rest are the words of the text
+abbrev pub invariant-loop-rest : goal.invariant-loop-rest
+invariant-loop-rest l =
+    (map arc_str_bytes l.shared.items ++ map fold_of (words l.rest) ≡ words_of l.text) × shadow (Utf8 l.rest)
+
+abbrev pub decreases-loop-rest : goal.decreases-loop-rest
+decreases-loop-rest l = length l.rest

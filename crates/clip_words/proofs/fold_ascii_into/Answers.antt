@@ -2,7 +2,7 @@
 use Rattle.std.proofs.Common.{rules, ◌≡◌, map, string_bytes, ap, sym, ◌∙◌}
 use Rattle.std.specs.Char.{to_ascii_lowercase}
 use Rattle.clip_words.proofs.Folding.{fold_of_ascii}
-use Rattle.clip_words.proofs.fold_into.Goals as goal
+use Rattle.clip_words.proofs.fold_ascii_into.Goals as goal
 
 pub returns : goal.returns
 returns c =

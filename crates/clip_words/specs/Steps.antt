@@ -1,0 +1,2 @@
+-- What the proofs of this crate go through; no public clause cites it.
+pub mod Fronts
