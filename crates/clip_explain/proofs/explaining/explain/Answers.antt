@@ -1,5 +1,10 @@
+use Rattle.std.proofs.Common.{rules}
 use Rattle.clip_explain.proofs.Sizes.{small}
 use Rattle.clip_explain.proofs.explaining.explain.Goals as goal
 
 pub node_count-requires : goal.node_count-requires
 node_count-requires c = small _ _ c.in-Ok.ensures.read c.in-Ok.ensures.kept
+
+-- Answered here, so that a wrong body is refused at once.
+pub returns-in-Err : goal.returns-in-Err
+returns-in-Err c = search rules
