@@ -1,0 +1,18 @@
+//! What a store of bytes is kept in, of which no contract says anything.
+
+/// A call of a backing failed.
+#[derive(Clone, Copy, Debug, PartialEq, Eq)]
+pub struct Failed;
+
+/// What keeps the bytes, as a file does. No clause says what it does: that it does as it answers, and keeps what it
+/// synced, is trusted.
+pub trait Backing {
+    /// Adds bytes behind those that are there. After `Failed` any front of them may be there.
+    fn append(&mut self, bytes: &[u8]) -> Result<(), Failed>;
+
+    /// From then on a stop leaves all that is there.
+    fn sync(&mut self) -> Result<(), Failed>;
+
+    /// Puts other bytes in the place of those that are there, at once and synced.
+    fn put_in_place(&mut self, bytes: &[u8]) -> Result<(), Failed>;
+}
