@@ -1,6 +1,7 @@
 use super::*;
 use clip_journal::{Journal, OpenFault, Store, begin, open, read_back};
 use std::alloc::Global;
+use std::fs;
 use std::test::Fail;
 
 /// How many calls a history has.
@@ -173,7 +174,8 @@ fn a_stop_at_any_call_leaves_a_front_with_all_that_were_synced(
 #[test]
 fn a_file_keeps_what_was_synced(rt: HostRuntime) -> Result<(), Fail> {
     let alloc = rt.alloc();
-    let folder = "journal";
+    let folder = "journal_of_a_test";
+    let _ = fs::remove_dir_all(&rt, folder);
     let mut store = open_file(&rt, alloc, folder)?;
     begin(alloc, &mut store)?;
     let found = open(alloc, &mut store)?;
@@ -188,13 +190,12 @@ fn a_file_keeps_what_was_synced(rt: HostRuntime) -> Result<(), Fail> {
         [only] => assert_eq!(rt; only.as_slice(), b"one".as_slice()),
         _ => return Err("another number of commands is kept".into()),
     }
-    assert_eq!(rt;
-        set_aside(&rt, alloc, folder, b"torn")?.as_str(),
-        "journal/changes.torn.1"
-    );
-    assert_eq!(rt;
-        set_aside(&rt, alloc, folder, b"torn")?.as_str(),
-        "journal/changes.torn.2"
-    );
+    for path in [
+        "journal_of_a_test/changes.torn.1",
+        "journal_of_a_test/changes.torn.2",
+    ] {
+        assert_eq!(rt; set_aside(&rt, alloc, folder, b"torn")?.as_str(), path);
+    }
+    fs::remove_dir_all(&rt, folder)?;
     Ok(())
 }
