@@ -3,9 +3,9 @@ ghost use Rattle.std.specs.Prelude.{◌≡◌, is_some};
 ghost use Rattle.std.specs.List.{list_any};
 
 use crate::held::Named;
-use crate::matching::alerts;
+use crate::matching::{alerts, views};
 use clip_meaning::{Article, Hit};
-use clip_standing::Alerts;
+use clip_standing::{AlertView, Alerts};
 use clip_words::NoMemory;
 use std::alloc::Global;
 use std::sync::Arc;
@@ -56,6 +56,16 @@ impl<'a> DueEntries<'a> {
             ids.push(one.id())?;
         }
         Ok(ids)
+    }
+
+    /// What the alerts say, with their hits where these were found. None is made, and no entry is looked at.
+    ///
+    /// `NoMemory` where an allocation failed. Cost: a step for each of them.
+    pub fn views(&self, alloc: Global) -> Result<Vec<AlertView<'_>>, NoMemory>
+        requires { AreTheirHits self.now }
+        ensures { IfOk result (λ views. views.items ≡ (due_value self.now).alerts) }
+    {
+        views(alloc, &self.named, self.article, &self.all_hits)
     }
 
     /// The alerts, with their hits where these were found: each carries its own, where those of each query were.

@@ -13,7 +13,7 @@ use crate::held::{Held, HitPlaces, HitsFound, Named, WithIds, with_led_ids};
 use crate::trying::{Judged, judge_candidates};
 use clip_meaning::{Article, Hit};
 use clip_registry::View;
-use clip_standing::{Alert, Alerts, FoundHits};
+use clip_standing::{Alert, AlertView, Alerts, FoundHits};
 use clip_words::NoMemory;
 use std::alloc::Global;
 use std::cmp::Ordering;
@@ -46,6 +46,41 @@ fn alert_of(held: Held<'_>, article: &Article, all_hits: &Arc<Vec<Hit>>) -> Resu
         }
         None => Alert::of(registered.standing(), article),
     }
+}
+
+/// What the alert of an entry whose query holds of the article says, with its hits where they were found, which stand
+/// among those of all. The entry is not looked at.
+fn view_of<'a>(held: &Held<'a>, article: &'a Article, all_hits: &'a [Hit]) -> AlertView<'a>
+    requires { AreItsHits article.now (map hit_value all_hits.now) held.now }
+    ensures { result ≡ alert_due article.now held.now.registered.now }
+{
+    let standing = held.registered.standing();
+    let hits = held.hits;
+    match hits {
+        Some(HitPlaces { start, end }) => {
+            AlertView::of(standing, article, Some(&all_hits[start..end]))
+        }
+        None => AlertView::of(standing, article, None),
+    }
+}
+
+/// What the alerts of queries that hold of the article say, in their order, with their hits where these were found,
+/// which stand among those of all.
+pub(crate) fn views<'a>(
+    alloc: Global,
+    named: &[Named<'a>],
+    article: &'a Article,
+    all_hits: &'a [Hit],
+) -> Result<Vec<AlertView<'a>>, NoMemory>
+    requires { All (λ n. AreItsHits article.now (map hit_value all_hits.now) n.held) named.now }
+    ensures { IfOk result (λ views. views.items
+        ≡ map (alert_due article.now) (map (λ n. n.held.registered.now) named.now)) }
+{
+    let mut views = Vec::with_capacity(alloc, named.len())?;
+    for one in named {
+        views.push(view_of(&one.held, article, all_hits))?;
+    }
+    Ok(views)
 }
 
 /// The alerts of queries that hold of the article, in their order, with their hits where these were found, which stand
