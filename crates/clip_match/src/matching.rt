@@ -59,7 +59,8 @@ fn view_of<'a>(held: &Held<'a>, article: &'a Article, all_hits: &'a [Hit]) -> Al
     ensures { result ≡ alert_due article.now held.now.registered.now }
 {
     let standing = held.registered.standing();
-    match held.hits {
+    let hits = held.hits;
+    match hits {
         Some(HitPlaces { start, end }) => {
             AlertView::of(standing, article, Some(&all_hits[start..end]))
         }

@@ -17,4 +17,4 @@ of-requires c =
     sym (take-map hit_value count (drop places.start all))
     ∙ ap (take count) (sym (drop-map hit_value places.start all))
     ∙ at.are
-    ∙ ap (λ (standing : Standing). hits standing.tree fields) (sym c.standing.ensures)
+    ∙ ap (λ (standing : Standing). hits standing.tree fields) (sym c.standing-standing.ensures)
