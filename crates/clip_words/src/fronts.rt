@@ -3,7 +3,8 @@ ghost use Rattle.std.specs.Prelude.{◌≡◌, ◌+◌, ◌<◌, ◌≤◌, ◌+
 ghost use Rattle.std.specs.Char.{is_ascii_alphanumeric};
 ghost use Rattle.std.specs.List.{list_all};
 ghost use Rattle.unicode_segmentation.specs.Word.{words};
-ghost use Rattle.clip_words.specs.Steps.Fronts.{is_word_mark, is_separator, ends_word, IsSeam, front_words, has_letters};
+ghost use Rattle.clip_words.specs.Steps.Fronts.{is_word_mark, is_separator, ends_word, IsSeam};
+ghost use Rattle.clip_words.specs.Steps.Fronts.{front_words, has_letters};
 
 /// The front of a text. Its words and those of the rest are the words of the text.
 pub(crate) enum Front<'a> {
