@@ -15,13 +15,14 @@ use Rattle.serde_json.specs.Written.{comma_if, compact_text, items_text, members
 use Rattle.serde_json.proofs.Texts.{print-outline}
 use Rattle.clip_model.specs.Alerts.{Alert}
 use Rattle.clip_protocol.specs.declared.form.Form.{Form}
+use Rattle.clip_protocol.specs.declared.form.Form.TheVariants.{Plain, WithHits}
 use Rattle.clip_protocol.specs.declared.found.Found.{Found}
 use Rattle.clip_protocol.specs.Found.{found_value}
 use Rattle.clip_protocol.specs.Reply as reply
-use Rattle.clip_protocol.specs.Reply.{alerts_data, number_of, printed, reply_text, reply_value}
+use Rattle.clip_protocol.specs.Reply.{alerts_data, article_data, number_of, printed, reply_text, reply_value}
 use Rattle.clip_protocol.specs.Request.{array_of, members_from}
 use Rattle.clip_protocol.specs.Steps.Flowing.{closing, item_text, items_begun, opening, shown_data}
-use Rattle.clip_protocol.specs.Steps.Printing.{data_tokens, last_tokens}
+use Rattle.clip_protocol.specs.Steps.Printing.{alerts_with_hits, data_tokens, last_tokens}
 use Rattle.clip_protocol.specs.Steps.Views.{alerts_by_id}
 
 -- ---- the articles
@@ -50,6 +51,12 @@ print-next form all place found before after within is written =
     ∙ ap (λ t. (before ++ comma_if (nat_lt 0 place)) ++ t) (print-outline shown)) later
     ∙ regroup before (comma_if (nat_lt 0 place)) (compact_text shown) (items true left)
     ∙ ap (λ l. before ++ items (nat_lt 0 place) l) (sym first)
+
+-- a form shows the same of an article where it is given only the alerts whose hits it shows
+pub article-with_hits : (form : Form) (id : List ℕ) (queries : List (List ℕ)) (alerts : List Alert)
+    → article_data form id queries (alerts_with_hits form alerts) ≡ article_data form id queries alerts
+article-with_hits Plain id queries alerts = refl
+article-with_hits WithHits id queries alerts = refl
 
 -- ---- what stands around them
 

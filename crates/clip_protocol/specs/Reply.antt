@@ -92,6 +92,11 @@ article_data Plain id queries alerts =
 article_data WithHits id queries alerts = object_of
     ((codes "article", string id) ∷ (codes "hits", hits_data alerts) ∷ (codes "queries", ids_data queries) ∷ [])
 
+-- an article of whose alerts nobody hears: with hits where the alerts are given, which tell them
+abbrev pub unheard_data : List ℕ → List (List ℕ) → Option (List Alert) → Data
+unheard_data id queries None = article_data Plain id queries []
+unheard_data id queries (Some alerts) = article_data WithHits id queries alerts
+
 -- the ids of the alerts' queries
 abbrev pub query_ids : List Alert → List (List ℕ)
 query_ids alerts = map (λ a. a.query) alerts

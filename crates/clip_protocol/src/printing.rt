@@ -5,16 +5,17 @@ ghost use Rattle.json.specs.Print.{print};
 ghost use Rattle.serde_json.specs.Data.{string};
 ghost use Rattle.clip_meaning.specs.Hits.{hit_value};
 ghost use Rattle.clip_standing.specs.Alerts.{alert_value, alerts_value};
-ghost use Rattle.clip_protocol.specs.Reply.{alerts_data, hit_data, hits_data, ids_data, number_of, query_ids, text_or_null};
+ghost use Rattle.clip_protocol.specs.Reply.{alerts_data, article_data, hit_data, hits_data, ids_data, number_of};
+ghost use Rattle.clip_protocol.specs.Reply.{query_ids, text_or_null};
 ghost use Rattle.clip_protocol.specs.Request.{array_of};
 ghost use Rattle.clip_protocol.specs.Steps.Flowing.{article_begun, items_begun};
-ghost use Rattle.clip_protocol.specs.Steps.Printing.{Appends, data_tokens, hits_tokens};
+ghost use Rattle.clip_protocol.specs.Steps.Printing.{Appends, alerts_with_hits, data_tokens, hits_tokens};
 ghost use Rattle.clip_protocol.specs.Steps.Views.{alerts_by_id};
 
 use crate::form::Form;
 use clip_listen::Note;
 use clip_meaning::Hit;
-use clip_standing::{Alert, Alerts};
+use clip_standing::{Alert, AlertView, Alerts};
 use clip_words::NoMemory;
 use json::Writer;
 use std::alloc::Global;
@@ -90,10 +91,10 @@ fn write_hits(out: &mut Writer, hits: &[Hit]) -> Result<(), NoMemory>
     Ok(())
 }
 
-/// Writes where the query of an alert holds: what was found when the alert was made, or what is found now.
-fn write_hits_of(out: &mut Writer, alloc: Global, alert: &Alert) -> Result<(), NoMemory>
+/// Writes where the query of an alert holds: what was found already, or what is found now.
+fn write_hits_of(out: &mut Writer, alloc: Global, alert: &AlertView<'_>) -> Result<(), NoMemory>
     ensures { Appends result out.old out.new
-        (data_tokens (array_of (map hit_data (alert_value alert.now).hits))) }
+        (data_tokens (array_of (map hit_data alert.now.hits))) }
 {
     match alert.found_hits() {
         Some(hits) => write_hits(out, hits),
@@ -102,8 +103,12 @@ fn write_hits_of(out: &mut Writer, alloc: Global, alert: &Alert) -> Result<(), N
 }
 
 /// Writes for each alert where its query holds.
-fn write_hits_of_all(out: &mut Writer, alloc: Global, alerts: &[Alert]) -> Result<(), NoMemory>
-    ensures { Appends result out.old out.new (data_tokens (hits_data (map alert_value alerts.now))) }
+fn write_hits_of_all(
+    out: &mut Writer,
+    alloc: Global,
+    alerts: &[AlertView<'_>],
+) -> Result<(), NoMemory>
+    ensures { Appends result out.old out.new (data_tokens (hits_data alerts.now)) }
 {
     out.begin_array()?;
     for alert in alerts {
@@ -122,6 +127,20 @@ pub fn query_ids<'a>(alloc: Global, alerts: &'a [Alert]) -> Result<Vec<&'a str>,
         ids.push(alert.query().as_str())?;
     }
     Ok(ids)
+}
+
+/// What alerts say where the form shows it, in their order, and nothing in the plain form.
+pub fn views_shown(
+    alloc: Global,
+    form: Form,
+    alerts: &Alerts,
+) -> Result<Vec<AlertView<'_>>, NoMemory>
+    ensures { IfOk result (λ views. views.items ≡ alerts_with_hits form (alerts_value alerts.now).alerts) }
+{
+    match form {
+        Form::Plain => Ok(Vec::new(alloc)),
+        Form::WithHits => alerts.views(alloc),
+    }
 }
 
 /// Writes ids, one after the other.
@@ -159,9 +178,9 @@ fn write_hits_member(
     out: &mut Writer,
     alloc: Global,
     form: Form,
-    alerts: &[Alert],
+    alerts: &[AlertView<'_>],
 ) -> Result<(), NoMemory>
-    ensures { Appends result out.old out.new (hits_tokens form (map alert_value alerts.now)) }
+    ensures { Appends result out.old out.new (hits_tokens form alerts.now) }
 {
     match form {
         Form::Plain => Ok(()),
@@ -172,20 +191,36 @@ fn write_hits_member(
     }
 }
 
+/// Writes what a form shows of an article: its id, the ids of the queries, and with hits where each of them holds.
+fn write_article(
+    out: &mut Writer,
+    alloc: Global,
+    form: Form,
+    article: &str,
+    queries: &[&str],
+    alerts: &[AlertView<'_>],
+) -> Result<(), NoMemory>
+    ensures { Appends result out.old out.new
+        (data_tokens (article_data form article.now (map (λ id. id.now) queries.now) alerts.now)) }
+{
+    out.begin_object()?;
+    out.key("article")?;
+    out.string(article)?;
+    write_hits_member(out, alloc, form, alerts)?;
+    out.key("queries")?;
+    write_ids(out, queries)?;
+    out.end_object()?;
+    Ok(())
+}
+
 /// Writes an article's alerts in a form.
 fn write_alerts(out: &mut Writer, alloc: Global, form: Form, found: &Alerts) -> Result<(), NoMemory>
     ensures { Appends result out.old out.new
         (data_tokens (alerts_data form (alerts_by_id (alerts_value found.now)))) }
 {
-    out.begin_object()?;
-    out.key("article")?;
-    out.string(found.article.as_str())?;
-    write_hits_member(out, alloc, form, &found.alerts)?;
-    out.key("queries")?;
-    let ids = query_ids(alloc, &found.alerts)?;
-    write_ids(out, &ids)?;
-    out.end_object()?;
-    Ok(())
+    let queries = query_ids(alloc, &found.alerts)?;
+    let alerts = views_shown(alloc, form, found)?;
+    write_article(out, alloc, form, found.article.as_str(), &queries, &alerts)
 }
 
 /// The text, and after it the beginning of an article's alerts, up to its id.

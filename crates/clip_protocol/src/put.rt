@@ -4,7 +4,7 @@ ghost use Rattle.json.specs.Print.{quoted};
 ghost use Rattle.serde_json.specs.Data.{string};
 ghost use Rattle.serde_json.specs.Written.{compact_text};
 ghost use Rattle.clip_meaning.specs.Hits.{hit_value};
-ghost use Rattle.clip_standing.specs.Alerts.{alert_value, alerts_value};
+ghost use Rattle.clip_standing.specs.Alerts.{alerts_value};
 ghost use Rattle.clip_stream.specs.Device.{AppendsFront, HandsOver};
 ghost use Rattle.clip_protocol.specs.Reply.{alerts_data, hit_data};
 ghost use Rattle.clip_protocol.specs.Request.{array_of};
@@ -15,9 +15,9 @@ ghost use Rattle.clip_protocol.specs.Steps.Views.{alerts_by_id};
 
 use crate::form::Form;
 use crate::found::separate;
-use crate::printing::{article_begun_text, hits_text, ids_text, query_ids};
+use crate::printing::{article_begun_text, hits_text, ids_text, query_ids, views_shown};
 use clip_meaning::Hit;
-use clip_standing::{Alert, Alerts};
+use clip_standing::{AlertView, Alerts};
 use clip_stream::{Flow, RunFault, Sink};
 use std::alloc::Global;
 
@@ -67,18 +67,18 @@ fn put_hits<W: Sink>(
     Ok(text)
 }
 
-/// Puts the hits of an alert behind the text: those that it carries, or those that are found now.
+/// Puts the hits of an alert behind the text: those that were found, or those that are found now.
 fn put_hits_of<W: Sink>(
     flow: &mut Flow<'_, W>,
     text: Vec<u8>,
     alloc: Global,
-    alert: &Alert,
+    alert: &AlertView<'_>,
 ) -> Result<Vec<u8>, RunFault>
     ensures same_reference { flow.new.writer.ghost_name ≡ flow.old.writer.ghost_name }
     ensures puts { PutsText result
         (stand W.taken W.has_failed flow.old.writer.now (flow.old.outbox.now ++ text.items))
         (stand W.taken W.has_failed flow.new.writer.now flow.new.outbox.now)
-        (compact_text (array_of (map hit_data (alert_value alert.now).hits))) }
+        (compact_text (array_of (map hit_data alert.now.hits))) }
 {
     match alert.found_hits() {
         Some(hits) => put_hits(flow, text, hits),
@@ -91,13 +91,13 @@ fn put_hits_of_all<W: Sink>(
     flow: &mut Flow<'_, W>,
     mut text: Vec<u8>,
     alloc: Global,
-    alerts: &[Alert],
+    alerts: &[AlertView<'_>],
 ) -> Result<Vec<u8>, RunFault>
     ensures same_reference { flow.new.writer.ghost_name ≡ flow.old.writer.ghost_name }
     ensures puts { PutsText result
         (stand W.taken W.has_failed flow.old.writer.now (flow.old.outbox.now ++ text.items))
         (stand W.taken W.has_failed flow.new.writer.now flow.new.outbox.now)
-        (items_begun false (map (λ a. array_of (map hit_data a.hits)) (map alert_value alerts.now))) }
+        (items_begun false (map (λ a. array_of (map hit_data a.hits)) alerts.now)) }
 {
     for (place, alert) in alerts.iter().enumerate() {
         separate(&mut text, place > 0)?;
@@ -113,13 +113,13 @@ fn put_hits_member<W: Sink>(
     mut text: Vec<u8>,
     alloc: Global,
     form: Form,
-    alerts: &[Alert],
+    alerts: &[AlertView<'_>],
 ) -> Result<Vec<u8>, RunFault>
     ensures same_reference { flow.new.writer.ghost_name ≡ flow.old.writer.ghost_name }
     ensures puts { PutsText result
         (stand W.taken W.has_failed flow.old.writer.now (flow.old.outbox.now ++ text.items))
         (stand W.taken W.has_failed flow.new.writer.now flow.new.outbox.now)
-        (hits_member form (map alert_value alerts.now)) }
+        (hits_member form alerts.now) }
 {
     match form {
         Form::Plain => Ok(text),
@@ -166,8 +166,8 @@ pub struct ArticlePart<'a> {
     pub article: &'a str,
     /// The ids of the queries that hold of it.
     pub queries: &'a [&'a str],
-    /// Their alerts, which tell the hits. The plain form shows nothing of them.
-    pub alerts: &'a [Alert],
+    /// What their alerts say, which tells the hits. The plain form shows nothing of it.
+    pub alerts: &'a [AlertView<'a>],
 }
 
 /// Puts what a reply shows of an article behind the text, after a comma where it stands behind another.
@@ -196,7 +196,7 @@ fn put_article<W: Sink>(
 /// of it is never held.
 ///
 /// `NoMemory` where an allocation failed, `Write` where the writer fails; a front of it may be put then. Its cost is
-/// linear in the text; with hits that of `Alert::hits` comes to it for each alert that carries none.
+/// linear in the text; with hits that of `AlertView::hits` comes to it for each alert whose hits were not found.
 pub fn put_part<W: Sink>(
     flow: &mut Flow<'_, W>,
     alloc: Global,
@@ -238,12 +238,13 @@ pub fn put_alerts<W: Sink>(
         (flow.old.outbox.now ++ item_text later (alerts_data form (alerts_by_id (alerts_value alerts.now))))) }
 {
     let queries = query_ids(alloc, &alerts.alerts)?;
+    let views = views_shown(alloc, form, alerts)?;
     let part = ArticlePart {
         form,
         later,
         article: alerts.article.as_str(),
         queries: &queries,
-        alerts: &alerts.alerts,
+        alerts: &views,
     };
     put_part(flow, alloc, part)
 }

@@ -25,6 +25,11 @@ abbrev pub hits_tokens : Form → List Alert → List Token
 hits_tokens Plain alerts = []
 hits_tokens WithHits alerts = key (codes "hits") ∷ data_tokens (hits_data alerts)
 
+-- the alerts whose hits a form shows
+abbrev pub alerts_with_hits : Form → List Alert → List Alert
+alerts_with_hits Plain alerts = []
+alerts_with_hits WithHits alerts = alerts
+
 -- the tokens of an array's last items, with its end
 abbrev pub last_tokens : List Data → List Token
 last_tokens ds = items_tokens (items_outline (items_of ds))

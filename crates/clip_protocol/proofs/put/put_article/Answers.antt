@@ -4,7 +4,6 @@ use Rattle.serde_json.specs.Data.{string}
 use Rattle.serde_json.specs.View.{items_of}
 use Rattle.serde_json.specs.Written.{comma_if, items_text}
 use Rattle.clip_model.specs.Alerts.{Alert}
-use Rattle.clip_standing.specs.Alerts.{alert_value}
 use Rattle.clip_protocol.specs.Reply.{article_data}
 use Rattle.clip_protocol.specs.Steps.Flowing.{Data, article_begun, hits_member, item_text, items_begun}
 use Rattle.clip_protocol.specs.Steps.Putting.{Puts, Stand, stand, with_text}
@@ -71,7 +70,7 @@ listed old now later first queries t3 t4 t5 p e q =
 pub returns-in_err-text-2-clause-puts : goal.returns-in_err-text-2-clause-puts
 returns-in_err-text-2-clause-puts g c =
     let part = c.args.part in
-    let alerts = map alert_value part.alerts.now in
+    let alerts = part.alerts.now in
     let listed_ids = map (λ id. id.now) part.queries.now in
     let here = stand g.W.Sink.taken g.W.Sink.has_failed c.args.flow.now.writer.now c.args.flow.now.outbox.now in
     let old = with_text here c.args.text.items in
@@ -93,7 +92,7 @@ returns-in_err-text-2-clause-puts g c =
 pub returns-in_err-extend_from_slice-clause-puts : goal.returns-in_err-extend_from_slice-clause-puts
 returns-in_err-extend_from_slice-clause-puts g c =
     let part = c.args.part in
-    let alerts = map alert_value part.alerts.now in
+    let alerts = part.alerts.now in
     let listed_ids = map (λ id. id.now) part.queries.now in
     let here = stand g.W.Sink.taken g.W.Sink.has_failed c.args.flow.now.writer.now c.args.flow.now.outbox.now in
     let now = stand g.W.Sink.taken g.W.Sink.has_failed c.put_hits_member.new.flow.writer.now
@@ -112,7 +111,7 @@ returns-in_err-extend_from_slice-clause-puts g c =
 pub returns-in_err-text-3-clause-puts : goal.returns-in_err-text-3-clause-puts
 returns-in_err-text-3-clause-puts g c =
     let part = c.args.part in
-    let alerts = map alert_value part.alerts.now in
+    let alerts = part.alerts.now in
     let listed_ids = map (λ id. id.now) part.queries.now in
     let here = stand g.W.Sink.taken g.W.Sink.has_failed c.args.flow.now.writer.now c.args.flow.now.outbox.now in
     let old = with_text here c.args.text.items in
@@ -137,7 +136,7 @@ returns-in_err-text-3-clause-puts g c =
 pub returns-in_err-extend_from_slice-2-clause-puts : goal.returns-in_err-extend_from_slice-2-clause-puts
 returns-in_err-extend_from_slice-2-clause-puts g c =
     let part = c.args.part in
-    let alerts = map alert_value part.alerts.now in
+    let alerts = part.alerts.now in
     let listed_ids = map (λ id. id.now) part.queries.now in
     let here = stand g.W.Sink.taken g.W.Sink.has_failed c.args.flow.now.writer.now c.args.flow.now.outbox.now in
     let old = with_text here c.args.text.items in
@@ -162,7 +161,7 @@ returns-in_err-extend_from_slice-2-clause-puts g c =
 pub returns-clause-puts : goal.returns-clause-puts
 returns-clause-puts g c =
     let part = c.args.part in
-    let alerts = map alert_value part.alerts.now in
+    let alerts = part.alerts.now in
     let listed_ids = map (λ id. id.now) part.queries.now in
     let here = stand g.W.Sink.taken g.W.Sink.has_failed c.args.flow.now.writer.now c.args.flow.now.outbox.now in
     let old = with_text here c.args.text.items in

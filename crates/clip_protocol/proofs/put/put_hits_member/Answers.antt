@@ -1,7 +1,6 @@
 use Rattle.std.proofs.Common.{◌≡◌, List, ℕ, [], ◌∷◌, ◌++◌, codes, false, map, sym, ap, subst, ◌∙◌}
 use Rattle.json.specs.Print.{escape_byte}
 use Rattle.clip_model.specs.Alerts.{Alert}
-use Rattle.clip_standing.specs.Alerts.{alert_value}
 use Rattle.clip_protocol.specs.Reply.{hit_data}
 use Rattle.clip_protocol.specs.Request.{array_of}
 use Rattle.clip_protocol.specs.Steps.Flowing.{Data, hits_member, items_begun}
@@ -27,7 +26,7 @@ parts form alerts is = ap (λ f. hits_member f alerts) is
 
 pub returns-in_err-text-in-WithHits-clause-puts : goal.returns-in_err-text-in-WithHits-clause-puts
 returns-in_err-text-in-WithHits-clause-puts g c =
-    let alerts = map alert_value c.args.alerts.now in
+    let alerts = c.args.alerts.now in
     let here = stand g.W.Sink.taken g.W.Sink.has_failed c.args.flow.now.writer.now c.args.flow.now.outbox.now in
     let now = stand g.W.Sink.taken g.W.Sink.has_failed c.put_hits_of_all.new.flow.writer.now
     c.put_hits_of_all.new.flow.outbox.now in
@@ -40,7 +39,7 @@ returns-in_err-text-in-WithHits-clause-puts g c =
 
 pub returns-in_err-push-in-WithHits-clause-puts : goal.returns-in_err-push-in-WithHits-clause-puts
 returns-in_err-push-in-WithHits-clause-puts g c =
-    let alerts = map alert_value c.args.alerts.now in
+    let alerts = c.args.alerts.now in
     let here = stand g.W.Sink.taken g.W.Sink.has_failed c.args.flow.now.writer.now c.args.flow.now.outbox.now in
     let now = stand g.W.Sink.taken g.W.Sink.has_failed c.put_hits_of_all.new.flow.writer.now
     c.put_hits_of_all.new.flow.outbox.now in
@@ -54,7 +53,7 @@ returns-in_err-push-in-WithHits-clause-puts g c =
 
 pub returns-in_ok-push-in-WithHits-clause-puts : goal.returns-in_ok-push-in-WithHits-clause-puts
 returns-in_ok-push-in-WithHits-clause-puts g c =
-    let alerts = map alert_value c.args.alerts.now in
+    let alerts = c.args.alerts.now in
     let here = stand g.W.Sink.taken g.W.Sink.has_failed c.args.flow.now.writer.now c.args.flow.now.outbox.now in
     let now = stand g.W.Sink.taken g.W.Sink.has_failed c.put_hits_of_all.new.flow.writer.now
     c.put_hits_of_all.new.flow.outbox.now in

@@ -1,5 +1,4 @@
 use Rattle.std.proofs.Common.{◌≡◌, ◌++◌, false, map, take}
-use Rattle.clip_standing.specs.Alerts.{alert_value}
 use Rattle.clip_protocol.specs.Reply.{hit_data}
 use Rattle.clip_protocol.specs.Request.{array_of}
 use Rattle.clip_protocol.specs.Steps.Flowing.{items_begun}
@@ -14,5 +13,5 @@ invariant-loop-place g l =
       same_reference : l.flow.writer.ghost_name ≡ l.fn.flow.writer.ghost_name;
       puts : Puts (stand taken failed l.fn.flow.writer.now (l.fn.flow.outbox.now ++ l.fn.text.items))
           (stand taken failed l.flow.writer.now (l.flow.outbox.now ++ l.text.items))
-          (items_begun false (take l.place (map (λ a. array_of (map hit_data a.hits)) (map alert_value l.alerts))));
+          (items_begun false (take l.place (map (λ a. array_of (map hit_data a.hits)) l.alerts)));
     }
