@@ -139,14 +139,14 @@ fn put_shown<W: Sink>(flow: &mut Flow<'_, W>, later: bool, shown: &Shown) -> Res
     ensures same_reference { flow.new.writer.ghost_name ≡ flow.old.writer.ghost_name }
     ensures moved { OnOk result (HandsOver (W.taken flow.old.writer.now)
         (flow.old.outbox.now ++ item_text later
-        (alerts_data shown.now.form (alerts_by_id (alerts_value shown.now.alerts.value))))
+        (alerts_data shown.now.form (alerts_by_id shown.now.alerts.value)))
         (W.taken flow.new.writer.now) flow.new.outbox.now) }
     ensures well { OnOk result (W.has_failed flow.new.writer.now ≡ W.has_failed flow.old.writer.now) }
     ensures fault { IfErr result (λ e. e ≢ RunFault.Read) }
     ensures write { result ≡ Err RunFault.Write → W.has_failed flow.new.writer.now ≡ true }
     ensures front { OnErr result (AppendsFront (W.taken flow.old.writer.now) (W.taken flow.new.writer.now)
         (flow.old.outbox.now ++ item_text later
-        (alerts_data shown.now.form (alerts_by_id (alerts_value shown.now.alerts.value))))) }
+        (alerts_data shown.now.form (alerts_by_id shown.now.alerts.value)))) }
 {
     if !later {
         return flow.put(shown.as_slice());

@@ -1,9 +1,9 @@
 -- What is shown of an article whose alerts nobody hears.
-use Rattle.std.proofs.Common.{◌≡◌, All, List, None, Option, Some, false, is_some, refl, true, ℕ}
+use Rattle.std.proofs.Common.{◌≡◌, All, List, None, Option, Some, ap, false, is_some, refl, true, ℕ}
 use Rattle.std.specs.List.{list_any}
 use Rattle.std.proofs.lemmas.List.Folds.{list_any_at}
 use Rattle.clip_model.specs.Alerts.{Alert}
-use Rattle.clip_protocol.specs.Reply.{article_data, query_ids, unheard_data}
+use Rattle.clip_protocol.specs.Reply.{article_data, form_with, query_ids, unheard_data}
 use Rattle.clip_protocol.specs.declared.form.Form.{Form}
 use Rattle.clip_protocol.specs.declared.form.Form.TheVariants.{Plain, WithHits}
 use Rattle.clip_run.specs.Quiet.{alerts_shown}
@@ -27,3 +27,9 @@ shown_unheard Plain i j ids views alerts same_id same_ids same =
     λ k. unheard_data (same_id k) (same_ids k) (same k)
 shown_unheard WithHits i j ids views alerts same_id same_ids same =
     λ k. unheard_data (same_id k) (same_ids k) (same k)
+
+-- the form is known by whether the alerts are given
+pub form_shown : (form : Form) (views : Option (List Alert)) (alerts : List Alert) → views ≡ alerts_shown form alerts
+    → form_with views ≡ form
+form_shown Plain views alerts same = ap form_with same
+form_shown WithHits views alerts same = ap form_with same
