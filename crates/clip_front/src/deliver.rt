@@ -1,5 +1,5 @@
 //! The delivery of a line's alerts.
-ghost use Rattle.std.specs.Prelude.{◌≡◌, ◌≢◌, ◌++◌, [], map, true, false, Err, IfErr, IfOk, OnOk, OnErr};
+ghost use Rattle.std.specs.Prelude.{◌≡◌, ◌≢◌, ◌++◌, [], map, option_map, true, false, Err, IfErr, IfOk, OnOk, OnErr};
 ghost use Rattle.std.specs.Arc.{arc_str_bytes};
 ghost use Rattle.std.specs.List.{All};
 ghost use Rattle.clip_standing.specs.Alerts.{alerts_value};
@@ -8,7 +8,7 @@ ghost use Rattle.clip_front.specs.Giving.{GivesArticle, giving};
 ghost use Rattle.clip_front.specs.Outcome.{kept_rows, rows_of_article};
 ghost use Rattle.clip_stream.specs.Device.{AppendsFront, HandsOver};
 ghost use Rattle.clip_protocol.specs.Found.{found_value};
-ghost use Rattle.clip_protocol.specs.Reply.{alerts_data, article_data};
+ghost use Rattle.clip_protocol.specs.Reply.{alerts_data, unheard_data};
 ghost use Rattle.clip_protocol.specs.Steps.Flowing.{closing, item_text, opening};
 ghost use Rattle.clip_protocol.specs.Steps.Putting.{stand};
 ghost use Rattle.clip_protocol.specs.Steps.Views.{alerts_by_id};
@@ -20,7 +20,7 @@ use clip_listen::{Audience, Note, deliver_to};
 use clip_protocol::{
     ArticlePart, Form, Found, Shown, closed_text, found_text, opened_text, put_alerts, put_part,
 };
-use clip_standing::Alerts;
+use clip_standing::{AlertView, Alerts};
 use clip_stream::{Flow, RunFault, Sink};
 use clip_words::NoMemory;
 use std::alloc::Global;
@@ -139,14 +139,14 @@ fn put_shown<W: Sink>(flow: &mut Flow<'_, W>, later: bool, shown: &Shown) -> Res
     ensures same_reference { flow.new.writer.ghost_name ≡ flow.old.writer.ghost_name }
     ensures moved { OnOk result (HandsOver (W.taken flow.old.writer.now)
         (flow.old.outbox.now ++ item_text later
-        (alerts_data shown.now.form (alerts_by_id (alerts_value shown.now.alerts.value))))
+        (alerts_data shown.now.form (alerts_by_id shown.now.alerts.value)))
         (W.taken flow.new.writer.now) flow.new.outbox.now) }
     ensures well { OnOk result (W.has_failed flow.new.writer.now ≡ W.has_failed flow.old.writer.now) }
     ensures fault { IfErr result (λ e. e ≢ RunFault.Read) }
     ensures write { result ≡ Err RunFault.Write → W.has_failed flow.new.writer.now ≡ true }
     ensures front { OnErr result (AppendsFront (W.taken flow.old.writer.now) (W.taken flow.new.writer.now)
         (flow.old.outbox.now ++ item_text later
-        (alerts_data shown.now.form (alerts_by_id (alerts_value shown.now.alerts.value))))) }
+        (alerts_data shown.now.form (alerts_by_id shown.now.alerts.value)))) }
 {
     if !later {
         return flow.put(shown.as_slice());
@@ -256,17 +256,20 @@ impl MatchReply {
         put_found(flow, alloc, settings, later, found)
     }
 
-    /// Puts what the reply shows in the plain form of an article whose alerts nobody hears: its id, and the ids of the
-    /// queries that hold of it.
+    /// Puts what the reply shows of an article whose alerts nobody hears: its id, and the ids of the queries that hold
+    /// of it; in the form with hits also where they hold, which what the alerts say tells. Where that is not given, the
+    /// form is the plain one.
     ///
     /// `NoMemory` where an allocation failed, `Write` where the writer fails; a front of the text may be put then. Its
-    /// cost is linear in the text.
+    /// cost is linear in the text; with hits that of `AlertView::hits` comes to it for each alert whose hits were not
+    /// found.
     pub fn add_unheard<W: Sink>(
         &mut self,
         alloc: Global,
         flow: &mut Flow<'_, W>,
         article: &str,
         queries: &[&str],
+        alerts: Option<&[AlertView<'_>]>,
     ) -> Result<(), RunFault>
         ensures same_reference { flow.new.writer.ghost_name ≡ flow.old.writer.ghost_name }
         ensures number { self.new.number ≡ self.old.number }
@@ -274,16 +277,16 @@ impl MatchReply {
         ensures later { OnOk result (self.new.has_article ≡ true) }
         ensures moved { OnOk result (HandsOver (W.taken flow.old.writer.now)
             (flow.old.outbox.now ++ item_text self.old.has_article
-            (article_data Form.Plain article.now (map (λ id. id.now) queries.now) []))
+            (unheard_data article.now (map (λ id. id.now) queries.now) (option_map (λ v. v.now) alerts.entry)))
             (W.taken flow.new.writer.now) flow.new.outbox.now) }
         ensures well { OnOk result (W.has_failed flow.new.writer.now ≡ W.has_failed flow.old.writer.now) }
         ensures fault { IfErr result (λ e. e ≢ RunFault.Read) }
         ensures write { result ≡ Err RunFault.Write → W.has_failed flow.new.writer.now ≡ true }
         ensures front { OnErr result (AppendsFront (W.taken flow.old.writer.now) (W.taken flow.new.writer.now)
             (flow.old.outbox.now ++ item_text self.old.has_article
-            (article_data Form.Plain article.now (map (λ id. id.now) queries.now) []))) }
+            (unheard_data article.now (map (λ id. id.now) queries.now) (option_map (λ v. v.now) alerts.entry)))) }
     {
-        let part = ArticlePart {
+        let plain = ArticlePart {
             form: Form::Plain,
             later: self.has_article,
             article,
@@ -291,7 +294,18 @@ impl MatchReply {
             alerts: &[],
         };
         self.has_article = true;
-        put_part(flow, alloc, part)
+        match alerts {
+            None => put_part(flow, alloc, plain),
+            Some(alerts) => put_part(
+                flow,
+                alloc,
+                ArticlePart {
+                    form: Form::WithHits,
+                    alerts,
+                    ..plain
+                },
+            ),
+        }
     }
 
     /// Puts the end of the reply, with what the listeners said.

@@ -5,8 +5,7 @@ use Rattle.std.proofs.alloc.Global.TheSendSync as global_sent
 use Rattle.std.below.std_heap.proofs.GlobalAllocator.TheSendSync as allocator_sent
 use Rattle.std.proofs.vec.Vec.TheSendSync as vec_sent
 use Rattle.clip_standing.proofs.Sent.{alerts_send}
-use Rattle.clip_standing.specs.contracts.alert.Alerts as alerts
-use Rattle.std.below.core.proofs.snapshot.Sent.{snapshot_send}
+use Rattle.clip_protocol.proofs.said.AlertsSaid.TheSendSync as said_sent
 use Rattle.clip_protocol.specs.contracts.found.Found as found
 use Rattle.clip_protocol.specs.contracts.shown.Shown as shown
 
@@ -15,7 +14,7 @@ ruleset global = (sendable, global_sent.the_send, global_sent.the_sync, allocato
 shown_send : IsSend shown.the_row
 shown_send = declared_send shown.the_type (
   search sendable,
-  (search (global, vec_sent.the_send), (snapshot_send alerts.the_row, tt)),
+  (search (global, vec_sent.the_send), (said_sent.the_send, tt)),
 )
 
 pub found_send : IsSend found.the_row

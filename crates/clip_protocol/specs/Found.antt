@@ -8,7 +8,7 @@ use Rattle.clip_protocol.specs.declared.found.Found.TheVariants.{Alerts, Shown}
 -- the alerts of the article, also where they are let go
 abbrev pub found_value : Found → AlertsValue
 found_value (Alerts found) = alerts_value found
-found_value (Shown shown) = alerts_value shown.alerts.value
+found_value (Shown shown) = shown.alerts.value
 
 -- where it is text, it is that of a reply of this form
 abbrev pub IsShownIn : Form → Found → Type 0

@@ -3,4 +3,5 @@ pub mod LineMeaning
 pub mod Refusal
 pub mod Reply
 pub mod Request
+pub mod Said
 pub mod Steps

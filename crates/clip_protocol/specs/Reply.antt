@@ -92,6 +92,11 @@ article_data Plain id queries alerts =
 article_data WithHits id queries alerts = object_of
     ((codes "article", string id) ∷ (codes "hits", hits_data alerts) ∷ (codes "queries", ids_data queries) ∷ [])
 
+-- the form that shows hits where the alerts are given, which tell them
+abbrev pub form_with : Option (List Alert) → Form
+form_with None = Plain
+form_with (Some alerts) = WithHits
+
 -- an article of whose alerts nobody hears: with hits where the alerts are given, which tell them
 abbrev pub unheard_data : List ℕ → List (List ℕ) → Option (List Alert) → Data
 unheard_data id queries None = article_data Plain id queries []

@@ -28,7 +28,7 @@ use std::alloc::Global;
 pub enum Found {
     /// Its alerts.
     Alerts(Alerts),
-    /// What a reply shows of its alerts, which are let go.
+    /// What a reply shows of its alerts, which were let go, or of which none was made.
     Shown(Shown),
 }
 

@@ -12,6 +12,7 @@ mod put;
 mod refusal;
 mod reply;
 mod request;
+mod said;
 mod shown;
 
 pub use form::Form;
@@ -26,4 +27,5 @@ pub use put::{ArticlePart, put_alerts, put_part};
 pub use refusal::{Refusal, UNSHAPED, Unread};
 pub use reply::{Reply, accepted};
 pub use request::{Draft, Listing, Request, drafts_of, listings_of, texts_of};
+pub use said::AlertsSaid;
 pub use shown::Shown;

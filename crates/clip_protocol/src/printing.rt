@@ -6,7 +6,7 @@ ghost use Rattle.serde_json.specs.Data.{string};
 ghost use Rattle.clip_meaning.specs.Hits.{hit_value};
 ghost use Rattle.clip_standing.specs.Alerts.{alert_value, alerts_value};
 ghost use Rattle.clip_protocol.specs.Reply.{alerts_data, article_data, hit_data, hits_data, ids_data, number_of};
-ghost use Rattle.clip_protocol.specs.Reply.{query_ids, text_or_null};
+ghost use Rattle.clip_protocol.specs.Reply.{query_ids, text_or_null, unheard_data};
 ghost use Rattle.clip_protocol.specs.Request.{array_of};
 ghost use Rattle.clip_protocol.specs.Steps.Flowing.{article_begun, items_begun};
 ghost use Rattle.clip_protocol.specs.Steps.Printing.{Appends, alerts_with_hits, data_tokens, hits_tokens};
@@ -231,6 +231,25 @@ pub fn article_begun_text(text: Vec<u8>, article: &str) -> Result<Vec<u8>, NoMem
     out.begin_object()?;
     out.key("article")?;
     out.string(article)?;
+    Ok(out.into_inner())
+}
+
+/// What a reply shows of an article whose alerts nobody hears: with hits where what these say is given, which tells
+/// them.
+pub fn unheard_text(
+    alloc: Global,
+    article: &str,
+    queries: &[&str],
+    alerts: Option<&[AlertView<'_>]>,
+) -> Result<Vec<u8>, NoMemory>
+    ensures { IfOk result (λ text. text.items ≡ print (data_tokens (unheard_data article.now
+        (map (λ id. id.now) queries.now) (option_map (λ v. v.now) alerts.entry)))) }
+{
+    let mut out = Writer::new(Vec::new(alloc));
+    match alerts {
+        None => write_article(&mut out, alloc, Form::Plain, article, queries, &[])?,
+        Some(alerts) => write_article(&mut out, alloc, Form::WithHits, article, queries, alerts)?,
+    }
     Ok(out.into_inner())
 }
 

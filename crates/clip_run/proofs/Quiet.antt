@@ -1,12 +1,12 @@
 -- What is shown of an article whose alerts nobody hears.
-use Rattle.std.proofs.Common.{◌≡◌, All, Bool, List, None, Option, Some, [], false, is_some, map, refl, true, ℕ}
+use Rattle.std.proofs.Common.{◌≡◌, All, List, None, Option, Some, ap, false, is_some, refl, true, ℕ}
 use Rattle.std.specs.List.{list_any}
 use Rattle.std.proofs.lemmas.List.Folds.{list_any_at}
 use Rattle.clip_model.specs.Alerts.{Alert}
-use Rattle.clip_protocol.specs.Reply.{article_data, query_ids}
-use Rattle.clip_protocol.specs.Steps.Flowing.{item_text}
+use Rattle.clip_protocol.specs.Reply.{article_data, form_with, query_ids, unheard_data}
 use Rattle.clip_protocol.specs.declared.form.Form.{Form}
 use Rattle.clip_protocol.specs.declared.form.Form.TheVariants.{Plain, WithHits}
+use Rattle.clip_run.specs.Quiet.{alerts_shown}
 
 none_if : (o : Option (List ℕ)) → (is_some o ≡ true → ⊥) → o ≡ None
 none_if None h = refl
@@ -19,11 +19,17 @@ unlistened alerts none = λ k d h. none_if _ (λ some.
     let one : list_any (λ (a : Alert). is_some a.listener) alerts ≡ true =
     list_any_at (λ (a : Alert). is_some a.listener) alerts k d h some in cc)
 
--- the plain form shows nothing of the alerts but the ids of their queries
-pub shown_plainly : (form : Form) (later : Bool) (i j : List ℕ) (ids : List (List ℕ)) (alerts : List Alert)
-    → form ≡ Plain → i ≡ j
-    → ids ≡ query_ids alerts → item_text later (article_data Plain i ids [])
-    ≡ item_text later (article_data form j (query_ids alerts) alerts)
-shown_plainly Plain later i j ids alerts plain same_id same_ids =
-    λ k. item_text later (article_data Plain (same_id k) (same_ids k) [])
-shown_plainly WithHits later i j ids alerts plain same_id same_ids = absurd (cc)
+-- a form shows the ids of the queries, and where they hold, if it shows that
+pub shown_unheard : (form : Form) (i j : List ℕ) (ids : List (List ℕ)) (views : Option (List Alert))
+    (alerts : List Alert) → i ≡ j → ids ≡ query_ids alerts → views ≡ alerts_shown form alerts
+    → unheard_data i ids views ≡ article_data form j (query_ids alerts) alerts
+shown_unheard Plain i j ids views alerts same_id same_ids same =
+    λ k. unheard_data (same_id k) (same_ids k) (same k)
+shown_unheard WithHits i j ids views alerts same_id same_ids same =
+    λ k. unheard_data (same_id k) (same_ids k) (same k)
+
+-- the form is known by whether the alerts are given
+pub form_shown : (form : Form) (views : Option (List Alert)) (alerts : List Alert) → views ≡ alerts_shown form alerts
+    → form_with views ≡ form
+form_shown Plain views alerts same = ap form_with same
+form_shown WithHits views alerts same = ap form_with same

@@ -3,6 +3,7 @@ pub mod Crews
 pub mod Due
 pub mod Owed
 pub mod Pending
+pub mod Quiet
 pub mod Ran
 pub mod Seated
 pub mod RunServer

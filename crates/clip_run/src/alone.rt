@@ -12,7 +12,7 @@ ghost use Rattle.clip_front.specs.Giving.{GivesArticle, giving};
 ghost use Rattle.clip_front.specs.Outcome.{GivesAll, GivesFront};
 ghost use Rattle.clip_front.specs.Steps.Answers.{GoesOn, held};
 
-use crate::finding::{hits_found, wants_alerts};
+use crate::finding::{hits_found, views_shown, wants_alerts};
 use crate::own_registrar::OwnRegistrar;
 use clip_front::{Books, Ended, MatchReply, Server, Settings, Taken, serve, take_line};
 use clip_listen::Audience;
@@ -33,8 +33,8 @@ struct RunServer {
     pool: WordPool,
 }
 
-/// Delivers what is due to an article, posts it, and puts what the reply shows of it. No alert is made where the reply
-/// shows the queries' ids alone, none of them has a listener and no rows are kept.
+/// Delivers what is due to an article, posts it, and puts what the reply shows of it. No alert is made where no query
+/// has a listener and no rows are kept.
 pub fn answer_article<A: Audience, W: Sink>(
     alloc: Global,
     audience: &mut A,
@@ -59,7 +59,8 @@ pub fn answer_article<A: Audience, W: Sink>(
         return answer.add(alloc, audience, books, flow, &found);
     }
     let queries = due.queries(alloc)?;
-    answer.add_unheard(alloc, flow, due.article_id(), &queries)
+    let views = views_shown(alloc, books.settings.form, &due)?;
+    answer.add_unheard(alloc, flow, due.article_id(), &queries, views.as_deref())
 }
 
 /// Matches articles at a view, article by article: delivers the alerts of one, and puts what the reply to the line of

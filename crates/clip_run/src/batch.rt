@@ -6,11 +6,11 @@ ghost use Rattle.clip_protocol.specs.Found.{found_value};
 ghost use Rattle.clip_front.specs.Steps.Found.{IsFor};
 ghost use Rattle.clip_run.specs.Due.{IsDue, due_to};
 
-use crate::finding::hits_found;
+use crate::finding::{hits_found, views_shown, wants_alerts};
 use clip_front::Settings;
 use clip_match::{DueEntries, Gate, entries_due};
 use clip_meaning::Article;
-use clip_protocol::{Found, JudgedDraft};
+use clip_protocol::{AlertsSaid, Found, JudgedDraft, Shown};
 use clip_registry::View;
 use clip_words::{NoMemory, WordPool};
 use std::alloc::Global;
@@ -37,19 +37,34 @@ pub enum Pending {
     Waiting(Batch),
 }
 
-/// What a run with these settings finds of an article: where rows are kept the alerts that are due, and else what a
-/// reply shows of them, unless somebody is to hear them.
-fn found_of(alloc: Global, settings: Settings, due: DueEntries<'_>) -> Result<Found, NoMemory>
-    requires { AreTheirHits due }
+/// What the alerts that are due to the article at the view say, for proofs alone. Costs nothing.
+#[inline(always)]
+fn said_due(_view: &View, _article: &Article) -> AlertsSaid
+    ensures { result.value ≡ alerts_due _view.now _article.now }
+{
+    AlertsSaid {}
+}
+
+/// What a run with these settings finds of an article: the alerts that are due where rows are kept or somebody is to
+/// hear them, and else what a reply shows of them, with no alert made.
+fn found_of(
+    alloc: Global,
+    settings: Settings,
+    due: DueEntries<'_>,
+    said: AlertsSaid,
+) -> Result<Found, NoMemory>
+    requires hits { AreTheirHits due }
+    requires said { said.value ≡ due_value due }
     ensures value { IfOk result (λ found. found_value found ≡ due_value due.entry) }
     ensures fit { IfOk result (λ found. IsFor settings found) }
 {
-    let alerts = due.alerts(alloc)?;
-    if settings.keeps_rows {
-        Ok(Found::Alerts(alerts))
-    } else {
-        Found::shown(alloc, settings.form, alerts)
+    if wants_alerts(settings, &due) {
+        return Ok(Found::Alerts(due.alerts(alloc)?));
     }
+    let queries = due.queries(alloc)?;
+    let views = views_shown(alloc, settings.form, &due)?;
+    let shown = Shown::unmade(alloc, due.article_id(), &queries, views.as_deref(), said)?;
+    Ok(Found::Shown(shown))
 }
 
 /// The number of the piece that an article is.
@@ -82,11 +97,11 @@ impl Batch {
     }
 
     /// What is found of one of its articles. It is read, with words that are shared with those of the pool, and then
-    /// matched, all on the thread that calls, which also makes the alerts, writes what a reply shows of those that
-    /// nobody hears, and lets go of them.
+    /// matched, all on the thread that calls, which also makes the alerts, or writes what a reply shows where none are
+    /// made.
     ///
-    /// `NoMemory` where an allocation failed. Cost: that of `JudgedDraft::read`, of `Batch::due`, of
-    /// `DueEntries::alerts` and of `Found::shown`.
+    /// `NoMemory` where an allocation failed. Cost: that of `JudgedDraft::read` and of `Batch::due`; and of
+    /// `DueEntries::alerts`, or of `DueEntries::queries`, `views_shown` and `Shown::unmade`.
     pub fn find<G: Gate>(
         &self,
         alloc: Global,
@@ -101,6 +116,6 @@ impl Batch {
         let draft = &self.drafts[article];
         let read = draft.read(alloc, pool)?;
         let due = self.due(alloc, &read, article, settings, gate)?;
-        found_of(alloc, settings, due)
+        found_of(alloc, settings, due, said_due(&self.view, &read))
     }
 }

@@ -34,5 +34,5 @@ returns-in-Shown-clause-front g c =
     (λ form. OnErr c.put_shown.result
     (AppendsFront (taken c.args.flow.now.writer.now) (taken c.put_shown.new.flow.writer.now)
     (c.args.flow.now.outbox.now
-    ++ item_text c.args.later (alerts_data form (alerts_by_id (alerts_value shown.alerts.value))))))
+    ++ item_text c.args.later (alerts_data form (alerts_by_id shown.alerts.value)))))
     fit.0 c.put_shown.ensures.front)

@@ -15,7 +15,7 @@ use Rattle.clip_front.proofs.deliver.put_shown.Goals as goal
 pub returns-then-not-later-clause-moved : goal.returns-then-not-later-clause-moved
 returns-then-not-later-clause-moved g c =
     let shown = c.args.shown.now in
-    let d = alerts_data shown.form (alerts_by_id (alerts_value shown.alerts.value)) in
+    let d = alerts_data shown.form (alerts_by_id shown.alerts.value) in
     let text = c.as_slice.result.now in
     let same : text ≡ item_text false d =
     append_cancel_right text (item_text false d) (93 ∷ [])
@@ -29,7 +29,7 @@ returns-then-not-later-clause-moved g c =
 pub returns-then-not-later-clause-front : goal.returns-then-not-later-clause-front
 returns-then-not-later-clause-front g c =
     let shown = c.args.shown.now in
-    let d = alerts_data shown.form (alerts_by_id (alerts_value shown.alerts.value)) in
+    let d = alerts_data shown.form (alerts_by_id shown.alerts.value) in
     let text = c.as_slice.result.now in
     let same : text ≡ item_text false d =
     append_cancel_right text (item_text false d) (93 ∷ [])
@@ -43,7 +43,7 @@ returns-then-not-later-clause-front g c =
 pub returns-in_err-put-clause-front : goal.returns-in_err-put-clause-front
 returns-in_err-put-clause-front g c =
     let shown = c.args.shown.now in
-    let d = alerts_data shown.form (alerts_by_id (alerts_value shown.alerts.value)) in
+    let d = alerts_data shown.form (alerts_by_id shown.alerts.value) in
     let taken = g.W.Sink.taken in
     let behind : c.args.later ≡ true = grind (arith, c.if-not-later.false) in
     let put = front_of_comma (taken c.args.flow.now.writer.now) (taken c.put-2.new.self.writer.now)
@@ -54,7 +54,7 @@ returns-in_err-put-clause-front g c =
 pub returns-clause-moved : goal.returns-clause-moved
 returns-clause-moved g c =
     let shown = c.args.shown.now in
-    let d = alerts_data shown.form (alerts_by_id (alerts_value shown.alerts.value)) in
+    let d = alerts_data shown.form (alerts_by_id shown.alerts.value) in
     let taken = g.W.Sink.taken in
     let text = c.as_slice-2.result.now in
     let same : text ≡ item_text false d =
@@ -74,7 +74,7 @@ returns-clause-moved g c =
 pub returns-clause-front : goal.returns-clause-front
 returns-clause-front g c =
     let shown = c.args.shown.now in
-    let d = alerts_data shown.form (alerts_by_id (alerts_value shown.alerts.value)) in
+    let d = alerts_data shown.form (alerts_by_id shown.alerts.value) in
     let taken = g.W.Sink.taken in
     let text = c.as_slice-2.result.now in
     let same : text ≡ item_text false d =

@@ -1,4 +1,4 @@
-use Rattle.std.proofs.Common.{◌++◌, ◌∙◌, List, ℕ, OnErr, OnOk, ap, append-nil, map, refl, subst, sym}
+use Rattle.std.proofs.Common.{◌++◌, ◌∙◌, List, ℕ, OnErr, OnOk, ap, append-nil, map, option_map, refl, subst, sym}
 use Rattle.clip_stream.specs.Device.{AppendsFront, HandsOver}
 use Rattle.clip_stream.proofs.Faults.{on_err, on_ok}
 use Rattle.clip_listen.specs.Heard.{note_value}
@@ -8,8 +8,9 @@ use Rattle.clip_front.specs.Outcome.{kept_rows, rows_of_article}
 use Rattle.clip_front.proofs.Giving.{gives_front}
 use Rattle.clip_front.proofs.Unheard.{unheard}
 use Rattle.clip_match.specs.Due.{due_value}
+use Rattle.clip_protocol.specs.Steps.Flowing.{item_text}
 use Rattle.clip_protocol.specs.Steps.Putting.{stand}
-use Rattle.clip_run.proofs.Quiet.{shown_plainly, unlistened}
+use Rattle.clip_run.proofs.Quiet.{shown_unheard, unlistened}
 use Rattle.clip_run.proofs.alone.answer_article.Goals as goal
 
 pub returns-in_err-alerts-clause-gives : goal.returns-in_err-alerts-clause-gives
@@ -31,6 +32,10 @@ pub returns-in_err-queries-clause-gives : goal.returns-in_err-queries-clause-giv
 returns-in_err-queries-clause-gives g c = gives_front _ _ _ _ c.from_residual-in_err-queries.ensures.1 refl refl refl
     (no_front _ _)
 
+pub returns-in_err-views-clause-gives : goal.returns-in_err-views-clause-gives
+returns-in_err-views-clause-gives g c = gives_front _ _ _ _ c.from_residual-in_err-views.ensures.1 refl refl refl
+    (no_front _ _)
+
 pub returns-clause-gives : goal.returns-clause-gives
 returns-clause-gives g c =
     let hearers = g.A.Audience.hearers c.args.audience.now in
@@ -40,11 +45,12 @@ returns-clause-gives g c =
     let put = c.add_unheard.ensures in
     let none = unlistened due.alerts (c.wants_alerts.ensures.unheard c.if-wants_alerts.false) in
     let unkept = c.wants_alerts.ensures.unkept c.if-wants_alerts.false in
-    let plain = c.wants_alerts.ensures.plain c.if-wants_alerts.false in
     let before = map note_value c.args.answer.now.notes.items in
     let rows = rows_of_article hearers c.args.answer.now.number due.alerts in
-    let whole = shown_plainly form c.args.answer.now.has_article _ due.article _ due.alerts plain
-    c.article_id.ensures (ap (map (λ id. id.now)) c.deref.ensures.value ∙ c.in_ok-queries.ensures) in
+    let whole = ap (item_text c.args.answer.now.has_article)
+    (shown_unheard form _ due.article _ (option_map (λ v. v.now) c.as_deref.result) due.alerts
+    c.article_id.ensures (ap (map (λ id. id.now)) c.deref.ensures.value ∙ c.in_ok-queries.ensures)
+    (c.as_deref.ensures.value ∙ c.in_ok-views.ensures)) in
     let Moved : List ℕ → Type 0 = λ t. OnOk c.add_unheard.result
     (HandsOver (g.W.Sink.taken c.args.flow.now.writer.now) (c.args.flow.now.outbox.now ++ t)
     (g.W.Sink.taken c.add_unheard.new.flow.writer.now) c.add_unheard.new.flow.outbox.now) in
