@@ -191,7 +191,7 @@ fn write_hits_member(
     }
 }
 
-/// Writes what a form shows of an article: its id, the ids of the queries, and with hits where each of the alerts holds.
+/// Writes what a form shows of an article: its id, the ids of the queries, and with hits where each of them holds.
 fn write_article(
     out: &mut Writer,
     alloc: Global,
