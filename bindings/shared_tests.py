@@ -21,7 +21,7 @@ Registered = Dict[str, str]
 Listed = Tuple[Optional[bytes], Optional[bytes], Optional[bytes]]
 NULL, CLOSED, SIZE = "null", "closed", "size"
 STRICT = ["gcc", "-std=c11", "-Wall", "-Wextra", "-Wpedantic", "-Werror", "-g", f"-I{TOP}/include", f"-I{C}"]
-EDGE = [C / name for name in ("edge.c", "result.c", "view.c", "shared.c")]
+EDGE = [C / name for name in ("edge.c", "result.c", "gather.c", "view.c", "shared.c")]
 
 
 class Field(Structure):

@@ -48,7 +48,8 @@ typedef enum pressclip_status {
     PRESSCLIP_LINES = 8,     /* lines: 18,446,744,073,709,551,615 lines were answered */
     PRESSCLIP_CLOSED = 9,    /* closed: the engine, snapshot or registry is a null pointer, as its end leaves it */
     PRESSCLIP_NULL = 10,     /* null: another pointer is null that must not be */
-    PRESSCLIP_SIZE = 11      /* size: a length is over PTRDIFF_MAX, or a count over 1,000,000 */
+    PRESSCLIP_SIZE = 11,     /* size: a length is over PTRDIFF_MAX, or a count over 1,000,000 */
+    PRESSCLIP_ORDER = 12     /* order: the ids of a part are not in their byte order */
 } pressclip_status;
 
 /* An engine. */
@@ -219,6 +220,22 @@ int pressclip_result_all(pressclip_result *result, const pressclip_found **found
 
 /* Frees a result, and all that lies in it. A null pointer is let be. */
 void pressclip_result_free(pressclip_result *result);
+
+/* Gathers what count engines found of one article, where each query is registered in one of them, as one engine with
+ * all the queries finds it: the ids of all in their byte order, with their hits. How many queries were asked, and how
+ * many nanoseconds it took, are the sums of the parts'. Each part may come from a thread of its own. They stay as they
+ * are and the caller's, whose the result is too. An id that several parts have is there for each, in the order of the
+ * parts. parts may be null where count is 0.
+ * PRESSCLIP_NULL, PRESSCLIP_SIZE, PRESSCLIP_LIMIT where 64 bits can't count the queries that were asked,
+ * PRESSCLIP_NO_MEMORY. */
+int pressclip_gather(const pressclip_result *const *parts, size_t count, pressclip_result **whole);
+
+/* Puts the ids of count parts in order, as pressclip_gather does, for those who keep what goes with them. Each part has
+ * its ids in their byte order, and counts has how many; lengths has how long each is, one part after another, and ids
+ * their texts with nothing between. Each place of order, which has as many as there are ids, is given which id stands
+ * there, counted from 0 through all parts. ids may be any bytes. The pointers may be null where there is nothing.
+ * PRESSCLIP_NULL, PRESSCLIP_SIZE, PRESSCLIP_ORDER, PRESSCLIP_NO_MEMORY. */
+int pressclip_gather_ids(const char *ids, const size_t *lengths, const size_t *counts, size_t count, uint64_t *order);
 
 /* Takes a snapshot of an engine, in constant time. What stands registered in it stays, whatever is changed in the
  * engine later, also after its end. It shows hits where the engine does. It holds the memory of what was replaced or

@@ -20,8 +20,9 @@ const char *pressclip_version(void) { return PRESSCLIP_VERSION; }
 
 const char *pressclip_word(int status) {
     static const char *const words[] = {"ok",   "limit", "query", "listener", "full", "memory",
-                                        "utf8", "feed",  "lines", "closed",   "null", "size"};
-    return status >= 0 && status < 12 ? words[status] : "unknown";
+                                        "utf8", "feed",  "lines", "closed",   "null", "size",
+                                        "order"};
+    return status >= 0 && status < 13 ? words[status] : "unknown";
 }
 
 int pressclip_open(bool hits, pressclip **engine) {

@@ -48,6 +48,20 @@ typedef struct listed {
     bool has_listener;
 } listed;
 
+/* An id that a part tells of, and what goes with it, as the crate takes it; and a part. */
+typedef struct told {
+    const unsigned char *id;
+    size_t id_length;
+    const unsigned char *rest;
+    size_t rest_length;
+} told;
+
+typedef struct part {
+    uint64_t asked;
+    const told *told;
+    size_t count;
+} part;
+
 /* The exports of clip_c. clip_near takes no slot, and clip_open one that keeps nothing. clip_snapshot takes one that
  * keeps something, and one that keeps nothing, which then keeps the snapshot. All others want a slot that keeps
  * something, and all but clip_close leave it so. */
@@ -71,6 +85,7 @@ uint32_t clip_explain(slot *kept, const unsigned char *query, size_t length, siz
 uint32_t clip_explain_line(slot *kept, const unsigned char *line, size_t length, size_t *size);
 uint32_t clip_words(slot *kept, const unsigned char *text, size_t length, size_t *size);
 uint32_t clip_near(const pressclip_field *fields, size_t count, const pressclip_pair *pair, bool *answer);
+uint32_t clip_gather(slot *kept, const part *parts, size_t count, size_t *size);
 bool clip_take(slot *kept, unsigned char *room, size_t size);
 
 /* What the files call of each other is no part of the library's face. */
@@ -106,6 +121,9 @@ int edge_match_many(slot *kept, const pressclip_article *articles, size_t count,
 
 /* A result of these bytes, which become its own, or null where there is no memory, and they are freed. */
 pressclip_result *edge_result(unsigned char *bytes, const pressclip_field *fields, size_t count);
+
+/* Writes down what a result tells of each id: its hits are what goes with it. */
+void edge_tell(const pressclip_result *result, told *all);
 
 #pragma GCC visibility pop
 

@@ -82,6 +82,19 @@ bool pressclip_next_id(pressclip_result *result, const char **id, size_t *length
     return next_id(result, id, length);
 }
 
+void edge_tell(const pressclip_result *result, told *all) {
+    pressclip_result walk = *result;
+    const char *id, *field;
+    size_t id_length, length;
+    uint64_t position;
+    begin(&walk);
+    for (; next_id(&walk, &id, &id_length); all++) {
+        size_t start = walk.at - 8;
+        while (next_hit(&walk, &field, &length, &position)) continue;
+        *all = (told){edge_bytes(id), id_length, result->bytes + start, walk.at - start};
+    }
+}
+
 /* Texts that are put one after another, a byte 0 behind each, and where they begin and end. */
 typedef struct texts {
     char *bytes;

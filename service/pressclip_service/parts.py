@@ -13,12 +13,11 @@ ids. A hit has no bracket in it, so `],[` stands between the hits of two queries
 from __future__ import annotations
 
 import json
-from heapq import merge
-from itertools import chain
 from operator import itemgetter
 from typing import Sequence
 
 from .errors import EngineFailed
+from .gathering import gathered
 from .names import CLEAR, COUNT, DELETE, FULL, MATCH, PURGE, REGISTER, SHOW
 from .replies import count_in
 
@@ -110,26 +109,21 @@ def merged(lists: Sequence[bytes]) -> bytes:
     if len(found) < 2:
         return b"".join(found)
     if any(b"\\" in ids for ids in found):
-        return _ENCODER.encode(sorted(chain(*map(_listed, found))))[1:-1].encode()
-    # A character for each byte: these sort as the bytes do, and faster.
-    names: list[str] = []
-    for ids in found:
-        names += ids[1:-1].decode("latin-1").split('","')
-    # Sorting finds the parts, each of which is in order, and merges them.
-    names.sort()
-    return b'"%b"' % '","'.join(names).encode("latin-1")
+        return _ENCODER.encode(gathered(str, [_listed(ids) for ids in found]))[1:-1].encode()
+    names = gathered(str, [ids[1:-1].decode().split('","') for ids in found])
+    return b'"%b"' % '","'.join(names).encode()
 
 
 def _with_hits(fronts: Sequence[bytes], lists: Sequence[bytes]) -> tuple[bytes, bytes]:
     """One list of hits and one of ids, in the byte order of the ids, from lists in that order, all without brackets."""
-    found: list[tuple[str, bytes]] = []
+    parts: list[list[tuple[str, bytes]]] = []
     for front, ids in zip(fronts, lists):
         names = _listed(ids)
         hits = front.partition(_HITS)[2][1:-2].split(b"],[") if names else []
         if len(hits) != len(names):
             raise EngineFailed(f"the engine gave hits of {len(hits)} queries where {len(names)} hold")
-        found += zip(names, hits)
-    found.sort(key=itemgetter(0))
+        parts.append(list(zip(names, hits)))
+    found = gathered(itemgetter(0), parts)
     return b",".join(b"[%b]" % hits for _, hits in found), _ENCODER.encode([name for name, _ in found])[1:-1].encode()
 
 
@@ -155,7 +149,7 @@ def _notes(shards: Sequence[Sequence[tuple[bytes, bytes]]], said: Sequence[bytes
         for articles, by_article in speaking:
             names = _listed(articles[place][1])
             own.append([(names[at], note) for at, note in by_article[place]])
-        notes += [note for _, note in merge(*own)]
+        notes += [note for _, note in gathered(itemgetter(0), own)]
     return _ENCODER.encode(notes).encode()
 
 

@@ -6,9 +6,11 @@ from __future__ import annotations
 import subprocess
 import time
 from pathlib import Path
-from typing import Sequence
+from typing import Callable, Sequence
 
+from pressclip_service import gathering
 from pressclip_service import teller as telling
+from pressclip_service.errors import EngineFailed
 from pressclip_service.names import COUNT, MATCH, Id, Names
 from pressclip_service.parts import Heard, match_answer, merged, reply_of
 from pressclip_service.replies import Kind, kind_of
@@ -23,8 +25,24 @@ KEPT_SECONDS = 30.0
 
 
 def lists_are_merged_in_byte_order() -> None:
-    """Ids where a quotation mark, an escape or a character of several bytes could mislead; the order is worked out by
-    hand."""
+    """Ids where a quotation mark, an escape or a character of several bytes could mislead, by the library where it is
+    built, and without it; the order is worked out by hand."""
+    with_the_library_and_without(merge_lists)
+
+
+def with_the_library_and_without(test: Callable[[], None]) -> None:
+    """Runs a test by the library, where it is built, and without it."""
+    test()
+    library = gathering.library
+    try:
+        setattr(gathering, "library", lambda: None)
+        test()
+    finally:
+        setattr(gathering, "library", library)
+
+
+def merge_lists() -> None:
+    """Merges lists of ids."""
     for lists, due in (
             ([b'"a","b"', b'"a b","a!","a#"'], b'"a","a b","a!","a#","b"'),
             ([b'"a","a\\"b"', b'"a b","a!","a#"'], b'"a","a b","a!","a\\"b","a#"'),
@@ -53,6 +71,23 @@ def replies_are_cut_by_their_bytes() -> None:
 
 def notes_are_merged_by_their_queries() -> None:
     """Notes of two shards and two articles, in the order of the ids that they are of; worked out by hand."""
+    with_the_library_and_without(merge_notes)
+
+
+def a_shard_out_of_order_is_refused() -> None:
+    """By the library, where it is built: a list in which an id is above the next."""
+    if gathering.library() is None:
+        return
+    try:
+        merged([b'"b","a"', b'"c"'])
+    except EngineFailed as error:
+        same(str(error).encode(), b"what the shards found can't be put together: order", "the error")
+        return
+    raise AssertionError("a list out of order was merged")
+
+
+def merge_notes() -> None:
+    """Merges notes."""
     parts = []
     for names, in_a, in_b in (("ac", "ac", "c"), ("bd", "d", "bd")):
         heard = Heard()
@@ -291,6 +326,7 @@ def replies_to_a_forgotten_client_are_not_kept() -> None:
 
 
 TESTS = (lists_are_merged_in_byte_order, replies_are_cut_by_their_bytes, notes_are_merged_by_their_queries,
+         a_shard_out_of_order_is_refused,
          what_was_forgotten_is_told_again, requests_that_are_read_meanwhile_are_not_lost,
          redis_ends_between_told_and_kept, all_end_between_told_and_kept, a_worker_ends_between_told_and_kept,
          a_file_is_rewritten_between_told_and_kept, what_a_client_missed_is_kept_for_it,

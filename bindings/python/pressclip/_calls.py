@@ -78,6 +78,7 @@ _ARGUMENTS: dict[str, list[Any]] = {
     "result_free": [c_void_p],
     "python_found": [POINTER(Interpreter), POINTER(Found), py_object, py_object],
     "free": [c_void_p],
+    "gather_ids": [c_char_p, c_void_p, c_void_p, c_size_t, c_void_p],
     "explain": [*_TEXT, *_REPLY],
     "explain_line": [*_TEXT, *_REPLY],
     "words": [*_TEXT, *_REPLY],

@@ -40,6 +40,12 @@ struct Work {
     deletes: u64,
 }
 
+/// One kind of change to queries of successive numbers.
+struct Changes {
+    change: Change,
+    numbers: Range<u64>,
+}
+
 /// What the program is to do.
 #[derive(Clone, Copy)]
 enum Form {
@@ -110,19 +116,19 @@ fn fill<N: DeskName, R: Wait>(
     Ok(())
 }
 
-/// Commits the same change to queries of successive numbers, each while a look is held that was taken just before.
+/// Commits changes, each while a look is held that was taken just before.
 fn change_each<N: DeskName, R: Wait>(
     rt: &R,
     alloc: Global,
     desk: &Desk<N, UpdateLog>,
     writer: &mut Seat,
     reader: &mut Seat,
-    change: Change,
-    numbers: Range<u64>,
+    changes: Changes,
 ) -> Result<()>
     requires { IsSeatOf N.book N.callers writer.old × IsSeatOf N.book N.callers reader.old }
     ensures { IsSeatOf N.book N.callers writer.new × IsSeatOf N.book N.callers reader.new }
 {
+    let Changes { change, numbers } = changes;
     for number in numbers {
         let held = reader.look()?;
         commit(rt, desk, writer, change_one(alloc, change, number)?)?;
@@ -146,26 +152,16 @@ fn work_at<N: DeskName, R: Wait>(
         bail!("a desk of two callers has two seats");
     };
     fill(rt, alloc, desk, &mut writer, work.listed)?;
-    let new = work.listed..work.listed.saturating_add(work.registers);
-    change_each(
-        rt,
-        alloc,
-        desk,
-        &mut writer,
-        &mut reader,
-        Change::Register,
-        new,
-    )?;
-    let old = 0..work.deletes;
-    change_each(
-        rt,
-        alloc,
-        desk,
-        &mut writer,
-        &mut reader,
-        Change::Delete,
-        old,
-    )?;
+    let registers = Changes {
+        change: Change::Register,
+        numbers: work.listed..work.listed.saturating_add(work.registers),
+    };
+    change_each(rt, alloc, desk, &mut writer, &mut reader, registers)?;
+    let deletes = Changes {
+        change: Change::Delete,
+        numbers: 0..work.deletes,
+    };
+    change_each(rt, alloc, desk, &mut writer, &mut reader, deletes)?;
     Ok(reader.look()?)
 }
 

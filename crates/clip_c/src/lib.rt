@@ -3,6 +3,7 @@
 #![tactic(auto)]
 
 ghost use Rattle.std.specs.Prelude.{◌≡◌, IsSome, None, length, true};
+ghost use Rattle.std.specs.Mem.{type_size};
 ghost use Rattle.clip_engine.specs.Engine.{fresh};
 ghost use Rattle.clip_engine.specs.Calls.{
   Between,
@@ -17,20 +18,25 @@ ghost use Rattle.clip_engine.specs.Calls.{
   ShowTo,
   IdsTo,
   SnapshotTo,
+  TakeTo,
   MatchTo,
+  GatherTo,
   ExplainTo,
   WordsTo,
   ExplainLineTo,
 };
-ghost use Rattle.clip_engine.specs.Near.{IsNear};
+ghost use Rattle.clip_engine.specs.Near.{NearTo};
 ghost use Rattle.clip_engine.specs.Texts.{fields_of};
+ghost use Rattle.clip_engine.specs.contracts.kept.Kept.{the_row};
 
-use clip_engine::{Field, Kept, Listed, Pair, Slot, near, snapshot_into};
+use clip_engine::{Field, Kept, Listed, Pair, Part, Slot, near, snapshot_into};
 use std::alloc::Global;
 
-/// How many bytes of memory a slot needs, at an address that 8 divides.
+/// How many bytes of memory a slot needs, at an address that 8 divides: the size of what is kept there.
 #[unsafe(no_mangle)]
-pub extern "C" fn clip_size() -> usize {
+pub extern "C" fn clip_size() -> usize
+    ensures { result ≡ type_size the_row }
+{
     size_of::<Kept>()
 }
 
@@ -221,6 +227,26 @@ pub extern "C" fn clip_match(
     code
 }
 
+/// Gathers what parts of one registry found of an article. It is kept as bytes, to be taken by `clip_take`, and `size`
+/// is how many there are. Nothing in the slot's engine is looked at.
+#[unsafe(no_mangle)]
+pub extern "C" fn clip_gather(
+    alloc: Global,
+    slot: &mut Slot,
+    parts: &[Part<'_>],
+    size: &mut usize,
+) -> u32
+    requires { IsSome slot.old.kept }
+    ensures gathers { Between slot.old.kept slot.new.kept (GatherTo parts.now result) }
+    ensures size { Keeps slot.new.kept (λ kept. size.new ≡ length kept.text.items) }
+{
+    let mut kept = slot.take();
+    let code = kept.gather(alloc, parts);
+    *size = kept.text.len();
+    slot.put(kept);
+    code
+}
+
 /// Explains a query's text. What is told of it is kept as compact JSON, to be taken by `clip_take`, and `size` is how
 /// many bytes it has.
 #[unsafe(no_mangle)]
@@ -241,8 +267,8 @@ pub extern "C" fn clip_explain(
     code
 }
 
-/// Finds where the words of a text stand: two numbers for each, kept as bytes, to be taken by `clip_take`, and `size` is
-/// how many there are.
+/// Finds where the words of a text stand: two numbers for each, kept as bytes, to be taken by `clip_take`, and `size`
+/// is how many there are.
 #[unsafe(no_mangle)]
 pub extern "C" fn clip_words(alloc: Global, slot: &mut Slot, text: &[u8], size: &mut usize) -> u32
     requires { IsSome slot.old.kept }
@@ -284,7 +310,7 @@ pub extern "C" fn clip_near(
     pair: &Pair<'_>,
     answer: &mut bool,
 ) -> u32
-    ensures { result ≡ 0 → IsNear (fields_of fields.now) pair.now answer.new }
+    ensures { NearTo (fields_of fields.now) pair.now result answer.new }
 {
     near(alloc, fields, pair, answer)
 }
@@ -294,8 +320,7 @@ pub extern "C" fn clip_near(
 #[unsafe(no_mangle)]
 pub extern "C" fn clip_take(slot: &mut Slot, room: &mut [u8]) -> bool
     requires { IsSome slot.old.kept }
-    ensures { Between slot.old.kept slot.new.kept (λ old new. (new.engine ≡ old.engine)
-        × (result ≡ true → room.new ≡ old.text.items)) }
+    ensures { Between slot.old.kept slot.new.kept (TakeTo room.old room.new result) }
 {
     let mut kept = slot.take();
     let copied = kept.take(room);

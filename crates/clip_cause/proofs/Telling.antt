@@ -1,20 +1,21 @@
 -- What is told of a line, from what is told of its value.
-use Rattle.std.proofs.Common.{◌≡◌, inl, inr, ℕ, ◌<◌, ◌≤◌, List, length, Bool, true, false, cond, Option, Some, None}
-use Rattle.std.proofs.Common.{option_map, Result, Ok, Err, refl, sym, ap, subst, ◌∙◌, arith}
-use Rattle.std.proofs.lemmas.Bool.Decides.{nat_tests}
+use Rattle.std.proofs.Common.{◌≡◌, inl, inr, ℕ, List, Bool, true, false, cond, Option, Some, None}
+use Rattle.std.proofs.Common.{option_map, Result, Ok, Err, refl, sym, ap, subst, ◌∙◌}
 use Rattle.std.specs.Prelude.{IfOk}
 use Rattle.serde_json.specs.Data.{Data}
 use Rattle.clip_model.specs.History.{History, Command, Register, Delete, Clear, has_room}
-use Rattle.clip_stream.specs.declared.limits.TheConstants.{MOST_LINE_BYTES}
 use Rattle.clip_protocol.proofs.Meanings.{means_to}
 use Rattle.clip_protocol.proofs.RequestLaw.{none_is_some, value_of-request_of}
+use Rattle.clip_protocol.proofs.Saying.{Requests, outline_by_value, says_found}
 use Rattle.clip_protocol.specs.LineMeaning as line
-use Rattle.clip_protocol.specs.LineMeaning.{Meaning, Means, json_of, is_blank, is_long}
+use Rattle.clip_protocol.specs.LineMeaning.{Meaning, Means, SaysBy, json_of, is_blank, is_long}
 use Rattle.clip_protocol.specs.Request.{Request, register, delete, clear, purge, count, show, match, value_of}
 use Rattle.clip_protocol.specs.Steps.Outline.{Outline, MeansOutline, blank, refused, registers, deletes, clears, purges}
 use Rattle.clip_protocol.specs.Steps.Outline.{counts, shows, matches, outline, outline_of_asked, outline_of_request}
-use Rattle.clip_protocol.specs.Steps.Outline.{outline_of_value, request_of, requests}
-use Rattle.clip_protocol.specs.declared.refusal.Refusal.TheVariants.{Long, Json, Shape, Limit, Full}
+use Rattle.clip_protocol.specs.Steps.Outline.{outline_of_line, request_of, requests}
+use Rattle.clip_protocol.specs.Steps.Saying.{line_value, said_of}
+use Rattle.clip_protocol.specs.declared.refusal.Refusal.{Refusal}
+use Rattle.clip_protocol.specs.declared.refusal.Refusal.TheVariants.{Long, Json, Shape, Limit, Query, Listener, Full}
 use Rattle.clip_cause.proofs.LimitCauses.{limit_wrong}
 use Rattle.clip_cause.proofs.LimitLaw.{within_from_fault, within_from_limits}
 use Rattle.clip_cause.proofs.ShapeCauses.{shape_wrong}
@@ -102,6 +103,12 @@ if_ok (Err e) P Q f h = h
 
 -- ---- lines
 
+true_is_false : (b : Bool) → b ≡ true → b ≡ false → ⊥
+true_is_false b e is = cc
+
+same_value : (d e : Data) → Some d ≡ Some e → d ≡ e
+same_value d e is = cc
+
 place_by : (l : List ℕ) (d : Data) (f : Fault) (w : Wrong) (p : Place) → json_of l ≡ Some d → HasPath f.0 p → w ≡ f.1
     → IsWrongAt f.0 f.1 d → IsPlaceOf l p w
 place_by l d f w (Byte at) e has same is = absurd has
@@ -113,59 +120,92 @@ cause_of_line l d c e is = record {
   refusal = is.told.refusal ∙ ap refusal_of (sym is.told.wrong);
 }
 
-filled : (l : List ℕ) → is_long l ≡ false → is_blank l ≡ false → outline l ≡ outline_of_value (json_of l)
-unfolding outline
-filled l short some = ap (λ b. cond b (refused Long) (cond (is_blank l) blank (outline_of_value (json_of l)))) short
-    ∙ ap (λ b. cond b blank (outline_of_value (json_of l))) some
+-- what a line says, where each value is one that may be asked for
+abbrev values : Requests Data
+values = record {
+  value = λ d. d;
+  read = λ d. Some d;
+  within = λ d. true;
+  finds = λ d. refl;
+  only = λ d e same. same_value d e same;
+}
 
-long_is : (l : List ℕ) → MOST_LINE_BYTES < length l → is_long l ≡ true
-long_is l h = grind (arith, nat_tests)
+all_said : (v : line.Line Data) → said_of values.read values.within v ≡ v
+all_said line.blank = refl
+all_said (line.refused r) = refl
+all_said (line.asks d) = refl
 
-short_is : (l : List ℕ) → length l ≤ MOST_LINE_BYTES → is_long l ≡ false
-short_is l h = grind (arith, nat_tests)
+abbrev SaysValue : List ℕ → line.Line Data → Type 0
+SaysValue l v = SaysBy values.value values.within l v
 
-pub line_of_value : (l : List ℕ) (d : Data) (found : Option LineCause) → length l ≤ MOST_LINE_BYTES
-    → is_blank l ≡ false → json_of l ≡ Some d → TellsOf d (outline_of_asked (request_of d)) found → TellsOfLine l found
-line_of_value l d None short some e told = ap told_of (filled l (short_is l short) some ∙ ap outline_of_value e) ∙ told
-line_of_value l d (Some c) short some e told =
-    (ap told_of (filled l (short_is l short) some ∙ ap outline_of_value e) ∙ told.0, cause_of_line l d c e told.1)
+says_value : (l : List ℕ) (v : line.Line Data) → line_value l ≡ v → SaysValue l v
+says_value l v e = subst (SaysValue l) (all_said (line_value l) ∙ e) (says_found values l)
 
-pub line_of_bytes : (l : List ℕ) (c : LineCause) → length l ≤ MOST_LINE_BYTES → is_blank l ≡ false → json_of l ≡ None
-    → IsCauseOf l c → c.refusal ≡ Json → TellsOfLine l (Some c)
-line_of_bytes l c short some e is refusal =
-    (ap told_of (filled l (short_is l short) some ∙ ap outline_of_value e) ∙ ap Some (sym refusal), is)
+pub value_is : (l : List ℕ) (d : Data) → line_value l ≡ line.asks d → json_of l ≡ Some d
+value_is l d e = (says_value l (line.asks d) e).1
 
-pub line_too_long : (l : List ℕ) → MOST_LINE_BYTES < length l → TellsOfLine l None
-unfolding outline
-line_too_long l h = ap (λ b. told_of (cond b (refused Long) (cond (is_blank l) blank (outline_of_value (json_of l)))))
-    (long_is l h)
+pub none_is : (l : List ℕ) → line_value l ≡ line.refused Json → json_of l ≡ None
+none_is l e = (says_value l (line.refused Json) e).1
 
-pub line_blank : (l : List ℕ) → length l ≤ MOST_LINE_BYTES → is_blank l ≡ true → TellsOfLine l None
-unfolding outline
-line_blank l short e =
-    ap (λ b. told_of (cond b (refused Long) (cond (is_blank l) blank (outline_of_value (json_of l)))))
-    (short_is l short) ∙ ap (λ b. told_of (cond b blank (outline_of_value (json_of l)))) e
+outlined : (l : List ℕ) (v : line.Line Data) → line_value l ≡ v → outline l ≡ outline_of_line v
+outlined l v e = outline_by_value l ∙ ap outline_of_line e
+
+pub line_of_value : (l : List ℕ) (d : Data) (found : Option LineCause) → line_value l ≡ line.asks d
+    → TellsOf d (outline_of_asked (request_of d)) found → TellsOfLine l found
+line_of_value l d None e told = ap told_of (outlined l (line.asks d) e) ∙ told
+line_of_value l d (Some c) e told =
+    (ap told_of (outlined l (line.asks d) e) ∙ told.0, cause_of_line l d c (value_is l d e) told.1)
+
+pub line_of_bytes : (l : List ℕ) (c : LineCause) → line_value l ≡ line.refused Json → IsCauseOf l c
+    → c.refusal ≡ Json → TellsOfLine l (Some c)
+line_of_bytes l c e is refusal = (ap told_of (outlined l (line.refused Json) e) ∙ ap Some (sym refusal), is)
+
+pub line_blank : (l : List ℕ) → line_value l ≡ line.blank → TellsOfLine l None
+line_blank l e = ap told_of (outlined l line.blank e)
+
+-- a line that is refused for another reason than its bytes is too long
+untold_refusal : (l : List ℕ) (r : Refusal) → SaysValue l (line.refused r) → ¬ (r ≡ Json)
+    → told_of (refused r) ≡ None
+untold_refusal l Long says other = refl
+untold_refusal l Json says other = absurd (other refl)
+untold_refusal l Shape says other = absurd (says.3 says.1 refl)
+untold_refusal l Limit says other = absurd (true_is_false true refl says.3)
+untold_refusal l Query says other = absurd says
+untold_refusal l Listener says other = absurd says
+untold_refusal l Full says other = absurd says
+
+pub line_untold : (l : List ℕ) (r : Refusal) → line_value l ≡ line.refused r → ¬ (r ≡ Json) → TellsOfLine l None
+line_untold l r e other =
+    ap told_of (outlined l (line.refused r) e) ∙ untold_refusal l r (says_value l (line.refused r) e) other
 
 -- ---- the first fault of a line
 
-true_is_false : (b : Bool) → b ≡ true → b ≡ false → ⊥
-true_is_false b e is = cc
+pub first_of_blank : (l : List ℕ) (found : Option LineCause) → line_value l ≡ line.blank → TellsFirstOf l found
+first_of_blank l found e filled d is =
+    absurd (true_is_false (is_blank l) (says_value l line.blank e).1 filled.some)
 
-pub first_of_long : (l : List ℕ) (found : Option LineCause) → MOST_LINE_BYTES < length l → TellsFirstOf l found
-first_of_long l found h filled d e = absurd (true_is_false (is_long l) (long_is l h) filled.short)
-
-pub first_of_blank : (l : List ℕ) (found : Option LineCause) → is_blank l ≡ true → TellsFirstOf l found
-first_of_blank l found h filled d e = absurd (true_is_false (is_blank l) h filled.some)
-
-pub first_of_bytes : (l : List ℕ) (found : Option LineCause) → json_of l ≡ None → TellsFirstOf l found
-first_of_bytes l found none filled d e = absurd (none_is_some d (sym none ∙ e))
-
-same_value : (d e : Data) → Some d ≡ Some e → d ≡ e
-same_value d e is = cc
-
-pub first_of_value : (l : List ℕ) (d : Data) (found : Option LineCause) → json_of l ≡ Some d → TellsFirst d found
+pub first_of_bytes : (l : List ℕ) (found : Option LineCause) → line_value l ≡ line.refused Json
     → TellsFirstOf l found
-first_of_value l d found is told filled e other = subst (λ v. TellsFirst v found) (same_value d e (sym is ∙ other)) told
+first_of_bytes l found e filled d is = absurd (none_is_some d (sym (none_is l e) ∙ is))
+
+first_by : (l : List ℕ) (r : Refusal) (found : Option LineCause) → SaysValue l (line.refused r) → ¬ (r ≡ Json)
+    → TellsFirstOf l found
+first_by l Long found says other filled d is = absurd (true_is_false (is_long l) says filled.short)
+first_by l Json found says other filled d is = absurd (other refl)
+first_by l Shape found says other filled d is = absurd (says.3 says.1 refl)
+first_by l Limit found says other filled d is = absurd (true_is_false true refl says.3)
+first_by l Query found says other filled d is = absurd says
+first_by l Listener found says other filled d is = absurd says
+first_by l Full found says other filled d is = absurd says
+
+pub first_untold : (l : List ℕ) (r : Refusal) (found : Option LineCause) → line_value l ≡ line.refused r
+    → ¬ (r ≡ Json) → TellsFirstOf l found
+first_untold l r found e other = first_by l r found (says_value l (line.refused r) e) other
+
+pub first_of_value : (l : List ℕ) (d : Data) (found : Option LineCause) → line_value l ≡ line.asks d
+    → TellsFirst d found → TellsFirstOf l found
+first_of_value l d found e told filled other is =
+    subst (λ v. TellsFirst v found) (same_value d other (sym (value_is l d e) ∙ is)) told
 
 -- ---- what a line means
 

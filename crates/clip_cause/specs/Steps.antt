@@ -1,4 +1,5 @@
 -- Definitions that lead the proofs.
+pub mod Listed
 pub mod Ordered
 pub mod Sites
 pub mod Telling

@@ -4,7 +4,7 @@ use crate::wrong::Wrong;
 use clip_protocol::Refusal;
 
 /// Where in a line something is wrong.
-#[derive(Debug, Drop)]
+#[derive(Drop)]
 pub enum Place {
     /// At this byte, from 0.
     Byte(usize),

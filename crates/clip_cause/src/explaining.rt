@@ -1,9 +1,10 @@
 //! The cause of a line's refusal.
 ghost use Rattle.std.specs.Prelude.{◌≡◌, None, IfOk, IfSome, option_map};
 ghost use Rattle.serde_json.specs.View.{view};
-ghost use Rattle.clip_protocol.specs.LineMeaning.{Means, json_of};
+ghost use Rattle.clip_protocol.specs.LineMeaning.{Means, json_of, refused};
 ghost use Rattle.clip_protocol.specs.Request.{value_of};
 ghost use Rattle.clip_protocol.specs.Steps.Outline.{outline, outline_of_asked, outline_of_request, request_of};
+ghost use Rattle.clip_protocol.specs.Steps.Saying.{line_value};
 ghost use Rattle.clip_protocol.specs.Steps.Views.{request_view};
 ghost use Rattle.clip_protocol.specs.declared.refusal.Refusal.TheVariants.{Json};
 ghost use Rattle.clip_cause.specs.Causes.{IsCauseOf, told_by, told_of};
@@ -19,8 +20,7 @@ use crate::offset::json_fault;
 use crate::shape::shape_fault;
 use crate::site::{Site, site_text};
 use crate::wrong::Wrong;
-use clip_protocol::{Request, Unread, is_blank, json_of};
-use clip_stream::MOST_LINE_BYTES;
+use clip_protocol::{Refusal, Request, Unread, read_value};
 use clip_words::NoMemory;
 use serde_json::Value;
 use std::alloc::Global;
@@ -79,20 +79,31 @@ fn cause_of_value(alloc: Global, value: Value) -> Result<Option<LineCause>, NoMe
     }
 }
 
+/// The cause of a line that is refused for this before its value is judged, where its cause is told.
+fn cause_of_refused(
+    alloc: Global,
+    line: &[u8],
+    reason: Refusal,
+) -> Result<Option<LineCause>, NoMemory>
+    requires { line_value line.now ≡ refused reason }
+    ensures told { IfOk result (λ found. TellsOfLine line.now found) }
+    ensures first { IfOk result (λ found. TellsFirstOf line.now found) }
+{
+    match reason {
+        Refusal::Json => Ok(Some(cause_of_bytes(alloc, line)?)),
+        _ => Ok(None),
+    }
+}
+
 /// Why a line is refused, where its cause is told.
 fn cause_of_line(alloc: Global, line: &[u8]) -> Result<Option<LineCause>, NoMemory>
     ensures told { IfOk result (λ found. TellsOfLine line.now found) }
     ensures first { IfOk result (λ found. TellsFirstOf line.now found) }
 {
-    if line.len() > MOST_LINE_BYTES {
-        return Ok(None);
-    }
-    if is_blank(line) {
-        return Ok(None);
-    }
-    match json_of(alloc, line) {
-        Ok(value) => cause_of_value(alloc, value),
-        Err(Unread::Refused(_)) => Ok(Some(cause_of_bytes(alloc, line)?)),
+    match read_value(alloc, line) {
+        Ok(Some(value)) => cause_of_value(alloc, value),
+        Ok(None) => Ok(None),
+        Err(Unread::Refused(reason)) => cause_of_refused(alloc, line, reason),
         Err(Unread::NoMemory) => Err(NoMemory),
     }
 }

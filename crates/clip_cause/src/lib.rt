@@ -11,4 +11,5 @@ mod wrong;
 
 pub use cause::{LineCause, Place};
 pub use explaining::explain_line;
+pub use site::{Spot, item_text};
 pub use wrong::Wrong;

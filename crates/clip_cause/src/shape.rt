@@ -4,8 +4,9 @@ ghost use Rattle.std.specs.List.{list_any};
 ghost use Rattle.std.specs.Str.{bytes_eq};
 ghost use Rattle.serde_json.specs.View.{view, members_view};
 ghost use Rattle.clip_cause.specs.Names as asked;
-ghost use Rattle.clip_cause.specs.Names.{articles, ids, operation_of, queries};
+ghost use Rattle.clip_cause.specs.Names.{operation_of};
 ghost use Rattle.clip_cause.specs.Shapes as fault;
+ghost use Rattle.clip_cause.specs.Steps.Listed.{item_fault, listed_name, listing_fault};
 ghost use Rattle.clip_cause.specs.Steps.Sites.{fault_of_site, fault_of_spot};
 
 use crate::site::{Site, Spot};
@@ -142,46 +143,59 @@ fn article_fault<'v>(value: &'v Value) -> Option<(Spot<'v>, Wrong)>
     }
 }
 
-/// What is wrong with the queries of a register.
-fn queries_fault<'v>(list: &'v Value) -> Option<(Site<'v>, Wrong)>
-    ensures { option_map fault_of_site result ≡ fault.list_fault queries fault.query_fault (view list.now) }
-{
-    let Some(items) = list.as_array() else {
-        return Some((Site::In(Spot::Member("queries")), Wrong::NotAList));
-    };
-    for (place, item) in items.iter().enumerate() {
-        if let Some((spot, wrong)) = query_fault(item) {
-            return Some((Site::Item("queries", place, spot), wrong));
-        }
-    }
-    None
+/// A list of a line, by what its items are.
+#[derive(Clone, Copy)]
+enum Listed {
+    /// The queries of a register.
+    Queries,
+    /// The ids of a delete.
+    Ids,
+    /// The articles of a match.
+    Articles,
 }
 
-/// What is wrong with the ids of a delete.
-fn ids_fault<'v>(list: &'v Value) -> Option<(Site<'v>, Wrong)>
-    ensures { option_map fault_of_site result ≡ fault.list_fault ids fault.text_fault (view list.now) }
-{
-    let Some(items) = list.as_array() else {
-        return Some((Site::In(Spot::Member("ids")), Wrong::NotAList));
-    };
-    for (place, item) in items.iter().enumerate() {
-        if !item.is_string() {
-            return Some((Site::Item("ids", place, Spot::Whole), Wrong::NotAString));
+impl Listed {
+    /// The name of the member that has the list.
+    fn name(self) -> &'static str
+        ensures { result.now ≡ listed_name self }
+    {
+        match self {
+            Listed::Queries => "queries",
+            Listed::Ids => "ids",
+            Listed::Articles => "articles",
         }
     }
-    None
+
+    /// What is wrong with an item of the list.
+    fn item_fault<'v>(self, item: &'v Value) -> Option<(Spot<'v>, Wrong)>
+        ensures { option_map fault_of_spot result ≡ item_fault self (view item.now) }
+    {
+        match self {
+            Listed::Queries => query_fault(item),
+            Listed::Articles => article_fault(item),
+            Listed::Ids => {
+                if item.is_string() {
+                    None
+                } else {
+                    Some((Spot::Whole, Wrong::NotAString))
+                }
+            }
+        }
+    }
 }
 
-/// What is wrong with the articles of a match.
-fn articles_fault<'v>(list: &'v Value) -> Option<(Site<'v>, Wrong)>
-    ensures { option_map fault_of_site result ≡ fault.list_fault articles fault.article_fault (view list.now) }
+/// What is wrong with a list.
+fn list_fault<'v>(list: &'v Value, listed: Listed) -> Option<(Site<'v>, Wrong)>
+    ensures { option_map fault_of_site result
+        ≡ fault.list_fault (listed_name listed) (item_fault listed) (view list.now) }
 {
+    let name = listed.name();
     let Some(items) = list.as_array() else {
-        return Some((Site::In(Spot::Member("articles")), Wrong::NotAList));
+        return Some((Site::In(Spot::Member(name)), Wrong::NotAList));
     };
     for (place, item) in items.iter().enumerate() {
-        if let Some((spot, wrong)) = article_fault(item) {
-            return Some((Site::Item("articles", place, spot), wrong));
+        if let Some((spot, wrong)) = listed.item_fault(item) {
+            return Some((Site::Item(name, place, spot), wrong));
         }
     }
     None
@@ -198,28 +212,19 @@ fn line_names_fault<'v>(value: &'v Value, names: &[&'static str]) -> Option<(Sit
     }
 }
 
-/// What is wrong with a register.
-fn register_fault<'v>(value: &'v Value) -> Option<(Site<'v>, Wrong)>
-    ensures { option_map fault_of_site result ≡ fault.asked_by (view value.now) (Some asked.register) }
+/// What is wrong with a line of members of these names, one of which has the list.
+fn listing_fault<'v>(
+    value: &'v Value,
+    names: &[&'static str],
+    listed: Listed,
+) -> Option<(Site<'v>, Wrong)>
+    ensures { option_map fault_of_site result ≡ listing_fault (map (λ s. s.now) names.now) listed (view value.now) }
 {
-    if let Some(found) = line_names_fault(value, &["op", "queries"]) {
+    if let Some(found) = line_names_fault(value, names) {
         return Some(found);
     }
-    match value.get("queries") {
-        Some(list) => queries_fault(list),
-        None => None,
-    }
-}
-
-/// What is wrong with a delete.
-fn delete_fault<'v>(value: &'v Value) -> Option<(Site<'v>, Wrong)>
-    ensures { option_map fault_of_site result ≡ fault.asked_by (view value.now) (Some asked.delete) }
-{
-    if let Some(found) = line_names_fault(value, &["ids", "op"]) {
-        return Some(found);
-    }
-    match value.get("ids") {
-        Some(list) => ids_fault(list),
+    match value.get(listed.name()) {
+        Some(list) => list_fault(list, listed),
         None => None,
     }
 }
@@ -237,33 +242,20 @@ fn show_fault<'v>(value: &'v Value) -> Option<(Site<'v>, Wrong)>
     }
 }
 
-/// What is wrong with a match.
-fn match_fault<'v>(value: &'v Value) -> Option<(Site<'v>, Wrong)>
-    ensures { option_map fault_of_site result ≡ fault.asked_by (view value.now) (Some asked.match) }
-{
-    if let Some(found) = line_names_fault(value, &["articles", "op"]) {
-        return Some(found);
-    }
-    match value.get("articles") {
-        Some(list) => articles_fault(list),
-        None => None,
-    }
-}
-
 /// What is wrong with a line that asks for the operation of this name.
 fn asked_fault<'v>(value: &'v Value, operation: &'v str) -> Option<(Site<'v>, Wrong)>
     ensures { option_map fault_of_site result ≡ fault.asked_by (view value.now) (operation_of operation.now) }
 {
     if operation == "register" {
-        register_fault(value)
+        listing_fault(value, &["op", "queries"], Listed::Queries)
     } else if operation == "delete" {
-        delete_fault(value)
+        listing_fault(value, &["ids", "op"], Listed::Ids)
     } else if operation == "clear" || operation == "purge" || operation == "count" {
         line_names_fault(value, &["op"])
     } else if operation == "show" {
         show_fault(value)
     } else if operation == "match" {
-        match_fault(value)
+        listing_fault(value, &["articles", "op"], Listed::Articles)
     } else {
         Some((Site::In(Spot::Member("op")), Wrong::NoOperation))
     }

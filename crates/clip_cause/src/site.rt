@@ -61,8 +61,14 @@ fn spot_text(alloc: Global, spot: Spot<'_>) -> Result<String, NoMemory>
     }
 }
 
-/// The path of a place in an item of a list.
-fn item_text(alloc: Global, list: &str, place: usize, spot: Spot<'_>) -> Result<String, NoMemory>
+/// The path of a place in an item of a list, as `queries[0].id`. `NoMemory` where an allocation failed. Its cost is
+/// linear in the text.
+pub fn item_text(
+    alloc: Global,
+    list: &str,
+    place: usize,
+    spot: Spot<'_>,
+) -> Result<String, NoMemory>
     ensures { IfOk result (λ text. string_bytes text ≡ path_text (item_path list.now place (spot_path spot.entry))) }
 {
     let number = place.to_string(alloc)?;

@@ -6,7 +6,7 @@ use clip_protocol::Refusal;
 
 /// What is wrong at a place of a line: of the bytes that are no JSON value, of the shape of a value, and of what is
 /// beyond a limit.
-#[derive(Clone, Copy, Debug, PartialEq, Eq)]
+#[derive(Clone, Copy)]
 pub enum Wrong {
     /// The bytes from here on are not UTF-8.
     NotUtf8,

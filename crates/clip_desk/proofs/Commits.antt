@@ -4,8 +4,8 @@ use Rattle.std.proofs.Common.{length-append, take_all, Result, Ok, Err, IfOk}
 use mathlib.Core.List.{IsPrefix}
 use Rattle.clip_model.specs.History.{History, Command, own, next_entry, with_command}
 use Rattle.clip_registry.specs.RegistryState.{RegistryState, state_after}
-use Rattle.clip_chronicle.specs.Callers.{IsBy}
-use Rattle.clip_chronicle.proofs.Beginnings.{prefix_trans}
+use Rattle.clip_desk.specs.Callers.{IsBy}
+use Rattle.clip_desk.proofs.Beginnings.{prefix_trans}
 use Rattle.clip_desk.proofs.Histories.{own_next, by_more}
 
 pub own_grown : (before after : History) (mine : List Command) (c : ℕ) (command : Command)

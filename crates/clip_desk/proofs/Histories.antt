@@ -4,7 +4,7 @@ use Rattle.std.proofs.Common.{Some, slice_get, refl, ap, subst, ◌∙◌, eq-eq
 use Rattle.std.proofs.lemmas.List.{map-append}
 use Rattle.std.proofs.lemmas.List.Elements.{filter-append}
 use Rattle.clip_model.specs.History.{History, HistoryEntry, Command, own, next_entry, with_command}
-use Rattle.clip_chronicle.specs.Callers.{IsBy}
+use Rattle.clip_desk.specs.Callers.{IsBy}
 
 abbrev by : ℕ → HistoryEntry → Bool
 by c e = e.caller == c

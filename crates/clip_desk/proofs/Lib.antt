@@ -1,6 +1,10 @@
+pub mod Adding
+pub mod Beginnings
 pub mod Commits
+pub mod EndSteps
 pub mod Following
 pub mod Histories
+pub mod Purges
 pub mod Seating
 pub mod Sent
 pub mod Telling

@@ -12,11 +12,11 @@ use Rattle.std.proofs.vec.Vec.TheSendSync as vec_sent
 use Rattle.std.proofs.sync.Mutex.TheSendSync as mutex_sent
 use Rattle.left_right.proofs.reader.Reader.TheSendSync as reader_sent
 use Rattle.left_right.proofs.writer.Writer.TheSendSync as writer_sent
-use Rattle.clip_registry.proofs.Sent.{registrar_send}
-use Rattle.clip_chronicle.proofs.chronicle.SeenHistory.TheSendSync as seen_history_sent
-use Rattle.clip_chronicle.proofs.chronicle.Head.TheSendSync as head_sent
-use Rattle.clip_chronicle.proofs.rights.Right.TheSendSync as right_sent
-use Rattle.clip_chronicle.proofs.Sent.{published_send, published_sync}
+use Rattle.clip_registry.proofs.Sent.{registrar_send, view_is_send, view_is_sync}
+use Rattle.clip_desk.proofs.chronicle.SeenHistory.TheSendSync as seen_history_sent
+use Rattle.clip_desk.proofs.chronicle.Head.TheSendSync as head_sent
+use Rattle.clip_desk.proofs.rights.Right.TheSendSync as right_sent
+use Rattle.clip_desk.specs.contracts.published.Published as published
 use Rattle.clip_desk.specs.declared.update_listener.UpdateListener as heard
 use Rattle.clip_desk.specs.contracts.update_listeners.UpdateListeners as updates
 use Rattle.clip_desk.specs.contracts.update_listeners.UpdateListeners.TheInside as updates_inside
@@ -27,6 +27,16 @@ use Rattle.clip_desk.specs.contracts.locked.Locked as locked
 use Rattle.clip_desk.specs.contracts.locked.Locked.TheInside as locked_inside
 use Rattle.clip_desk.specs.contracts.desk.Desk as desk
 use Rattle.clip_desk.specs.contracts.desk.Desk.TheInside as desk_inside
+
+published_send : IsSend published.the_row
+published_send =
+    declared_send published.the_type
+    (view_is_send, (seen_history_sent.the_send, (search sendable, (search sendable, tt))))
+
+published_sync : IsSync published.the_row
+published_sync =
+    declared_sync published.the_type
+    (view_is_sync, (seen_history_sent.the_sync, (search sendable, (search sendable, tt))))
 
 ruleset global = (
   sendable,
@@ -41,7 +51,10 @@ pub seat_send : IsSend seat.the_row
 seat_send = view_send seat_inside.the_row _ _ _ _
     (declared_send seat_inside.the_type (
       search (global, reader_sent.the_send) depth 20,
-      (seen_history_sent.the_send, (search sendable, (search sendable, (right_sent.the_send, tt)))),
+      (
+        seen_history_sent.the_send,
+        (search sendable, (search sendable, (right_sent.the_send, (search sendable, tt)))),
+      ),
     ))
 
 module _ (N L : RattleType) (g : Ghosts N.Denot) (h : heard.Ghosts L.Denot) (sent : IsSend L) where

@@ -1,6 +1,9 @@
--- who gave which command, for the crates above
-pub use Rattle.clip_chronicle.specs.Callers
+pub mod Callers
+pub mod Chronicle
+pub mod Ends
 pub mod Locked
+pub mod Purges
+pub mod Rights
 pub mod Seats
 pub mod Steps
 pub mod Told

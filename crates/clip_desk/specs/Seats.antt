@@ -11,7 +11,7 @@ use Rattle.clip_desk.specs.Updates.{Heard}
 use Rattle.clip_standing.specs.declared.command.Applied.TheVariants as answer
 
 -- keeps: whether the history of the views that it looks at is kept to be read; seen: the longest history that the seat
--- got; mine: the commands committed with it, in order
+-- got; mine: the commands committed with it, in order; purged_at: how long the history was at the last purge with it
 pub record SeatIs : Type 0 where
   pub tag : ℕ
   pub caller : ℕ
@@ -20,6 +20,7 @@ pub record SeatIs : Type 0 where
   pub book : Book
   pub seen : History
   pub mine : List Command
+  pub purged_at : ℕ
 
 -- what is known of a receipt: the history that ends with its command, and the answer
 pub record ReceiptIs : Type 0 where
@@ -51,8 +52,16 @@ longer xs ys = if nat_lt (length xs) (length ys) then ys else xs
 
 -- a seat that has seen nothing
 abbrev pub new_seat : ℕ → ℕ → Bool → Book → ℕ → SeatIs
-new_seat tag callers keeps book caller =
-    record { tag = tag; caller = caller; callers = callers; keeps = keeps; book = book; seen = []; mine = [] }
+new_seat tag callers keeps book caller = record {
+  tag = tag;
+  caller = caller;
+  callers = callers;
+  keeps = keeps;
+  book = book;
+  seen = [];
+  mine = [];
+  purged_at = 0;
+}
 
 -- the seats of callers 1, 2, ..
 pub record AreSeated (tag callers : ℕ) (keeps : Bool) (book : Book) (seats : List SeatIs) : Type 0 where
@@ -72,10 +81,10 @@ pub record AreAll (tag callers : ℕ) (history : History) (seats : List SeatIs) 
 
 abbrev pub seat_code : Coded SeatIs
 seat_code =
-    code_by (ℕ × (ℕ × (ℕ × (Bool × (Book × (History × List Command))))))
-    (coded× coded_ℕ (coded× coded_ℕ
-    (coded× coded_ℕ (coded× coded_bool (coded× book_coded (coded× history_code (coded_list command_code)))))))
-    (λ s. (s.tag, (s.caller, (s.callers, (s.keeps, (s.book, (s.seen, s.mine)))))))
+    code_by (ℕ × (ℕ × (ℕ × (Bool × (Book × (History × (List Command × ℕ)))))))
+    (coded× coded_ℕ (coded× coded_ℕ (coded× coded_ℕ
+    (coded× coded_bool (coded× book_coded (coded× history_code (coded× (coded_list command_code) coded_ℕ)))))))
+    (λ s. (s.tag, (s.caller, (s.callers, (s.keeps, (s.book, (s.seen, (s.mine, s.purged_at))))))))
     (λ p. record {
       tag = p.0;
       caller = p.1.0;
@@ -83,7 +92,8 @@ seat_code =
       keeps = p.1.1.1.0;
       book = p.1.1.1.1.0;
       seen = p.1.1.1.1.1.0;
-      mine = p.1.1.1.1.1.1;
+      mine = p.1.1.1.1.1.1.0;
+      purged_at = p.1.1.1.1.1.1.1;
     }) (λ _. refl)
 
 abbrev answer_parts : Applied → ℕ ⊎ (ℕ ⊎ ℕ)

@@ -5,7 +5,7 @@ ghost use mathlib.Core.List.{IsPrefix};
 ghost use Rattle.clip_model.specs.History.{own, fits, has_room, applied, with_command, IsLegal};
 ghost use Rattle.clip_model.specs.History as model;
 ghost use Rattle.clip_standing.specs.Command.{command_of, answer_of};
-ghost use Rattle.clip_chronicle.specs.Callers.{IsBy};
+ghost use Rattle.clip_desk.specs.Callers.{IsBy};
 ghost use Rattle.clip_desk.specs.Updates.{AllFollow, all_heard, heard_by};
 ghost use Rattle.clip_desk.specs.Seats.{SeatIs, AreSeated, IsAccounted, AreAll};
 ghost use Rattle.clip_desk.specs.Locked.{IsSeatOf, AreSeatsOf};

@@ -1,5 +1,5 @@
 //! Merges and purges of a shared desk. What is registered and the history stay.
-ghost use Rattle.std.specs.Prelude.{◌≡◌, ◌≢◌, ◌↔◌};
+ghost use Rattle.std.specs.Prelude.{◌≡◌, ◌≢◌, ◌≤◌, ◌↔◌, length, OnOk, OnErr};
 
 use crate::desk::Desk;
 use crate::locked::DeskName;
@@ -34,18 +34,23 @@ fn take_standing<R: Wait>(rt: &R, nudges: &Receiver<Nudge>) -> bool {
 impl<N: DeskName, L: UpdateListener> Desk<N, L> {
     /// Leaves each segment with just its live entries, takes the empty ones away, publishes that, and tells the
     /// listeners: `Foreign` for a seat of another tag, and `NoMemory` where an allocation failed, with nothing changed
-    /// and nothing told. The seat stays as it is. It may wait for other callers' commits, and for readers that look. It
-    /// costs that of `Registrar::purge`, and what each listener takes.
+    /// and nothing told. The seat keeps how long the history was then, which is no shorter than what it has seen: a
+    /// look with it shows no entry that was dead at that place. It may wait for other callers' commits, and for readers
+    /// that look. It costs that of `Registrar::purge`, and what each listener takes.
     pub fn purge<R: Wait>(&self, rt: &R, seat: &mut Seat) -> Result<(), Refused>
+        ensures purged { OnOk result ((length seat.old.seen ≤ seat.new.purged_at)
+            × (length seat.old.mine ≤ seat.new.purged_at)) }
+        ensures later { seat.old.purged_at ≤ seat.new.purged_at }
+        ensures stays { OnErr result (seat.new ≡ seat.old) }
         ensures foreign { (result ≡ Err Refused.Foreign) ↔ (seat.old.tag ≢ self.now.tag) }
         ensures never_full { result ≢ Err Refused.Full }
-        ensures seat { seat.new ≡ seat.old }
+        ensures seat { seat.new ≡ record seat.old { purged_at = seat.new.purged_at } }
     {
         if seat.tag() != self.tag {
             return Err(Refused::Foreign);
         }
         let mut guard = self.locked.lock(rt);
-        let answer = guard.purge(rt);
+        let answer = guard.purge(rt, seat);
         MutexGuard::unlock(guard);
         answer?;
         Ok(())

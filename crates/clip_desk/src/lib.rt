@@ -1,14 +1,18 @@
 //! A registry that callers in threads share: one history, in which each caller's commands stand.
 #![tactic(auto)]
 
+mod chronicle;
 mod desk;
 mod desk_merging;
+mod ends;
 mod events;
 mod growing;
 mod locked;
 mod locked_merging;
 mod parts;
+mod published;
 mod refused;
+mod rights;
 mod seat;
 mod update_listener;
 mod update_listeners;

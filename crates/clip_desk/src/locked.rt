@@ -4,17 +4,19 @@ ghost use mathlib.Core.List.{IsPrefix};
 ghost use Rattle.clip_model.specs.History.{History, HistoryEntry, own, fits, has_room, applied, with_command, IsLegal};
 ghost use Rattle.clip_standing.specs.Command.{command_of, answer_of};
 ghost use Rattle.clip_registry.specs.RegistryState.{state_after};
-ghost use Rattle.clip_chronicle.specs.Callers.{IsBy};
+ghost use Rattle.clip_desk.specs.Callers.{IsBy};
 ghost use Rattle.clip_desk.specs.Updates.{AllFollow, AreTold, event_of, heard_by};
 ghost use Rattle.clip_desk.specs.Locked.{IsSettled, IsSeatOf};
 
+use crate::chronicle::{Head, SeenHistory};
+use crate::ends::show_surely;
 use crate::events::Update;
 use crate::growing::{Grown, grow};
+use crate::published::WriterEnd;
 use crate::refused::Refused;
 use crate::seat::{Receipt, Seat};
 use crate::update_listener::UpdateListener;
 use crate::update_listeners::UpdateListeners;
-use clip_chronicle::{Head, SeenHistory, WriterEnd, show_surely};
 use clip_registry::Registrar;
 use clip_standing::Command;
 use std::alloc::Global;
@@ -39,7 +41,7 @@ pub trait DeskName {
 
 impl DeskName for Brand {
     ghost use Rattle.std.specs.Prelude.{[], true};
-    ghost use Rattle.clip_chronicle.specs.Chronicle.{no_book};
+    ghost use Rattle.clip_desk.specs.Chronicle.{no_book};
 
     ghost book = { no_book };
 
@@ -50,8 +52,8 @@ impl DeskName for Brand {
     ghost heard_before = { [] };
 }
 
-/// What a desk's lock keeps, seen as the registry and what each listener has heard. What was published last is that
-/// registry too, and the listeners have heard of its history.
+/// What a desk's lock keeps, seen as the registry, how long its history was at the last purge, and what each listener
+/// has heard. What was published last is that registry too, and the listeners have heard of its history.
 pub struct Locked<N: DeskName, L: UpdateListener> {
     pub(crate) registrar: Registrar,
     pub(crate) writer: WriterEnd,
@@ -70,7 +72,11 @@ impl<N: DeskName, L: UpdateListener> Model for Locked<N, L> {
 
     ghost coded = { locked_code };
 
-    ghost view = { λ s. record { registry = s.registrar; updates = s.updates } };
+    ghost view = { λ s. record {
+      registry = s.registrar;
+      purged_at = s.writer.desk.shown.value.purged_at;
+      updates = s.updates;
+    } };
 
     ghost invariant = { λ s. IsSettled N.book N.callers N.keeps s.registrar s.head s.seen_history
         s.writer.desk.shown.value × AllFollow N.heard_before s.registrar.history s.updates };
@@ -102,7 +108,11 @@ impl<N: DeskName, L: UpdateListener> Locked<N, L> {
     ) -> Locked<N, L>
         requires settled { IsSettled N.book N.callers N.keeps registrar head seen_history writer.desk.shown.value }
         requires follow { AllFollow N.heard_before registrar.history updates }
-        ensures { result ≡ record { registry = registrar; updates = updates } }
+        ensures { result ≡ record {
+          registry = registrar;
+          purged_at = writer.desk.shown.value.purged_at;
+          updates = updates;
+        } }
     {
         Locked {
             registrar,
@@ -133,6 +143,7 @@ impl<N: DeskName, L: UpdateListener> Locked<N, L> {
         ensures locked { OnOk result (self.new.registry
             ≡ state_after self.old.registry seat.old.caller (command_of command)) }
         ensures told { OnOk result (AreTold (event_of (command_of command)) self.old.updates self.new.updates) }
+        ensures unpurged { self.new.purged_at ≡ self.old.purged_at }
         ensures applied { IfOk result (λ r. r.applied
             ≡ answer_of (command_of command) (applied self.old.registry.history (command_of command))) }
         ensures legal { IfOk result (λ r. IsLegal r.history × IsBy N.callers r.history) }

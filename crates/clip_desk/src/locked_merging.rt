@@ -1,45 +1,66 @@
 //! Merges and purges of what the lock keeps: other segments, and the same history.
-ghost use Rattle.std.specs.Prelude.{◌≡◌, ℕ, Ok, None, IfOk, IfSome, OnOk, OnErr};
+ghost use Rattle.std.specs.Prelude.{◌≡◌, ◌≤◌, ℕ, length, Ok, None, IfOk, IfSome, OnOk, OnErr};
 ghost use Rattle.clip_registry.specs.Plan.{AreFew, IsRun};
 ghost use Rattle.clip_registry.specs.Merging.{IsInstalled, IsStale, IsTurnBegun, purged};
+ghost use Rattle.clip_desk.specs.Purges.{IsPurgedAt};
 ghost use Rattle.clip_desk.specs.Updates.{AreTold, Purged};
 
+use crate::ends::show;
 use crate::events::Update;
 use crate::locked::{DeskName, Locked};
+use crate::seat::Seat;
 use crate::update_listener::UpdateListener;
-use clip_chronicle::show;
 use clip_registry::{Installed, MergeJob, Merged, Registrar};
 use clip_words::NoMemory;
 use std::sync::Wait;
 
 impl<N: DeskName, L: UpdateListener> Locked<N, L> {
-    /// Publishes a registry of the same history, and keeps it. `NoMemory` where an allocation failed, with nothing
-    /// changed. It may wait for readers that look.
-    fn put<R: Wait>(&mut self, rt: &R, registrar: Registrar) -> Result<(), NoMemory>
-        requires { (registrar.history ≡ self.old.registry.history) × (registrar.keeps ≡ self.old.registry.keeps) }
-        ensures there { OnOk result (self.new ≡ record self.old { registry = registrar }) }
+    /// Publishes a registry of the same history, and keeps it, with how long the history was at its last purge.
+    /// `NoMemory` where an allocation failed, with nothing changed. It may wait for readers that look.
+    fn put<R: Wait>(
+        &mut self,
+        rt: &R,
+        registrar: Registrar,
+        purged_at: usize,
+    ) -> Result<(), NoMemory>
+        requires same { (registrar.history ≡ self.old.registry.history)
+            × (registrar.keeps ≡ self.old.registry.keeps) }
+        requires purged { IsPurgedAt registrar purged_at }
+        ensures there { OnOk result (self.new ≡ record self.old { registry = registrar; purged_at = purged_at }) }
         ensures unchanged { OnErr result (self.new ≡ self.old) }
     {
         let view = registrar.view()?;
         let seen_history = self.seen_history.again();
-        show(rt, &mut self.writer, view, seen_history)?;
+        show(rt, &mut self.writer, view, seen_history, purged_at)?;
         self.registrar = registrar;
         Ok(())
     }
 
     /// Leaves each segment with just its live entries, takes the empty ones away, publishes that, and tells the
-    /// listeners. The history is kept, and so is what is registered. `NoMemory` where an allocation failed, with
-    /// nothing changed and nothing told. It may wait for readers that look, and costs that of `Registrar::purge` and
-    /// what each listener takes.
-    pub fn purge<R: Wait>(&mut self, rt: &R) -> Result<(), NoMemory>
+    /// listeners; the seat keeps how long the history was. The history is kept, and so is what is registered.
+    /// `NoMemory` where an allocation failed, with nothing changed and nothing told. It may wait for readers that look,
+    /// and costs that of `Registrar::purge` and what each listener takes.
+    pub fn purge<R: Wait>(&mut self, rt: &R, seat: &mut Seat) -> Result<(), NoMemory>
         ensures purged { OnOk result (self.new.registry ≡ purged self.old.registry) }
+        ensures purged_at { OnOk result ((self.new.purged_at ≡ length self.old.registry.history)
+            × (seat.new.purged_at ≡ length self.old.registry.history)) }
         ensures told { OnOk result (AreTold Purged self.old.updates self.new.updates) }
+        ensures within { OnOk result ((length seat.old.seen ≤ seat.new.purged_at)
+            × (length seat.old.mine ≤ seat.new.purged_at)) }
+        ensures later { seat.old.purged_at ≤ seat.new.purged_at }
         ensures unchanged { OnErr result (self.new ≡ self.old) }
+        ensures stays { OnErr result (seat.new ≡ seat.old) }
+        ensures seat { seat.new ≡ record seat.old { purged_at = seat.new.purged_at } }
     {
+        let count = self.seen_history.count;
+        if !seat.is_within(count) {
+            return Err(NoMemory);
+        }
         let mut next = self.registrar.copy()?;
         next.purge()?;
-        self.put(rt, next)?;
+        self.put(rt, next, count)?;
         self.updates.tell(self.alloc, Update::Purged);
+        seat.keep_purge(count);
         Ok(())
     }
 
@@ -62,12 +83,14 @@ impl<N: DeskName, L: UpdateListener> Locked<N, L> {
         ensures done { result ≡ Ok Installed.Done → IsInstalled self.old.registry self.new.registry merged }
         ensures stale { result ≡ Ok Installed.Stale → IsStale self.old.registry merged }
         ensures quiet { self.new.updates ≡ self.old.updates }
+        ensures unpurged { self.new.purged_at ≡ self.old.purged_at }
         ensures unchanged { (result ≡ Ok Installed.Done → ⊥) → self.new ≡ self.old }
     {
         let mut next = self.registrar.copy()?;
         match next.install(merged)? {
             Installed::Done => {
-                self.put(rt, next)?;
+                let purged_at = self.writer.published().purged_at;
+                self.put(rt, next, purged_at)?;
                 Ok(Installed::Done)
             }
             Installed::Stale => Ok(Installed::Stale),

@@ -2,17 +2,18 @@
 ghost use Rattle.std.specs.Prelude.{◌≡◌, true, false, ◌↔◌, ◌+◌, ◌<◌, ◌≤◌, [], ◌∷◌, ◌++◌, length, IfOk, IfErr, OnOk};
 ghost use Rattle.std.specs.Prelude.{vec_len};
 ghost use Rattle.left_right.specs.Sides.{view};
-ghost use Rattle.clip_chronicle.specs.Ends.{IsOf, seen_keeps};
+ghost use Rattle.clip_desk.specs.Ends.{IsOf, seen_keeps};
 ghost use Rattle.clip_desk.specs.Seats.{new_seat, AreSeated};
 ghost use Rattle.clip_desk.specs.Locked.{IsSettled};
 
+use crate::chronicle::{Head, SeenHistory, open_chronicle};
+use crate::ends::publish;
+use crate::published::{Handover, Published, WriterEnd};
 use crate::refused::NewRefused;
+use crate::rights::{Right, Rights};
 use crate::seat::Seat;
 use crate::update_listener::UpdateListener;
 use crate::update_listeners::UpdateListeners;
-use clip_chronicle::{
-    Handover, Head, Published, Right, Rights, SeenHistory, WriterEnd, open_chronicle, publish,
-};
 use clip_model::MOST_CALLERS;
 use clip_registry::Registrar;
 use clip_words::NoMemory;
@@ -109,7 +110,7 @@ fn first_values(
     seen_history: &SeenHistory,
     callers: u32,
 ) -> Result<(Published, Published, Published), NoMemory>
-    requires { (seen_history.now.seen.log ≡ []) × (registrar.now.history ≡ []) }
+    requires { (seen_history.now.seen.log ≡ []) × (registrar.now.history ≡ []) × (registrar.now.segments ≡ []) }
     ensures same { IfOk result (λ t. (t.1 ≡ t.0) × (t.2 ≡ t.0)) }
     ensures first { IfOk result (λ t. (t.0.view ≡ registrar.now) × (t.0.seen_history ≡ seen_history.now)
         × (t.0.callers ≡ callers)) }
@@ -118,6 +119,7 @@ fn first_values(
         view: registrar.view()?,
         seen_history: seen_history.again(),
         callers,
+        purged_at: 0,
     };
     let second = first.copy()?;
     let third = first.copy()?;
@@ -132,8 +134,8 @@ fn open_ends<R: Wait>(
     seen_history: &SeenHistory,
     callers: u32,
 ) -> Result<WriterEnd, NoMemory>
-    requires { (seen_history.now.seen.log ≡ []) × (registrar.now.history ≡ []) × (0 < callers)
-        × (callers ≤ MOST_CALLERS) }
+    requires { (seen_history.now.seen.log ≡ []) × (registrar.now.history ≡ []) × (registrar.now.segments ≡ [])
+        × (0 < callers) × (callers ≤ MOST_CALLERS) }
     ensures shown { IfOk result (λ w. (w.desk.shown.value.view ≡ registrar.now)
         × (w.desk.shown.value.seen_history ≡ seen_history.now) × (w.desk.shown.value.callers ≡ callers)) }
     ensures told { IfOk result (λ w. IsOf seen_history.now.seen.book callers (view w.desk.place)) }
@@ -207,7 +209,7 @@ impl<L: UpdateListener> DeskParts<L> {
         updates: UpdateListeners<L>,
     ) -> Result<DeskParts<L>, (UpdateListeners<L>, NewRefused)>
         requires some { 0 < callers }
-        requires empty { registrar.history ≡ [] }
+        requires empty { (registrar.history ≡ []) × (registrar.segments ≡ []) }
         ensures ok { IfOk result (λ p. (p.tag ≡ tag) × (p.callers ≡ callers) × (p.updates ≡ updates)) }
         ensures keeps { IfOk result (λ p. p.keeps ≡ registrar.keeps) }
         ensures back { IfErr result (λ e. e.0 ≡ updates) }

@@ -4,26 +4,32 @@ ghost use mathlib.Core.List.{IsPrefix};
 ghost use Rattle.left_right.specs.Sides.{view};
 ghost use Rattle.clip_model.specs.History as model;
 ghost use Rattle.clip_model.specs.History.{own, IsLegal};
-ghost use Rattle.clip_chronicle.specs.Callers.{IsBy};
-ghost use Rattle.clip_chronicle.specs.Chronicle.{head_of};
-ghost use Rattle.clip_chronicle.specs.Ends.{IsOf, seen_keeps};
+ghost use Rattle.clip_desk.specs.Callers.{IsBy};
+ghost use Rattle.clip_desk.specs.Chronicle.{head_of};
+ghost use Rattle.clip_desk.specs.Ends.{IsOf, seen_keeps};
+ghost use Rattle.clip_desk.specs.Purges.{IsPurgedAt};
 ghost use Rattle.clip_desk.specs.Seats.{longer};
 
-use clip_chronicle::{Head, Published, ReaderEnd, Right, SeenHistory, read_here};
+use crate::chronicle::{Head, SeenHistory};
+use crate::ends::read_here;
+use crate::published::{Published, ReaderEnd};
+use crate::rights::Right;
 use clip_model::MOST_CALLERS;
 use clip_registry::{Registrar, View};
 use clip_standing::Applied;
 use clip_words::NoMemory;
 use std::marker::Model;
 
-/// One caller's place at a desk, seen as the longest history that it got and the commands that were committed with it.
-/// It has the right to add entries of its caller to the desk's history, which nothing else has.
+/// One caller's place at a desk, seen as the longest history that it got, the commands that were committed with it, and
+/// how long the history was at the last purge with it. It has the right to add entries of its caller to the desk's
+/// history, which nothing else has.
 pub struct Seat {
     end: ReaderEnd,
     seen_history: SeenHistory,
     tag: u64,
     callers: u32,
     right: Right,
+    purged_at: usize,
 }
 
 impl Drop for Seat {
@@ -34,6 +40,7 @@ impl Drop for Seat {
             tag: _,
             callers: _,
             right: _,
+            purged_at: _,
         } = self;
     }
 }
@@ -43,7 +50,7 @@ impl Model for Seat {
     ghost use Rattle.left_right.specs.Sides.{view as known_at};
     ghost use Rattle.clip_model.specs.declared.limits.TheConstants.{MOST_CALLERS};
     ghost use Rattle.clip_model.specs.History.{own};
-    ghost use Rattle.clip_chronicle.specs.Ends.{IsOf, seen_keeps};
+    ghost use Rattle.clip_desk.specs.Ends.{IsOf, seen_keeps};
     ghost use Rattle.clip_desk.specs.Seats.{SeatIs, seat_code, mine_of};
 
     ghost Value = { SeatIs };
@@ -60,6 +67,7 @@ impl Model for Seat {
       seen = s.seen_history.seen.log;
       mine = mine_of s.seen_history.seen.log s.right.caller
           s.right.made;
+      purged_at = s.purged_at;
     } };
 
     ghost invariant = { λ s. IsOf s.seen_history.seen.book s.callers (known_at s.end.place)
@@ -145,6 +153,7 @@ impl Seat {
               seen_history.seen.book;
           seen = [];
           mine = [];
+          purged_at = 0;
         } }
     {
         Seat {
@@ -153,6 +162,7 @@ impl Seat {
             tag,
             callers,
             right,
+            purged_at: 0,
         }
     }
 
@@ -172,13 +182,15 @@ impl Seat {
     }
 
     /// The registry as it was last published, whose history goes on from all that the seat has seen, with the commands
-    /// that were committed with the seat as all of its caller's, and can be read just where the desk keeps it.
-    /// `NoMemory` where a count of holders is at its end. It waits for nobody, and costs that of `View::number_of`.
+    /// that were committed with the seat as all of its caller's, and can be read just where the desk keeps it. It has
+    /// no entry that was dead at the last purge with the seat. `NoMemory` where a count of holders is at its end. It
+    /// waits for nobody, and costs that of `View::number_of`.
     pub fn look(&mut self) -> Result<View, NoMemory>
         ensures seen { IfOk result (λ v. v.history ≡ self.new.seen) }
         ensures keeps { IfOk result (λ v. v.keeps ≡ self.old.keeps) }
         ensures mine { IfOk result (λ v. own v.history self.old.caller ≡ self.old.mine) }
         ensures legal { IfOk result (λ v. IsLegal v.history × IsBy self.old.callers v.history) }
+        ensures purged { IfOk result (λ v. IsPurgedAt v self.old.purged_at) }
         ensures later { IsPrefix self.old.seen self.new.seen }
         ensures same { self.new ≡ record self.old { seen = self.new.seen } }
     {
@@ -189,9 +201,13 @@ impl Seat {
         let Published {
             view,
             seen_history,
+            purged_at,
             ..
         } = shown;
         if seen_history.count < self.seen_history.count {
+            return Err(NoMemory);
+        }
+        if purged_at < self.purged_at {
             return Err(NoMemory);
         }
         self.seen_history.meet(&seen_history);
@@ -236,6 +252,22 @@ impl Seat {
     {
         self.seen_history.meet(seen_history);
         self.seen_history.count <= seen_history.count && self.right.made() == there
+    }
+
+    /// Whether what was seen, and the last purge with the seat, are within a history of this length. Constant time.
+    pub(crate) fn is_within(&self, count: usize) -> bool
+        ensures seen { IsTrue result → length self.now.seen ≤ count }
+        ensures mine { IsTrue result → length self.now.mine ≤ count }
+        ensures purged { IsTrue result → self.now.purged_at ≤ count }
+    {
+        self.seen_history.count <= count && self.purged_at <= count
+    }
+
+    /// Keeps how long the history was at a purge with the seat. Constant time.
+    pub(crate) fn keep_purge(&mut self, count: usize)
+        ensures { self.new ≡ record self.old { purged_at = count } }
+    {
+        self.purged_at = count;
     }
 
     /// Sees a history that goes on from what was seen. Constant time.

@@ -1,7 +1,10 @@
 mod Answered
 mod Asking
+mod Gathering
 mod Keeping
 mod Ordered
+mod Reading
 mod Sent
 mod Telling
 mod Together
+mod Untold

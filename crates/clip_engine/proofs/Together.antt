@@ -1,6 +1,6 @@
 -- Queries that are registered together, and what is told of a refusal.
-use Rattle.std.proofs.Common.{◌≡◌, ℕ, zero, suc, List, [], ◌∷◌, Option, Some, None, Err, true, false, refl, sym, ap, subst}
-use Rattle.std.proofs.Common.{◌<◌, arith, get_or, inl, inr, length, option_map}
+use Rattle.std.proofs.Common.{◌≡◌, ℕ, zero, suc, List, [], ◌∷◌, Option, Some, None, Err, true, false, refl}
+use Rattle.std.proofs.Common.{sym, ap, subst, ◌<◌, arith, get_or, inl, inr, length, option_map}
 use Rattle.std.specs.List.{slice_get}
 use Rattle.clip_model.specs.History.{Registered}
 use Rattle.clip_model.specs.Standing.{Standing}
@@ -15,7 +15,7 @@ use Rattle.clip_engine.specs.Code.{number_of}
 use Rattle.clip_engine.specs.Engine.{EngineIs}
 use Rattle.clip_engine.specs.Listed.{IsUnread, IsWhich}
 use Rattle.clip_engine.specs.Many.{AreIn, IsOut, FirstOut, TakesMany, RegistersMany}
-use Rattle.clip_engine.specs.Texts.{HasNoText, listing_at, listings_at}
+use Rattle.clip_engine.specs.Texts.{IsNoText, IsReadable, listing_at, listings_at}
 use Rattle.clip_engine.specs.declared.listed.Listed.{Listed}
 
 -- no query is the first to be refused for what none is refused for
@@ -56,7 +56,7 @@ got (x ∷ xs) (suc i) d lt = got xs i d (omega arith)
 
 -- the texts at a place are none
 pub unread_at : (listed : List Listed) (i k : ℕ) (d : Listed) (code : ℕ) → i < length listed → i ≡ k
-    → HasNoText ((get_or listed i d).id.now ∷ (get_or listed i d).query.now ∷ (get_or listed i d).listener.now ∷ []) code
+    → IsNoText (IsReadable (get_or listed i d)) code
     → IsUnread listed code k
 unread_at listed i k d code lt place (inl none) =
     inl (

@@ -4,6 +4,7 @@ pub mod Code
 pub mod Engine
 pub mod Explained
 pub mod Found
+pub mod Gathered
 pub mod Listed
 pub mod Many
 pub mod Near

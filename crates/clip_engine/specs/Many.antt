@@ -1,6 +1,6 @@
 -- Lists of queries that are registered together.
 use Rattle.std.specs.Prelude.{◌≡◌, ◌⊎◌, ◌<◌, ℕ, zero, suc, List, [], ◌∷◌, length, map, true, false, Result, Ok, Err, ⊤}
-use Rattle.std.specs.Prelude.{Vec, nat_le}
+use Rattle.std.specs.Prelude.{Vec}
 use Rattle.std.specs.declared.alloc.Global.{Global}
 use Rattle.std.specs.declared.sync.Arc.{Arc}
 use Rattle.std.specs.Arc.{arc_value}
@@ -18,7 +18,7 @@ use Rattle.clip_protocol.specs.declared.refusal.Refusal.TheVariants as reason
 use Rattle.clip_protocol.specs.declared.refusal.Unread.{Unread}
 use Rattle.clip_protocol.specs.declared.refusal.Unread.TheVariants as unread
 use Rattle.clip_front.specs.Outcome.{names_in}
-use Rattle.clip_engine.specs.Engine.{EngineIs, commanded, house}
+use Rattle.clip_engine.specs.Engine.{EngineIs, Accepts, history_of, house}
 
 -- ---- one of them
 
@@ -65,13 +65,13 @@ TakesMany ls (Err fault.NoMemory) = ⊤
 -- the first that is refused by itself, or no room for all of them.
 abbrev pub RegistersMany : EngineIs → EngineIs → List Listing → Result (Unit {0}) ListFault → Type 0
 RegistersMany old new ls (Ok _) = (ss : List Standing) × AreIn ls ss
-    × (has_room old.history (Register ss) ≡ true) × (new ≡ commanded old (Register ss))
+    × (has_room (history_of old) (Register ss) ≡ true) × Accepts old new (Register ss)
 RegistersMany old new ls (Err (fault.Refused reason.Limit k)) =
     ((MOST_LISTED < length ls) × (k ≡ MOST_LISTED)) ⊎ FirstOut ls reason.Limit k
 RegistersMany old new ls (Err (fault.Refused reason.Query k)) = FirstOut ls reason.Query k
 RegistersMany old new ls (Err (fault.Refused reason.Listener k)) = FirstOut ls reason.Listener k
 RegistersMany old new ls (Err (fault.Refused reason.Full k)) = (ss : List Standing) × AreIn ls ss
-    × (has_room old.history (Register ss) ≡ false) × (k ≡ length ls)
+    × (has_room (history_of old) (Register ss) ≡ false) × (k ≡ length ls)
 RegistersMany old new ls (Err (fault.Refused reason.Long k)) = ⊥
 RegistersMany old new ls (Err (fault.Refused reason.Json k)) = ⊥
 RegistersMany old new ls (Err (fault.Refused reason.Shape k)) = ⊥

@@ -1,19 +1,23 @@
 //! A line answered.
-ghost use Rattle.std.specs.Prelude.{◌≡◌, map, IfOk};
+ghost use Rattle.std.specs.Prelude.{◌≡◌, map, IfOk, OnOk};
 ghost use Rattle.std.specs.List.{All};
 ghost use Rattle.clip_match.specs.Alerts.{alerts_due};
 ghost use Rattle.clip_protocol.specs.Found.{found_value};
-ghost use Rattle.clip_protocol.specs.LineMeaning.{matching};
+ghost use Rattle.clip_registry.specs.Merging.{purged};
+ghost use Rattle.clip_protocol.specs.LineMeaning.{Means, matching, purging};
 ghost use Rattle.clip_protocol.specs.Reply.{reply};
+ghost use Rattle.clip_front.specs.Outcome.{names_in};
 ghost use Rattle.clip_front.specs.Steps.Found.{IsFor};
+ghost use Rattle.clip_front.specs.Steps.Taking.{PurgesIf};
+ghost use Rattle.clip_run.specs.Unpurged.{GoesOnUnpurged};
 ghost use Rattle.clip_engine.specs.Engine.{Answers, house};
 
 use crate::house::House;
-use clip_front::{Books, Settings, Taken, deliver_found, take_line};
+use clip_front::{Books, Settings, Step, deliver_found, take_line};
 use clip_listen::Audience;
 use clip_match::entries_due;
 use clip_meaning::Article;
-use clip_protocol::{Form, Found};
+use clip_protocol::{Form, Found, articles_of};
 use clip_registry::View;
 use clip_run::{OwnRegistrar, hits_found};
 use clip_words::{NoMemory, WordPool};
@@ -69,13 +73,16 @@ pub(crate) fn answer(
     number: u64,
     line: &[u8],
 ) -> Result<Vec<u8>, NoMemory>
-    ensures { IfOk result (λ text. Answers form owned.old.registrar.history owned.new.registrar.history number
+    ensures answers { IfOk result (λ text. Answers form owned.old.registrar.history owned.new.registrar.history number
         line.now text.items) }
+    ensures purges { OnOk result (PurgesIf (Means (names_in house) owned.old.registrar.history line.now purging)
+        (λ old new. new.registrar ≡ purged old.registrar) GoesOnUnpurged owned.old owned.new) }
 {
     let mut listeners = House::new(alloc)?;
-    match take_line(alloc, pool, owned, &listeners, number, line)? {
-        Taken::Text(text) => Ok(text),
-        Taken::Articles(articles) => {
+    match take_line(alloc, owned, &listeners, number, line)? {
+        Step::Reply(text) => Ok(text),
+        Step::Match(drafts) => {
+            let articles = articles_of(alloc, pool, &drafts)?;
             let view = owned.registrar.view()?;
             matched(alloc, &view, &mut listeners, form, number, &articles)
         }

@@ -1,6 +1,6 @@
 //! What a call comes to, as a number. `include/pressclip.h` has the same.
 ghost use Rattle.std.specs.Prelude.{◌≡◌};
-ghost use Rattle.clip_engine.specs.Code.{number_of};
+ghost use Rattle.clip_engine.specs.Code.{number_of, number_of_line};
 
 use crate::engine::LineFault;
 use clip_protocol::{Refusal, Unread};
@@ -32,6 +32,9 @@ pub const FEED: u32 = 7;
 /// The count of lines is at its end.
 pub const LINES: u32 = 8;
 
+/// The ids of a part are out of order. The numbers between are those of calls that hand nothing on.
+pub const ORDER: u32 = 12;
+
 /// The number of a refusal. A line's own refusals stand in its reply, and no call answers them.
 pub fn code_of(why: Unread) -> u32
     ensures some { result ≡ 0 → ⊥ }
@@ -48,7 +51,8 @@ pub fn code_of(why: Unread) -> u32
 
 /// The number of a line's fault.
 pub fn code_of_line(why: LineFault) -> u32
-    ensures { result ≡ 0 → ⊥ }
+    ensures some { result ≡ 0 → ⊥ }
+    ensures is { result ≡ number_of_line why }
 {
     match why {
         LineFault::Feed => FEED,

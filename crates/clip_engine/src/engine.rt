@@ -11,7 +11,7 @@ ghost use Rattle.clip_protocol.specs.Steps.Views.{listing_view};
 ghost use Rattle.clip_protocol.specs.declared.refusal.Unread.TheVariants as unread;
 ghost use Rattle.clip_standing.specs.Command.{command_of};
 ghost use Rattle.clip_engine.specs.Asked.{IsAsked};
-ghost use Rattle.clip_engine.specs.Engine.{Registers, Replies, commanded, fresh, has_feed};
+ghost use Rattle.clip_engine.specs.Engine.{Accepts, Registers, Replies, fresh, has_feed, history_of, purged_engine};
 ghost use Rattle.clip_engine.specs.Found.{ids_bytes};
 ghost use Rattle.clip_engine.specs.Many.{RegistersMany};
 
@@ -32,7 +32,7 @@ use std::alloc::Global;
 use std::marker::Model;
 
 /// An engine: a registrar of its own, words of its last articles, how many lines it has answered, and whether its
-/// replies show hits. Contracts see the history of the accepted commands for the registrar.
+/// replies show hits. Contracts see all but the words.
 #[derive(Drop)]
 pub struct Engine {
     alloc: Global,
@@ -49,7 +49,7 @@ impl Model for Engine {
 
     ghost coded = { engine_code };
 
-    ghost view = { λ e. record { history = e.owned.registrar.history; lines = e.lines; hits = e.hits } };
+    ghost view = { λ e. record { owned = e.owned; lines = e.lines; hits = e.hits } };
 }
 
 /// Why a line is not answered.
@@ -169,11 +169,11 @@ impl Engine {
     /// Accepts a command of one query or id, or refuses it with nothing changed. Gives what the command counts.
     fn command(&mut self, command: Command) -> Result<u64, Unread>
         requires { IsTrue (fits (command_of command)) }
-        ensures accepted { OnOk result (self.new ≡ commanded self.old (command_of command)) }
-        ensures counted { IfOk result (λ count. count ≡ applied self.old.history (command_of command)) }
-        ensures room { OnOk result (IsTrue (has_room self.old.history (command_of command))) }
+        ensures accepted { OnOk result (Accepts self.old self.new (command_of command)) }
+        ensures counted { IfOk result (λ count. count ≡ applied (history_of self.old) (command_of command)) }
+        ensures room { OnOk result (IsTrue (has_room (history_of self.old) (command_of command))) }
         ensures full { IfErr result (λ why. (why ≡ unread.NoMemory) ⊎ ((why ≡ unread.Refused Refusal.Full)
-            × IsFalse (has_room self.old.history (command_of command)))) }
+            × IsFalse (has_room (history_of self.old) (command_of command)))) }
         ensures unchanged { OnErr result (self.new ≡ self.old) }
     {
         match self.owned.commit(command) {
@@ -242,12 +242,13 @@ impl Engine {
     ///
     /// Cost: that of `Registrar::apply` and of `merge_all`.
     pub fn delete(&mut self, id: String) -> Result<u64, Unread>
-        ensures deleted { OnOk result (self.new ≡ commanded self.old (Delete (string_bytes id ∷ []))) }
-        ensures counted { IfOk result (λ count. count ≡ applied self.old.history (Delete (string_bytes id ∷ []))) }
+        ensures deleted { OnOk result (Accepts self.old self.new (Delete (string_bytes id ∷ []))) }
+        ensures counted { IfOk result (λ count. count ≡ applied (history_of self.old) (Delete (string_bytes id ∷ []))) }
         ensures kept { OnOk result (is_id (string_bytes id) ≡ true) }
-        ensures limit { result ≡ Err (unread.Refused Refusal.Limit) → is_id (string_bytes id) ≡ false }
-        ensures full { result ≡ Err (unread.Refused Refusal.Full)
-            → IsFalse (has_room self.old.history (Delete (string_bytes id ∷ []))) }
+        ensures refused { IfErr result (λ why. (why ≡ unread.NoMemory)
+            ⊎ ((why ≡ unread.Refused Refusal.Limit) × (is_id (string_bytes id) ≡ false))
+            ⊎ ((why ≡ unread.Refused Refusal.Full)
+            × IsFalse (has_room (history_of self.old) (Delete (string_bytes id ∷ []))))) }
         ensures unchanged { OnErr result (self.new ≡ self.old) }
     {
         if !is_id(id.as_str()) {
@@ -263,22 +264,22 @@ impl Engine {
     /// With nothing changed: `Full` where the registry has no room for one command more, `NoMemory` where an allocation
     /// failed. Cost: the dropping of what no snapshot holds.
     pub fn clear(&mut self) -> Result<u64, Unread>
-        ensures cleared { OnOk result (self.new ≡ commanded self.old Clear) }
-        ensures counted { IfOk result (λ count. count ≡ finite.len (replay self.old.history)) }
+        ensures cleared { OnOk result (Accepts self.old self.new Clear) }
+        ensures counted { IfOk result (λ count. count ≡ finite.len (replay (history_of self.old))) }
         ensures refused { IfErr result (λ why. (why ≡ unread.NoMemory) ⊎ ((why ≡ unread.Refused Refusal.Full)
-            × IsFalse (has_room self.old.history Clear))) }
+            × IsFalse (has_room (history_of self.old) Clear))) }
         ensures unchanged { OnErr result (self.new ≡ self.old) }
     {
         self.command(Command::Clear)
     }
 
-    /// Gives back the memory of queries that were replaced or taken out. What is registered stays. `NoMemory` where an
-    /// allocation failed. Cost: that of `Registrar::purge`.
+    /// Gives back the memory of queries that were replaced or taken out: no dead entry is left. What is registered
+    /// stays. `NoMemory` where an allocation failed, with nothing changed. Cost: that of `Registrar::purge`.
     pub fn purge(&mut self) -> Result<(), NoMemory>
-        ensures { self.new ≡ self.old }
+        ensures purged { OnOk result (self.new ≡ purged_engine self.old) }
+        ensures unchanged { OnErr result (self.new ≡ self.old) }
     {
-        self.owned.registrar.purge()?;
-        Ok(())
+        self.owned.registrar.purge()
     }
 
     /// A snapshot: an engine with the same history and the same count of lines, and words of its own. What is changed
@@ -302,7 +303,7 @@ impl Engine {
     /// the ids, and the copy.
     pub fn show(&self, id: &str) -> Result<Option<String>, Unread>
         ensures shown { IfOk result (λ text. option_map string_bytes text
-            ≡ option_map (λ r. r.standing.text) (finite.get (replay self.now.history) id.now)) }
+            ≡ option_map (λ r. r.standing.text) (finite.get (replay (history_of self.now)) id.now)) }
         ensures kept { OnOk result (is_id id.now ≡ true) }
         ensures refused { IfErr result (λ why. (why ≡ unread.NoMemory) ⊎ ((why ≡ unread.Refused Refusal.Limit)
             × (is_id id.now ≡ false))) }
@@ -319,7 +320,7 @@ impl Engine {
     /// `NoMemory` where an allocation failed. Cost: a step for each entry of a segment, a sort of those of registered
     /// queries by their ids, and a copy of these.
     pub fn ids(&self) -> Result<Vec<u8>, NoMemory>
-        ensures { IfOk result (λ bytes. bytes.items ≡ ids_bytes (finite.keys (replay self.now.history))) }
+        ensures { IfOk result (λ bytes. bytes.items ≡ ids_bytes (finite.keys (replay (history_of self.now)))) }
     {
         bytes_of_ids(self.alloc, &self.owned.registrar.view()?)
     }
@@ -331,14 +332,14 @@ impl Engine {
     /// `Limit` where the id or a field is beyond its limits, the first that `Article::read` refuses; `NoMemory` where
     /// an allocation failed. Whatever it answers, the engine stays as it is.
     ///
-    /// Cost: that of `Article::read_sharing`, with the words of the engine's last articles, of `clip_match::entries_due`
-    /// and of `DueEntries::alerts`.
+    /// Cost: that of `Article::read_sharing`, with the words of the engine's last articles, of
+    /// `clip_match::entries_due` and of `DueEntries::alerts`.
     #[tactic(auto, using(crate::proofs::Asking::asked_at))]
     pub fn match_article(&mut self, id: &str, fields: &[(String, String)]) -> Result<Alerts, Unread>
         ensures alerts { IfOk result (λ found. alerts_of found
-            ≡ alerts self.old.history (article_value id.now (pairs_of fields.now))) }
+            ≡ alerts (history_of self.old) (article_value id.now (pairs_of fields.now))) }
         ensures asked { IfOk result (λ found.
-            IsAsked self.old.history (article_value id.now (pairs_of fields.now)) found.asked) }
+            IsAsked (history_of self.old) (article_value id.now (pairs_of fields.now)) found.asked) }
         ensures kept { OnOk result (fault_of id.now (pairs_of fields.now) ≡ None) }
         ensures refused { IfErr result (λ why. (why ≡ unread.NoMemory) ⊎ ((why ≡ unread.Refused Refusal.Limit)
             × (fault_of id.now (pairs_of fields.now) ≡ None → ⊥))) }
@@ -357,7 +358,7 @@ impl Engine {
     /// How many queries are registered. `NoMemory` where the count of the registry's holders is at its end. Constant
     /// time.
     pub fn count(&self) -> Result<u64, NoMemory>
-        ensures { IfOk result (λ count. count ≡ finite.len (replay self.now.history)) }
+        ensures { IfOk result (λ count. count ≡ finite.len (replay (history_of self.now))) }
     {
         Ok(self.owned.registrar.view()?.count())
     }

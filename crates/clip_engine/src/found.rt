@@ -87,9 +87,9 @@ fn add_alerts(
     Ok(())
 }
 
-/// The alerts of an article as bytes: how many queries were tried, the count of alerts, and then for each the id of the query and its hits, of which there
-/// are none where they are not shown. A text stands after its length, hits after their count, and a hit is a field's
-/// name and a position; numbers are eight bytes, the lowest first.
+/// The alerts of an article as bytes: how many queries were tried, the count of alerts, and then for each the id of the
+/// query and its hits, of which there are none where they are not shown. A text stands after its length, hits after
+/// their count, and a hit is a field's name and a position; numbers are eight bytes, the lowest first.
 ///
 /// `NoMemory` where an allocation failed. Cost: a copy of the texts, and where hits are shown that of `Alert::hits` for
 /// each alert that doesn't carry them.

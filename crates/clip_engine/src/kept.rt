@@ -1,11 +1,15 @@
 //! What C keeps: an engine, and the bytes that its last call left to be taken.
-ghost use Rattle.std.specs.Prelude.{◌≡◌, [], ◌∷◌, IfOk, IfErr, OnOk, OnErr, Ok, map, option_map, string_bytes, true};
+ghost use Rattle.std.specs.Prelude.{◌≡◌, IfOk, IfErr, OnOk, OnErr, None, Ok, Err, map, option_map, string_bytes, true};
 ghost use Rattle.std.specs.FinMap as finite;
-ghost use Rattle.clip_meaning.specs.Article.{pairs_of};
-ghost use Rattle.clip_engine.specs.Engine.{fresh};
+ghost use Rattle.std.specs.List.{All};
+ghost use Rattle.std.specs.Str.{IsUtf8};
+ghost use Rattle.clip_words.specs.Ids.{is_id};
+ghost use Rattle.clip_meaning.specs.Article.{fault_of, pairs_of};
+ghost use Rattle.clip_engine.specs.Engine.{fresh, history_of};
 ghost use Rattle.clip_protocol.specs.Steps.Views.{listing_view};
 ghost use Rattle.clip_model.specs.History.{replay};
-ghost use Rattle.clip_engine.specs.Texts.{HasNoText, IsFoundAt, IsNoText, fields_of, listing_at, listings_at};
+ghost use Rattle.clip_engine.specs.Texts.{AreTexts, IsField, IsFoundAt, IsNoText, IsReadable, fields_of};
+ghost use Rattle.clip_engine.specs.Texts.{listing_at, listings_at};
 ghost use Rattle.clip_engine.specs.Many.{RegistersMany};
 ghost use Rattle.clip_engine.specs.Calls.{
   ClearTo,
@@ -13,7 +17,9 @@ ghost use Rattle.clip_engine.specs.Calls.{
   DeleteTo,
   ExplainLineTo,
   ExplainTo,
+  GatherTo,
   IdsTo,
+  IsNoArticle,
   IsNoId,
   IsRefusedAt,
   LineTo,
@@ -22,6 +28,7 @@ ghost use Rattle.clip_engine.specs.Calls.{
   PurgeTo,
   RegisterTo,
   ShowTo,
+  TakeTo,
   WordsTo,
 };
 
@@ -30,6 +37,7 @@ use crate::engine::Engine;
 use crate::explained::{line_told, query_told, words_told};
 use crate::found::bytes_of_found;
 use crate::listed::{Listed, Which, listings_of, which_of};
+use crate::parts::{Part, gathered};
 use clip_protocol::Listing;
 use clip_words::NoMemory;
 use std::alloc::Global;
@@ -56,8 +64,9 @@ pub struct Kept {
 /// The text that the bytes are, or `UTF8` where they are none.
 fn text_of(alloc: Global, bytes: &[u8]) -> Result<String, u32>
     ensures ok { IfOk result (λ text. string_bytes text ≡ bytes.now) }
+    ensures text { OnOk result (IsUtf8 bytes.now) }
     ensures err { IfErr result (λ code. code ≡ 0 → ⊥) }
-    ensures why { IfErr result (IsNoText bytes.now) }
+    ensures why { IfErr result (IsNoText (IsUtf8 bytes.now)) }
 {
     let Ok(text) = str::from_utf8(bytes) else {
         return Err(code::UTF8);
@@ -77,8 +86,9 @@ pub(crate) fn listing_of(
     listener: &[u8],
 ) -> Result<Listing, u32>
     ensures ok { IfOk result (λ listing. listing_view listing ≡ listing_at id.now query.now has_listener listener.now) }
+    ensures texts { OnOk result (AreTexts id.now query.now has_listener listener.now) }
     ensures err { IfErr result (λ code. code ≡ 0 → ⊥) }
-    ensures why { IfErr result (HasNoText (id.now ∷ query.now ∷ listener.now ∷ [])) }
+    ensures why { IfErr result (IsNoText (AreTexts id.now query.now has_listener listener.now)) }
 {
     let id = text_of(alloc, id)?;
     let query = text_of(alloc, query)?;
@@ -100,7 +110,9 @@ pub(crate) fn listing_of(
 /// The names and texts of an article.
 pub(crate) fn texts_of(alloc: Global, fields: &[Field<'_>]) -> Result<Vec<(String, String)>, u32>
     ensures ok { IfOk result (λ pairs. pairs_of pairs.items ≡ fields_of fields.now) }
+    ensures texts { OnOk result (All IsField (fields_of fields.now)) }
     ensures err { IfErr result (λ code. code ≡ 0 → ⊥) }
+    ensures why { IfErr result (IsNoText (All IsField (fields_of fields.now))) }
 {
     let mut pairs = Vec::new(alloc);
     for field in fields {
@@ -161,6 +173,7 @@ impl Kept {
     #[tactic(auto, using(crate::proofs::Together::refused_at))]
     fn registered_many(&mut self, alloc: Global, listed: &[Listed<'_>]) -> Result<(), Which>
         ensures ok { OnOk result (RegistersMany self.old.engine self.new.engine (listings_at listed.now) (Ok tt)) }
+        ensures texts { OnOk result (All IsReadable listed.now) }
         ensures err { IfErr result (λ which.
             IsRefusedAt listed.now self.old.engine self.new.engine which.code which.place) }
         ensures unchanged { OnErr result (self.new.engine ≡ self.old.engine) }
@@ -218,7 +231,8 @@ impl Kept {
     /// The text of the query with this id, if one has it.
     fn shown(&self, alloc: Global, id: &[u8]) -> Result<Option<String>, u32>
         ensures ok { IfOk result (λ text. option_map string_bytes text
-            ≡ option_map (λ r. r.standing.text) (finite.get (replay self.now.engine.history) id.now)) }
+            ≡ option_map (λ r. r.standing.text) (finite.get (replay (history_of self.now.engine)) id.now)) }
+        ensures is { OnOk result (IsUtf8 id.now × (is_id id.now ≡ true)) }
         ensures err { IfErr result (IsNoId id.now) }
     {
         let id = text_of(alloc, id)?;
@@ -293,7 +307,10 @@ impl Kept {
     #[tactic(auto, using(crate::proofs::Asking::found_at))]
     fn found(&mut self, alloc: Global, id: &[u8], fields: &[Field<'_>]) -> Result<Vec<u8>, u32>
         ensures ok { IfOk result (λ bytes. IsFoundAt self.old.engine id.now (fields_of fields.now) bytes.items) }
+        ensures is { OnOk result (IsUtf8 id.now × All IsField (fields_of fields.now)
+            × (fault_of id.now (fields_of fields.now) ≡ None)) }
         ensures err { IfErr result (λ code. code ≡ 0 → ⊥) }
+        ensures why { IfErr result (IsNoArticle id.now (fields_of fields.now)) }
         ensures unchanged { (self.new.engine ≡ self.old.engine) × (self.new.text ≡ self.old.text) }
     {
         let id = text_of(alloc, id)?;
@@ -311,6 +328,7 @@ impl Kept {
     fn keep(&mut self, made: Result<Vec<u8>, u32>) -> u32
         requires { IfErr made (λ code. code ≡ 0 → ⊥) }
         ensures kept { result ≡ 0 → made ≡ Ok self.new.text }
+        ensures refused { (result ≡ 0 → ⊥) → made ≡ Err result }
         ensures engine { self.new.engine ≡ self.old.engine }
     {
         match made {
@@ -328,6 +346,14 @@ impl Kept {
     {
         let found = self.found(alloc, id, fields);
         self.keep(found)
+    }
+
+    /// Gathers what parts found of an article, and keeps it: that of `gathered`, at its cost. Where they are parts of
+    /// one history, that is what an engine with the whole finds (`law_of_gathering`).
+    pub fn gather(&mut self, alloc: Global, parts: &[Part<'_>]) -> u32
+        ensures { GatherTo parts.now result self.old self.new }
+    {
+        self.keep(gathered(alloc, parts))
     }
 
     /// Explains a query's text, and keeps what is told of it as compact JSON: that of `query_text` of
@@ -354,10 +380,10 @@ impl Kept {
         self.keep(line_told(alloc, line))
     }
 
-    /// Copies the bytes that are kept to room of their size, and keeps none then. Whether there was such room.
+    /// Copies the bytes that are kept to room of their size, and keeps none then; else all stays as it is. Whether
+    /// there was such room.
     pub fn take(&mut self, room: &mut [u8]) -> bool
-        ensures engine { self.new.engine ≡ self.old.engine }
-        ensures copied { result ≡ true → room.new ≡ self.old.text.items }
+        ensures { TakeTo room.old room.new result self.old self.new }
     {
         if room.len() != self.text.len() {
             return false;

@@ -13,6 +13,7 @@ mod kept;
 mod listed;
 mod many;
 mod pair;
+mod parts;
 mod slot;
 
 pub use engine::{Engine, LineFault};
@@ -20,4 +21,5 @@ pub use found::bytes_of_found;
 pub use kept::{Field, Kept};
 pub use listed::Listed;
 pub use pair::{Pair, near};
+pub use parts::{Part, Told, law_of_gathering};
 pub use slot::{Slot, snapshot_into};

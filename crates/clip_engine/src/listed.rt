@@ -1,8 +1,9 @@
 //! Queries that a caller outside of Rattle registers together.
-ghost use Rattle.std.specs.Prelude.{◌≡◌, [], ◌∷◌, IfOk, IfErr, map};
+ghost use Rattle.std.specs.Prelude.{◌≡◌, IfOk, IfErr, OnOk, map};
+ghost use Rattle.std.specs.List.{All};
 ghost use Rattle.clip_protocol.specs.Steps.Views.{listing_view};
 ghost use Rattle.clip_engine.specs.Listed.{IsUnread, IsWhich};
-ghost use Rattle.clip_engine.specs.Texts.{HasNoText, listing_at, listings_at};
+ghost use Rattle.clip_engine.specs.Texts.{IsNoText, IsReadable, listing_at, listings_at};
 
 use crate::code;
 use crate::kept::listing_of;
@@ -34,7 +35,8 @@ pub(crate) struct Which {
 fn read_one(alloc: Global, one: &Listed<'_>) -> Result<Listing, u32>
     ensures ok { IfOk result (λ listing. listing_view listing
         ≡ listing_at one.now.id.now one.now.query.now one.now.has_listener one.now.listener.now) }
-    ensures why { IfErr result (HasNoText (one.now.id.now ∷ one.now.query.now ∷ one.now.listener.now ∷ [])) }
+    ensures texts { OnOk result (IsReadable one.now) }
+    ensures why { IfErr result (IsNoText (IsReadable one.now)) }
 {
     listing_of(alloc, one.id, one.query, one.has_listener, one.listener)
 }
@@ -42,6 +44,7 @@ fn read_one(alloc: Global, one: &Listed<'_>) -> Result<Listing, u32>
 /// The queries to register together, or the first whose texts are not read.
 pub(crate) fn listings_of(alloc: Global, listed: &[Listed<'_>]) -> Result<Vec<Listing>, Which>
     ensures ok { IfOk result (λ listings. map listing_view listings.items ≡ listings_at listed.now) }
+    ensures texts { OnOk result (All IsReadable listed.now) }
     ensures err { IfErr result (λ which. IsUnread listed.now which.code which.place) }
 {
     let mut listings = Vec::new(alloc);

@@ -1,10 +1,13 @@
 //! Whether two queries are near in an article, for a caller outside of Rattle.
-ghost use Rattle.std.specs.Prelude.{◌≡◌, IfOk, IfErr};
-ghost use Rattle.clip_grammar.specs.Reading.{Reads};
+ghost use Rattle.std.specs.Prelude.{◌≡◌, ◌⊎◌, None, IfOk, IfErr, OnOk};
+ghost use Rattle.std.specs.List.{All};
+ghost use Rattle.std.specs.Str.{IsUtf8};
+ghost use Rattle.clip_grammar.specs.Reading.{HasNoFault, Reads};
 ghost use Rattle.clip_grammar.specs.Tree.{tree_of};
-ghost use Rattle.clip_meaning.specs.Article.{read_fields};
-ghost use Rattle.clip_engine.specs.Near.{IsNear};
-ghost use Rattle.clip_engine.specs.Texts.{fields_of};
+ghost use Rattle.clip_meaning.specs.Article.{fault_of, read_fields};
+ghost use Rattle.clip_engine.specs.Near.{IsNear, IsNoQuery, IsUntold, NearTo};
+ghost use Rattle.clip_engine.specs.Texts.{IsField, IsNoText, fields_of};
+ghost use Rattle.clip_engine.specs.declared.code.TheConstants.{LIMIT, QUERY};
 
 use crate::code;
 use crate::kept::{Field, texts_of};
@@ -34,7 +37,9 @@ pub struct Pair<'a> {
 /// The query that a text is read as. `UTF8` where the bytes are no text, `QUERY` where it is no query.
 fn query_of(alloc: Global, text: &[u8]) -> Result<Query, u32>
     ensures ok { IfOk result (λ query. Reads text.now (tree_of query)) }
+    ensures kept { OnOk result (IsUtf8 text.now × HasNoFault text.now) }
     ensures err { IfErr result (λ code. code ≡ 0 → ⊥) }
+    ensures why { IfErr result (λ code. IsNoText (IsUtf8 text.now) code ⊎ ((code ≡ QUERY) × IsNoQuery text.now)) }
 {
     let Ok(text) = str::from_utf8(text) else {
         return Err(code::UTF8);
@@ -49,7 +54,11 @@ fn query_of(alloc: Global, text: &[u8]) -> Result<Query, u32>
 /// The article of these fields. `LIMIT` where there is none.
 fn article_of(alloc: Global, fields: &[Field<'_>]) -> Result<Article, u32>
     ensures ok { IfOk result (λ article. article.fields ≡ read_fields (fields_of fields.now)) }
+    ensures kept { OnOk result (All IsField (fields_of fields.now)
+        × (fault_of ASKED.now (fields_of fields.now) ≡ None)) }
     ensures err { IfErr result (λ code. code ≡ 0 → ⊥) }
+    ensures why { IfErr result (λ code. IsNoText (All IsField (fields_of fields.now)) code
+        ⊎ ((code ≡ LIMIT) × (fault_of ASKED.now (fields_of fields.now) ≡ None → ⊥))) }
 {
     let pairs = texts_of(alloc, fields)?;
     match Article::read(alloc, ASKED, &pairs) {
@@ -64,6 +73,7 @@ fn article_of(alloc: Global, fields: &[Field<'_>]) -> Result<Article, u32>
 fn near_told(alloc: Global, fields: &[Field<'_>], pair: &Pair<'_>) -> Result<bool, u32>
     ensures ok { IfOk result (λ answer. IsNear (fields_of fields.now) pair.now answer) }
     ensures err { IfErr result (λ code. code ≡ 0 → ⊥) }
+    ensures why { IfErr result (IsUntold (fields_of fields.now) pair.now) }
 {
     let first = query_of(alloc, pair.first)?;
     let second = query_of(alloc, pair.second)?;
@@ -74,9 +84,12 @@ fn near_told(alloc: Global, fields: &[Field<'_>], pair: &Pair<'_>) -> Result<boo
     }
 }
 
-/// Tells whether two queries are near in an article of these fields, where the answer is 0.
+/// Tells whether two queries are near in an article of these fields, where the answer is 0. Else it is `UTF8` where a
+/// text is none, `QUERY` where one of the two is no query or no word, phrase or prefix, `LIMIT` where no article has
+/// these fields, and `NO_MEMORY` where an allocation failed. The cost is that of reading both texts and the article,
+/// and of `near_holds`.
 pub fn near(alloc: Global, fields: &[Field<'_>], pair: &Pair<'_>, answer: &mut bool) -> u32
-    ensures { result ≡ 0 → IsNear (fields_of fields.now) pair.now answer.new }
+    ensures { NearTo (fields_of fields.now) pair.now result answer.new }
 {
     match near_told(alloc, fields, pair) {
         Ok(told) => {

@@ -15,7 +15,7 @@ use clip_words::NoMemory;
 use std::alloc::Global;
 
 /// How a text is read.
-#[derive(Debug, Drop)]
+#[derive(Drop)]
 pub struct Explanation {
     /// What the text asks for.
     pub query: Query,
@@ -34,7 +34,7 @@ pub struct Explanation {
 }
 
 /// Why a text is no query.
-#[derive(Clone, Copy, Debug)]
+#[derive(Clone, Copy)]
 pub struct Refusal {
     /// The reason, which is never `NoMemory`.
     pub fault: QueryFault,
@@ -48,7 +48,7 @@ pub struct Refusal {
 }
 
 /// What a text is as a query.
-#[derive(Debug, Drop)]
+#[derive(Drop)]
 pub enum Explained {
     /// A query.
     Read(Explanation),

@@ -1,11 +1,11 @@
 //! Queries spelled with all their signs and fields.
-ghost use Rattle.std.specs.Prelude.{◌≡◌, ◌++◌, IfOk, OnOk, map, string_bytes, codes};
+ghost use Rattle.std.specs.Prelude.{◌≡◌, ◌++◌, [], IfOk, OnOk, map, string_bytes, if◌then◌else◌};
 ghost use Rattle.std.specs.Arc.{arc_str_bytes};
 ghost use Rattle.clip_grammar.specs.Tree.{tree_of, end_of};
 ghost use Rattle.clip_explain.specs.Spelling.{plain_char, stands, escaped_char, escaped, in_quotes, is_operator};
 ghost use Rattle.clip_explain.specs.Spelling.{field_spelling, gap, words_spelling, end_spelling, low_bracket};
 ghost use Rattle.clip_explain.specs.Spelling.{high_bracket, range_spelling, sign_spelling, spelling_in, spelling};
-ghost use Rattle.std.specs.Prelude.{true, encode_utf8, encode_utf8_all};
+ghost use Rattle.std.specs.Prelude.{false, true, encode_utf8, encode_utf8_all};
 
 use clip_grammar::query::{Bound, Occur, Query};
 use clip_syntax::is_start;
@@ -53,16 +53,32 @@ fn push_escaped(spelled: &mut String, quoted: bool, text: &str) -> Result<(), No
     Ok(())
 }
 
+/// Whether the text would be read as an operator.
+fn is_operator(text: &str) -> bool
+    ensures { result ≡ is_operator text.now }
+{
+    text == "AND" || text == "OR" || text == "NOT"
+}
+
 /// Puts a field and a colon behind what is there.
 fn push_field(spelled: &mut String, field: &str) -> Result<(), NoMemory>
     ensures { OnOk result (string_bytes spelled.new ≡ string_bytes spelled.old ++ field_spelling field.now) }
 {
-    if field == "AND" || field == "OR" || field == "NOT" {
+    if is_operator(field) {
         spelled.push('\\')?;
     }
     push_escaped(spelled, false, field)?;
     spelled.push(':')?;
     Ok(())
+}
+
+/// Puts a field and a word behind what is there.
+fn push_word(spelled: &mut String, field: &str, word: &str) -> Result<(), NoMemory>
+    ensures { OnOk result (string_bytes spelled.new
+        ≡ string_bytes spelled.old ++ field_spelling field.now ++ escaped false word.now) }
+{
+    push_field(spelled, field)?;
+    push_escaped(spelled, false, word)
 }
 
 /// Puts a text between quotes behind what is there.
@@ -85,11 +101,12 @@ fn push_gap(spelled: &mut String, first: bool) -> Result<(), NoMemory>
     Ok(())
 }
 
-/// Puts words between quotes behind what is there.
-fn push_phrase(spelled: &mut String, words: &[ArcStr]) -> Result<(), NoMemory>
-    ensures { OnOk result (string_bytes spelled.new
-        ≡ string_bytes spelled.old ++ in_quotes (words_spelling true (map arc_str_bytes words.now))) }
+/// Puts a field and words between quotes behind what is there.
+fn push_phrase(spelled: &mut String, field: &str, words: &[ArcStr]) -> Result<(), NoMemory>
+    ensures { OnOk result (string_bytes spelled.new ≡ string_bytes spelled.old
+        ++ field_spelling field.now ++ in_quotes (words_spelling true (map arc_str_bytes words.now))) }
 {
+    push_field(spelled, field)?;
     spelled.push('"')?;
     let mut first = true;
     for word in words {
@@ -112,11 +129,12 @@ fn push_end(spelled: &mut String, end: &Bound) -> Result<(), NoMemory>
     }
 }
 
-/// Puts a range behind what is there.
-fn push_range(spelled: &mut String, low: &Bound, high: &Bound) -> Result<(), NoMemory>
-    ensures { OnOk result (string_bytes spelled.new
-        ≡ string_bytes spelled.old ++ range_spelling (end_of low.now) (end_of high.now)) }
+/// Puts a field and a range behind what is there.
+fn push_range(spelled: &mut String, field: &str, low: &Bound, high: &Bound) -> Result<(), NoMemory>
+    ensures { OnOk result (string_bytes spelled.new ≡ string_bytes spelled.old
+        ++ field_spelling field.now ++ range_spelling (end_of low.now) (end_of high.now)) }
 {
+    push_field(spelled, field)?;
     spelled.push(low_bracket(low))?;
     push_end(spelled, low)?;
     spelled.push_str(" TO ")?;
@@ -156,34 +174,33 @@ fn push_sign(spelled: &mut String, occur: Occur) -> Result<(), NoMemory>
     }
 }
 
+/// Puts a parenthesis behind what is there, but not around the outermost query.
+fn push_parenthesis(spelled: &mut String, outermost: bool, sign: char) -> Result<(), NoMemory>
+    ensures { OnOk result (string_bytes spelled.new
+        ≡ string_bytes spelled.old ++ (if outermost then [] else encode_utf8 sign)) }
+{
+    if !outermost {
+        spelled.push(sign)?;
+    }
+    Ok(())
+}
+
 /// Puts a query behind what is there, its clauses in parentheses where it is a group and not the outermost.
 fn push_query(spelled: &mut String, query: &Query, outermost: bool) -> Result<(), NoMemory>
     ensures { OnOk result (string_bytes spelled.new
         ≡ string_bytes spelled.old ++ spelling_in (tree_of query.now) outermost) }
 {
     match query {
-        Query::Term { field, word } => {
-            push_field(spelled, field)?;
-            push_escaped(spelled, false, word)?;
-        }
-        Query::Phrase { field, words } => {
-            push_field(spelled, field)?;
-            push_phrase(spelled, words)?;
-        }
+        Query::Term { field, word } => push_word(spelled, field, word),
+        Query::Phrase { field, words } => push_phrase(spelled, field, words),
         Query::Prefix { field, front } => {
-            push_field(spelled, field)?;
-            push_escaped(spelled, false, front)?;
-            spelled.push('*')?;
+            push_word(spelled, field, front)?;
+            Ok(spelled.push('*')?)
         }
-        Query::Span { field, low, high } => {
-            push_field(spelled, field)?;
-            push_range(spelled, low, high)?;
-        }
-        Query::All => spelled.push_str("*:*")?,
+        Query::Span { field, low, high } => push_range(spelled, field, low, high),
+        Query::All => Ok(spelled.push_str("*:*")?),
         Query::Group(clauses) => {
-            if !outermost {
-                spelled.push('(')?;
-            }
+            push_parenthesis(spelled, outermost, '(')?;
             let mut first = true;
             for (occur, child) in clauses {
                 push_gap(spelled, first)?;
@@ -191,12 +208,9 @@ fn push_query(spelled: &mut String, query: &Query, outermost: bool) -> Result<()
                 push_query(spelled, child, false)?;
                 first = false;
             }
-            if !outermost {
-                spelled.push(')')?;
-            }
+            push_parenthesis(spelled, outermost, ')')
         }
     }
-    Ok(())
 }
 
 /// A query as a text with all its signs and fields, as in `+text:tea +(text:pric* text:"green tea")`: the folded words

@@ -1,5 +1,6 @@
-pub mod ClausesTold
-pub mod Apart
-pub mod Serving
 pub mod Alone
+pub mod Apart
+pub mod ClausesTold
 pub mod LinesTold
+pub mod PlainMembers
+pub mod Serving

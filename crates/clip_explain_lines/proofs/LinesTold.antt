@@ -1,5 +1,5 @@
 -- What is told of a line, by what it says itself.
-use Rattle.std.proofs.Common.{◌≡◌, ◌<◌, ◌≤◌, ◌+◌, inl, inr, ℕ, suc, List, Bool, true, false, cond, Option, Some, None}
+use Rattle.std.proofs.Common.{◌≡◌, ◌<◌, ◌≤◌, ◌+◌, inl, inr, ℕ, suc, List, true, Option, Some, None}
 use Rattle.std.proofs.Common.{length, map, drop, get_or, refl, sym, ap, subst, ◌∙◌, arith}
 use Rattle.std.proofs.lemmas.List.{drop_all, drop_more}
 use Rattle.std.specs.Prelude.{⊤}
@@ -12,13 +12,13 @@ use Rattle.clip_explain.specs.declared.explaining.Explained.TheVariants.{Read, R
 use Rattle.clip_explain.specs.declared.explaining.Explanation.{Explanation}
 use Rattle.clip_explain.specs.declared.explaining.Refusal.{Refusal as Why}
 use Rattle.clip_stream.specs.declared.limits.TheConstants.{MOST_LINE_BYTES}
-use Rattle.clip_protocol.proofs.RequestLaw.{none_is_some, request_of-value_of, value_of-request_of}
+use Rattle.clip_protocol.proofs.RequestLaw.{none_is_some}
+use Rattle.clip_protocol.proofs.Saying.{outline_is_said, run, said_by, says_found}
 use Rattle.clip_protocol.specs.LineMeaning as line
-use Rattle.clip_protocol.specs.LineMeaning.{Line, Says, IsAQuery, IsFilled, is_blank, is_long, json_of}
+use Rattle.clip_protocol.specs.LineMeaning.{Line, Says, IsAQuery, json_of}
 use Rattle.clip_protocol.specs.Request.{Listing, Request, register, delete, clear, purge, count, show, match, value_of}
-use Rattle.clip_protocol.specs.Request.{within}
-use Rattle.clip_protocol.specs.Steps.Outline.{Outline, blank, refused, registers, outline, outline_of_asked}
-use Rattle.clip_protocol.specs.Steps.Outline.{outline_of_value, request_of, requests}
+use Rattle.clip_protocol.specs.Steps.Outline.{Outline, blank, refused, registers, outline, outline_said}
+use Rattle.clip_protocol.specs.Steps.Outline.{requests}
 use Rattle.clip_protocol.specs.declared.refusal.Refusal.{Refusal}
 use Rattle.clip_protocol.specs.declared.refusal.Refusal.TheVariants.{Long, Json, Shape, Limit, Query, Listener, Full}
 use Rattle.clip_cause.specs.Causes.{IsCauseOf, IsPlaceOf, told_of, told_refusal}
@@ -37,52 +37,18 @@ use Rattle.clip_explain_lines.specs.declared.lines.LineFault.{LineFault}
 
 -- ---- what a line says
 
-abbrev outline_said : Line Request → Outline
-outline_said line.blank = blank
-outline_said (line.refused r) = refused r
-outline_said (line.asks r) = requests r
-
 -- it says something, which has this outline
 record HasSaid (bytes : List ℕ) (o : Outline) : Type 0 where
   says : Line Request
   is_said : Says bytes says
   outlined : o ≡ outline_said says
 
-limited : (bytes : List ℕ) (r : Request) (b : Bool) → IsFilled bytes → json_of bytes ≡ Some (value_of r) → within r ≡ b
-    → HasSaid bytes (cond b (requests r) (refused Limit))
-limited bytes r true filled value e = record { says = line.asks r; is_said = (filled, value, e); outlined = refl }
-limited bytes r false filled value e =
-    record { says = line.refused Limit; is_said = (filled, r, value, e); outlined = refl }
-
-asked : (bytes : List ℕ) (d : Data) (o : Option Request) → IsFilled bytes → json_of bytes ≡ Some d → request_of d ≡ o
-    → HasSaid bytes (outline_of_asked o)
-asked bytes d None filled value e =
-    record {
-      says = line.refused Shape;
-      is_said =
-          (filled, d, value, λ r is. none_is_some r (sym e ∙ ap request_of is ∙ request_of-value_of r));
-      outlined = refl;
-    }
-asked bytes d (Some r) filled value e =
-    limited bytes r (within r) filled (value ∙ ap Some (value_of-request_of d r e)) refl
-
-valued : (bytes : List ℕ) (o : Option Data) → IsFilled bytes → json_of bytes ≡ o → HasSaid bytes (outline_of_value o)
-valued bytes None filled e = record { says = line.refused Json; is_said = (filled, e); outlined = refl }
-valued bytes (Some d) filled e = asked bytes d (request_of d) filled e refl
-
-filled : (bytes : List ℕ) (b : Bool) → is_long bytes ≡ false → is_blank bytes ≡ b
-    → HasSaid bytes (cond b blank (outline_of_value (json_of bytes)))
-filled bytes true short e = record { says = line.blank; is_said = (short, e); outlined = refl }
-filled bytes false short e = valued bytes (json_of bytes) (record { short = short; some = e }) refl
-
-judged : (bytes : List ℕ) (b : Bool) → is_long bytes ≡ b
-    → HasSaid bytes (cond b (refused Long) (cond (is_blank bytes) blank (outline_of_value (json_of bytes))))
-judged bytes true e = record { says = line.refused Long; is_said = e; outlined = refl }
-judged bytes false e = filled bytes (is_blank bytes) e refl
-
 said_of : (bytes : List ℕ) → HasSaid bytes (outline bytes)
-unfolding outline
-said_of bytes = judged bytes (is_long bytes) refl
+said_of bytes = record {
+  says = said_by run bytes;
+  is_said = says_found run bytes;
+  outlined = outline_is_said bytes;
+}
 
 -- ---- a line whose cause is told
 

@@ -7,19 +7,19 @@ use Rattle.clip_stream.specs.Device.{AppendsFront}
 use Rattle.clip_stream.specs.Lines.{lines_of, OfInput, OfLinesRead}
 use Rattle.clip_stream.proofs.LinesRead.{of_input_weaker, of_lines_read_weaker}
 use Rattle.clip_stream.specs.Steps.Reading.{cut}
-use Rattle.clip_protocol.specs.LineMeaning.{is_long, is_blank, json_of}
-use Rattle.clip_protocol.specs.declared.refusal.Refusal.TheVariants.{Long}
+use Rattle.clip_protocol.specs.LineMeaning.{blank, is_blank, json_of}
+use Rattle.clip_protocol.specs.Steps.Saying.{line_value, value_said}
 use Rattle.clip_front.specs.Steps.Serving.{Serves, StopsAt, ServesAll, ServesFront}
 use Rattle.clip_front.proofs.Served.{choose, cut_is_long, cut_is_whole}
-use Rattle.clip_explain_lines.specs.Asked.{blank, refused, valued, input_of}
+use Rattle.clip_explain_lines.specs.Asked.{input_of, input_said}
 use Rattle.clip_explain_lines.specs.Replied.{RepliesIn, AreReplied, RepliesAll, RepliesFront}
 use Rattle.clip_explain_lines.specs.Steps.Serving.{AnswersIn, BreaksIn}
 use Rattle.clip_explain_lines.specs.declared.form.Form.{Form}
 
 input_of-cut : (line : List ℕ) → input_of (cut line) ≡ input_of line
-unfolding input_of
-input_of-cut line = choose _ _ _ _ _ (cut_is_long line)
-    (λ e. ap (λ l. if is_blank l then blank else valued (json_of l)) (cut_is_whole line e))
+unfolding line_value
+input_of-cut line = ap input_said (choose _ _ _ _ _ (cut_is_long line)
+    (λ e. ap (λ l. if is_blank l then blank else value_said (json_of l)) (cut_is_whole line e)))
 
 are_replied : {S : Type 0} (form : S → Form) (s t : S) (f : Form) (n : ℕ) (lines : List (List ℕ)) (text : List ℕ)
     → form s ≡ f → Serves (AnswersIn form) s t n lines text → AreReplied f lines text

@@ -2,12 +2,13 @@
 use Rattle.std.specs.Prelude.{ℕ, List, [], ◌∷◌, codes, bytes_eq, if◌then◌else◌, Option, Some, None, option_and_then}
 use Rattle.serde_json.specs.Data.{Data, string, Members, no_members, member}
 use Rattle.serde_json.specs.Find.{as_object, as_str}
-use Rattle.clip_protocol.specs.LineMeaning.{is_blank, is_long, json_of}
+use Rattle.clip_protocol.specs.LineMeaning as said
 use Rattle.clip_protocol.specs.Refusal.{word_of}
 use Rattle.clip_protocol.specs.Request.{object_of}
 use Rattle.clip_protocol.specs.Steps.Outline.{when_none_left}
+use Rattle.clip_protocol.specs.Steps.Saying.{line_value}
 use Rattle.clip_protocol.specs.declared.refusal.Refusal.{Refusal}
-use Rattle.clip_protocol.specs.declared.refusal.Refusal.TheVariants.{Long, Json, Shape}
+use Rattle.clip_protocol.specs.declared.refusal.Refusal.TheVariants.{Shape}
 
 -- a query's text, a text that has words, or a line of the protocol
 pub data Ask : Type 0 where
@@ -52,13 +53,15 @@ abbrev pub shaped : Option Ask → Input
 shaped None = refused Shape
 shaped (Some ask) = asks ask
 
-abbrev pub valued : Option Data → Input
-valued None = refused Json
-valued (Some d) = shaped (ask_of d)
+-- a line with this value
+abbrev pub input_said : said.Line Data → Input
+input_said said.blank = blank
+input_said (said.refused why) = refused why
+input_said (said.asks d) = shaped (ask_of d)
 
 -- what a line is
-unfoldable pub input_of : List ℕ → Input
-input_of bytes = if is_long bytes then refused Long else (if is_blank bytes then blank else valued (json_of bytes))
+abbrev pub input_of : List ℕ → Input
+input_of bytes = input_said (line_value bytes)
 
 -- why a line is refused, with a sentence
 abbrev pub refused_data : Refusal → List ℕ → Data

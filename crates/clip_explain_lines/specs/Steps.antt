@@ -4,4 +4,5 @@ pub mod Explainers
 pub mod Forward
 pub mod LineFaults
 pub mod Members
+pub mod Plain
 pub mod Serving

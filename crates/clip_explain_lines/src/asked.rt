@@ -1,12 +1,10 @@
 //! What a line of the input asks to have explained.
 ghost use Rattle.std.specs.Prelude.{◌≡◌, IfOk, Some, None, if◌then◌else◌, option_map, string_bytes};
 ghost use Rattle.serde_json.specs.View.{members_view, view};
-ghost use Rattle.clip_protocol.specs.Steps.Outline.{ReadsAs};
-ghost use Rattle.clip_explain_lines.specs.Asked.{ask_named, ask_of, ask_told, first_of, input_of, only_of};
+ghost use Rattle.clip_explain_lines.specs.Asked.{ask_named, ask_of, ask_told, first_of, input_of, only_of, shaped};
 ghost use Rattle.clip_explain_lines.specs.Steps.Asking.{ask_view, input_view, member_view};
 
-use clip_protocol::{Refusal, Unread, is_blank, json_of, members_of};
-use clip_stream::MOST_LINE_BYTES;
+use clip_protocol::{Refusal, Unread, members_of, read_value};
 use clip_words::NoMemory;
 use serde_json::{Map, Value};
 use std::alloc::Global;
@@ -89,25 +87,25 @@ fn ask_of(value: Value) -> Option<Ask>
     ask_told(&name, told)
 }
 
+/// What a line with this value is.
+fn input_of_value(value: Value) -> Input
+    ensures { input_view result ≡ shaped (ask_of (view value)) }
+{
+    match ask_of(value) {
+        Some(ask) => Input::Asks(ask),
+        None => Input::Refused(Refusal::Shape),
+    }
+}
+
 /// What a line of the input is, its line feed left out. `NoMemory` where an allocation failed. The cost is that of
 /// reading its JSON value.
-#[tactic(auto, unfolding(crate::specs::Asked::input_of))]
 pub fn input_of(alloc: Global, bytes: &[u8]) -> Result<Input, NoMemory>
     ensures { IfOk result (λ input. input_view input ≡ input_of bytes.now) }
 {
-    if bytes.len() > MOST_LINE_BYTES {
-        return Ok(Input::Refused(Refusal::Long));
-    }
-    if is_blank(bytes) {
-        return Ok(Input::Blank);
-    }
-    let value = match json_of(alloc, bytes) {
-        Ok(value) => value,
-        Err(Unread::Refused(reason)) => return Ok(Input::Refused(reason)),
-        Err(Unread::NoMemory) => return Err(NoMemory),
-    };
-    match ask_of(value) {
-        Some(ask) => Ok(Input::Asks(ask)),
-        None => Ok(Input::Refused(Refusal::Shape)),
+    match read_value(alloc, bytes) {
+        Ok(Some(value)) => Ok(input_of_value(value)),
+        Ok(None) => Ok(Input::Blank),
+        Err(Unread::Refused(reason)) => Ok(Input::Refused(reason)),
+        Err(Unread::NoMemory) => Err(NoMemory),
     }
 }

@@ -3,7 +3,7 @@ ghost use Rattle.std.specs.Prelude.{◌≡◌, IfOk};
 ghost use Rattle.serde_json.specs.Written.{compact_text};
 ghost use Rattle.clip_explain_lines.specs.Told.{fault_data, fault_word};
 
-use crate::writing::{begun, ended, write_number, write_text};
+use crate::writing::{Member, object_text};
 use clip_grammar::fault::QueryFault;
 use clip_words::NoMemory;
 use std::alloc::Global;
@@ -81,6 +81,10 @@ fn left_out_says(rest: &[u8]) -> &'static str {
     }
 }
 
+/// What is said of an operator that joins nothing.
+const OPERATOR_SAYS: &str =
+    "An operator has to stand between two clauses. For the word itself write a backslash before it, as in \\AND.";
+
 /// What is said where the lexemes are no query, before these bytes.
 fn structure_says(rest: &[u8]) -> &'static str {
     match rest {
@@ -90,9 +94,8 @@ fn structure_says(rest: &[u8]) -> &'static str {
         [b'+' | b'-' | b'!', ..] => {
             "A sign stands before one word, phrase or group, and only one sign at a time."
         }
-        [b'A', b'N', b'D', ..] | [b'O', b'R', ..] | [b'&', b'&', ..] | [b'|', b'|', ..] => {
-            "An operator has to stand between two clauses. For the word itself write a backslash before it, as in \\AND."
-        }
+        [b'A', b'N', b'D', ..] | [b'O', b'R', ..] | [b'&', b'&', ..] | [b'|', b'|', ..] =>
+            OPERATOR_SAYS,
         [b'N', b'O', b'T', ..] =>
             "NOT has to stand before one word, phrase or group. For the word itself write \\NOT.",
         [b':', ..] =>
@@ -134,9 +137,12 @@ pub fn fault_text(
 ) -> Result<Vec<u8>, NoMemory>
     ensures { IfOk result (λ text. text.items ≡ compact_text (fault_data at fault says.now)) }
 {
-    let mut out = begun(alloc)?;
-    write_number(&mut out, "at", at as u64)?;
-    write_text(&mut out, "fault", fault_word(fault))?;
-    write_text(&mut out, "says", says)?;
-    ended(out)
+    object_text(
+        alloc,
+        &[
+            Member::Number("at", at as u64),
+            Member::Text("fault", fault_word(fault)),
+            Member::Text("says", says),
+        ],
+    )
 }

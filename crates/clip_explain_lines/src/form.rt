@@ -1,7 +1,7 @@
 //! The forms of replies.
 
 /// The form of the replies.
-#[derive(Clone, Copy, Debug, PartialEq, Eq)]
+#[derive(Clone, Copy)]
 pub enum Form {
     /// JSON lines.
     Json,

@@ -5,7 +5,7 @@ ghost use Rattle.clip_protocol.specs.Request.{array_of};
 ghost use Rattle.clip_protocol.specs.Steps.Printing.{Appends, data_tokens};
 ghost use Rattle.clip_explain_lines.specs.Told.{key_data};
 
-use crate::writing::write_text;
+use crate::writing::{Member, write_object};
 use clip_extract::Key;
 use clip_words::NoMemory;
 use json::Writer;
@@ -15,21 +15,20 @@ fn write_key(out: &mut Writer, key: &Key) -> Result<(), NoMemory>
     ensures { Appends result out.old out.new (data_tokens (key_data (key_of key.now))) }
 {
     match key {
-        Key::Any => out.string("any")?,
+        Key::Any => Ok(out.string("any")?),
         Key::Word(field, word) => {
-            out.begin_object()?;
-            write_text(out, "field", field)?;
-            write_text(out, "word", word)?;
-            out.end_object()?;
+            write_object(
+                out,
+                &[Member::Text("field", field), Member::Text("word", word)],
+            )
         }
         Key::Front(field, front) => {
-            out.begin_object()?;
-            write_text(out, "field", field)?;
-            write_text(out, "front", front)?;
-            out.end_object()?;
+            write_object(
+                out,
+                &[Member::Text("field", field), Member::Text("front", front)],
+            )
         }
     }
-    Ok(())
 }
 
 /// Writes keys as an array.

@@ -8,6 +8,7 @@ mod faults;
 mod form;
 mod keys;
 mod lines;
+mod pieces;
 mod plain;
 mod program;
 mod queries;

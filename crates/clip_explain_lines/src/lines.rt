@@ -1,26 +1,23 @@
 //! What a line of the protocol would be refused for.
-ghost use Rattle.std.specs.Prelude.{◌≡◌, ◌∷◌, IfOk, None, map, string_bytes};
-ghost use Rattle.json.specs.Token.{key};
+ghost use Rattle.std.specs.Prelude.{◌≡◌, IfOk, None, map};
 ghost use Rattle.serde_json.specs.Written.{compact_text};
 ghost use Rattle.clip_protocol.specs.Steps.Outline.{outline};
-ghost use Rattle.clip_protocol.specs.Steps.Printing.{Appends, data_tokens};
 ghost use Rattle.clip_protocol.specs.Steps.Views.{listing_view};
 ghost use Rattle.clip_cause.specs.Causes.{told_of};
-ghost use Rattle.clip_cause.specs.Path.{path_text};
 ghost use Rattle.clip_explain_lines.specs.Asked as ask;
-ghost use Rattle.clip_explain_lines.specs.LineTold.{LineTells, TellsOfQueries, not_refused, query_path};
+ghost use Rattle.clip_explain_lines.specs.LineTold.{LineTells, TellsOfQueries, not_refused};
 ghost use Rattle.clip_explain_lines.specs.Replied.{Answers};
 ghost use Rattle.clip_explain_lines.specs.Steps.LineFaults.{IsFaultOfQuery, fault_data, place_data, told_data};
+ghost use Rattle.clip_explain_lines.specs.Steps.Plain.{member_of};
 
 use crate::faults::fault_says;
 use crate::refused::refused_says;
-use crate::writing::{begun, ended, write_number, write_text};
-use clip_cause::{Place, explain_line};
+use crate::writing::{Member, object_text};
+use clip_cause::{Place, Spot, explain_line, item_text};
 use clip_explain::{Explained, explain};
 use clip_protocol::{Line, Listing, Refusal};
 use clip_stream::MOST_LINE_BYTES;
 use clip_words::NoMemory;
-use json::Writer;
 use std::alloc::Global;
 
 /// Why a line would be refused.
@@ -34,19 +31,6 @@ pub struct LineFault {
     pub says: &'static str,
 }
 
-/// The path to the text of the query at a place of a list.
-fn query_path(alloc: Global, place: usize) -> Result<String, NoMemory>
-    ensures { IfOk result (λ path. string_bytes path ≡ path_text (query_path place)) }
-{
-    let number = place.to_string(alloc)?;
-    let mut path = String::from_str(alloc, "queries")?;
-    path.push('[')?;
-    path.push_str(number.as_str())?;
-    path.push(']')?;
-    path.push_str(".query")?;
-    Ok(path)
-}
-
 /// Why the query at a place of a list is refused, if it is one of those that are.
 fn fault_of_query(alloc: Global, query: &str, place: usize) -> Result<Option<LineFault>, NoMemory>
     ensures { IfOk result (λ found. IsFaultOfQuery query.now place found) }
@@ -55,7 +39,7 @@ fn fault_of_query(alloc: Global, query: &str, place: usize) -> Result<Option<Lin
     match explained {
         Explained::Read(_) => Ok(None),
         Explained::Refused(why) => {
-            let path = query_path(alloc, place)?;
+            let path = item_text(alloc, "queries", place, Spot::Member("query"))?;
             Ok(Some(LineFault {
                 refusal: Refusal::Query,
                 place: Place::Member(path),
@@ -116,14 +100,13 @@ pub fn fault_of_line(alloc: Global, bytes: &[u8]) -> Result<Option<LineFault>, N
     }
 }
 
-/// Writes where a line is wrong.
-fn write_place(out: &mut Writer, place: &Place) -> Result<(), NoMemory>
-    ensures { Appends result out.old out.new
-        (key (place_data place.now).0 ∷ data_tokens (place_data place.now).1) }
+/// The member that says where a line is wrong.
+fn place_member(place: &Place) -> Member<'_>
+    ensures { member_of result ≡ place_data place.now }
 {
     match place {
-        Place::Byte(at) => write_number(out, "at", *at as u64),
-        Place::Member(path) => write_text(out, "member", path),
+        Place::Byte(at) => Member::Number("at", *at as u64),
+        Place::Member(path) => Member::Text("member", path),
     }
 }
 
@@ -131,29 +114,29 @@ fn write_place(out: &mut Writer, place: &Place) -> Result<(), NoMemory>
 fn fault_text(alloc: Global, fault: &LineFault) -> Result<Vec<u8>, NoMemory>
     ensures { IfOk result (λ text. text.items ≡ compact_text (fault_data fault.now)) }
 {
-    let mut out = begun(alloc)?;
-    write_place(&mut out, &fault.place)?;
-    write_text(&mut out, "refused", fault.refusal.word())?;
-    write_text(&mut out, "says", fault.says)?;
-    ended(out)
+    object_text(
+        alloc,
+        &[
+            place_member(&fault.place),
+            Member::Text("refused", fault.refusal.word()),
+            Member::Text("says", fault.says),
+        ],
+    )
 }
 
 /// What is told of a line that would not be refused: JSON.
 fn taken_text(alloc: Global) -> Result<Vec<u8>, NoMemory>
     ensures { IfOk result (λ text. text.items ≡ compact_text not_refused) }
 {
-    let mut out = begun(alloc)?;
-    out.key("refused")?;
-    out.null()?;
-    ended(out)
+    object_text(alloc, &[Member::Null("refused")])
 }
 
 /// What a line of the protocol, its line feed left out, would be refused for whatever is registered, as compact JSON
 /// without a line feed: the refusal's word, the byte or the member at which the cause is, and a sentence; or `null` as
 /// the refusal. `full` and `listener` are not told, which depend on what is registered and on the listeners.
 ///
-/// `NoMemory` where an allocation failed. The cost is that of `explain_line` of `clip_cause`, and for a register that of
-/// `explain` for each of its queries.
+/// `NoMemory` where an allocation failed. The cost is that of `explain_line` of `clip_cause`, and for a register that
+/// of `explain` for each of its queries.
 pub fn line_text(alloc: Global, line: &[u8]) -> Result<Vec<u8>, NoMemory>
     ensures { IfOk result (λ answer. Answers (ask.line line.now) answer.items) }
 {

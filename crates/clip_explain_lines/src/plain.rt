@@ -1,7 +1,8 @@
 //! Replies for people: a few lines of text, with a caret under each place that is spoken of.
 use crate::asked::{Ask, Input};
 use crate::faults::{fault_says, fault_word};
-use crate::lines::fault_of_line;
+use crate::lines::{LineFault, fault_of_line};
+use crate::pieces::push_all;
 use crate::refused::refused_says;
 use crate::remarked::level_word;
 use crate::sentence::sentence;
@@ -9,18 +10,30 @@ use clip_cause::Place;
 use clip_explain::{Explained, Explanation, explain, spelled};
 use clip_protocol::Refusal;
 use clip_remarks::{Level, Remark, remarks};
-use clip_where::word_spans;
+use clip_where::{WordSpan, word_spans};
 use clip_words::{NoMemory, fold};
 use std::alloc::Global;
 use std::str;
 use unicode_width::UnicodeWidthStr;
 
-/// The text as it is shown: on one line, with a blank for each control character.
+/// The character as it is shown: a blank for each control character.
+fn shown(c: char) -> char {
+    if c.is_control() { ' ' } else { c }
+}
+
+/// Puts a text behind what is there as it is shown: on one line.
 fn push_shown(out: &mut String, text: &str) -> Result<(), NoMemory> {
     for c in text.chars() {
-        out.push(if c.is_control() { ' ' } else { c })?;
+        out.push(shown(c))?;
     }
-    out.push('\n')?;
+    Ok(out.push('\n')?)
+}
+
+/// Puts so many blanks behind what is there.
+fn push_blanks(out: &mut String, count: usize) -> Result<(), NoMemory> {
+    for _ in 0..count {
+        out.push(' ')?;
+    }
     Ok(())
 }
 
@@ -33,48 +46,42 @@ fn push_note(
     says: &str,
 ) -> Result<(), NoMemory> {
     let before = text.get(..at).unwrap_or(text);
-    for _ in 0..before.width() {
-        out.push(' ')?;
-    }
-    out.push_str("^ ")?;
-    push_line(out, head, says)
+    push_blanks(out, before.width())?;
+    push_all(out, &["^ ", head, ": ", says, "\n"])
 }
 
 /// Puts a line behind what is there.
 fn push_line(out: &mut String, head: &str, says: &str) -> Result<(), NoMemory> {
-    out.push_str(head)?;
-    out.push_str(": ")?;
-    out.push_str(says)?;
-    out.push('\n')?;
-    Ok(())
+    push_all(out, &[head, ": ", says, "\n"])
 }
 
-/// Puts a remark on a text behind what is there, under its place.
+/// Puts a line behind what is there, of a text that is let go.
+fn push_told(out: &mut String, head: &str, says: String) -> Result<(), NoMemory> {
+    push_line(out, head, says.as_str())
+}
+
+/// Puts a remark on a text behind what is there, under its place, but for a hint.
 fn push_remark(out: &mut String, text: &str, remark: &Remark) -> Result<(), NoMemory> {
-    push_note(
-        out,
-        text,
-        remark.at,
-        level_word(remark.rule.level()),
-        remark.rule.says(),
-    )
+    let rule = remark.rule;
+    match rule.level() {
+        Level::Hint => Ok(()),
+        level => push_note(out, text, remark.at, level_word(level), rule.says()),
+    }
 }
 
 /// Puts behind what is there the remarks on a query's text but for hints.
 fn push_remarks(out: &mut String, alloc: Global, text: &str) -> Result<(), NoMemory> {
-    for remark in &remarks(alloc, text)? {
-        match remark.rule.level() {
-            Level::Hint => {}
-            Level::Notice | Level::Warning => push_remark(out, text, remark)?,
-        }
+    let remarks = remarks(alloc, text)?;
+    for remark in &remarks {
+        push_remark(out, text, remark)?;
     }
     Ok(())
 }
 
 /// Puts behind what is there how a query is read.
 fn push_read(out: &mut String, alloc: Global, told: &Explanation) -> Result<(), NoMemory> {
-    push_line(out, "reads as", &spelled(alloc, &told.query)?)?;
-    push_line(out, "means", &sentence(alloc, told)?)
+    push_told(out, "reads as", spelled(alloc, &told.query)?)?;
+    push_told(out, "means", sentence(alloc, told)?)
 }
 
 /// Puts behind what is there what is told of a query's text.
@@ -95,31 +102,52 @@ fn push_query(out: &mut String, alloc: Global, text: &str) -> Result<(), NoMemor
     }
 }
 
+/// Puts a number behind what is there, and what stands before it.
+fn push_number(
+    out: &mut String,
+    alloc: Global,
+    before: &str,
+    number: usize,
+) -> Result<(), NoMemory> {
+    let digits = number.to_string(alloc)?;
+    push_all(out, &[before, digits.as_str()])
+}
+
+/// Puts a word of a text behind what is there, with where it stands.
+fn push_word(out: &mut String, alloc: Global, text: &str, span: &WordSpan) -> Result<(), NoMemory> {
+    push_number(out, alloc, "bytes ", span.start)?;
+    push_number(out, alloc, " to ", span.end)?;
+    let word = text.get(span.start..span.end).unwrap_or("");
+    push_told(out, "", fold(alloc, word)?)
+}
+
 /// Puts the words of a text behind what is there, each with where it stands.
 fn push_words(out: &mut String, alloc: Global, text: &str) -> Result<(), NoMemory> {
     push_shown(out, text)?;
-    for span in word_spans(alloc, text)? {
-        out.push_str("bytes ")?;
-        out.push_str(&span.start.to_string(alloc)?)?;
-        out.push_str(" to ")?;
-        out.push_str(&span.end.to_string(alloc)?)?;
-        let word = text.get(span.start..span.end).unwrap_or("");
-        push_line(out, "", &fold(alloc, word)?)?;
+    let spans = word_spans(alloc, text)?;
+    for span in &spans {
+        push_word(out, alloc, text, span)?;
     }
     Ok(())
+}
+
+/// Puts behind what is there why a line of the protocol would be refused.
+fn push_fault(out: &mut String, line: &str, fault: &LineFault) -> Result<(), NoMemory> {
+    let word = fault.refusal.word();
+    match &fault.place {
+        Place::Byte(at) => push_note(out, line, *at, word, fault.says),
+        Place::Member(path) => {
+            push_line(out, "at", path)?;
+            push_line(out, word, fault.says)
+        }
+    }
 }
 
 /// Puts behind what is there what a line of the protocol would be refused for.
 fn push_cause(out: &mut String, alloc: Global, line: &str) -> Result<(), NoMemory> {
     push_shown(out, line)?;
     match fault_of_line(alloc, line.as_bytes())? {
-        Some(fault) => match &fault.place {
-            Place::Byte(at) => push_note(out, line, *at, fault.refusal.word(), fault.says),
-            Place::Member(path) => {
-                push_line(out, "at", path)?;
-                push_line(out, fault.refusal.word(), fault.says)
-            }
-        },
+        Some(fault) => push_fault(out, line, &fault),
         None => push_line(
             out,
             "line",
@@ -144,17 +172,27 @@ fn push_other(
     }
 }
 
+/// Puts the reply to a line of the input behind what is there, with an empty line at its end.
+fn push_reply(
+    out: &mut String,
+    alloc: Global,
+    input: &Input,
+    bytes: &[u8],
+) -> Result<(), NoMemory> {
+    match input {
+        Input::Blank => return Ok(()),
+        Input::Refused(reason) => push_other(out, alloc, *reason, bytes)?,
+        Input::Asks(Ask::Query(text)) => push_query(out, alloc, text)?,
+        Input::Asks(Ask::Text(text)) => push_words(out, alloc, text)?,
+        Input::Asks(Ask::Line(text)) => push_cause(out, alloc, text)?,
+    }
+    Ok(out.push('\n')?)
+}
+
 /// The reply to a line of the input as text for people, with an empty line at its end. A line that asks for nothing as
 /// JSON is taken as the text of a query. `NoMemory` where an allocation failed.
 pub fn plain_reply(alloc: Global, input: &Input, bytes: &[u8]) -> Result<Vec<u8>, NoMemory> {
     let mut out = String::new(alloc);
-    match input {
-        Input::Blank => return Ok(out.into_bytes()),
-        Input::Refused(reason) => push_other(&mut out, alloc, *reason, bytes)?,
-        Input::Asks(Ask::Query(text)) => push_query(&mut out, alloc, text)?,
-        Input::Asks(Ask::Text(text)) => push_words(&mut out, alloc, text)?,
-        Input::Asks(Ask::Line(text)) => push_cause(&mut out, alloc, text)?,
-    }
-    out.push('\n')?;
+    push_reply(&mut out, alloc, input, bytes)?;
     Ok(out.into_bytes())
 }

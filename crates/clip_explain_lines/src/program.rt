@@ -47,25 +47,27 @@ enum Mode {
     Version,
 }
 
-/// What the words after the program's name ask for, if anything: none, `--plain` or `--version`. An error where there is
-/// no memory for them, or where one is no text.
-fn mode_of<R: Env + AllocGlobal>(rt: &R) -> io::Result<Option<Mode>> {
-    let mut words = Vec::new(rt.alloc());
-    for word in env::args(rt)?.skip(1) {
-        words.push(word)?;
+/// What one word after the program's name asks for, if anything: `--plain` or `--version`.
+fn mode_named(word: &str) -> Option<Mode> {
+    if word == "--plain" {
+        Some(Mode::Lines(Form::Plain))
+    } else if word == "--version" {
+        Some(Mode::Version)
+    } else {
+        None
     }
-    match words.as_slice() {
-        [] => Ok(Some(Mode::Lines(Form::Json))),
-        [word] => {
-            if word.as_str() == "--plain" {
-                Ok(Some(Mode::Lines(Form::Plain)))
-            } else if word.as_str() == "--version" {
-                Ok(Some(Mode::Version))
-            } else {
-                Ok(None)
-            }
-        }
-        _ => Ok(None),
+}
+
+/// What the words after the program's name ask for, if anything: none, `--plain` or `--version`. An error where there
+/// is no memory for them, or where one is no text.
+fn mode_of<R: Env + AllocGlobal>(rt: &R) -> io::Result<Option<Mode>> {
+    let mut words = env::args(rt)?.skip(1);
+    let Some(word) = words.next() else {
+        return Ok(Some(Mode::Lines(Form::Json)));
+    };
+    match words.next() {
+        Some(_) => Ok(None),
+        None => Ok(mode_named(word.as_str())),
     }
 }
 
@@ -73,12 +75,21 @@ fn mode_of<R: Env + AllocGlobal>(rt: &R) -> io::Result<Option<Mode>> {
 fn tell_version<R: Print + Eprint>(rt: &R) -> ExitCode
     ensures { exit_status result ≤ 2 }
 {
-    let told = rt
-        .print("pressclip-explain ")
-        .and_then(|_| rt.println(VERSION));
-    match told {
-        Ok(()) => ExitCode::from(0),
-        Err(_) => end(rt, RunFault::Write),
+    if rt.print("pressclip-explain ").is_err() || rt.println(VERSION).is_err() {
+        return end(rt, RunFault::Write);
+    }
+    ExitCode::from(0)
+}
+
+/// Explains the lines of standard input on standard output in a form.
+fn explain_input<R: Input + Print + Eprint + AllocGlobal>(rt: &R, form: Form) -> ExitCode
+    ensures { exit_status result ≤ 2 }
+{
+    let mut source = StdSource::new(rt.reader());
+    let mut sink = StdSink::new(io::writer(rt));
+    match explain_lines(rt.alloc(), &mut source, &mut sink, form) {
+        Ok(_) => ExitCode::from(0),
+        Err(fault) => end(rt, fault),
     }
 }
 
@@ -90,21 +101,15 @@ fn tell_version<R: Print + Eprint>(rt: &R) -> ExitCode
 pub fn play<R: Env + Input + Print + Eprint + AllocGlobal>(rt: &R) -> ExitCode
     ensures { exit_status result ≤ 2 }
 {
-    let form = match mode_of(rt) {
-        Ok(Some(Mode::Lines(form))) => form,
-        Ok(Some(Mode::Version)) => return tell_version(rt),
-        Ok(None) => return end_with(rt, REFUSED, USAGE),
+    match mode_of(rt) {
+        Ok(Some(Mode::Lines(form))) => explain_input(rt, form),
+        Ok(Some(Mode::Version)) => tell_version(rt),
+        Ok(None) => end_with(rt, REFUSED, USAGE),
         Err(error) => {
             if error.kind() == ErrorKind::OutOfMemory {
                 return end(rt, RunFault::NoMemory);
             }
-            return end_with(rt, REFUSED, USAGE);
+            end_with(rt, REFUSED, USAGE)
         }
-    };
-    let mut source = StdSource::new(rt.reader());
-    let mut sink = StdSink::new(io::writer(rt));
-    match explain_lines(rt.alloc(), &mut source, &mut sink, form) {
-        Ok(_) => ExitCode::from(0),
-        Err(fault) => end(rt, fault),
     }
 }

@@ -18,7 +18,7 @@ use crate::remarked::write_remarks;
 use crate::sentence::sentence;
 use crate::tree::write_tree;
 use crate::words::write_words;
-use crate::writing::{begun, ended, write_flag, write_number, write_text};
+use crate::writing::{Member, begun, ended, write_members, write_text};
 use clip_explain::{Explained, Explanation, explain, spelled};
 use clip_grammar::query::Query;
 use clip_remarks::{Remark, remarks};
@@ -30,11 +30,16 @@ use std::alloc::Global;
 fn write_first(out: &mut Writer, told: &Explanation) -> Result<(), NoMemory>
     ensures { Appends result out.old out.new (first_tokens told.now) }
 {
-    write_flag(out, "always", told.always)?;
+    write_members(out, &[Member::Flag("always", told.always)])?;
     out.key("keys")?;
     write_keys(out, &told.keys)?;
-    write_flag(out, "never", told.never)?;
-    write_number(out, "nodes", told.nodes as u64)
+    write_members(
+        out,
+        &[
+            Member::Flag("never", told.never),
+            Member::Number("nodes", told.nodes as u64),
+        ],
+    )
 }
 
 /// Writes the member that spells a query.
@@ -92,8 +97,13 @@ fn write_last(out: &mut Writer, told: &Explanation) -> Result<(), NoMemory>
     ensures { Appends result out.old out.new (last_tokens_of told.now) }
 {
     write_tree_member(out, &told.query)?;
-    write_flag(out, "tried_on_all", told.tried_on_all)?;
-    write_number(out, "weight", told.weight)?;
+    write_members(
+        out,
+        &[
+            Member::Flag("tried_on_all", told.tried_on_all),
+            Member::Number("weight", told.weight),
+        ],
+    )?;
     write_words_member(out, &told.query)
 }
 
@@ -114,8 +124,8 @@ fn read_text(
 }
 
 /// What a query's text means, as compact JSON without a line feed. Of a text that is a query: how it is read, in signs,
-/// as a tree and in a sentence, its words, the keys by which it is found, and what is to be remarked. Of any other text:
-/// the fault, the byte at which it is, and a sentence that says what is wrong. A byte counts from 0.
+/// as a tree and in a sentence, its words, the keys by which it is found, and what is to be remarked. Of any other
+/// text: the fault, the byte at which it is, and a sentence that says what is wrong. A byte counts from 0.
 ///
 /// `NoMemory` where an allocation failed. The cost is that of `explain`, and linear in the text that is given.
 pub fn query_text(alloc: Global, query: &str) -> Result<Vec<u8>, NoMemory>

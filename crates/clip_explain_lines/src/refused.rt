@@ -3,7 +3,7 @@ ghost use Rattle.std.specs.Prelude.{◌≡◌, IfOk};
 ghost use Rattle.serde_json.specs.Written.{compact_text};
 ghost use Rattle.clip_explain_lines.specs.Asked.{refused_data};
 
-use crate::writing::{begun, ended, write_text};
+use crate::writing::{Member, object_text};
 use clip_protocol::Refusal;
 use clip_words::NoMemory;
 use std::alloc::Global;
@@ -23,8 +23,11 @@ pub fn refused_says(reason: Refusal) -> &'static str {
 pub fn refused_text(alloc: Global, reason: Refusal, says: &str) -> Result<Vec<u8>, NoMemory>
     ensures { IfOk result (λ text. text.items ≡ compact_text (refused_data reason says.now)) }
 {
-    let mut out = begun(alloc)?;
-    write_text(&mut out, "refused", reason.word())?;
-    write_text(&mut out, "says", says)?;
-    ended(out)
+    object_text(
+        alloc,
+        &[
+            Member::Text("refused", reason.word()),
+            Member::Text("says", says),
+        ],
+    )
 }

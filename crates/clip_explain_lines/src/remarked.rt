@@ -4,7 +4,7 @@ ghost use Rattle.clip_protocol.specs.Request.{array_of};
 ghost use Rattle.clip_protocol.specs.Steps.Printing.{Appends, data_tokens};
 ghost use Rattle.clip_explain_lines.specs.Told.{level_word, remark_data};
 
-use crate::writing::{write_number, write_text};
+use crate::writing::{Member, write_object};
 use clip_remarks::{Level, Remark};
 use clip_words::NoMemory;
 use json::Writer;
@@ -24,13 +24,16 @@ pub fn level_word(level: Level) -> &'static str
 fn write_remark(out: &mut Writer, remark: &Remark) -> Result<(), NoMemory>
     ensures { Appends result out.old out.new (data_tokens (remark_data remark.now)) }
 {
-    out.begin_object()?;
-    write_number(out, "at", remark.at as u64)?;
-    write_text(out, "level", level_word(remark.rule.level()))?;
-    write_text(out, "rule", remark.rule.name())?;
-    write_text(out, "says", remark.rule.says())?;
-    out.end_object()?;
-    Ok(())
+    let rule = remark.rule;
+    write_object(
+        out,
+        &[
+            Member::Number("at", remark.at as u64),
+            Member::Text("level", level_word(rule.level())),
+            Member::Text("rule", rule.name()),
+            Member::Text("says", rule.says()),
+        ],
+    )
 }
 
 /// Writes remarks as an array.

@@ -1,34 +1,28 @@
 //! Sentences that say what a query asks for.
+use crate::pieces::push_all;
 use clip_explain::Explanation;
 use clip_grammar::query::{Bound, Occur, Query};
 use clip_words::NoMemory;
 use std::alloc::Global;
 use std::sync::ArcStr;
 
-/// Puts a text between quotes behind what is said.
-fn push_quoted(said: &mut String, text: &str) -> Result<(), NoMemory> {
-    said.push('"')?;
-    said.push_str(text)?;
-    said.push('"')?;
-    Ok(())
+/// Puts behind what is said a word between quotes, with what stands before it, and in which field it is looked for.
+fn push_word(said: &mut String, before: &str, word: &str, field: &str) -> Result<(), NoMemory> {
+    push_all(said, &[before, word, "\" in ", field])
 }
 
 /// Puts a phrase behind what is said.
-fn push_phrase(said: &mut String, words: &[ArcStr]) -> Result<(), NoMemory> {
+fn push_phrase(said: &mut String, words: &[ArcStr], field: &str) -> Result<(), NoMemory> {
     said.push_str("the phrase \"")?;
-    let mut first = true;
+    let mut before = "";
     for word in words {
-        if !first {
-            said.push(' ')?;
-        }
-        said.push_str(word)?;
-        first = false;
+        push_all(said, &[before, word.as_str()])?;
+        before = " ";
     }
-    said.push('"')?;
-    Ok(())
+    push_all(said, &["\" in ", field])
 }
 
-/// Puts an end of a range behind what is said, with the words that tell whether the end itself is included.
+/// Puts an end of a range behind what is said, with what tells before it whether the end itself is included.
 fn push_end(
     said: &mut String,
     end: &Bound,
@@ -37,46 +31,31 @@ fn push_end(
 ) -> Result<(), NoMemory> {
     match end {
         Bound::Free => Ok(()),
-        Bound::With(text) => {
-            said.push_str(included)?;
-            push_quoted(said, text)
-        }
-        Bound::Without(text) => {
-            said.push_str(excluded)?;
-            push_quoted(said, text)
-        }
+        Bound::With(text) => push_all(said, &[included, text.as_str(), "\""]),
+        Bound::Without(text) => push_all(said, &[excluded, text.as_str(), "\""]),
     }
 }
 
-/// Puts behind what is said in which field it is looked for.
-fn push_field(said: &mut String, field: &str) -> Result<(), NoMemory> {
-    said.push_str(" in ")?;
-    said.push_str(field)?;
-    Ok(())
+/// Puts a range behind what is said.
+fn push_range(said: &mut String, low: &Bound, high: &Bound, field: &str) -> Result<(), NoMemory> {
+    said.push_str("a word")?;
+    push_end(said, low, " from \"", " after \"")?;
+    push_end(said, high, " up to \"", " before \"")?;
+    push_all(said, &[" in ", field])
 }
 
 /// Puts behind what is said what a leaf asks for, and nothing of a group.
 fn push_leaf(said: &mut String, query: &Query) -> Result<(), NoMemory> {
     match query {
-        Query::Term { field, word } => {
-            push_quoted(said, word)?;
-            push_field(said, field)
-        }
-        Query::Phrase { field, words } => {
-            push_phrase(said, words)?;
-            push_field(said, field)
-        }
-        Query::Prefix { field, front } => {
-            said.push_str("a word that begins with ")?;
-            push_quoted(said, front)?;
-            push_field(said, field)
-        }
-        Query::Span { field, low, high } => {
-            said.push_str("a word")?;
-            push_end(said, low, " from ", " after ")?;
-            push_end(said, high, " up to ", " before ")?;
-            push_field(said, field)
-        }
+        Query::Term { field, word } => push_word(said, "\"", word, field),
+        Query::Phrase { field, words } => push_phrase(said, words, field),
+        Query::Prefix { field, front } => push_word(
+            said,
+            "a word that begins with \"",
+            front,
+            field,
+        ),
+        Query::Span { field, low, high } => push_range(said, low, high, field),
         Query::All => Ok(said.push_str("anything at all")?),
         Query::Group(_) => Ok(()),
     }
@@ -175,21 +154,25 @@ fn push_claim(said: &mut String, query: &Query, excludes: bool) -> Result<(), No
     }
 }
 
-/// A sentence for people that says which articles hold a query. `NoMemory` where an allocation failed. The cost is
-/// linear in the sentence.
-pub fn sentence(alloc: Global, told: &Explanation) -> Result<String, NoMemory> {
-    let mut said = String::new(alloc);
+/// Puts the sentence behind what is said.
+fn push_sentence(said: &mut String, told: &Explanation) -> Result<(), NoMemory> {
     if told.always {
-        said.push_str("Every article holds this query.")?;
-        return Ok(said);
+        return Ok(said.push_str("Every article holds this query.")?);
     }
     said.push_str(if told.never {
         "No article can hold this query, which asks for "
     } else {
         "The article must have "
     })?;
-    push_claim(&mut said, &told.query, false)?;
-    push_claim(&mut said, &told.query, true)?;
-    said.push('.')?;
+    push_claim(said, &told.query, false)?;
+    push_claim(said, &told.query, true)?;
+    Ok(said.push('.')?)
+}
+
+/// A sentence for people that says which articles hold a query. `NoMemory` where an allocation failed. The cost is
+/// linear in the sentence.
+pub fn sentence(alloc: Global, told: &Explanation) -> Result<String, NoMemory> {
+    let mut said = String::new(alloc);
+    push_sentence(&mut said, told)?;
     Ok(said)
 }

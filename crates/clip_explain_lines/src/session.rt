@@ -13,6 +13,7 @@ use std::alloc::Global;
 /// What answers lines in a form, with nothing lent to it.
 #[derive(Drop)]
 struct Explainer {
+    alloc: Global,
     form: Form,
 }
 
@@ -29,14 +30,13 @@ impl<W: Sink> Server<(), W> for Explainer {
 
     fn answer(
         &mut self,
-        alloc: Global,
         _lent: &mut (),
         flow: &mut Flow<'_, W>,
         _number: u64,
         bytes: &[u8],
         _has_more: bool,
     ) -> Result<(), RunFault> {
-        let reply = reply_to(alloc, self.form, bytes)?;
+        let reply = reply_to(self.alloc, self.form, bytes)?;
         flow.put(&reply)
     }
 }
@@ -62,8 +62,8 @@ pub fn explain_lines<R: Source, W: Sink>(
 ) -> Result<u64, RunFault>
     requires fresh { AreFresh (devices_at R.Source W.Sink reader.old writer.old) }
 
-    // What was written and flushed is the replies to the lines of the input, which are counted. Where the reader doesn't
-    // report its bytes, there is some input of which this holds.
+    // What was written and flushed is the replies to the lines of the input, which are counted. Where the reader
+    // doesn't report its bytes, there is some input of which this holds.
     ensures outcome { IfOk result (λ count. OfInput (R.left reader.old)
         (RepliesAll form (W.taken writer.old) (W.taken writer.new) count)) }
 
@@ -74,7 +74,7 @@ pub fn explain_lines<R: Source, W: Sink>(
     ensures front { OnErr result (OfLinesRead (R.left reader.old) (R.left reader.new) (R.met_end reader.new)
         (RepliesFront form (W.taken writer.old) (W.taken writer.new))) }
 {
-    let mut server = Explainer { form };
+    let mut server = Explainer { alloc, form };
     let mut nothing = ();
     let count = serve(alloc, reader, writer, &mut nothing, &mut server)?;
     Ok(count)

@@ -8,7 +8,7 @@ ghost use Rattle.clip_protocol.specs.Steps.Printing.{Appends, data_tokens};
 ghost use Rattle.clip_explain_lines.specs.SpansData.{span_data, spans_data, words_data};
 ghost use Rattle.clip_explain_lines.specs.Steps.Forward.{IsForward};
 
-use crate::writing::{begun, ended, write_number, write_text};
+use crate::writing::{Member, begun, ended, write_object};
 use clip_where::{WordSpan, word_spans};
 use clip_words::{NoMemory, fold};
 use json::Writer;
@@ -21,12 +21,14 @@ fn write_span(out: &mut Writer, alloc: Global, text: &str, span: &WordSpan) -> R
     ensures { Appends result out.old out.new (data_tokens (span_data text.now span.now)) }
 {
     let word = fold(alloc, &text[span.start..span.end])?;
-    out.begin_object()?;
-    write_number(out, "end", span.end as u64)?;
-    write_number(out, "start", span.start as u64)?;
-    write_text(out, "word", &word)?;
-    out.end_object()?;
-    Ok(())
+    write_object(
+        out,
+        &[
+            Member::Number("end", span.end as u64),
+            Member::Number("start", span.start as u64),
+            Member::Text("word", &word),
+        ],
+    )
 }
 
 /// Writes where words stand in a text, and the words, as an array.

@@ -8,7 +8,7 @@ ghost use Rattle.clip_protocol.specs.Request.{array_of};
 ghost use Rattle.clip_protocol.specs.Steps.Printing.{Appends, data_tokens};
 ghost use Rattle.clip_explain_lines.specs.TreeData.{end_data, leaf_data, limit_data, occur_word, tree_data};
 
-use crate::writing::{write_flag, write_text};
+use crate::writing::{Member, write_object, write_text};
 use clip_grammar::query::{Bound, Occur, Query};
 use clip_words::NoMemory;
 use json::Writer;
@@ -29,11 +29,13 @@ fn occur_word(occur: Occur) -> &'static str
 fn write_limit(out: &mut Writer, included: bool, text: &str) -> Result<(), NoMemory>
     ensures { Appends result out.old out.new (data_tokens (limit_data included text.now)) }
 {
-    out.begin_object()?;
-    write_flag(out, "included", included)?;
-    write_text(out, "text", text)?;
-    out.end_object()?;
-    Ok(())
+    write_object(
+        out,
+        &[
+            Member::Flag("included", included),
+            Member::Text("text", text),
+        ],
+    )
 }
 
 /// Writes an end of a range.

@@ -1,13 +1,28 @@
 //! JSON objects, written member by member.
-ghost use Rattle.std.specs.Prelude.{◌≡◌, [], ◌∷◌, ◌++◌, IfOk, decimal};
-ghost use Rattle.json.specs.Token.{begin_object, boolean, end_object, key, number, string};
+ghost use Rattle.std.specs.Prelude.{◌≡◌, [], ◌∷◌, ◌++◌, IfOk, flat_map, map};
+ghost use Rattle.json.specs.Token.{begin_object, end_object, key, string};
 ghost use Rattle.serde_json.specs.Data.{Data};
 ghost use Rattle.serde_json.specs.Written.{compact_text};
+ghost use Rattle.clip_protocol.specs.Request.{object_of};
 ghost use Rattle.clip_protocol.specs.Steps.Printing.{Appends, data_tokens};
+ghost use Rattle.clip_explain_lines.specs.Steps.Plain.{member_of, member_tokens};
 
 use clip_words::NoMemory;
 use json::Writer;
 use std::alloc::Global;
+
+/// A member whose value is no list and no object.
+#[derive(Clone, Copy)]
+pub enum Member<'v> {
+    /// A text under this name.
+    Text(&'v str, &'v str),
+    /// A number under this name.
+    Number(&'v str, u64),
+    /// True or false under this name.
+    Flag(&'v str, bool),
+    /// Null under this name.
+    Null(&'v str),
+}
 
 /// A text in which an object has begun.
 pub fn begun(alloc: Global) -> Result<Writer, NoMemory>
@@ -37,20 +52,52 @@ pub fn write_text(out: &mut Writer, name: &str, text: &str) -> Result<(), NoMemo
     Ok(())
 }
 
-/// Writes a member that is a number.
-pub fn write_number(out: &mut Writer, name: &str, count: u64) -> Result<(), NoMemory>
-    ensures { Appends result out.old out.new (key name.now ∷ number (decimal count) ∷ []) }
+/// Writes a member.
+fn write_member(out: &mut Writer, member: &Member<'_>) -> Result<(), NoMemory>
+    ensures { Appends result out.old out.new (member_tokens (member_of member.now)) }
 {
-    out.key(name)?;
-    out.u64(count)?;
+    match member {
+        Member::Text(name, text) => write_text(out, *name, *text),
+        Member::Number(name, number) => {
+            out.key(*name)?;
+            Ok(out.u64(*number)?)
+        }
+        Member::Flag(name, flag) => {
+            out.key(*name)?;
+            Ok(out.boolean(*flag)?)
+        }
+        Member::Null(name) => {
+            out.key(*name)?;
+            Ok(out.null()?)
+        }
+    }
+}
+
+/// Writes members, one after the other.
+pub fn write_members(out: &mut Writer, members: &[Member<'_>]) -> Result<(), NoMemory>
+    ensures { Appends result out.old out.new (flat_map member_tokens (map member_of members.now)) }
+{
+    for member in members {
+        write_member(out, member)?;
+    }
     Ok(())
 }
 
-/// Writes a member that is true or false.
-pub fn write_flag(out: &mut Writer, name: &str, flag: bool) -> Result<(), NoMemory>
-    ensures { Appends result out.old out.new (key name.now ∷ boolean flag ∷ []) }
+/// Writes an object of members.
+pub fn write_object(out: &mut Writer, members: &[Member<'_>]) -> Result<(), NoMemory>
+    ensures { Appends result out.old out.new (data_tokens (object_of (map member_of members.now))) }
 {
-    out.key(name)?;
-    out.boolean(flag)?;
+    out.begin_object()?;
+    write_members(out, members)?;
+    out.end_object()?;
     Ok(())
+}
+
+/// An object of members as compact JSON.
+pub fn object_text(alloc: Global, members: &[Member<'_>]) -> Result<Vec<u8>, NoMemory>
+    ensures { IfOk result (λ text. text.items ≡ compact_text (object_of (map member_of members.now))) }
+{
+    let mut out = begun(alloc)?;
+    write_members(&mut out, members)?;
+    ended(out)
 }

@@ -169,7 +169,7 @@ register_once names h ls m n (inr a) (inl b) = absurd (never_read names ls a.0 b
 register_once names h ls m n (inr a) (inr b) =
     a.2 ∙ ap (λ ss. judged h (Register ss)) (list_read_once names ls a.0 b.0 a.1 b.1) ∙ sym b.2
 
-outline_once : (names : List (List ℕ)) (h : History) (o : Outline) (m n : Meaning) → MeansOutline names h o m
+pub outline_once : (names : List (List ℕ)) (h : History) (o : Outline) (m n : Meaning) → MeansOutline names h o m
     → MeansOutline names h o n → m ≡ n
 outline_once names h blank m n a b = a ∙ sym b
 outline_once names h (refused w) m n a b = a ∙ sym b

@@ -1,20 +1,20 @@
 -- How far a server has come.
 use Rattle.std.proofs.Common.{◌≡◌, ℕ, suc, ◌+◌, ◌<◌, ◌≤◌, List, [], ◌∷◌, ◌++◌, length, Bool, true, false, Option}
 use Rattle.std.proofs.Common.{refl, sym, ap, ap₂, ◌∙◌, subst, arith, append_assoc, append-nil}
-use Rattle.std.proofs.Common.{length-append, true≢false, inl, inr, ◌⊎◌}
+use Rattle.std.proofs.Common.{length-append, true≢false, inl, inr, ◌⊎◌, ◌==◌, ◌||◌}
 use Rattle.std.specs.Prelude.{Result, Ok, Err, OnOk, OnErr}
 use Rattle.std.specs.Io.KnownBytes.{Appends, Consumes, IsAtEnd}
 use Rattle.clip_stream.specs.Device.{AppendsFront, HandsOver}
 use Rattle.clip_stream.specs.Lines.{lines_of, lines_read, OfInput, OfLinesRead}
-use Rattle.clip_stream.specs.Steps.Reading.{Reading, Reads, FindsLine, first_line, has_feed, cut, fuel}
+use Rattle.clip_stream.specs.Steps.Reading.{Reading, Reads, FindsLine, FindsNone, first_line, has_feed, cut, fuel}
 use Rattle.clip_stream.specs.declared.limits.TheConstants.{MOST_READS}
 use Rattle.clip_stream.proofs.Bytes.{consumes_none, consumes_more}
 use Rattle.clip_stream.proofs.Flows.{appends_on, appends_none, front_on}
 use Rattle.clip_stream.proofs.Fuel.{fuel_new}
-use Rattle.clip_stream.proofs.LinesRead.{lines_read-first, of_input}
+use Rattle.clip_stream.proofs.LinesRead.{lines_read-first, ended_lines-no_feed, of_input}
 use Rattle.clip_front.specs.Devices.{Devices, AreFresh}
 use Rattle.clip_front.specs.Steps.Serving.{Answering, Breaking, AnswersInto, BreaksInto, Serves, StopsAt, ServesAll}
-use Rattle.clip_front.specs.Steps.Serving.{ServesFront}
+use Rattle.clip_front.specs.Steps.Serving.{ServesFront, ServesLines}
 
 -- ---- the path
 
@@ -172,6 +172,41 @@ progress_end {answers = answers} {first = first} {now = now} {left_first = left_
     })
 
 -- ---- a fault
+
+pub feed_before : (pending given : List ℕ) → has_feed (pending ++ given) ≡ false → has_feed pending ≡ false
+feed_before [] given e = refl
+feed_before (b ∷ pending) given e = or_before (b == 10) _ _ e (feed_before pending given)
+  where
+    or_before : (t r s : Bool) → (t || s) ≡ false → (s ≡ false → r ≡ false) → (t || r) ≡ false
+    or_before true r s h more = h
+    or_before false r s h more = more h
+
+-- no line stood read, so that all that were read are answered and all was handed over
+progress_unfound : {S : Type 0} {answers : Answering S} {first now : S} {left_first left left_new : Option (List ℕ)}
+    {reading new_reading : Reading} {met_end : Bool} {taken_first taken : Option (List ℕ)} {gathered : List ℕ} {n : ℕ}
+    → Progress answers first now left_first left reading taken_first taken gathered n
+    → FindsNone reading new_reading left left_new → met_end ≡ new_reading.is_at_end
+    → (has_feed reading.pending ≡ false → gathered ≡ [])
+    → OfLinesRead left_first left_new met_end (ServesLines answers first now taken_first taken)
+progress_unfound {answers = answers} {first = first} {now = now} {left_first = left_first} {left = left} {left_new =
+    left_new} {reading = reading} {met_end = met_end} {gathered = gathered} p f met held =
+    let given = f.reads.bytes in
+    let none : gathered ≡ [] = held (feed_before reading.pending given f.unended) in
+    let unmet : met_end ≡ false = met ∙ f.unmet in
+    let lines : lines_read met_end (p.bytes ++ given) ≡ p.front =
+    ap (λ e. lines_read e (p.bytes ++ given)) unmet
+    ∙ p.split false given (λ e. absurd (true≢false (sym (f.reads.idle e).1 ∙ f.unmet)))
+    ∙ ap (λ ls. p.front ++ ls) (ended_lines-no_feed (reading.pending ++ given) f.unended) ∙ append-nil p.front in
+    let all : p.sent ++ gathered ≡ p.sent = ap (λ g. p.sent ++ g) none ∙ append-nil p.sent in (
+      p.bytes ++ given,
+      consumes_more left_first left left_new p.bytes given p.given f.reads.given,
+      record {
+        text = p.sent;
+        served = subst (λ ls. Serves answers first now 1 ls p.sent) (sym lines)
+            (subst (Serves answers first now 1 p.front) all p.served);
+        written = p.written;
+      },
+    )
 
 -- nothing was read
 pub fault_first : {S : Type 0} (answers : Answering S) (breaks : Breaking S) (first : S) (left : Option (List ℕ))
@@ -344,6 +379,20 @@ goes_to_end goes handed none_held found ended =
 
 -- ---- its faults
 
+-- A read failed where no line stood read: what was gathered had been handed over.
+pub breaks_unfound : {S : Type 0} {answers : Answering S} {IsSettled : S
+    → Type 0} {first now : S} {old before : Devices} {left taken : Option (List ℕ)} {met_end : Bool}
+    {reading new_reading : Reading} {gathered held : List ℕ} {has_more : Bool} {n : ℕ}
+    → Goes answers IsSettled first now old before reading gathered has_more n
+    → HandsOver before.taken gathered taken held → (has_more ≡ false → held ≡ [])
+    → FindsNone reading new_reading before.left left → met_end ≡ new_reading.is_at_end
+    → IsSettled now × OfLinesRead old.left left met_end (ServesLines answers first now old.taken taken)
+breaks_unfound {reading = reading} goes handed none_held found met =
+    let none : has_feed reading.pending ≡ false = feed_before reading.pending found.reads.bytes found.unended in (
+      goes.settled (goes.pending ∙ none),
+      progress_unfound (progress_handed goes.progress handed) found met (λ n. none_held (goes.pending ∙ n)),
+    )
+
 -- What was gathered was not handed over.
 pub breaks_handing : {S : Type 0} {answers : Answering S} {breaks : Breaking S} {IsSettled : S
     → Type 0} {first now : S} {old before : Devices} {reading : Reading} {taken : Option (List ℕ)} {gathered : List ℕ}
@@ -395,6 +444,13 @@ pub front_at : {S : Type 0} (answers : Answering S) (breaks : Breaking S) (s t :
     → OfLinesRead left left_new met_end (ServesFront answers breaks s t taken_old taken_new)
 front_at answers breaks s t left left_new met_end taken_old e p =
     subst (λ w. OfLinesRead left left_new met_end (ServesFront answers breaks s t taken_old w)) e p
+
+pub lines_at : {S : Type 0} (answers : Answering S) (s t : S) (left left_new : Option (List ℕ)) (met_end : Bool)
+    (taken_old : Option (List ℕ)) {taken taken_new : Option (List ℕ)} → taken ≡ taken_new
+    → OfLinesRead left left_new met_end (ServesLines answers s t taken_old taken)
+    → OfLinesRead left left_new met_end (ServesLines answers s t taken_old taken_new)
+lines_at answers s t left left_new met_end taken_old e p =
+    subst (λ w. OfLinesRead left left_new met_end (ServesLines answers s t taken_old w)) e p
 
 pub all_at : {S : Type 0} (answers : Answering S) (s t : S) (left taken_old : Option (List ℕ)) (count : ℕ)
     {taken taken_new : Option (List ℕ)} → taken ≡ taken_new

@@ -1,7 +1,7 @@
 -- What each kind of line leaves.
 use Rattle.std.proofs.Common.{◌≡◌, ℕ, List, [], ◌++◌, Bool, true, false, cond, refl, sym, ap, ap₂, ◌∙◌, subst}
 use Rattle.std.proofs.Common.{append-nil}
-use Rattle.std.specs.Prelude.{Some, None}
+use Rattle.std.specs.Prelude.{Some, None, Result, Ok, Err, IfOk}
 use Rattle.clip_model.specs.History.{History, Command, Register, Delete, Clear, has_room}
 use Rattle.clip_listen.specs.Heard.{Hearer, told_all, HearsFront}
 use Rattle.clip_listen.proofs.Hearing.{told_none, no_front}
@@ -9,6 +9,8 @@ use Rattle.clip_ledger.specs.Rows.{RowValue}
 use Rattle.clip_meaning.specs.Article.{ArticleValue}
 use Rattle.clip_standing.specs.Command.{answer_of}
 use Rattle.clip_standing.specs.declared.command.Applied.{Applied}
+use Rattle.clip_front.specs.declared.answer.Step.{Step}
+use Rattle.clip_front.specs.declared.answer.Step.TheVariants as step
 use Rattle.clip_front.specs.declared.books.Books.{Books}
 use Rattle.clip_front.specs.declared.settings.Settings.{Settings}
 use Rattle.clip_protocol.specs.declared.refusal.Refusal.TheVariants.{Full}
@@ -16,10 +18,10 @@ use Rattle.clip_protocol.specs.LineMeaning.{Meaning, Means, nothing, refusal, re
 use Rattle.clip_protocol.specs.LineMeaning.{showing, matching, judged, after}
 use Rattle.clip_front.specs.Outcome.{alerts_told, rows_posted, kept_rows, names_in}
 use Rattle.clip_protocol.specs.Reply.{Reply, accepted, alerts_of_all, refused, reply, reply_text}
-use Rattle.clip_front.specs.Steps.Answers.{Held, held, Replies, Settles, GoesOn, Answers, Breaks}
+use Rattle.clip_front.specs.Steps.Answers.{Held, held, Replies, Says, Settles, Comes, GoesOn, Answers, Breaks}
 use Rattle.clip_protocol.specs.Steps.Outline.{Outline, outline, matches, MeansOutline}
 use Rattle.clip_front.specs.Steps.Registry.{IsJudged}
-use Rattle.clip_front.specs.Steps.Taking.{IsQuiet, TakesQuietly}
+use Rattle.clip_front.specs.Steps.Taking.{IsQuiet, Takes, TakesQuietly}
 use Rattle.clip_protocol.specs.Steps.Views.{applied_view}
 use Rattle.clip_protocol.proofs.Meanings.{means_from}
 use Rattle.clip_front.proofs.OneOutcome.{outline_some}
@@ -62,7 +64,7 @@ replies_full old new c j =
 -- ---- lines that tell no alert
 
 -- a line that is settled is taken, and the text of its reply is printed
-pub takes_settled : (names : List (List ℕ)) (old new : History) (n : ℕ) (line text : List ℕ) (o : Outline) (r : Reply)
+takes_settled : (names : List (List ℕ)) (old new : History) (n : ℕ) (line text : List ℕ) (o : Outline) (r : Reply)
     → outline line ≡ o → Settles names old new o r → text ≡ reply_text n r → TakesQuietly names old new n line text
 takes_settled names old new n line text o r said s printed = record {
   meaning = s.0;
@@ -73,11 +75,29 @@ takes_settled names old new n line text o r said s printed = record {
 }
 
 -- a line that lists these articles is taken as they are
-pub takes_matched : (names : List (List ℕ)) (h : History) (line : List ℕ) (o : Outline) (articles : List ArticleValue)
+takes_matched : (names : List (List ℕ)) (h : History) (line : List ℕ) (o : Outline) (articles : List ArticleValue)
     → outline line ≡ o → o ≡ matches articles → Means names h line (matching articles)
 takes_matched names h line o articles said is =
     means_from names h line (matching articles)
     (subst (λ x. MeansOutline names h x (matching articles)) (sym (said ∙ is)) refl)
+
+-- the text of a reply that settles a line is what the line comes to
+pub comes_said : {E : Type 0} (names : List (List ℕ)) (old new : History) (n : ℕ) (o : Outline) (r : Reply)
+    (result : Result Step E) → Settles names old new o r → IfOk result (Says n r)
+    → IfOk result (Comes names old new n o)
+comes_said names old new n o r (Ok (step.Reply text)) s says = (r, s, says)
+comes_said names old new n o r (Ok (step.Match drafts)) s says = absurd says
+comes_said names old new n o r (Err e) s says = tt
+
+-- what the outline of a line comes to, the line comes to
+pub takes_come : {E : Type 0} (names : List (List ℕ)) (old new : History) (n : ℕ) (line : List ℕ) (o : Outline)
+    (result : Result Step E) → outline line ≡ o → IfOk result (Comes names old new n o)
+    → IfOk result (Takes names old new n line)
+takes_come names old new n line o (Ok (step.Reply text)) said p =
+    takes_settled names old new n line text.items o p.0 said p.1 p.2
+takes_come names old new n line o (Ok (step.Match drafts)) said p =
+    (takes_matched names old line o drafts.items said p.0, p.1)
+takes_come names old new n line o (Err e) said p = tt
 
 quiet_alerts : (h : History) (m : Meaning) → IsQuiet m → alerts_told h m ≡ []
 quiet_alerts h nothing q = refl

@@ -17,12 +17,12 @@ use Rattle.clip_model.specs.History.{History}
 use Rattle.clip_listen.specs.Heard.{Hearer, told_all, HearsFront}
 use Rattle.clip_listen.proofs.Hearing.{told_none, told_more, names_told, front_after, front_of_more}
 use Rattle.clip_protocol.specs.LineMeaning.{Meaning, is_long, is_blank, json_of, Means, after}
-use Rattle.clip_front.specs.Outcome.{Outcome, nothing_given, followed_by, given, names_in, kept_rows, Gives, GivesAll}
-use Rattle.clip_front.specs.Outcome.{GivesFront}
+use Rattle.clip_front.specs.Outcome.{Outcome, nothing_given, followed_by, given, names_in, kept_rows, Gives}
+use Rattle.clip_front.specs.Outcome.{GivesAllFrom, GivesFrontFrom, GivesLinesFrom}
 use Rattle.clip_front.specs.declared.settings.Settings.{Settings}
 use Rattle.clip_front.specs.Steps.Answers.{Held, Answers, AnswersIn, Breaks, BreaksIn}
 use Rattle.clip_protocol.specs.Steps.Outline.{outline, blank, outline_of_value, MeansOutline}
-use Rattle.clip_front.specs.Steps.Serving.{Serves, StopsAt, ServesAll, ServesFront}
+use Rattle.clip_front.specs.Steps.Serving.{Serves, StopsAt, ServesAll, ServesFront, ServesLines}
 use Rattle.clip_front.proofs.Delivering.{none_posted}
 use Rattle.clip_protocol.proofs.Meanings.{means_from, means_to}
 use Rattle.clip_front.proofs.OneOutcome.{gives_on}
@@ -155,11 +155,12 @@ given_by view s t n (line ∷ lines) text p =
     given_first (view s) (view p.0) (view t) n line p.1 p.2 text lines p.3 p.4
     (given_by view p.0 t (suc n) lines p.2 p.5)
 
-gives_all : {S : Type 0} (view : S → Held) (s t : S) (settings : Settings) (taken_first taken : Option (List ℕ))
-    (count : ℕ) (input : List ℕ) → (view s).history ≡ [] → (view s).rows ≡ [] → (view s).settings ≡ settings
+gives_all : {S : Type 0} (view : S → Held) (s t : S) (begins : History) (settings : Settings)
+    (taken_first taken : Option (List ℕ)) (count : ℕ) (input : List ℕ) → (view s).history ≡ begins
+    → (view s).rows ≡ [] → (view s).settings ≡ settings
     → ServesAll (AnswersIn view) s t taken_first taken count input
-    → GivesAll (view s).hearers (view t).hearers settings taken_first taken count (view t).rows input
-gives_all view s t settings taken_first taken count input start none same p =
+    → GivesAllFrom begins (view s).hearers (view t).hearers settings taken_first taken count (view t).rows input
+gives_all view s t begins settings taken_first taken count input start none same p =
     let g = given_by view s t 1 (lines_of input) p.text p.served in
     record {
       outcome = g.outcome;
@@ -170,14 +171,38 @@ gives_all view s t settings taken_first taken count input start none same p =
       counted = p.counted;
     }
 
-pub run_gives : {S : Type 0} (view : S
-    → Held) (s t : S) (settings : Settings) (left taken_first taken : Option (List ℕ)) (count : ℕ)
-    → (view s).history ≡ [] → (view s).rows ≡ [] → (view s).settings ≡ settings
+pub run_gives : {S : Type 0} (view : S → Held) (s t : S) (begins : History) (settings : Settings)
+    (left taken_first taken : Option (List ℕ)) (count : ℕ) → (view s).history ≡ begins → (view s).rows ≡ []
+    → (view s).settings ≡ settings
     → OfInput left (ServesAll (AnswersIn view) s t taken_first taken count)
-    → OfInput left (GivesAll (view s).hearers (view t).hearers settings taken_first taken count (view t).rows)
-run_gives view s t settings left taken_first taken count start none same p =
-    of_input_weaker left _ _ (λ input served. gives_all view s t settings taken_first taken count input start none same
-    served) p
+    → OfInput left
+    (GivesAllFrom begins (view s).hearers (view t).hearers settings taken_first taken count (view t).rows)
+run_gives view s t begins settings left taken_first taken count start none same p =
+    of_input_weaker left _ _
+    (λ input served. gives_all view s t begins settings taken_first taken count input start none same served) p
+
+gives_lines : {S : Type 0} (view : S → Held) (s t : S) (begins : History) (settings : Settings)
+    (taken_first taken : Option (List ℕ)) (lines : List (List ℕ)) → (view s).history ≡ begins
+    → (view s).settings ≡ settings → ServesLines (AnswersIn view) s t taken_first taken lines
+    → GivesLinesFrom begins (view s).hearers (view t).hearers settings.form taken_first taken lines
+gives_lines view s t begins settings taken_first taken lines start same p =
+    let g = given_by view s t 1 lines p.text p.served in
+    record {
+      outcome = g.outcome;
+      gives = subst (λ h. Gives (view s).hearers 1 h lines g.outcome) start g.gives;
+      replies = subst (Appends taken_first taken) (sym g.printed ∙ ap (λ k. g.outcome.text k.form) same) p.written;
+      told = g.heard;
+    }
+
+pub run_gives_lines : {S : Type 0} (view : S → Held) (s t : S) (begins : History) (settings : Settings)
+    (left left_new : Option (List ℕ)) (met_end : Bool) (taken_first taken : Option (List ℕ))
+    → (view s).history ≡ begins → (view s).settings ≡ settings
+    → OfLinesRead left left_new met_end (ServesLines (AnswersIn view) s t taken_first taken)
+    → OfLinesRead left left_new met_end
+    (GivesLinesFrom begins (view s).hearers (view t).hearers settings.form taken_first taken)
+run_gives_lines view s t begins settings left left_new met_end taken_first taken start same p =
+    of_lines_read_weaker left left_new met_end _ _
+    (λ lines served. gives_lines view s t begins settings taken_first taken lines start same served) p
 
 -- ---- some first lines were answered, and the next was begun at most
 
@@ -265,10 +290,10 @@ begun_more s t n lines later text b =
       heard = front_of_more b.outcome.alerts on.0.alerts s.hearers t.hearers b.heard;
     }
 
-front_given : (s t : Held) (taken_first taken : Option (List ℕ)) (text : List ℕ) (lines : List (List ℕ))
-    → s.history ≡ [] → BegunBy s t 1 lines text → AppendsFront taken_first taken text
-    → GivesFront s.hearers t.hearers s.settings.form taken_first taken lines
-front_given s t taken_first taken text lines start b written = record {
+front_given : (s t : Held) (begins : History) (taken_first taken : Option (List ℕ)) (text : List ℕ)
+    (lines : List (List ℕ)) → s.history ≡ begins → BegunBy s t 1 lines text → AppendsFront taken_first taken text
+    → GivesFrontFrom begins s.hearers t.hearers s.settings.form taken_first taken lines
+front_given s t begins taken_first taken text lines start b written = record {
   outcome = b.outcome;
   gives = subst (λ h. Gives s.hearers 1 h lines b.outcome) start b.gives;
   replies = subst (AppendsFront taken_first taken) (sym b.printed) (front_longer taken_first taken text b.more written);
@@ -294,21 +319,22 @@ begun_at view s t u text begun lines (line ∷ later) p (inr broken) =
     (begun_more (view s) (view u) 1 (lines ++ line ∷ []) later (text ++ begun)
     (begun_by view s t u 1 (suc (length lines)) lines line text begun p (omega arith) broken))
 
-gives_front : {S : Type 0} (view : S → Held) (s t : S) (settings : Settings) (taken_first taken : Option (List ℕ))
-    (lines : List (List ℕ)) → (view s).history ≡ [] → (view s).settings ≡ settings
-    → ServesFront (AnswersIn view) (BreaksIn view) s t taken_first taken lines
-    → GivesFront (view s).hearers (view t).hearers settings.form taken_first taken lines
-gives_front view s t settings taken_first taken lines start same p =
+gives_front : {S : Type 0} (view : S → Held) (s t : S) (begins : History) (settings : Settings)
+    (taken_first taken : Option (List ℕ)) (lines : List (List ℕ)) → (view s).history ≡ begins
+    → (view s).settings ≡ settings → ServesFront (AnswersIn view) (BreaksIn view) s t taken_first taken lines
+    → GivesFrontFrom begins (view s).hearers (view t).hearers settings.form taken_first taken lines
+gives_front view s t begins settings taken_first taken lines start same p =
     let begun = subst (λ ls. BegunBy (view s) (view t) 1 ls (p.text ++ p.begun)) (sym p.parts)
     (begun_at view s p.between t p.text p.begun p.front p.later p.served p.stops) in
-    subst (λ k. GivesFront (view s).hearers (view t).hearers k.form taken_first taken lines) same
-    (front_given (view s) (view t) taken_first taken (p.text ++ p.begun) lines start begun p.written)
+    subst (λ k. GivesFrontFrom begins (view s).hearers (view t).hearers k.form taken_first taken lines) same
+    (front_given (view s) (view t) begins taken_first taken (p.text ++ p.begun) lines start begun p.written)
 
-pub run_gives_front : {S : Type 0} (view : S → Held) (s t : S) (settings : Settings) (left left_new : Option (List ℕ))
-    (met_end : Bool) (taken_first taken : Option (List ℕ)) → (view s).history ≡ [] → (view s).settings ≡ settings
+pub run_gives_front : {S : Type 0} (view : S → Held) (s t : S) (begins : History) (settings : Settings)
+    (left left_new : Option (List ℕ)) (met_end : Bool) (taken_first taken : Option (List ℕ))
+    → (view s).history ≡ begins → (view s).settings ≡ settings
     → OfLinesRead left left_new met_end (ServesFront (AnswersIn view) (BreaksIn view) s t taken_first taken)
     → OfLinesRead left left_new met_end
-    (GivesFront (view s).hearers (view t).hearers settings.form taken_first taken)
-run_gives_front view s t settings left left_new met_end taken_first taken start same p =
+    (GivesFrontFrom begins (view s).hearers (view t).hearers settings.form taken_first taken)
+run_gives_front view s t begins settings left left_new met_end taken_first taken start same p =
     of_lines_read_weaker left left_new met_end _ _
-    (λ lines served. gives_front view s t settings taken_first taken lines start same served) p
+    (λ lines served. gives_front view s t begins settings taken_first taken lines start same served) p

@@ -4,6 +4,7 @@ use Rattle.clip_stream.specs.Lines.{lines_of, OfInput, OfLinesRead}
 use Rattle.clip_stream.specs.Steps.Reading.{cut}
 use Rattle.clip_stream.proofs.LinesRead.{of_input_weaker, of_lines_read_weaker}
 use Rattle.clip_front.specs.Steps.Serving.{Answering, Breaking, Serves, ServesAll, ServesFront}
+use Rattle.clip_front.specs.Steps.Serving.{ServesLines}
 
 -- each answer is one of the others
 abbrev pub AreAmong : {S : Type 0} → Answering S → Answering S → Type 0
@@ -66,3 +67,20 @@ pub serves_front_weaker : {S : Type 0} (answers others : Answering S) (breaks : 
 serves_front_weaker answers others breaks among s t left left_new met_end taken_old taken p =
     of_lines_read_weaker left left_new met_end (ServesFront answers breaks s t taken_old taken)
     (ServesFront others breaks s t taken_old taken) (front_weaker answers others breaks among s t taken_old taken) p
+
+lines_weaker : {S : Type 0} (answers others : Answering S) → AreAmong answers others
+    → (s t : S) (taken_old taken : Option (List ℕ)) (lines : List (List ℕ))
+    → ServesLines answers s t taken_old taken lines → ServesLines others s t taken_old taken lines
+lines_weaker answers others among s t taken_old taken lines p = record {
+  text = p.text;
+  served = serves_weaker answers others among s t 1 lines p.text p.served;
+  written = p.written;
+}
+
+pub serves_lines_weaker : {S : Type 0} (answers others : Answering S) → AreAmong answers others
+    → (s t : S) (left left_new : Option (List ℕ)) (met_end : Bool) (taken_old taken : Option (List ℕ))
+    → OfLinesRead left left_new met_end (ServesLines answers s t taken_old taken)
+    → OfLinesRead left left_new met_end (ServesLines others s t taken_old taken)
+serves_lines_weaker answers others among s t left left_new met_end taken_old taken p =
+    of_lines_read_weaker left left_new met_end (ServesLines answers s t taken_old taken)
+    (ServesLines others s t taken_old taken) (lines_weaker answers others among s t taken_old taken) p

@@ -50,6 +50,8 @@ pub record AreFresh (devices : Devices) : Type 0 where
 pub record IsHonest {T : Type 0} (result : Result T RunFault) (devices : Devices) : Type 0 where
   -- where it ended well, what was written was flushed
   pub flushed : OnOk result (devices.is_flushed ≡ true)
+  -- the reader has met its end
+  pub ended : OnOk result (devices.met_end ≡ true)
   -- and no read, no write and no flush has failed
   pub ok : OnOk result ((devices.read_failed ≡ false) × (devices.write_failed ≡ false))
   -- `Read` has its reason: a read failed, or the most reads were made and none of them met the end

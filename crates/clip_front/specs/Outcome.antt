@@ -84,21 +84,53 @@ IsOutcome hearers input outcome = Gives hearers 1 [] (lines_of input) outcome
 abbrev pub kept_rows : Bool → List RowValue → List RowValue
 kept_rows keeps rows = if keeps then rows else []
 
--- All that is due was written in the form that is set, each listener has heard just its own alerts, in order, the
--- ledger has its rows, and there were so many lines.
-pub record GivesAll (hearers heard : List Hearer) (settings : Settings) (old new : Option (List ℕ)) (lines : ℕ)
-    (ledger : List RowValue) (input : List ℕ) : Type 0 where
+-- All that is due to the input after the history with which the run began was written in the form that is set, each
+-- listener has heard just its own alerts, in order, the ledger has its rows, and there were so many lines.
+pub record GivesAllFrom (begins : History) (hearers heard : List Hearer) (settings : Settings)
+    (old new : Option (List ℕ)) (lines : ℕ) (ledger : List RowValue) (input : List ℕ) : Type 0 where
   pub outcome : Outcome
-  pub is : IsOutcome hearers input outcome
+  pub is : Gives hearers 1 begins (lines_of input) outcome
   pub replies : Appends old new (outcome.text settings.form)
   pub told : heard ≡ told_all outcome.alerts hearers
   pub rows : ledger ≡ kept_rows settings.keeps_rows outcome.rows
   pub counted : lines ≡ length (lines_of input)
 
--- What was written is a front of the replies to these lines, and the listeners have heard a front of their alerts.
-pub record GivesFront (hearers heard : List Hearer) (form : Form) (old new : Option (List ℕ)) (lines : List (List ℕ))
-    : Type 0 where
+-- What was written is a front of the replies to these lines after the history with which the run began, and the
+-- listeners have heard a front of their alerts.
+pub record GivesFrontFrom (begins : History) (hearers heard : List Hearer) (form : Form) (old new : Option (List ℕ))
+    (lines : List (List ℕ)) : Type 0 where
   pub outcome : Outcome
-  pub gives : Gives hearers 1 [] lines outcome
+  pub gives : Gives hearers 1 begins lines outcome
   pub replies : AppendsFront old new (outcome.text form)
   pub told : HearsFront outcome.alerts hearers heard
+
+-- All that is due to these lines after the history with which the run began was written, and each listener has heard
+-- just its own alerts.
+pub record GivesLinesFrom (begins : History) (hearers heard : List Hearer) (form : Form) (old new : Option (List ℕ))
+    (lines : List (List ℕ)) : Type 0 where
+  pub outcome : Outcome
+  pub gives : Gives hearers 1 begins lines outcome
+  pub replies : Appends old new (outcome.text form)
+  pub told : heard ≡ told_all outcome.alerts hearers
+
+-- where nothing was accepted before
+abbrev pub GivesAll : List Hearer → List Hearer → Settings → Option (List ℕ) → Option (List ℕ) → ℕ → List RowValue
+    → List ℕ → Type 0
+GivesAll = GivesAllFrom []
+
+abbrev pub GivesFront : List Hearer → List Hearer → Form → Option (List ℕ) → Option (List ℕ) → List (List ℕ) → Type 0
+GivesFront = GivesFrontFrom []
+
+abbrev pub GivesLines : List Hearer → List Hearer → Form → Option (List ℕ) → Option (List ℕ) → List (List ℕ) → Type 0
+GivesLines = GivesLinesFrom []
+
+-- ---- lines that were kept
+
+-- The lines lead from the history to the new one: each means something after those before it.
+abbrev pub Follows : List (List ℕ) → History → List (List ℕ) → History → Type 0
+Follows names h [] new = new ≡ h
+Follows names h (line ∷ lines) new = (m : Meaning) × Means names h line m × Follows names (after h m) lines new
+
+-- The property holds of the history to which these lines lead, where listeners of these names are here.
+abbrev pub OfKept : List (List ℕ) → List (List ℕ) → (History → Type 0) → Type 0
+OfKept names kept P = (begins : History) × Follows names [] kept begins × P begins

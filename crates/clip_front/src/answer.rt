@@ -1,27 +1,23 @@
 //! Lines taken: what each comes to, before any alert is told.
 ghost use Rattle.std.specs.Prelude.{◌≡◌, IfOk, OnOk, IsTrue, List, map, string_bytes, option_map, true};
 ghost use Rattle.std.specs.List.{list_all};
-ghost use Rattle.clip_listen.specs.Heard.{Hearer};
 ghost use Rattle.clip_model.specs.History.{fits};
 ghost use Rattle.clip_standing.specs.Command.{command_of};
 ghost use Rattle.clip_words.specs.Ids.{is_id};
-ghost use Rattle.clip_protocol.specs.LineMeaning.{Means, is_here, showing, judged, purging};
+ghost use Rattle.clip_protocol.specs.LineMeaning.{Means, is_here, judged, purging};
 ghost use Rattle.clip_front.specs.Outcome.{names_in};
-ghost use Rattle.clip_protocol.specs.Reply.{answer_to};
-ghost use Rattle.clip_front.specs.Steps.Answers.{TakesListing, TakesList, Replies, Settles, Comes};
+ghost use Rattle.clip_front.specs.Steps.Answers.{TakesListing, TakesList, Replies, Says, Settles, Comes};
 ghost use Rattle.clip_protocol.specs.Steps.Outline.{is_within, purges, registers};
-ghost use Rattle.clip_front.specs.Steps.Taking.{PurgesIf, Takes, TakesUnread, Unpurged};
+ghost use Rattle.clip_front.specs.Steps.Taking.{PurgesIf, Takes, Unpurged};
 ghost use Rattle.clip_protocol.specs.Steps.Views.{line_view, listing_view, reply_view};
 
 use crate::registry::Registry;
 use clip_listen::Audience;
-use clip_meaning::Article;
 use clip_protocol::{
-    JudgedDraft, Line, ListFault, Listing, Refusal, Reply, Unread, accepted, articles_of,
-    read_listing,
+    JudgedDraft, Line, ListFault, Listing, Refusal, Reply, Unread, accepted, read_listing,
 };
 use clip_standing::{Command, Standing};
-use clip_words::{NoMemory, WordPool};
+use clip_words::NoMemory;
 use std::alloc::Global;
 use std::sync::Arc;
 
@@ -109,13 +105,20 @@ fn register<A: Audience, H: Registry>(
     }
 }
 
-/// What is done about a line.
+/// What a line comes to.
 #[derive(Drop)]
-enum Response {
-    /// It is answered by this reply.
-    Reply(Reply),
-    /// The articles that these drafts are, to be matched.
+pub enum Step {
+    /// The text of its reply, with its line feed, or nothing for a blank line.
+    Reply(Vec<u8>),
+    /// Drafts whose articles are to be matched at the registry as it stands.
     Match(Vec<JudgedDraft>),
+}
+
+/// The step of the line of this number that has this reply.
+fn step_of(alloc: Global, number: u64, reply: Reply) -> Result<Step, NoMemory>
+    ensures { IfOk result (Says number (reply_view reply)) }
+{
+    Ok(Step::Reply(reply.text(alloc, number)?))
 }
 
 /// Does what a line says, but for the matching: changes apply to the registry, and all else is answered by it.
@@ -123,47 +126,40 @@ fn respond<A: Audience, H: Registry>(
     alloc: Global,
     registry: &mut H,
     audience: &A,
+    number: u64,
     line: Line,
-) -> Result<Response, NoMemory>
+) -> Result<Step, NoMemory>
     requires { is_within (line_view line) ≡ true }
-    ensures comes { IfOk result (λ response. Comes (names_in (A.hearers audience.now)) (H.history_in registry.old)
-        (H.history_in registry.new) (line_view line) response) }
+    ensures comes { IfOk result (Comes (names_in (A.hearers audience.now)) (H.history_in registry.old)
+        (H.history_in registry.new) number (line_view line)) }
     ensures purged { OnOk result (PurgesIf (line_view line ≡ purges) H.purges H.goes_on registry.old registry.new) }
 {
     match line {
-        Line::Blank => Ok(Response::Reply(Reply::Nothing)),
-        Line::Refused(reason) => Ok(Response::Reply(Reply::Refused(reason))),
-        Line::Register(listings) => Ok(Response::Reply(register(
-            alloc, registry, audience, listings,
-        )?)),
-        Line::Delete(ids) => Ok(Response::Reply(apply(registry, Command::Delete(ids))?)),
-        Line::Clear => Ok(Response::Reply(apply(registry, Command::Clear)?)),
+        Line::Blank => step_of(alloc, number, Reply::Nothing),
+        Line::Refused(reason) => step_of(alloc, number, Reply::Refused(reason)),
+        Line::Register(listings) => {
+            step_of(
+                alloc,
+                number,
+                register(alloc, registry, audience, listings)?,
+            )
+        }
+        Line::Delete(ids) => step_of(alloc, number, apply(registry, Command::Delete(ids))?),
+        Line::Clear => step_of(alloc, number, apply(registry, Command::Clear)?),
         Line::Purge => {
             registry.purge_dead()?;
-            Ok(Response::Reply(Reply::Purged))
+            step_of(alloc, number, Reply::Purged)
         }
-        Line::Count => Ok(Response::Reply(Reply::Counted(registry.count()?))),
-        Line::Show(id) => Ok(Response::Reply(Reply::Shown(registry.show(alloc, id.as_str())?))),
-        Line::Match(drafts) => Ok(Response::Match(drafts)),
+        Line::Count => step_of(alloc, number, Reply::Counted(registry.count()?)),
+        Line::Show(id) => {
+            step_of(
+                alloc,
+                number,
+                Reply::Shown(registry.show(alloc, id.as_str())?),
+            )
+        }
+        Line::Match(drafts) => Ok(Step::Match(drafts)),
     }
-}
-
-/// What a line comes to.
-#[derive(Drop)]
-pub enum Taken {
-    /// The text of its reply, with its line feed, or nothing for a blank line.
-    Text(Vec<u8>),
-    /// Articles that are to be matched at the registry as it stands.
-    Articles(Vec<Article>),
-}
-
-/// What a line comes to, whose articles are not read yet.
-#[derive(Drop)]
-pub enum TakenUnread {
-    /// The text of its reply, with its line feed, or nothing for a blank line.
-    Text(Vec<u8>),
-    /// Drafts whose articles are to be matched at the registry as it stands.
-    Drafts(Vec<JudgedDraft>),
 }
 
 /// Takes the line of this number: a change applies to the registry, a purge purges it, and all else but a match is
@@ -172,48 +168,20 @@ pub enum TakenUnread {
 /// `NoMemory` where an allocation failed. A change costs that of `Registry::accept` after the reading of its queries; a
 /// purge costs that of `Registry::purge_dead`; a count takes that of `Registry::count`, and a show that of
 /// `Registry::show`; a match costs the reading of its JSON value.
-pub fn take_line_unread<A: Audience, H: Registry>(
+pub fn take_line<A: Audience, H: Registry>(
     alloc: Global,
     registry: &mut H,
     audience: &A,
     number: u64,
     bytes: &[u8],
-) -> Result<TakenUnread, NoMemory>
-    ensures taken { IfOk result (λ taken. TakesUnread (names_in (A.hearers audience.now)) (H.history_in registry.old)
-        (H.history_in registry.new) number bytes.now taken) }
+) -> Result<Step, NoMemory>
+    ensures taken { IfOk result (λ step. Takes (names_in (A.hearers audience.now)) (H.history_in registry.old)
+        (H.history_in registry.new) number bytes.now step) }
 
     // A line that means a purge purges the registry, once, and no other line does.
     ensures purged { OnOk result (PurgesIf (Means (names_in (A.hearers audience.now)) (H.history_in registry.old)
         bytes.now purging) H.purges H.goes_on registry.old registry.new) }
 {
     let line = Line::of_bytes(alloc, bytes)?;
-    match respond(alloc, registry, audience, line)? {
-        Response::Reply(reply) => Ok(TakenUnread::Text(reply.text(alloc, number)?)),
-        Response::Match(drafts) => Ok(TakenUnread::Drafts(drafts)),
-    }
-}
-
-/// Does what a line asks for, as `take_line_unread` does, and reads the articles of a match, whose words are shared
-/// with those of the pool.
-///
-/// `NoMemory` where an allocation failed. Cost: that of `take_line_unread`, and of `articles_of` for a match.
-pub fn take_line<A: Audience, H: Registry>(
-    alloc: Global,
-    pool: &mut WordPool,
-    registry: &mut H,
-    audience: &A,
-    number: u64,
-    bytes: &[u8],
-) -> Result<Taken, NoMemory>
-    ensures taken { IfOk result (λ taken. Takes (names_in (A.hearers audience.now)) (H.history_in registry.old)
-        (H.history_in registry.new) number bytes.now taken) }
-
-    // A line that means a purge purges the registry, once, and no other line does.
-    ensures purged { OnOk result (PurgesIf (Means (names_in (A.hearers audience.now)) (H.history_in registry.old)
-        bytes.now purging) H.purges H.goes_on registry.old registry.new) }
-{
-    match take_line_unread(alloc, registry, audience, number, bytes)? {
-        TakenUnread::Text(text) => Ok(Taken::Text(text)),
-        TakenUnread::Drafts(drafts) => Ok(Taken::Articles(articles_of(alloc, pool, &drafts)?)),
-    }
+    respond(alloc, registry, audience, number, line)
 }

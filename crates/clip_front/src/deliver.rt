@@ -135,7 +135,11 @@ pub fn deliver_found<A: Audience>(
 }
 
 /// Puts what is shown already of an article, after a comma where it stands behind another.
-fn put_shown<W: Sink>(flow: &mut Flow<'_, W>, later: bool, shown: &Shown) -> Result<(), RunFault>
+fn put_article_text<W: Sink>(
+    flow: &mut Flow<'_, W>,
+    later: bool,
+    shown: &Shown,
+) -> Result<(), RunFault>
     ensures same_reference { flow.new.writer.ghost_name ≡ flow.old.writer.ghost_name }
     ensures moved { OnOk result (HandsOver (W.taken flow.old.writer.now)
         (flow.old.outbox.now ++ item_text later
@@ -178,7 +182,7 @@ fn put_found<W: Sink>(
 {
     match found {
         Found::Alerts(alerts) => put_alerts(flow, alloc, settings.form, later, alerts),
-        Found::Shown(shown) => put_shown(flow, later, shown),
+        Found::Shown(shown) => put_article_text(flow, later, shown),
     }
 }
 

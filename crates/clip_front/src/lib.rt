@@ -4,14 +4,16 @@
 mod answer;
 mod books;
 mod deliver;
+mod kept;
 mod registry;
 mod server;
 mod session;
 mod settings;
 
-pub use answer::{Taken, TakenUnread, take_line, take_line_unread, take_listing};
+pub use answer::{Step, take_line, take_listing};
 pub use books::Books;
 pub use deliver::{MatchReply, deliver_found};
+pub use kept::{one_beginning, take_kept};
 pub use registry::Registry;
 pub use server::{Server, serve};
 pub use session::{Ended, one_outcome};

@@ -1,8 +1,8 @@
 //! The loop over the lines of an input, whatever answers them.
-ghost use Rattle.std.specs.Prelude.{◌≡◌, false, IfOk, OnOk, OnErr};
+ghost use Rattle.std.specs.Prelude.{◌≡◌, true, false, Err, IfOk, OnOk, OnErr};
 ghost use Rattle.clip_stream.specs.Lines.{OfInput, OfLinesRead};
 ghost use Rattle.clip_front.specs.Devices.{AreFresh, IsHonest, devices_at};
-ghost use Rattle.clip_front.specs.Steps.Serving.{ServesAll, ServesFront};
+ghost use Rattle.clip_front.specs.Steps.Serving.{ServesAll, ServesFront, ServesLines};
 
 use clip_stream::{Flow, LineReader, Outbox, RunFault, Sink, Source};
 use std::alloc::Global;
@@ -27,7 +27,6 @@ pub trait Server<L, W: Sink> {
     /// that is owed is answered now. `NoMemory` where the answering was broken off, `Write` where the writer fails.
     fn answer(
         &mut self,
-        alloc: Global,
         lent: &mut L,
         flow: &mut Flow<'_, W>,
         number: u64,
@@ -81,6 +80,13 @@ pub fn serve<R: Source, W: Sink, L, S: Server<L, W>>(
     // What was written was flushed and no device has failed, where all went well, and each fault has its reason.
     ensures honest { IsHonest result (devices_at R.Source W.Sink reader.new writer.new) }
 
+    // Where a read failed, each line that was read whole is answered, and the answers are written and flushed. Any read
+    // may fail, so whenever the reader is asked nothing is held back.
+    ensures none_held { result ≡ Err RunFault.Read → (W.is_flushed writer.new ≡ true)
+        × S.is_settled (server.new, lent.new)
+        × OfLinesRead (R.left reader.old) (R.left reader.new) (R.met_end reader.new)
+        (ServesLines S.answers (server.old, lent.old) (server.new, lent.new) (W.taken writer.old) (W.taken writer.new)) }
+
     // After a fault, the server has answered some first ones of the lines that were read and begun one more of them at
     // most, and the writer has taken a front of the answers and of what was on its way of that one.
     ensures front { OnErr result (OfLinesRead (R.left reader.old) (R.left reader.new) (R.met_end reader.new)
@@ -100,6 +106,6 @@ pub fn serve<R: Source, W: Sink, L, S: Server<L, W>>(
         }
         count += 1;
         has_more = lines.has_line();
-        server.answer(alloc, lent, &mut flow, count, &line, has_more)?;
+        server.answer(lent, &mut flow, count, &line, has_more)?;
     }
 }

@@ -1,39 +1,62 @@
 -- The parts of a division, by their numbers and as a list.
 use Rattle.std.proofs.Common.{◌≡◌, ℕ, zero, suc, ◌+◌, ◌<◌, List, [], ◌∷◌, length, sum, refl, sym, ap, ◌∙◌, arith}
-use Rattle.std.proofs.Common.{take}
-use Rattle.std.proofs.Math.Seq.{take-length}
 use Rattle.std.proofs.lemmas.List.Sums.{sum_by-cons}
+use Rattle.std.specs.FinMap.Entries.{by_order}
+use Rattle.std.specs.Ordering.{is_gt}
 use Rattle.std.specs.Prelude.{slice_index}
+use Rattle.clip_words.specs.Order.{bytes_cmp}
 use Rattle.clip_meaning.specs.Article.{ArticleValue}
 use Rattle.clip_model.specs.History.{History, replay}
 use Rattle.clip_model.specs.Alerts.{Alert, alerts}
-use Rattle.clip_model.specs.Shards.{Division, PartsAreMerged, merged, merged_of, shard, sum_of}
+use Rattle.clip_model.specs.Shards.{Division, PartsAreMerged, merged, merged_of, placed, shard, sum_of}
 use Rattle.clip_model.proofs.Merging.{IsBelow, Rise, alerts_rise}
-use Rattle.clip_gather.specs.Gather.{AreOfShards, IsNotAbove, NeverFalls, NoneFalls, given}
-use Rattle.clip_gather.specs.Gather.{AlertsNeverFall}
-use Rattle.clip_gather.specs.Steps.Merging.{merged_all}
+use Rattle.clip_gather.specs.Gather.{AlertsNeverFall, AreOfShards, given, query_of}
+use Rattle.clip_gather.specs.Merged.{IsNotAbove, NeverFalls, NoneFalls, placed_by, merged_by, merged_all}
 use Rattle.clip_gather.proofs.Merges.{merged_none, merged_merged}
-use Rattle.std.specs.Ordering.{is_gt}
 
-merged_of_first : (n : ℕ) (give : ℕ → List Alert) → NeverFalls (give 0)
-    → merged_of (suc n) give ≡ merged (give 0) (merged_of n (λ k. give (suc k)))
-merged_of_first zero give h = sym (merged_none (give 0) h)
-merged_of_first (suc n) give h =
-    ap (λ l. merged l (give (suc n))) (merged_of_first n give h)
-    ∙ merged_merged (give 0) (merged_of n (λ k. give (suc k))) (give (suc n))
+-- ---- alerts are merged by the ids of their queries
 
-merged_of_given : (parts : List (List Alert)) → NoneFalls parts
-    → merged_of (length parts) (given parts) ≡ merged_all parts
-merged_of_given [] h = refl
-merged_of_given (part ∷ parts) h =
-    merged_of_first (length parts) (given (part ∷ parts)) h.0 ∙ ap (merged part) (merged_of_given parts h.1)
+placed_is : (a : Alert) (bs : List Alert) → placed_by query_of a bs ≡ placed a bs
+placed_is a [] = refl
+placed_is a (b ∷ bs) =
+    ap (λ l. by_order (bytes_cmp a.query b.query) (a ∷ b ∷ bs) (a ∷ b ∷ bs) (b ∷ l)) (placed_is a bs)
 
--- all lists that are there, merged, are what the parts give
-pub gathered : (n k : ℕ) (found : List Alert) (parts lists : List (List Alert)) → n ≡ length parts → k ≡ length lists
-    → lists ≡ parts → NoneFalls parts → found ≡ merged_all (take k lists) → found ≡ merged_of n (given parts)
-gathered n k found parts lists number count same falls are =
-    are ∙ ap (λ k. merged_all (take k lists)) count ∙ ap merged_all (take-length lists ∙ same)
-    ∙ sym (ap (λ n. merged_of n (given parts)) number ∙ merged_of_given parts falls)
+merged_is : (xs bs : List Alert) → merged_by query_of xs bs ≡ merged xs bs
+merged_is [] bs = refl
+merged_is (x ∷ xs) bs = placed_is x (merged_by query_of xs bs) ∙ ap (placed x) (merged_is xs bs)
+
+-- ---- parts by their numbers
+
+-- what the parts below n give, merged
+abbrev parts_of : {A : Type 0} → (A → List ℕ) → ℕ → (ℕ → List A) → List A
+parts_of id zero give = []
+parts_of id (suc n) give = merged_by id (parts_of id n give) (give n)
+
+merged_of_is : (n : ℕ) (give : ℕ → List Alert) → merged_of n give ≡ parts_of query_of n give
+merged_of_is zero give = refl
+merged_of_is (suc n) give =
+    ap (λ l. merged l (give n)) (merged_of_is n give) ∙ sym (merged_is (parts_of query_of n give) (give n))
+
+parts_of_first : {A : Type 0} (id : A → List ℕ) (n : ℕ) (give : ℕ → List A) → NeverFalls id (give 0)
+    → parts_of id (suc n) give ≡ merged_by id (give 0) (parts_of id n (λ k. give (suc k)))
+parts_of_first id zero give h = sym (merged_none id (give 0) h)
+parts_of_first id (suc n) give h =
+    ap (λ l. merged_by id l (give (suc n))) (parts_of_first id n give h)
+    ∙ merged_merged id (give 0) (parts_of id n (λ k. give (suc k))) (give (suc n))
+
+parts_of_given : {A : Type 0} (id : A → List ℕ) (parts : List (List A)) → NoneFalls id parts
+    → parts_of id (length parts) (given parts) ≡ merged_all id parts
+parts_of_given id [] h = refl
+parts_of_given id (part ∷ parts) h =
+    parts_of_first id (length parts) (given (part ∷ parts)) h.0
+    ∙ ap (merged_by id part) (parts_of_given id parts h.1)
+
+-- all lists, merged, are what the parts give
+pub gathered : (n : ℕ) (parts : List (List Alert)) → n ≡ length parts → NoneFalls query_of parts
+    → merged_all query_of parts ≡ merged_of n (given parts)
+gathered n parts number falls =
+    sym (ap (λ n. merged_of n (given parts)) number ∙ merged_of_is (length parts) (given parts)
+    ∙ parts_of_given query_of parts falls)
 
 merged_of_same : (n : ℕ) (f g : ℕ → List Alert) → ((k : ℕ) → k < n → f k ≡ g k) → merged_of n f ≡ merged_of n g
 merged_of_same zero f g same = refl
@@ -50,11 +73,11 @@ sum_of_list [] = refl
 sum_of_list (x ∷ xs) =
     sum_of_first (length xs) (slice_index (x ∷ xs)) ∙ ap (λ n. x + n) (sum_of_list xs) ∙ sym (sum_by-cons (λ n. n) x xs)
 
-rising_not_above : (a : Alert) (xs : List Alert) → IsBelow a.query xs → IsNotAbove a xs
+rising_not_above : (a : Alert) (xs : List Alert) → IsBelow a.query xs → IsNotAbove query_of a xs
 rising_not_above a [] h = tt
 rising_not_above a (x ∷ xs) h = ap is_gt h.0
 
-rising : (xs : List Alert) → Rise xs → NeverFalls xs
+rising : (xs : List Alert) → Rise xs → NeverFalls query_of xs
 rising [] h = tt
 rising (a ∷ xs) h = (rising_not_above a xs h.0, rising xs h.1)
 

@@ -1,2 +1,3 @@
 pub mod Gather
+pub mod Merged
 pub mod Steps

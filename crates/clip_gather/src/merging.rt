@@ -1,64 +1,80 @@
-//! Lists of alerts, merged by the ids of their queries.
-ghost use Rattle.std.specs.Prelude.{◌≡◌, ◌++◌, ◌≤◌, map, take, drop, true, IfOk, MatchOption, option_to_list};
+//! Lists, merged by the ids of queries.
+ghost use Rattle.std.specs.Prelude.{◌≡◌, ◌++◌, ◌≤◌, ◌↔◌, map, take, drop, true, IsTrue, IfOk};
+ghost use Rattle.std.specs.Prelude.{MatchOption, option_to_list};
 ghost use Rattle.std.specs.Ordering.{is_lt};
 ghost use Rattle.std.specs.VecDeque.{deque_len};
 ghost use Rattle.clip_words.specs.Order.{bytes_cmp};
-ghost use Rattle.clip_model.specs.Shards.{merged};
-ghost use Rattle.clip_standing.specs.Alerts.{alert_value};
-ghost use Rattle.clip_gather.specs.Gather.{NeverFalls, NoneFalls};
-ghost use Rattle.clip_gather.specs.Steps.Merging.{values, IsNotBelow, merged_all};
+ghost use Rattle.clip_gather.specs.Merged.{NeverFalls, NoneFalls, merged_all, merged_by};
+ghost use Rattle.clip_gather.specs.Steps.Merging.{IsNotBelow, items_of};
 
-use clip_standing::Alert;
+use crate::keyed::Keyed;
 use clip_words::NoMemory;
 use std::alloc::Global;
 use std::collections::VecDeque;
 
-/// Takes the first alert, where its id is below that of another. Constant time, but for the comparison.
-fn pop_below(alerts: &mut VecDeque<Alert>, other: &Alert) -> Option<Alert>
-    ensures items { alerts.old.items ≡ option_to_list result ++ alerts.new.items }
-    ensures below { MatchOption result (IsNotBelow (values alerts.new) (alert_value other.now))
-        (λ a. is_lt (bytes_cmp (alert_value a).query (alert_value other.now).query) ≡ true) }
+/// Whether no id of a list is above the next, so that it may be merged. Cost: a comparison of two ids for each item.
+pub fn never_falls<T: Keyed>(list: &[T]) -> bool
+    ensures { IsTrue result ↔ NeverFalls T.key list.now }
 {
-    let first = alerts.front()?;
-    if first.query().as_str().cmp(other.query().as_str()).is_lt() {
-        alerts.pop_front()
+    let mut rest = list;
+    while let Some((first, later)) = rest.split_first() {
+        if let Some(next) = later.first() {
+            if first.key().cmp(next.key()).is_gt() {
+                return false;
+            }
+        }
+        rest = later;
+    }
+    true
+}
+
+/// Takes the first item, where its id is below that of another. Constant time, but for the comparison.
+fn pop_below<T: Keyed>(list: &mut VecDeque<T>, other: &T) -> Option<T>
+    ensures items { list.old.items ≡ option_to_list result ++ list.new.items }
+    ensures below { MatchOption result (IsNotBelow T.key list.new.items other.now)
+        (λ a. is_lt (bytes_cmp (T.key a) (T.key other.now)) ≡ true) }
+{
+    let first = list.front()?;
+    if first.key().cmp(other.key()).is_lt() {
+        list.pop_front()
     } else {
         None
     }
 }
 
-/// Merges two lists, of one id those of the first before those of the second. Cost: a step for each alert, and a
+/// Merges two lists, of one id those of the first before those of the second. Cost: a step for each item, and a
 /// comparison of two ids.
-fn merge(
+fn merge<T: Keyed + Drop>(
     alloc: Global,
-    mut first: VecDeque<Alert>,
-    mut second: VecDeque<Alert>,
-) -> Result<VecDeque<Alert>, NoMemory>
-    requires first { NeverFalls (values first) }
-    requires second { NeverFalls (values second) }
-    ensures { IfOk result (λ found. values found ≡ merged (values first) (values second)) }
+    mut first: VecDeque<T>,
+    mut second: VecDeque<T>,
+) -> Result<VecDeque<T>, NoMemory>
+    requires first { NeverFalls T.key first.items }
+    requires second { NeverFalls T.key second.items }
+    ensures { IfOk result (λ found. found.items ≡ merged_by T.key first.items second.items) }
 {
     let mut found = VecDeque::new(alloc);
-    while let Some(alert) = first.pop_front() {
-        while let Some(below) = pop_below(&mut second, &alert) {
+    while let Some(item) = first.pop_front() {
+        while let Some(below) = pop_below(&mut second, &item) {
             found.push_back(below)?;
         }
-        found.push_back(alert)?;
+        found.push_back(item)?;
     }
     found.append(&mut second)?;
     Ok(found)
 }
 
-/// Merges the first so many lists in order, and takes them out. Cost: for each alert a step and a comparison for each
+/// Merges the first so many lists in order, and takes them out. Cost: for each item a step and a comparison for each
 /// time that the count can be halved.
-pub(crate) fn merge_first(
+fn merge_first<T: Keyed + Drop>(
     alloc: Global,
-    lists: &mut VecDeque<VecDeque<Alert>>,
+    lists: &mut VecDeque<VecDeque<T>>,
     count: usize,
-) -> Result<VecDeque<Alert>, NoMemory>
+) -> Result<VecDeque<T>, NoMemory>
     requires there { count ≤ deque_len lists.old }
-    requires in_order { NoneFalls (map values lists.old.items) }
-    ensures found { IfOk result (λ found. values found ≡ merged_all (take count (map values lists.old.items))) }
+    requires in_order { NoneFalls T.key (map items_of lists.old.items) }
+    ensures found { IfOk result (λ found. found.items
+        ≡ merged_all T.key (take count (map items_of lists.old.items))) }
     ensures rest { IfOk result (λ _. lists.new.items ≡ drop count lists.old.items) }
 {
     if count == 0 {
@@ -74,4 +90,21 @@ pub(crate) fn merge_first(
     let first = merge_first(alloc, lists, half)?;
     let second = merge_first(alloc, lists, count - half)?;
     merge(alloc, first, second)
+}
+
+/// Merges lists, each of which stands in the byte order of its ids, into one that does; of one id, what an earlier list
+/// has comes before what a later one has.
+///
+/// `NoMemory` where an allocation failed. Cost: for each item a step and a comparison of two ids for each time that the
+/// number of lists can be halved.
+pub fn merge_all<T: Keyed + Drop>(
+    alloc: Global,
+    lists: VecDeque<VecDeque<T>>,
+) -> Result<VecDeque<T>, NoMemory>
+    requires { NoneFalls T.key (map items_of lists.items) }
+    ensures { IfOk result (λ found. found.items ≡ merged_all T.key (map items_of lists.items)) }
+{
+    let mut lists = lists;
+    let count = lists.len();
+    merge_first(alloc, &mut lists, count)
 }

@@ -1,5 +1,5 @@
 //! What a journal keeps, read back from its bytes.
-ghost use Rattle.std.specs.Prelude.{◌≡◌, ◌<◌, ◌+◌, ◌^◌, length, drop};
+ghost use Rattle.std.specs.Prelude.{◌≡◌, ◌<◌, ◌+◌, ◌^◌, ◌++◌, length, drop};
 ghost use Rattle.clip_journal.specs.Entries.{link_behind, first_link};
 ghost use Rattle.clip_journal.specs.Kept.{kept_in, said_by, says};
 
@@ -41,6 +41,16 @@ impl Found {
         ensures { says result.now ≡ (kept_of self.now).since }
     {
         &self.said[1 + self.live..]
+    }
+
+    /// The spellings of all that it keeps, in order: of the queries that were live then, and of the commands since. Its
+    /// cost is their number.
+    pub fn into_lines(self) -> Vec<Vec<u8>>
+        ensures { says result.items ≡ (kept_of self).live ++ (kept_of self).since }
+    {
+        let Found { mut said, .. } = self;
+        let _opening = said.remove(0);
+        said
     }
 
     /// What a stop tore at the end: less than an entry, and nothing where it tore none. Constant time.

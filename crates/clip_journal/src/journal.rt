@@ -7,7 +7,7 @@ use crate::entry::{Link, put_entry};
 use crate::found::Found;
 use crate::journal_fault::JournalFault;
 use crate::reading::{CHANGES_END, FIRST_LINK};
-use crate::store::Store;
+use crate::store::{Store, StoreFault};
 use std::alloc::{AllocError, Global};
 
 /// The most commands that a journal counts, and the most entries that it has.
@@ -62,7 +62,7 @@ fn are_many(a: u64, b: u64) -> bool
 impl<S: Store> Journal<S> {
     ghost use Rattle.clip_journal.specs.Kept.{with_command};
     ghost use Rattle.clip_journal.specs.Found.{kept_of};
-    ghost use Rattle.clip_journal.specs.Stop.{Only, LeavesOnly};
+    ghost use Rattle.clip_journal.specs.Stop.{Only, Elapses, LeavesOnly};
     ghost use Rattle.clip_journal.specs.Stands.{IsFront, Stands};
 
     /// The journal of a store that `open` gave back, with what it found there. Constant time.
@@ -94,6 +94,11 @@ impl<S: Store> Journal<S> {
         ensures any_moment { (kept : Kept) (safe : ℕ) → Stands S.seen S.may_leave self.old kept safe
             → LeavesOnly S.moment S.left_since self.old.store self.new.store
             (IsFront (with_command kept said.now) safe) }
+        ensures time { Elapses (S.moment self.old.store) (S.moment self.new.store) (S.left_since self.old.store)
+            (S.left_since self.new.store) (S.may_leave self.new.store) }
+        ensures faults { S.faults self.old.store ≤ S.faults self.new.store }
+        ensures cause { IsErrOf result (JournalFault.Store StoreFault.Failed)
+            → S.faults self.old.store < S.faults self.new.store }
         ensures ended { self.old.is_open ≡ false → IsErrOf result JournalFault.Ended }
         ensures open { IsErrOf result JournalFault.Ended → self.old.is_open ≡ false }
         ensures full { IsErrOf result JournalFault.Full
@@ -128,6 +133,11 @@ impl<S: Store> Journal<S> {
             → OnOk result (Stands S.seen S.may_leave self.new kept (length kept.since)) }
         ensures any_moment { (kept : Kept) (safe : ℕ) → Stands S.seen S.may_leave self.old kept safe
             → LeavesOnly S.moment S.left_since self.old.store self.new.store (IsFront kept safe) }
+        ensures time { Elapses (S.moment self.old.store) (S.moment self.new.store) (S.left_since self.old.store)
+            (S.left_since self.new.store) (S.may_leave self.new.store) }
+        ensures faults { S.faults self.old.store ≤ S.faults self.new.store }
+        ensures cause { IsErrOf result (JournalFault.Store StoreFault.Failed)
+            → S.faults self.old.store < S.faults self.new.store }
         ensures ended { self.old.is_open ≡ false → IsErrOf result JournalFault.Ended }
         ensures open { IsErrOf result JournalFault.Ended → self.old.is_open ≡ false }
         ensures unchanged { IsErrOf result JournalFault.Ended → self.new ≡ self.old }
@@ -156,6 +166,11 @@ impl<S: Store> Journal<S> {
         ensures any_moment { (kept : Kept) (safe : ℕ) → Stands S.seen S.may_leave self.old kept safe
             → LeavesOnly S.moment S.left_since self.old.store self.new.store (λ left.
             IsFront kept safe left ⊎ IsFront (compacted self.old.accepted (says live.now)) 0 left) }
+        ensures time { Elapses (S.moment self.old.store) (S.moment self.new.store) (S.left_since self.old.store)
+            (S.left_since self.new.store) (S.may_leave self.new.store) }
+        ensures faults { S.faults self.old.store ≤ S.faults self.new.store }
+        ensures cause { IsErrOf result (JournalFault.Store StoreFault.Failed)
+            → S.faults self.old.store < S.faults self.new.store }
         ensures ended { self.old.is_open ≡ false → IsErrOf result JournalFault.Ended }
         ensures open { IsErrOf result JournalFault.Ended → self.old.is_open ≡ false }
         ensures full { IsErrOf result JournalFault.Full

@@ -1,2 +1,2 @@
-pub mod Changes
 pub mod Opened
+pub mod Whose

@@ -1,13 +1,15 @@
-//! Changes that are kept: the lines of accepted changes, taken again, and where a run goes on from.
+//! Runs whose changes survive: what earlier runs kept is taken again, and what a run is asked to change is kept ahead.
 #![tactic(auto)]
 
-mod again;
-mod again_fault;
+mod fault;
+mod leading;
 mod opened;
+mod run;
 
-pub use again::{take_again, take_all_again};
-pub use again_fault::{AgainFault, OpenedFault};
+pub use fault::KeptFault;
+pub use leading::changes_lead_on;
 pub use opened::{Opened, open_kept};
+pub use run::{Keeping, KeptRun, run_kept};
 
 #[cfg(test)]
 mod tests;

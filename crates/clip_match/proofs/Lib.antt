@@ -1,4 +1,5 @@
 pub mod Added
+pub mod ById
 pub mod Due
 pub mod Places
 pub mod Positions

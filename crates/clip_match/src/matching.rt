@@ -10,7 +10,7 @@ ghost use Rattle.clip_match.specs.Due.{due_value, AreItsHits, AreTheirHits, Have
 
 use crate::entries::DueEntries;
 use crate::held::{Held, HitPlaces, HitsFound};
-use crate::trying::{Judged, judge_candidates};
+use crate::trying::{HeldEntries, Judged, judge_candidates};
 use clip_meaning::{Article, Hit};
 use clip_registry::View;
 use clip_standing::{Alert, AlertView, Alerts, FoundHits};
@@ -129,10 +129,10 @@ pub fn entries_due<'a>(
 {
     let Judged {
         asked,
-        mut held,
-        all_hits,
+        entries,
         is_heard,
     } = judge_candidates(alloc, view, article, hits)?;
+    let HeldEntries { mut held, all_hits } = entries;
     let all_hits = Arc::new(alloc, all_hits)?;
     sort_by_id(&mut held);
     Ok(DueEntries {

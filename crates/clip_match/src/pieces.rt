@@ -57,8 +57,20 @@ pub fn match_pieces<R: Threads + Sync, G: Gate>(
     if articles.is_empty() {
         return Ok(Vec::new(alloc));
     }
-    let pieces = pieces_of(articles.len(), workers.max(1));
-    match_from(rt, alloc, view, articles, batch, 0, pieces, gate)
+    let pieces = Pieces {
+        batch,
+        first: 0,
+        count: pieces_of(articles.len(), workers.max(1)),
+    };
+    match_from(rt, alloc, view, articles, pieces, gate)
+}
+
+/// Pieces of a batch that are side by side: the number of the batch and of the first of them, and how many they are.
+#[derive(Clone, Copy)]
+struct Pieces {
+    batch: u64,
+    first: u32,
+    count: u32,
 }
 
 /// The lesser of two numbers.
@@ -83,41 +95,52 @@ fn articles_in(first: u32, pieces: u32, articles: usize) -> usize
     each * first as usize + over.min(first as usize)
 }
 
-/// The alerts of articles that are to be cut into pieces, of which this is the number of the first. The pieces are
-/// halved at each step, so the stack grows as the logarithm of their count.
+/// The alerts of articles that are to be cut into these pieces. The pieces are halved at each step, so the stack grows
+/// as the logarithm of their count.
 #[cycle(pieces)]
 fn match_from<R: Threads + Sync, G: Gate>(
     rt: &R,
     alloc: Global,
     view: &View,
     articles: &[Article],
-    batch: u64,
-    number: u32,
-    pieces: u32,
+    pieces: Pieces,
     gate: &G,
 ) -> Result<Vec<Alerts>, NoMemory>
-    requires { (0 < pieces) × (number + pieces < 2 ^ 32) }
+    requires { (0 < pieces.count) × (pieces.first + pieces.count < 2 ^ 32) }
     ensures { IfOk result (λ found. map alerts_value found.items ≡ map (alerts_due view.now) articles.now) }
 {
-    if pieces == 1 {
-        return match_piece(alloc, view, articles, batch, number, gate);
+    let Pieces {
+        batch,
+        first,
+        count,
+    } = pieces;
+    if count == 1 {
+        return match_piece(alloc, view, articles, batch, first, gate);
     }
-    let low = pieces / 2;
-    let high = pieces - low;
-    let up = number + low;
-    let (front, back) = articles.split_at(articles_in(low, pieces, articles.len()));
+    let half = count / 2;
+    let low = Pieces {
+        batch,
+        first,
+        count: half,
+    };
+    let high = Pieces {
+        batch,
+        first: first + half,
+        count: count - half,
+    };
+    let (front, back) = articles.split_at(articles_in(half, count, articles.len()));
     let (first, second) = join(
         rt,
         move || -> Result<Vec<Alerts>, NoMemory>
-            requires { IsSync R.row × IsSync G.row × (0 < low) × (number + low < 2 ^ 32) }
+            requires { IsSync R.row × IsSync G.row × (0 < low.count) × (low.first + low.count < 2 ^ 32) }
             ensures { IfOk result (λ found.
                 map alerts_value found.items ≡ map (alerts_due view.entry.now) front.entry.now) }
-        { match_from(rt, alloc, view, front, batch, number, low, gate) },
+        { match_from(rt, alloc, view, front, low, gate) },
         move || -> Result<Vec<Alerts>, NoMemory>
-            requires { IsSync R.row × IsSync G.row × (0 < high) × (up + high < 2 ^ 32) }
+            requires { IsSync R.row × IsSync G.row × (0 < high.count) × (high.first + high.count < 2 ^ 32) }
             ensures { IfOk result (λ found.
                 map alerts_value found.items ≡ map (alerts_due view.entry.now) back.entry.now) }
-        { match_from(rt, alloc, view, back, batch, up, high, gate) },
+        { match_from(rt, alloc, view, back, high, gate) },
     );
     let mut all = first?;
     let mut rest = second?;

@@ -142,6 +142,13 @@ fn add_entries<'a>(
 /// Room for so many hits is made at once for each query that holds.
 const HITS_FOR_A_QUERY: usize = 2;
 
+/// Entries whose queries hold of an article, and the hits of all of them, where they were found.
+#[derive(Drop)]
+pub(crate) struct HeldEntries<'a> {
+    pub(crate) held: Vec<Held<'a>>,
+    pub(crate) all_hits: Vec<Hit>,
+}
+
 /// Adds the entries of a segment at these positions, and their hits to those of others, as long as more are found at
 /// once. `flags` is room for a flag for each word of a field.
 fn add_with_hits<'a>(
@@ -150,30 +157,32 @@ fn add_with_hits<'a>(
     positions: &[u32],
     hits: HitsFound,
     flags: &mut FieldFlags,
-    all_hits: &mut Vec<Hit>,
-    held: &mut Vec<Held<'a>>,
+    entries: &mut HeldEntries<'a>,
 ) -> Result<(), NoMemory>
     requires { spots.now ≡ reading.now }
-    ensures entries { OnOk result (map (λ h. h.registered.now) held.new.items
-        ≡ map (λ h. h.registered.now) held.old.items ++ entries_at reading.now.entries positions.now) }
+    ensures entries { OnOk result (map (λ h. h.registered.now) entries.new.held.items
+        ≡ map (λ h. h.registered.now) entries.old.held.items ++ entries_at reading.now.entries positions.now) }
     ensures hits { OnOk result (
-        All (HasItsHits hits reading.now.article (map hit_value all_hits.old.items)) held.old.items
-        → All (HasItsHits hits reading.now.article (map hit_value all_hits.new.items)) held.new.items) }
+        All (HasItsHits hits reading.now.article (map hit_value entries.old.all_hits.items)) entries.old.held.items
+        → All (HasItsHits hits reading.now.article (map hit_value entries.new.all_hits.items))
+        entries.new.held.items) }
 {
-    held.reserve(positions.len())?;
-    all_hits.reserve(positions.len().saturating_mul(HITS_FOR_A_QUERY))?;
+    entries.held.reserve(positions.len())?;
+    entries
+        .all_hits
+        .reserve(positions.len().saturating_mul(HITS_FOR_A_QUERY))?;
     for position in positions {
         let Some(one) = held_at(reading, *position) else {
             continue;
         };
-        if !hits.finds_more(all_hits.len()) {
-            held.push(one)?;
+        if !hits.finds_more(entries.all_hits.len()) {
+            entries.held.push(one)?;
             continue;
         }
-        let start = all_hits.len();
-        spots.add_hits(*position, flags, all_hits)?;
-        let end = all_hits.len();
-        held.push(one.with_hits(HitPlaces { start, end }))?;
+        let start = entries.all_hits.len();
+        spots.add_hits(*position, flags, &mut entries.all_hits)?;
+        let end = entries.all_hits.len();
+        entries.held.push(one.with_hits(HitPlaces { start, end }))?;
     }
     Ok(())
 }
@@ -187,23 +196,23 @@ fn add_held<'a>(
     positions: &[u32],
     hits: HitsFound,
     flags: &mut FieldFlags,
-    all_hits: &mut Vec<Hit>,
-    held: &mut Vec<Held<'a>>,
+    entries: &mut HeldEntries<'a>,
 ) -> Result<(), NoMemory>
-    ensures entries { OnOk result (map (λ h. h.registered.now) held.new.items
-        ≡ map (λ h. h.registered.now) held.old.items ++ entries_at reading.now.entries positions.now) }
+    ensures entries { OnOk result (map (λ h. h.registered.now) entries.new.held.items
+        ≡ map (λ h. h.registered.now) entries.old.held.items ++ entries_at reading.now.entries positions.now) }
     ensures hits { OnOk result (
-        All (HasItsHits hits reading.now.article (map hit_value all_hits.old.items)) held.old.items
-        → All (HasItsHits hits reading.now.article (map hit_value all_hits.new.items)) held.new.items) }
+        All (HasItsHits hits reading.now.article (map hit_value entries.old.all_hits.items)) entries.old.held.items
+        → All (HasItsHits hits reading.now.article (map hit_value entries.new.all_hits.items))
+        entries.new.held.items) }
 {
     if positions.is_empty() {
         return Ok(());
     }
     match hits {
-        HitsFound::WhenAsked => add_entries(reading, positions, held),
+        HitsFound::WhenAsked => add_entries(reading, positions, &mut entries.held),
         HitsFound::AtOnce | HitsFound::WhileFew => {
             let spots = reading.spots(alloc)?;
-            add_with_hits(reading, &spots, positions, hits, flags, all_hits, held)
+            add_with_hits(reading, &spots, positions, hits, flags, entries)
         }
     }
 }
@@ -212,16 +221,15 @@ fn add_held<'a>(
 #[derive(Drop)]
 pub(crate) struct Judged<'a> {
     pub(crate) asked: u64,
-    pub(crate) held: Vec<Held<'a>>,
-    /// The hits of all of them, where they were found.
-    pub(crate) all_hits: Vec<Hit>,
-    /// Whether the query of one of them has a listener.
+    pub(crate) entries: HeldEntries<'a>,
+    /// Whether the query of one of the entries has a listener.
     pub(crate) is_heard: bool,
 }
 
 /// Room that the judging of one segment leaves for the next.
 #[derive(Drop)]
 struct Room {
+    alloc: Global,
     positions: Vec<u32>,
     possible: Vec<u32>,
     holding: Vec<u32>,
@@ -233,6 +241,7 @@ impl Room {
     /// Room that takes no memory yet.
     fn new(alloc: Global) -> Room {
         Room {
+            alloc,
             positions: Vec::new(alloc),
             possible: Vec::new(alloc),
             holding: Vec::new(alloc),
@@ -245,7 +254,6 @@ impl Room {
     /// how many candidates there are.
     fn judge_segment(
         &mut self,
-        alloc: Global,
         view: &View,
         place: usize,
         reading: &SegmentReading<'_>,
@@ -257,7 +265,7 @@ impl Room {
             ≡ filter (λ r. holds r.standing.tree reading.now.article.fields)
             (live_with view.now.history (article_keys reading.now.article.fields) reading.now.entries)) }
     {
-        let asked = candidates_in(alloc, view, place, reading, &mut self.positions)?;
+        let asked = candidates_in(self.alloc, view, place, reading, &mut self.positions)?;
         keep_possible(reading, &self.positions, &mut self.possible)?;
         keep_holding(reading, &self.possible, &mut self.stack, &mut self.holding)?;
         Ok(asked)
@@ -267,7 +275,6 @@ impl Room {
     /// how many candidates the segment has.
     fn try_segment<'a>(
         &mut self,
-        alloc: Global,
         view: &View,
         place: usize,
         reading: &SegmentReading<'a>,
@@ -279,29 +286,29 @@ impl Room {
             (live_with view.now.history (article_keys reading.now.article.fields) reading.now.entries) < 2 ^ 64 }
         ensures asked { OnOk result (judged.new.asked ≡ judged.old.asked + length
             (live_with view.now.history (article_keys reading.now.article.fields) reading.now.entries)) }
-        ensures held { OnOk result (map (λ h. h.registered.now) judged.new.held.items
-            ≡ map (λ h. h.registered.now) judged.old.held.items
+        ensures held { OnOk result (map (λ h. h.registered.now) judged.new.entries.held.items
+            ≡ map (λ h. h.registered.now) judged.old.entries.held.items
             ++ filter (λ r. holds r.standing.tree reading.now.article.fields)
             (live_with view.now.history (article_keys reading.now.article.fields) reading.now.entries)) }
         ensures hits { OnOk result (
-            All (HasItsHits hits reading.now.article (map hit_value judged.old.all_hits.items)) judged.old.held.items
-            → All (HasItsHits hits reading.now.article (map hit_value judged.new.all_hits.items))
-            judged.new.held.items) }
+            All (HasItsHits hits reading.now.article (map hit_value judged.old.entries.all_hits.items))
+            judged.old.entries.held.items
+            → All (HasItsHits hits reading.now.article (map hit_value judged.new.entries.all_hits.items))
+            judged.new.entries.held.items) }
         ensures heard { OnOk result (judged.new.is_heard
             ≡ (judged.old.is_heard || list_any has_listener
             (filter (λ r. holds r.standing.tree reading.now.article.fields)
             (live_with view.now.history (article_keys reading.now.article.fields) reading.now.entries)))) }
     {
-        judged.asked += self.judge_segment(alloc, view, place, reading)?;
+        judged.asked += self.judge_segment(view, place, reading)?;
         judged.is_heard = judged.is_heard || is_one_heard(reading, &self.holding);
         add_held(
-            alloc,
+            self.alloc,
             reading,
             &self.holding,
             hits,
             &mut self.flags,
-            &mut judged.all_hits,
-            &mut judged.held,
+            &mut judged.entries,
         )
     }
 }
@@ -321,12 +328,12 @@ pub(crate) fn judge_candidates<'a>(
     hits: HitsFound,
 ) -> Result<Judged<'a>, NoMemory>
     ensures asked { IfOk result (λ found. found.asked ≡ length (candidates_of view.now article.now)) }
-    ensures held { IfOk result (λ found. map (λ h. h.registered.now) found.held.items
+    ensures held { IfOk result (λ found. map (λ h. h.registered.now) found.entries.held.items
         ≡ filter (λ r. holds r.standing.tree article.now.fields) (candidates_of view.now article.now)) }
     ensures hits { IfOk result (λ found.
-        All (HasItsHits hits article.now (map hit_value found.all_hits.items)) found.held.items) }
+        All (HasItsHits hits article.now (map hit_value found.entries.all_hits.items)) found.entries.held.items) }
     ensures heard { IfOk result (λ found.
-        found.is_heard ≡ list_any has_listener (map (λ h. h.registered.now) found.held.items)) }
+        found.is_heard ≡ list_any has_listener (map (λ h. h.registered.now) found.entries.held.items)) }
     ensures misses_none { IfOk result (λ _. MissesNone view.now article.now (candidates_of view.now article.now)) }
     ensures registered { IfOk result (λ _. AreRegistered view.now (candidates_of view.now article.now)) }
     ensures rising { IfOk result (λ _. IsRising (candidates_of view.now article.now)) }
@@ -336,14 +343,16 @@ pub(crate) fn judge_candidates<'a>(
     let mut room = Room::new(alloc);
     let mut judged = Judged {
         asked: 0,
-        held: Vec::new(alloc),
-        all_hits: Vec::new(alloc),
+        entries: HeldEntries {
+            held: Vec::new(alloc),
+            all_hits: Vec::new(alloc),
+        },
         is_heard: false,
     };
     let segments = view.segments();
     for (place, segment) in segments.iter().enumerate() {
         let reading = segment.read(alloc, &asking)?;
-        room.try_segment(alloc, view, place, &reading, hits, &mut judged)?;
+        room.try_segment(view, place, &reading, hits, &mut judged)?;
     }
     Ok(judged)
 }

@@ -9,7 +9,7 @@ ghost use Rattle.clip_words.specs.Order.{bytes_cmp};
 ghost use Rattle.clip_grammar.specs.Tokens.{End};
 ghost use Rattle.clip_grammar.specs.Tree.{end_of};
 ghost use Rattle.clip_meaning.specs.Index.{numbered, posting_cmp};
-ghost use Rattle.clip_meaning.specs.Leads.{AreBytes, has_lead, lead_of};
+ghost use Rattle.clip_meaning.specs.Leads.{AreBytes, IsLead, has_lead, lead_of};
 ghost use Rattle.clip_meaning.specs.Steps.Searches.{from_low};
 ghost use Rattle.clip_meaning.specs.Meaning.{below, begins_with, is_between};
 
@@ -57,6 +57,14 @@ impl Posting {
         ensures { result ≡ self.now.1 }
     {
         self.position
+    }
+
+    /// The word's lead: its first eight bytes as a number, the first as the greatest digit, and 0 past its end. Takes
+    /// no memory. Constant time.
+    pub fn lead(&self) -> u64
+        ensures { IsLead self.now.0 result }
+    {
+        self.lead
     }
 
     /// Whether the word has a lead.

@@ -12,7 +12,8 @@ use Rattle.clip_near.specs.Near.{bare}
 abbrev trees : List (Occur × Query) → Clauses
 trees cs = clauses_of (map (λ c. (c.0, tree_of c.1)) cs)
 
-group_tree : (query : Query) (v : Vec (Occur × Query) Global) → query ≡ Group v → tree_of query ≡ Tree.Group (trees v.items)
+group_tree : (query : Query) (v : Vec (Occur × Query) Global) → query ≡ Group v
+    → tree_of query ≡ Tree.Group (trees v.items)
 group_tree query v group = ap tree_of group ∙ tree_of_group v
 
 only_tree : (query : Query) (v : Vec (Occur × Query) Global) (c : Occur × Query) → query ≡ Group v

@@ -89,7 +89,8 @@ pub close_behind : (n : ℕ) (last : Option ℕ) (end : ℕ) (query : Tree) (wor
     → found ≡ stands_behind n last query words position
 close_behind n last end query words position found is le near e =
     e ∙ sym (ap (λ b. b && stands_at query words position)
-    (close_true n end position le (omega (arith, near, le)))) ∙ ap (λ o. stands_behind n o query words position) (sym is)
+    (close_true n end position le (omega (arith, near, le))))
+    ∙ ap (λ o. stands_behind n o query words position) (sym is)
 
 pub found_here : (n : ℕ) (first second : Tree) (words : List (List ℕ)) (position : ℕ) (end : Option ℕ)
     → IsLastEnd first words (position + 1) end → stands_behind n end second words position ≡ true

@@ -104,7 +104,8 @@ phrase_stands : (field : List ℕ) (phrase : List (List ℕ)) (words : List (Lis
 phrase_stands field [] words k h = h
 phrase_stands field (p ∷ ps) words k h = run_stands p ps words k h
 
-span_stands : (field : List ℕ) (low high : End) (words : List (List ℕ)) → stands (Tree.Span field low high) words ≡ false
+span_stands : (field : List ℕ) (low high : End) (words : List (List ℕ))
+    → stands (Tree.Span field low high) words ≡ false
 span_stands field low high [] = refl
 span_stands field low high (w ∷ ws) = refl
 

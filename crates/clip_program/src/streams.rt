@@ -6,7 +6,7 @@ use clip_command_line::{VERSION, feed, mail, named};
 use clip_listen::Listeners;
 use clip_run::{Ended, Form, OpenGate, Settings, run};
 use clip_stream::{MOST_WORKERS, RunFault, StdSink, StdSource};
-use clip_trace_lines::run_trace;
+use clip_trace::run_trace;
 use std::io;
 use std::sync::Wait;
 use std::thread::Threads;

@@ -6,7 +6,7 @@ use Rattle.std.proofs.lemmas.Map.Text.{is_eq-slice_cmp}
 use Rattle.std.proofs.lemmas.Slice.Eq.{bytes_eq-Decides}
 use Rattle.std.specs.Ordering.{nat_cmp, match_ordering, is_eq}
 use Rattle.std.specs.Cmp.Lexicographic.{slice_cmp}
-use Rattle.std.specs.Prelude.{codes}
+use Rattle.std.specs.Prelude.{codes, ⊤}
 use Rattle.std.specs.declared.cmp.Ordering.{Ordering}
 use Rattle.std.specs.declared.cmp.Ordering.TheVariants.{Less, Equal, Greater}
 use Rattle.serde_json.specs.Data.{Data, null, boolean, number, string, array, object, Items, no_items, item, Members}
@@ -18,8 +18,8 @@ use Rattle.clip_protocol.specs.Request.{Listing, Draft, Request, register, delet
 use Rattle.clip_protocol.specs.Request.{members_from, object_of, listing_value, field_value, draft_value, value_of}
 use Rattle.clip_protocol.specs.Steps.Outline.{take_member, when_none_left, two_of, two_members, three_members, all_of}
 use Rattle.clip_protocol.specs.Steps.Outline.{fields_of, plain_listing_of, heard_listing_of, listing_of, draft_of}
-use Rattle.clip_protocol.specs.Steps.Outline.{operation_of, operation_in, has_members, counts_members, register_of}
-use Rattle.clip_protocol.specs.Steps.Outline.{delete_of, show_of, match_of, request_by, request_of}
+use Rattle.clip_protocol.specs.Steps.Outline.{operations, operation_in, has_members, counts_members, register_of}
+use Rattle.clip_protocol.specs.Steps.Outline.{delete_of, show_of, match_of, request_by, request_of, named_in, asked_in}
 use Rattle.clip_protocol.specs.declared.request.Operation.{Operation}
 use Rattle.clip_protocol.specs.declared.request.Operation.TheVariants as operation
 
@@ -51,7 +51,7 @@ unfolding draft_of
 draft_of-value d = ap (λ o. option_map (λ fields. record { id = d.id; fields = fields }) o) (fields_of-map d.fields)
 
 pub request_of-value_of : (r : Request) → request_of (value_of r) ≡ Some r
-unfolding request_of operation_in operation_of register_of delete_of show_of match_of has_members
+unfolding request_of operation_in register_of delete_of show_of match_of has_members
 request_of-value_of (register listings) =
     ap (option_map register) (all_of-map listing_value listing_of listing_of-value listings)
 request_of-value_of (delete ids) = ap (option_map delete) (all_of-map string as_str (λ s. refl) ids)
@@ -203,16 +203,7 @@ draft_is d a e =
     ∙ ap₂ (λ x y. object_of ((codes "fields", x) ∷ (codes "id", y) ∷ [])) first (text_is p.0.1 id.0 id.1)
     ∙ ap draft_value fields.2
 
--- ---- operations
-
-name_of : Operation → List ℕ
-name_of operation.Register = codes "register"
-name_of operation.Delete = codes "delete"
-name_of operation.Clear = codes "clear"
-name_of operation.Purge = codes "purge"
-name_of operation.Count = codes "count"
-name_of operation.Show = codes "show"
-name_of operation.Match = codes "match"
+-- ---- operations by their names
 
 -- by names of the operations, where the first that is found has the word for its name
 pub named_by : {O : Type 0} (name : O → List ℕ) (b : Bool) (word : List ℕ) (o : O) (rest : Option O) (found : O)
@@ -221,22 +212,17 @@ pub named_by : {O : Type 0} (name : O → List ℕ) (b : Bool) (word : List ℕ)
 named_by name true word o rest found is more e = let same : o ≡ found = cc in is refl ∙ ap name same
 named_by name false word o rest found is more e = more e
 
-named : (b : Bool) (word : List ℕ) (o : Operation) (rest : Option Operation) (found : Operation)
-    → (b ≡ true → word ≡ name_of o) → (rest ≡ Some found → word ≡ name_of found) → cond b (Some o) rest ≡ Some found
-    → word ≡ name_of found
-named = named_by name_of
+-- each has its name
+abbrev pub AreNamed : {O : Type 0} → (O → List ℕ) → List (List ℕ × O) → Type 0
+AreNamed name [] = ⊤
+AreNamed name (p ∷ ps) = (p.0 ≡ name p.1) × AreNamed name ps
 
-name_is : (word : List ℕ) (o : Operation) → operation_of word ≡ Some o → word ≡ name_of o
-unfolding operation_of name_of
-name_is word o e =
-    named (bytes_eq word (codes "register")) word operation.Register _ o (bytes_eq-Decides word (codes "register")).0
-    (named (bytes_eq word (codes "delete")) word operation.Delete _ o (bytes_eq-Decides word (codes "delete")).0
-    (named (bytes_eq word (codes "clear")) word operation.Clear _ o (bytes_eq-Decides word (codes "clear")).0
-    (named (bytes_eq word (codes "purge")) word operation.Purge _ o (bytes_eq-Decides word (codes "purge")).0
-    (named (bytes_eq word (codes "count")) word operation.Count _ o (bytes_eq-Decides word (codes "count")).0
-    (named (bytes_eq word (codes "show")) word operation.Show _ o (bytes_eq-Decides word (codes "show")).0
-    (named (bytes_eq word (codes "match")) word operation.Match None o (bytes_eq-Decides word (codes "match")).0
-    (λ none. absurd (none_is_some o none)))))))) e
+named_is : {O : Type 0} (name : O → List ℕ) (these : List (List ℕ × O)) → AreNamed name these → (word : List ℕ)
+    (o : O) → named_in these word ≡ Some o → word ≡ name o
+named_is name [] are word o e = absurd (none_is_some o e)
+named_is name (p ∷ ps) are word o e =
+    named_by name (bytes_eq word p.0) word p.1 (named_in ps word) o
+    (λ same. (bytes_eq-Decides word p.0).0 same ∙ are.0) (named_is name ps are.1 word o) e
 
 -- the value of the member by which the operation is told
 pub word_text : (d x : Data) (word : List ℕ) → get (codes "op") d ≡ Some x
@@ -246,12 +232,11 @@ word_text d x word found e =
     let same : x ≡ value.0 = cc (found, value.1) in
     same ∙ text_is value.0 word value.2
 
-name_text : (d x : Data) (o : Operation) → get (codes "op") d ≡ Some x → operation_in d ≡ Some o
-    → x ≡ string (name_of o)
-unfolding operation_in
-name_text d x o found e =
-    let word = led (option_and_then as_str (get (codes "op") d)) operation_of o e in
-    word_text d x word.0 found word.1 ∙ ap string (name_is word.0 o word.2)
+pub name_text : {O : Type 0} (name : O → List ℕ) (these : List (List ℕ × O)) → AreNamed name these → (d x : Data)
+    (o : O) → get (codes "op") d ≡ Some x → asked_in these d ≡ Some o → x ≡ string (name o)
+name_text name these are d x o found e =
+    let word = led (option_and_then as_str (get (codes "op") d)) (named_in these) o e in
+    word_text d x word.0 found word.1 ∙ ap string (named_is name these are word.0 o word.2)
 
 -- ---- objects of one member
 
@@ -285,14 +270,36 @@ lone_word d word one e =
     (bytes_eq-Decides (codes "op") lone.0).0 (sym (is_eq-slice_cmp (codes "op") lone.0) ∙ here.0) in
     shape ∙ ap₂ (λ k x. object (member k x no_members)) (sym key) (here.1 ∙ text_is value.0 word value.2)
 
-lone_is : (d : Data) (o : Operation) → has_members 1 d ≡ true → operation_in d ≡ Some o
-    → d ≡ object_of ((codes "op", string (name_of o)) ∷ [])
-unfolding operation_in
-lone_is d o one e =
-    let word = led (option_and_then as_str (get (codes "op") d)) operation_of o e in
-    lone_word d word.0 one word.1 ∙ ap (λ w. object_of ((codes "op", string w) ∷ [])) (name_is word.0 o word.2)
+pub lone_is : {O : Type 0} (name : O → List ℕ) (these : List (List ℕ × O)) → AreNamed name these → (d : Data) (o : O)
+    → has_members 1 d ≡ true → asked_in these d ≡ Some o → d ≡ object_of ((codes "op", string (name o)) ∷ [])
+lone_is name these are d o one e =
+    let word = led (option_and_then as_str (get (codes "op") d)) (named_in these) o e in
+    lone_word d word.0 one word.1
+    ∙ ap (λ w. object_of ((codes "op", string w) ∷ [])) (named_is name these are word.0 o word.2)
 
 -- ---- the law
+
+name_of : Operation → List ℕ
+name_of operation.Register = codes "register"
+name_of operation.Delete = codes "delete"
+name_of operation.Clear = codes "clear"
+name_of operation.Purge = codes "purge"
+name_of operation.Count = codes "count"
+name_of operation.Show = codes "show"
+name_of operation.Match = codes "match"
+
+are_named : AreNamed name_of operations
+unfolding name_of
+are_named = (refl, (refl, (refl, (refl, (refl, (refl, (refl, tt)))))))
+
+told : (d x : Data) (o : Operation) → get (codes "op") d ≡ Some x → operation_in d ≡ Some o → x ≡ string (name_of o)
+unfolding operation_in
+told d x o found e = name_text name_of operations are_named d x o found e
+
+lone : (d : Data) (o : Operation) → has_members 1 d ≡ true → operation_in d ≡ Some o
+    → d ≡ object_of ((codes "op", string (name_of o)) ∷ [])
+unfolding operation_in
+lone d o one e = lone_is name_of operations are_named d o one e
 
 request_is : (d : Data) (o : Operation) (r : Request) → operation_in d ≡ Some o → request_by d o ≡ Some r
     → d ≡ value_of r
@@ -302,7 +309,7 @@ request_is d operation.Register r op e =
     let p = led (two_members (codes "op") (codes "queries") d) _ all.0 all.1 in
     let items = led (as_array p.0.1) _ all.0 p.2 in
     let shape = two_are (codes "op") (codes "queries") d p.0 p.1 in
-    let word = name_text d p.0.0 operation.Register (ap (get (codes "op")) shape) op in
+    let word = told d p.0.0 operation.Register (ap (get (codes "op")) shape) op in
     shape ∙ ap₂ (λ x y. object_of ((codes "op", x) ∷ (codes "queries", y) ∷ [])) word (array_is p.0.1 items.0 items.1
     ∙ ap array (all_are listing_value listing_of listing_is items.0 all.0 items.2)) ∙ ap value_of all.2
 request_is d operation.Delete r op e =
@@ -310,20 +317,20 @@ request_is d operation.Delete r op e =
     let p = led (two_members (codes "ids") (codes "op") d) _ all.0 all.1 in
     let items = led (as_array p.0.0) _ all.0 p.2 in
     let shape = two_are (codes "ids") (codes "op") d p.0 p.1 in
-    let word = name_text d p.0.1 operation.Delete (ap (get (codes "op")) shape) op in
+    let word = told d p.0.1 operation.Delete (ap (get (codes "op")) shape) op in
     shape ∙ ap₂ (λ x y. object_of ((codes "ids", x) ∷ (codes "op", y) ∷ [])) (array_is p.0.0 items.0 items.1
     ∙ ap array (all_are string as_str text_is items.0 all.0 items.2)) word ∙ ap value_of all.2
-request_is d operation.Clear r op e = let w = when (has_members 1 d) clear r e in lone_is d operation.Clear w.0 op
+request_is d operation.Clear r op e = let w = when (has_members 1 d) clear r e in lone d operation.Clear w.0 op
     ∙ ap value_of w.1
-request_is d operation.Purge r op e = let w = when (has_members 1 d) purge r e in lone_is d operation.Purge w.0 op
+request_is d operation.Purge r op e = let w = when (has_members 1 d) purge r e in lone d operation.Purge w.0 op
     ∙ ap value_of w.1
-request_is d operation.Count r op e = let w = when (has_members 1 d) count r e in lone_is d operation.Count w.0 op
+request_is d operation.Count r op e = let w = when (has_members 1 d) count r e in lone d operation.Count w.0 op
     ∙ ap value_of w.1
 request_is d operation.Show r op e =
     let id = mapped _ show r e in
     let p = led (two_members (codes "id") (codes "op") d) _ id.0 id.1 in
     let shape = two_are (codes "id") (codes "op") d p.0 p.1 in
-    let word = name_text d p.0.1 operation.Show (ap (get (codes "op")) shape) op in
+    let word = told d p.0.1 operation.Show (ap (get (codes "op")) shape) op in
     shape ∙ ap₂ (λ x y. object_of ((codes "id", x) ∷ (codes "op", y) ∷ [])) (text_is p.0.0 id.0 p.2) word
     ∙ ap value_of id.2
 request_is d operation.Match r op e =
@@ -331,7 +338,7 @@ request_is d operation.Match r op e =
     let p = led (two_members (codes "articles") (codes "op") d) _ all.0 all.1 in
     let items = led (as_array p.0.0) _ all.0 p.2 in
     let shape = two_are (codes "articles") (codes "op") d p.0 p.1 in
-    let word = name_text d p.0.1 operation.Match (ap (get (codes "op")) shape) op in
+    let word = told d p.0.1 operation.Match (ap (get (codes "op")) shape) op in
     shape ∙ ap₂ (λ x y. object_of ((codes "articles", x) ∷ (codes "op", y) ∷ [])) (array_is p.0.0 items.0 items.1
     ∙ ap array (all_are draft_value draft_of draft_is items.0 all.0 items.2)) word ∙ ap value_of all.2
 

@@ -6,4 +6,5 @@ pub mod Outline
 pub mod Parts
 pub mod Printing
 pub mod Putting
+pub mod Saying
 pub mod Views

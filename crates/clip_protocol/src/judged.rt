@@ -5,9 +5,10 @@ ghost use Rattle.clip_protocol.specs.LineMeaning.{article_of};
 ghost use Rattle.clip_protocol.specs.Steps.Outline.{ReadsAs, articles_in};
 ghost use Rattle.clip_protocol.specs.Steps.Views.{draft_view};
 
-use crate::refusal::{Refusal, Unread};
+use crate::refusal::{LIMITED, Refusal, Unread};
 use crate::request::Draft;
 use clip_meaning::{Article, ArticleFault, fault_of};
+use clip_model::MOST_ARTICLES;
 use clip_words::{NoMemory, WordPool};
 use std::alloc::Global;
 use std::marker::Model;
@@ -65,16 +66,19 @@ impl JudgedDraft {
     }
 }
 
-/// The drafts, where each is within the limits of an article, and else the refusal `Limit`. No text is cut. Cost: that
-/// of `fault_of` for each.
+/// The drafts, where a line may list so many, at most 256, and each is within the limits of an article; else the
+/// refusal `Limit`. No text is cut. Cost: that of `fault_of` for each.
 pub fn judge_drafts(alloc: Global, drafts: Vec<Draft>) -> Result<Vec<JudgedDraft>, Unread>
     ensures { ReadsAs Refusal.Limit (λ all. all.items) (articles_in (map draft_view drafts.items)) result }
 {
+    if drafts.len() > MOST_ARTICLES {
+        return Err(LIMITED);
+    }
     let mut all = Vec::with_capacity(alloc, drafts.len())?;
     for draft in drafts {
         match JudgedDraft::of(draft) {
             Some(judged) => all.push(judged)?,
-            None => return Err(Unread::Refused(Refusal::Limit)),
+            None => return Err(LIMITED),
         }
     }
     Ok(all)

@@ -18,14 +18,12 @@ mod shown;
 pub use form::Form;
 pub use found::{Found, closed_text, found_text, opened_text};
 pub use judged::{JudgedDraft, articles_of, judge_drafts};
-pub use line::{Line, have_ids, is_blank, json_of};
+pub use line::{Line, is_blank, json_of, may_delete, may_register, read_value};
 pub use listing::{ListFault, read_listing};
-pub use members::{
-    has_members, items_of, members_of, take_member, three_members, two_members, two_of,
-};
+pub use members::{items_of, members_of, operation_of, take_member, three_members, two_members};
 pub use put::{ArticlePart, put_alerts, put_part};
-pub use refusal::{Refusal, UNSHAPED, Unread};
+pub use refusal::{LIMITED, Refusal, UNSHAPED, Unread};
 pub use reply::{Reply, accepted};
-pub use request::{Draft, Listing, Request, drafts_of, listings_of, texts_of};
+pub use request::{Draft, Listing, Request, drafts_of};
 pub use said::AlertsSaid;
 pub use shown::Shown;

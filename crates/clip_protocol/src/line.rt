@@ -1,16 +1,18 @@
 //! Lines: what each says by itself.
-ghost use Rattle.std.specs.Prelude.{◌≡◌, IfOk, map, string_bytes, cond, Some, None};
+ghost use Rattle.std.specs.Prelude.{◌≡◌, map, string_bytes};
 ghost use Rattle.std.specs.List.{list_all};
 ghost use Rattle.clip_words.specs.Ids.{is_id};
 ghost use Rattle.serde_json.specs.View.{view};
 ghost use Rattle.clip_protocol.specs.LineMeaning.{is_blank, is_blank_byte as blank_byte, json_of};
+ghost use Rattle.clip_protocol.specs.Request.{delete, register, within};
 ghost use Rattle.clip_protocol.specs.Steps.Outline.{ReadsAs};
+ghost use Rattle.clip_protocol.specs.Steps.Saying.{ReadsValue, line_value};
 ghost use Rattle.clip_protocol.specs.Steps.Views.{listing_view};
 
 use crate::judged::{JudgedDraft, judge_drafts};
-use crate::refusal::{Refusal, Unread};
+use crate::refusal::{LIMITED, Refusal, Unread};
 use crate::request::{Listing, Request};
-use clip_model::{MOST_ARTICLES, MOST_LISTED};
+use clip_model::MOST_LISTED;
 use clip_stream::MOST_LINE_BYTES;
 use clip_words::{NoMemory, are_ids, is_id};
 use serde_json::Value;
@@ -70,8 +72,25 @@ pub fn json_of(alloc: Global, line: &[u8]) -> Result<Value, Unread>
     }
 }
 
+/// The JSON value of a line, or none where the line is blank.
+///
+/// `Refused` with the first that holds: `Long` where it has over 1,048,576 bytes, `Json` where `serde_json` reads no
+/// value from it. `NoMemory` where an allocation failed. Its cost is the reading of the value.
+#[tactic(auto, unfolding(crate::specs::Steps::Saying::line_value))]
+pub fn read_value(alloc: Global, bytes: &[u8]) -> Result<Option<Value>, Unread>
+    ensures { ReadsValue (line_value bytes.now) result }
+{
+    if bytes.len() > MOST_LINE_BYTES {
+        return Err(Unread::Refused(Refusal::Long));
+    }
+    if is_blank(bytes) {
+        return Ok(None);
+    }
+    Ok(Some(json_of(alloc, bytes)?))
+}
+
 /// Whether each query's id may be one.
-pub fn have_ids(listings: &[Listing]) -> bool
+fn have_ids(listings: &[Listing]) -> bool
     ensures { result ≡ list_all (λ l. is_id l.id) (map listing_view listings.now) }
 {
     for listing in listings {
@@ -80,6 +99,20 @@ pub fn have_ids(listings: &[Listing]) -> bool
         }
     }
     true
+}
+
+/// Whether one register may list these queries: at most 1,024, each under an id that may be one.
+pub fn may_register(listings: &[Listing]) -> bool
+    ensures { result ≡ within (register (map listing_view listings.now)) }
+{
+    listings.len() <= MOST_LISTED && have_ids(listings)
+}
+
+/// Whether one delete may list these ids: at most 1,024, each of which may be one.
+pub fn may_delete(ids: &[String]) -> bool
+    ensures { result ≡ within (delete (map string_bytes ids.now)) }
+{
+    ids.len() <= MOST_LISTED && are_ids(ids)
 }
 
 impl Line {
@@ -94,14 +127,14 @@ impl Line {
     {
         match request {
             Request::Register(listings) => {
-                if listings.len() > MOST_LISTED || !have_ids(&listings) {
-                    return Err(Unread::Refused(Refusal::Limit));
+                if !may_register(&listings) {
+                    return Err(LIMITED);
                 }
                 Ok(Line::Register(listings))
             }
             Request::Delete(ids) => {
-                if ids.len() > MOST_LISTED || !are_ids(&ids) {
-                    return Err(Unread::Refused(Refusal::Limit));
+                if !may_delete(&ids) {
+                    return Err(LIMITED);
                 }
                 Ok(Line::Delete(ids))
             }
@@ -110,34 +143,24 @@ impl Line {
             Request::Count => Ok(Line::Count),
             Request::Show(id) => {
                 if !is_id(id.as_str()) {
-                    return Err(Unread::Refused(Refusal::Limit));
+                    return Err(LIMITED);
                 }
                 Ok(Line::Show(id))
             }
-            Request::Match(drafts) => {
-                if drafts.len() > MOST_ARTICLES {
-                    return Err(Unread::Refused(Refusal::Limit));
-                }
-                Ok(Line::Match(judge_drafts(alloc, drafts)?))
-            }
+            Request::Match(drafts) => Ok(Line::Match(judge_drafts(alloc, drafts)?)),
         }
     }
 
     /// What the bytes say, or why they are refused.
-    #[tactic(auto, unfolding(crate::specs::Steps::Outline::outline))]
+    #[tactic(auto, using(crate::proofs::Saying::outline_by_value))]
     fn read(alloc: Global, bytes: &[u8]) -> Result<Line, Unread>
         ensures outline { Outlines line_view (outline bytes.now) result }
         ensures within { IfOk result (λ line. is_within (line_view line) ≡ true) }
     {
-        if bytes.len() > MOST_LINE_BYTES {
-            return Err(Unread::Refused(Refusal::Long));
+        match read_value(alloc, bytes)? {
+            Some(value) => Line::limited(alloc, Request::of_value(alloc, value)?),
+            None => Ok(Line::Blank),
         }
-        if is_blank(bytes) {
-            return Ok(Line::Blank);
-        }
-        let value = json_of(alloc, bytes)?;
-        let request = Request::of_value(alloc, value)?;
-        Line::limited(alloc, request)
     }
 
     /// What a line says, its line feed left out. `NoMemory` where an allocation failed. Its cost is the reading of its

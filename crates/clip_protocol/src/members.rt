@@ -1,10 +1,31 @@
 //! JSON values taken apart, their texts moved out and not copied.
-ghost use Rattle.std.specs.Prelude.{◌≡◌, option_map, option_and_then, string_bytes};
+ghost use Rattle.std.specs.Prelude.{◌≡◌, map, option_map, option_and_then, string_bytes};
 ghost use Rattle.serde_json.specs.Find.{as_str, as_array, as_object};
 ghost use Rattle.serde_json.specs.View.{view, items_view, members_view};
 ghost use Rattle.clip_protocol.specs.Steps.Outline.{has_members, take_member, two_of, two_members, three_members};
+ghost use Rattle.clip_protocol.specs.Steps.Outline.{asked_in, named_in};
 
 use serde_json::{Map, Value};
+
+/// The first of these that has this name.
+fn named<O: Copy>(word: &str, these: &[(&'static str, O)]) -> Option<O>
+    ensures { result ≡ named_in (map (λ p. (p.0.now, p.1)) these.now) word.now }
+{
+    for (name, one) in these {
+        if word == *name {
+            return Some(*one);
+        }
+    }
+    None
+}
+
+/// The operation, of these under their names, that an object asks for by its member `op`. None where the member is
+/// another text, no text, or not there. Cost: a comparison with each name.
+pub fn operation_of<O: Copy>(value: &Value, these: &[(&'static str, O)]) -> Option<O>
+    ensures { result ≡ asked_in (map (λ p. (p.0.now, p.1)) these.now) (view value.now) }
+{
+    named(value.get("op").and_then(Value::as_str)?, these)
+}
 
 /// The text of a value that is one.
 pub fn text_of(value: Value) -> Option<String>

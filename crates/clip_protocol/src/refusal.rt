@@ -53,6 +53,9 @@ pub enum Unread {
 /// No request has this shape.
 pub const UNSHAPED: Unread = Unread::Refused(Refusal::Shape);
 
+/// The request is beyond a limit.
+pub const LIMITED: Unread = Unread::Refused(Refusal::Limit);
+
 impl From<OutOfMemory> for Unread {
     ghost use Rattle.clip_protocol.specs.declared.refusal.Unread.TheVariants.{NoMemory};
 

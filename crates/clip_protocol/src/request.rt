@@ -3,10 +3,12 @@ ghost use Rattle.std.specs.Prelude.{◌≡◌, option_map, map, string_bytes};
 ghost use Rattle.serde_json.specs.Find.{as_str};
 ghost use Rattle.serde_json.specs.View.{view, items_view, members_view};
 ghost use Rattle.clip_protocol.specs.Steps.Outline.{ReadsAs, all_of, fields_of, plain_listing_of, heard_listing_of};
-ghost use Rattle.clip_protocol.specs.Steps.Outline.{listing_of, draft_of, operation_of, operation_in};
+ghost use Rattle.clip_protocol.specs.Steps.Outline.{listing_of, draft_of, operation_in};
 ghost use Rattle.clip_protocol.specs.Steps.Views.{fields_view, listing_view, draft_view};
 
-use crate::members::{has_members, items_of, members_of, text_of, three_members, two_members};
+use crate::members::{
+    has_members, items_of, members_of, operation_of, text_of, three_members, two_members,
+};
 use crate::refusal::{Refusal, UNSHAPED, Unread};
 use serde_json::{Map, Value};
 use std::alloc::Global;
@@ -62,37 +64,24 @@ enum Operation {
     Match,
 }
 
-impl Operation {
-    /// The operation of this name.
-    #[tactic(auto, unfolding(crate::specs::Steps::Outline::operation_of))]
-    fn named(word: &str) -> Option<Operation>
-        ensures { result ≡ operation_of word.now }
-    {
-        if word == "register" {
-            Some(Operation::Register)
-        } else if word == "delete" {
-            Some(Operation::Delete)
-        } else if word == "clear" {
-            Some(Operation::Clear)
-        } else if word == "purge" {
-            Some(Operation::Purge)
-        } else if word == "count" {
-            Some(Operation::Count)
-        } else if word == "show" {
-            Some(Operation::Show)
-        } else if word == "match" {
-            Some(Operation::Match)
-        } else {
-            None
-        }
-    }
+/// Each operation under its name.
+const OPERATIONS: [(&str, Operation); 7] = [
+    ("register", Operation::Register),
+    ("delete", Operation::Delete),
+    ("clear", Operation::Clear),
+    ("purge", Operation::Purge),
+    ("count", Operation::Count),
+    ("show", Operation::Show),
+    ("match", Operation::Match),
+];
 
+impl Operation {
     /// The operation that an object asks for.
     #[tactic(auto, unfolding(crate::specs::Steps::Outline::operation_in))]
     fn of_value(value: &Value) -> Option<Operation>
         ensures { result ≡ operation_in (view value.now) }
     {
-        Operation::named(value.get("op").and_then(Value::as_str)?)
+        operation_of(value, &OPERATIONS)
     }
 }
 
@@ -140,7 +129,7 @@ fn listing_of(value: Value) -> Option<Listing>
 }
 
 /// The queries that values list.
-pub fn listings_of(alloc: Global, items: Vec<Value>) -> Result<Vec<Listing>, Unread>
+fn listings_of(alloc: Global, items: Vec<Value>) -> Result<Vec<Listing>, Unread>
     ensures { ReadsAs Refusal.Shape (λ all. map listing_view all.items)
         (all_of listing_of (items_view items.items)) result }
 {
@@ -155,7 +144,7 @@ pub fn listings_of(alloc: Global, items: Vec<Value>) -> Result<Vec<Listing>, Unr
 }
 
 /// The texts that values are.
-pub fn texts_of(alloc: Global, items: Vec<Value>) -> Result<Vec<String>, Unread>
+fn texts_of(alloc: Global, items: Vec<Value>) -> Result<Vec<String>, Unread>
     ensures { ReadsAs Refusal.Shape (λ all. map string_bytes all.items)
         (all_of as_str (items_view items.items)) result }
 {

@@ -1,5 +1,6 @@
 //! What a registrar and a view hold: the state, or none before the first command.
-ghost use Rattle.std.specs.Prelude.{◌≡◌, ℕ, Bool, ◌-◌, length, IfOk, slice_get, option_map, option_copied};
+ghost use Rattle.std.specs.Prelude.{◌≡◌, ◌↔◌, ℕ, Bool, ◌-◌, ◌≤◌, length, IfOk, IsTrue, slice_get};
+ghost use Rattle.std.specs.Prelude.{option_map, option_copied};
 ghost use Rattle.clip_model.specs.History.{IsLegal, own};
 ghost use Rattle.clip_registry.specs.RegistryState.{IsWhole, kept_history};
 ghost use Rattle.clip_registry.specs.Steps.State.{state_or_beginning};
@@ -7,6 +8,7 @@ ghost use Rattle.clip_standing.specs.Command.{shared_entry};
 
 use crate::history::History;
 use crate::state::State;
+use clip_model::MOST_ENTRIES;
 use clip_standing::HistoryEntry;
 use clip_words::NoMemory;
 use std::alloc::Global;
@@ -22,6 +24,16 @@ pub fn own_copy(alloc: Global, keeps: bool, held: &Option<Arc<State>>) -> Result
             Ok(state.clone()?)
         }
         None => State::new(alloc, keeps),
+    }
+}
+
+/// Whether the history is at its end: no command is accepted any more.
+pub fn has_ended(held: &Option<Arc<State>>) -> bool
+    ensures { (keeps : Bool) → IsTrue result ↔ MOST_ENTRIES ≤ length (state_or_beginning keeps held.now).history }
+{
+    match held {
+        Some(state) => state.log.len() >= MOST_ENTRIES,
+        None => false,
     }
 }
 

@@ -1,6 +1,6 @@
 //! The registrar: it applies commands one by one.
-ghost use Rattle.std.specs.Prelude.{◌≡◌, ◌-◌, ◌<◌, ◌≤◌, ℕ, true, false, Ok, None, length, IfOk, IfErr, IfSome, OnOk};
-ghost use Rattle.std.specs.Prelude.{OnErr, IsTrue, IsFalse, slice_get, option_map, option_copied};
+ghost use Rattle.std.specs.Prelude.{◌≡◌, ◌-◌, ◌<◌, ◌≤◌, ℕ, true, false, Ok, Err, None, length, IfOk, IfErr, IfSome};
+ghost use Rattle.std.specs.Prelude.{OnOk, OnErr, IsTrue, IsFalse, slice_get, option_map, option_copied};
 ghost use Rattle.clip_merge.specs.Plan.{AreFew, IsRun};
 ghost use Rattle.clip_model.specs.History.{fits, has_room, applied, own, IsLegal};
 ghost use Rattle.clip_standing.specs.Command.{command_of, answer_of, shared_entry};
@@ -9,7 +9,7 @@ ghost use Rattle.clip_registry.specs.RegistryState.{IsWhole, beginning, kept_his
 ghost use Rattle.clip_registry.specs.Steps.Change.{IsAccepted};
 ghost use Rattle.clip_standing.specs.declared.command.Refused.TheVariants as refused;
 
-use crate::held::{copy_of, history_of, last_of, number_of, own_copy};
+use crate::held::{copy_of, has_ended, history_of, last_of, number_of, own_copy};
 use crate::history::History;
 use crate::live_flags::all_flags;
 use crate::merging::{Installed, MergeJob, Merged};
@@ -17,7 +17,7 @@ use crate::purging::live_segments;
 use crate::state::State;
 use crate::view::View;
 use clip_merge::{plan, plan_turn};
-use clip_model::MOST_CALLERS;
+use clip_model::{MOST_CALLERS, MOST_ENTRIES};
 use clip_standing::{Applied, Command, HistoryEntry, Refused};
 use clip_words::NoMemory;
 use std::alloc::Global;
@@ -70,8 +70,8 @@ impl Registrar {
     }
 
     /// The registrar after a caller's next command, beside this one, which stays as it is, and the answer to the
-    /// command: `Full` where more than `MOST_LIVE` queries would then be registered or `MOST_ENTRIES` commands were
-    /// accepted, and `NoMemory` where an allocation failed.
+    /// command: `Full` where `MOST_ENTRIES` commands were accepted, judged before any memory is taken, or where more
+    /// than `MOST_LIVE` queries would then be registered, and `NoMemory` where an allocation failed.
     ///
     /// Cost: that of `apply`.
     pub fn after(&self, caller: u32, command: &Command) -> Result<(Registrar, Applied), Refused>
@@ -82,7 +82,11 @@ impl Registrar {
             IsAccepted caller (command_of command.now) self.now next.0 next.1) }
         ensures full { IfErr result (λ why. why ≡ refused.Full
             → IsFalse (has_room self.now.history (command_of command.now))) }
+        ensures ended { MOST_ENTRIES ≤ length self.now.history → result ≡ Err refused.Full }
     {
+        if has_ended(&self.state) {
+            return Err(Refused::Full);
+        }
         let copy = own_copy(self.alloc, self.keeps, &self.state)?;
         let (next, applied) = copy.after(self.alloc, caller, command)?;
         let next = Registrar {
@@ -93,9 +97,9 @@ impl Registrar {
         Ok((next, applied))
     }
 
-    /// Accepts a caller's next command, or refuses it and hands it back with nothing changed: `Full` where more than
-    /// `MOST_LIVE` queries would then be registered or `MOST_ENTRIES` commands were accepted, and `NoMemory` where an
-    /// allocation failed.
+    /// Accepts a caller's next command, or refuses it and hands it back with nothing changed: `Full` where
+    /// `MOST_ENTRIES` commands were accepted, judged before any memory is taken, or where more than `MOST_LIVE` queries
+    /// would then be registered, and `NoMemory` where an allocation failed.
     ///
     /// A register costs the extraction of the keys of each listed query, and for each a search among the registered
     /// ids; a delete costs such a search for each listed id; a clear costs the dropping of what no view holds.
@@ -119,6 +123,7 @@ impl Registrar {
 
         ensures full { IfErr result (λ back. back.1 ≡ refused.Full
             → IsFalse (has_room self.old.history (command_of command))) }
+        ensures ended { MOST_ENTRIES ≤ length self.old.history → result ≡ Err (command, refused.Full) }
         ensures handed_back { IfErr result (λ back. back.0 ≡ command) }
         ensures unchanged { OnErr result (self.new ≡ self.old) }
     {

@@ -128,8 +128,8 @@ impl State {
         )
     }
 
-    /// The state after a caller's next command, and the answer to it: `Full` where it has no room, and `NoMemory` where
-    /// an allocation failed.
+    /// The state after a caller's next command, and the answer to it: `Full` where more than `MOST_LIVE` queries would
+    /// then be registered, and `NoMemory` where an allocation failed.
     pub fn after(
         self,
         alloc: Global,
@@ -139,13 +139,11 @@ impl State {
         requires fits { IsTrue (fits (command_of command.now)) }
         requires caller_from { 0 < caller }
         requires caller_to { caller ≤ MOST_CALLERS }
+        requires unended { length self.history < MOST_ENTRIES }
         ensures accepted { IfOk result (λ next. IsAccepted caller (command_of command.now) self next.0 next.1) }
         ensures full { IfErr result (λ why. why ≡ refused.Full
             → IsFalse (has_room self.history (command_of command.now))) }
     {
-        if self.log.len() >= MOST_ENTRIES {
-            return Err(Refused::Full);
-        }
         let entry = self.next_entry(alloc, caller, command)?;
         let State {
             segments,

@@ -14,7 +14,7 @@ use clip_words::NoMemory;
 use std::alloc::Global;
 
 /// A remark on a place of a text.
-#[derive(Clone, Copy, PartialEq, Eq, Debug)]
+#[derive(Clone, Copy)]
 pub struct Remark {
     /// The byte of the text at which the lexeme begins that is remarked on.
     pub at: usize,

@@ -3,7 +3,7 @@ ghost use Rattle.std.specs.Prelude.{◌≡◌};
 ghost use Rattle.clip_remarks.specs.Rules.{level_of, name_of, sentence_of};
 
 /// How much a remark matters.
-#[derive(Clone, Copy, PartialEq, Eq, Debug)]
+#[derive(Clone, Copy)]
 pub enum Level {
     /// How queries are read in general.
     Hint,
@@ -14,7 +14,7 @@ pub enum Level {
 }
 
 /// Why a remark is made.
-#[derive(Clone, Copy, PartialEq, Eq, Debug)]
+#[derive(Clone, Copy)]
 pub enum Rule {
     /// All clauses of the text, or of a group, exclude.
     OnlyExcludes,

@@ -2,7 +2,7 @@
 use Rattle.std.proofs.Common.{◌≡◌, ℕ, ◌≤◌, List, [], ◌∷◌, ◌++◌, length, map, take, false, refl, ap, ap₂, ◌∙◌, arith}
 use Rattle.std.proofs.lemmas.List.{length-map, take_all}
 use Rattle.std.specs.Arc.{arc_str_bytes}
-use Rattle.std.specs.Prelude.{flat_map}
+use Rattle.std.specs.Prelude.{flat_map, Result, Ok, Err, OnOk}
 use Rattle.clip_meaning.specs.Article.{ArticleValue}
 use Rattle.clip_model.specs.Alerts.{alerts}
 use Rattle.clip_match.specs.Alerts.{alerts_due}
@@ -21,6 +21,8 @@ use Rattle.clip_front.specs.Steps.Answers.{GoesOn, held}
 use Rattle.clip_front.specs.Steps.Found.{told_in, rows_in, found_text, found_outcome}
 use Rattle.clip_front.proofs.Flowing.{begun_text, data_of, text_whole}
 use Rattle.clip_front.proofs.Responses.{held_by}
+use Rattle.clip_run.specs.Pending.{owed_to}
+use Rattle.clip_run.specs.declared.batch.Batch.{Batch}
 
 shown-alerts_due : (s : RegistryState) (articles : List ArticleValue) → map alerts_by_id (map (alerts_due s) articles)
     ≡ map (alerts_shown s.history) articles
@@ -62,23 +64,21 @@ found_given view hearers n articles found is =
           (given hearers n view.history (matching articles)).rows;
     }) (told-alerts_due view articles)
 
-pub goes_on_matched : (view : RegistryState) (hearers heard : List Hearer) (books new_books : Books) (n : ℕ)
-    (articles : List ArticleValue) (found : List AlertsValue) (text : List ℕ) → found ≡ map (alerts_due view) articles
-    → text ≡ found_text books.settings.form hearers n found
-    → heard ≡ told_all (told_in found) hearers
-    → new_books.ledger ≡ books.ledger ++ kept_rows books.settings.keeps_rows (rows_in hearers n found)
-    → new_books.settings ≡ books.settings
-    → GoesOn (held view.history hearers books) (held view.history heard new_books) n (matching articles) text
-goes_on_matched view hearers heard books new_books n articles found text is printed told rows settings =
-    let gives : found_outcome hearers n found ≡ given hearers n view.history (matching articles) =
-    found_given view hearers n articles found is in
-    record {
-      leaves =
-          ap (λ k. held_by k view.history heard new_books.ledger) settings
-          ∙ ap₂ (held_by books.settings view.history) (told ∙ ap (λ o. told_all o.alerts hearers) gives) (rows
-          ∙ ap (λ o. books.ledger ++ kept_rows books.settings.keeps_rows o.rows) gives);
-      replies = printed ∙ ap (λ o. o.text books.settings.form) gives;
-    }
+-- a run on one thread goes on by what is owed to a batch
+pub goes_on_owed : {T E : Type 0} (result : Result T E) (hearers heard : List Hearer) (books now : Books)
+    (batch : Batch) → OnOk result (heard ≡ told_all (owed_to hearers batch).alerts hearers)
+    → OnOk result (now.ledger
+    ≡ books.ledger ++ kept_rows books.settings.keeps_rows (owed_to hearers batch).rows)
+    → OnOk result (now.settings ≡ books.settings)
+    → OnOk result (GoesOn (held batch.view.history hearers books) (held batch.view.history heard now) batch.number
+    (matching batch.drafts.items) ((owed_to hearers batch).text books.settings.form))
+goes_on_owed (Err e) hearers heard books now batch told rows settings = tt
+goes_on_owed (Ok t) hearers heard books now batch told rows settings = record {
+  leaves =
+      ap (λ k. held_by k batch.view.history heard now.ledger) settings
+      ∙ ap₂ (held_by books.settings batch.view.history) told rows;
+  replies = refl;
+}
 
 -- ---- article by article
 

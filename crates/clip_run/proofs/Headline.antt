@@ -12,10 +12,10 @@ use Rattle.clip_model.specs.History.{History}
 use Rattle.clip_listen.specs.Heard.{Hearer, told_all, HearsFront}
 use Rattle.clip_listen.proofs.Hearing.{no_front, front_after, front_of_more, names_told}
 use Rattle.clip_protocol.specs.LineMeaning.{Meaning, Means, after, is_blank, json_of}
-use Rattle.clip_front.specs.Outcome.{Outcome, nothing_given, followed_by, given, names_in, kept_rows, Gives, GivesAll}
-use Rattle.clip_front.specs.Outcome.{GivesFront}
+use Rattle.clip_front.specs.Outcome.{Outcome, nothing_given, followed_by, given, names_in, kept_rows, Gives}
+use Rattle.clip_front.specs.Outcome.{GivesAllFrom, GivesFrontFrom, GivesLinesFrom}
 use Rattle.clip_protocol.specs.Steps.Outline.{outline, blank, outline_of_value, MeansOutline}
-use Rattle.clip_front.specs.Steps.Serving.{Serves, StopsAt, ServesAll, ServesFront}
+use Rattle.clip_front.specs.Steps.Serving.{Serves, StopsAt, ServesAll, ServesFront, ServesLines}
 use Rattle.clip_protocol.proofs.Meanings.{means_from, means_to}
 use Rattle.clip_front.proofs.Outcomes.{followed_assoc, followed_nothing, given_kept}
 use Rattle.clip_front.proofs.OneOutcome.{gives_on}
@@ -127,16 +127,16 @@ settled s t out outcome none_before none e =
     ∙ ap (λ os. followed_by (owes s.hearers os) outcome) none_before
 
 gives_all : {S : Type 0} (view : S → Course) (s t : S) (settings : Settings) (taken_old taken : Option (List ℕ))
-    (count : ℕ) (input : List ℕ) → (view s).history ≡ [] → (view s).rows ≡ [] → (view s).settings ≡ settings
-    → (view s).owed ≡ [] → (view t).owed ≡ []
+    (count : ℕ) (input : List ℕ) → (view s).rows ≡ [] → (view s).settings ≡ settings → (view s).owed ≡ []
+    → (view t).owed ≡ []
     → ServesAll (TurnsIn view) s t taken_old taken count input
-    → GivesAll (view s).hearers (view t).hearers settings taken_old taken count (view t).rows input
-gives_all view s t settings taken_old taken count input start no_rows same none_before none p =
+    → GivesAllFrom (view s).history (view s).hearers (view t).hearers settings taken_old taken count (view t).rows input
+gives_all view s t settings taken_old taken count input no_rows same none_before none p =
     let g = taken_by view s t 1 (lines_of input) p.text p.served in
     let whole = settled (view s) (view t) g.out g.outcome none_before none g.rest in
     record {
       outcome = g.outcome;
-      is = subst (λ h. Gives (view s).hearers 1 h (lines_of input) g.outcome) start g.gives;
+      is = g.gives;
       replies = subst (Appends taken_old taken) (sym g.printed ∙ ap (λ k. g.out.text k.form) same
           ∙ ap (λ o. o.text settings.form) whole) p.written;
       told = g.gave.heard ∙ ap (λ o. told_all o.alerts (view s).hearers) whole;
@@ -145,16 +145,40 @@ gives_all view s t settings taken_old taken count input start no_rows same none_
       counted = p.counted;
     }
 
-pub run_gives : {S : Type 0} (view : S
-    → Course) (s t : S) (settings : Settings) (left taken_old taken : Option (List ℕ)) (count : ℕ)
-    → (view s).history ≡ [] → (view s).rows ≡ [] → (view s).settings ≡ settings → (view s).owed ≡ []
-    → (view t).owed ≡ []
+pub run_gives : {S : Type 0} (view : S → Course) (s t : S) (settings : Settings)
+    (left taken_old taken : Option (List ℕ)) (count : ℕ) → (view s).rows ≡ [] → (view s).settings ≡ settings
+    → (view s).owed ≡ [] → (view t).owed ≡ []
     → OfInput left (ServesAll (TurnsIn view) s t taken_old taken count)
-    → OfInput left (GivesAll (view s).hearers (view t).hearers settings taken_old taken count (view t).rows)
-run_gives view s t settings left taken_old taken count start no_rows same none_before none p =
+    → OfInput left
+    (GivesAllFrom (view s).history (view s).hearers (view t).hearers settings taken_old taken count (view t).rows)
+run_gives view s t settings left taken_old taken count no_rows same none_before none p =
     of_input_weaker left _ _
-    (λ input served. gives_all view s t settings taken_old taken count input start no_rows same none_before none
-    served) p
+    (λ input served. gives_all view s t settings taken_old taken count input no_rows same none_before none served) p
+
+gives_lines : {S : Type 0} (view : S → Course) (s t : S) (settings : Settings) (taken_old taken : Option (List ℕ))
+    (lines : List (List ℕ)) → (view s).settings ≡ settings → (view s).owed ≡ [] → (view t).owed ≡ []
+    → ServesLines (TurnsIn view) s t taken_old taken lines
+    → GivesLinesFrom (view s).history (view s).hearers (view t).hearers settings.form taken_old taken lines
+gives_lines view s t settings taken_old taken lines same none_before none p =
+    let g = taken_by view s t 1 lines p.text p.served in
+    let whole = settled (view s) (view t) g.out g.outcome none_before none g.rest in
+    record {
+      outcome = g.outcome;
+      gives = g.gives;
+      replies = subst (Appends taken_old taken) (sym g.printed ∙ ap (λ k. g.out.text k.form) same
+          ∙ ap (λ o. o.text settings.form) whole) p.written;
+      told = g.gave.heard ∙ ap (λ o. told_all o.alerts (view s).hearers) whole;
+    }
+
+pub run_gives_lines : {S : Type 0} (view : S → Course) (s t : S) (settings : Settings)
+    (left left_new : Option (List ℕ)) (met_end : Bool) (taken_old taken : Option (List ℕ))
+    → (view s).settings ≡ settings → (view s).owed ≡ [] → (view t).owed ≡ []
+    → OfLinesRead left left_new met_end (ServesLines (TurnsIn view) s t taken_old taken)
+    → OfLinesRead left left_new met_end
+    (GivesLinesFrom (view s).history (view s).hearers (view t).hearers settings.form taken_old taken)
+run_gives_lines view s t settings left left_new met_end taken_old taken same none_before none p =
+    of_lines_read_weaker left left_new met_end _ _
+    (λ lines served. gives_lines view s t settings taken_old taken lines same none_before none served) p
 
 -- ---- some first lines were taken, and the next was begun at most
 
@@ -256,14 +280,14 @@ begun_more s t n lines later text b =
     }
 
 front_given : (s t : Course) (taken_old taken : Option (List ℕ)) (text : List ℕ) (lines : List (List ℕ))
-    → s.history ≡ [] → s.owed ≡ [] → BegunBy s t 1 lines text → AppendsFront taken_old taken text
-    → GivesFront s.hearers t.hearers s.settings.form taken_old taken lines
-front_given s t taken_old taken text lines start none b written =
+    → s.owed ≡ [] → BegunBy s t 1 lines text → AppendsFront taken_old taken text
+    → GivesFrontFrom s.history s.hearers t.hearers s.settings.form taken_old taken lines
+front_given s t taken_old taken text lines none b written =
     let whole : followed_by (owes s.hearers s.owed) b.outcome ≡ b.outcome =
     ap (λ os. followed_by (owes s.hearers os) b.outcome) none in
     record {
       outcome = b.outcome;
-      gives = subst (λ h. Gives s.hearers 1 h lines b.outcome) start b.gives;
+      gives = b.gives;
       replies = subst (AppendsFront taken_old taken) (sym b.printed
           ∙ ap (λ o. o.text s.settings.form) whole) (front_longer taken_old taken text b.more written);
       told = subst (λ o. HearsFront o.alerts s.hearers t.hearers) whole b.heard;
@@ -290,20 +314,21 @@ begun_at view s t u text begun lines (line ∷ later) p (inr broken) =
     (begun_by view s t u 1 (suc (length lines)) lines line text begun p (omega arith) broken))
 
 gives_front : {S : Type 0} (view : S → Course) (s t : S) (settings : Settings) (taken_old taken : Option (List ℕ))
-    (lines : List (List ℕ)) → (view s).history ≡ [] → (view s).settings ≡ settings → (view s).owed ≡ []
+    (lines : List (List ℕ)) → (view s).settings ≡ settings → (view s).owed ≡ []
     → ServesFront (TurnsIn view) (BreaksIn view) s t taken_old taken lines
-    → GivesFront (view s).hearers (view t).hearers settings.form taken_old taken lines
-gives_front view s t settings taken_old taken lines start same none p =
+    → GivesFrontFrom (view s).history (view s).hearers (view t).hearers settings.form taken_old taken lines
+gives_front view s t settings taken_old taken lines same none p =
     let begun = subst (λ ls. BegunBy (view s) (view t) 1 ls (p.text ++ p.begun)) (sym p.parts)
     (begun_at view s p.between t p.text p.begun p.front p.later p.served p.stops) in
-    subst (λ k. GivesFront (view s).hearers (view t).hearers k.form taken_old taken lines) same
-    (front_given (view s) (view t) taken_old taken (p.text ++ p.begun) lines start none begun p.written)
+    subst (λ k. GivesFrontFrom (view s).history (view s).hearers (view t).hearers k.form taken_old taken lines) same
+    (front_given (view s) (view t) taken_old taken (p.text ++ p.begun) lines none begun p.written)
 
-pub run_gives_front : {S : Type 0} (view : S
-    → Course) (s t : S) (settings : Settings) (left left_new : Option (List ℕ)) (met_end : Bool)
-    (taken_old taken : Option (List ℕ)) → (view s).history ≡ [] → (view s).settings ≡ settings → (view s).owed ≡ []
+pub run_gives_front : {S : Type 0} (view : S → Course) (s t : S) (settings : Settings)
+    (left left_new : Option (List ℕ)) (met_end : Bool) (taken_old taken : Option (List ℕ))
+    → (view s).settings ≡ settings → (view s).owed ≡ []
     → OfLinesRead left left_new met_end (ServesFront (TurnsIn view) (BreaksIn view) s t taken_old taken)
-    → OfLinesRead left left_new met_end (GivesFront (view s).hearers (view t).hearers settings.form taken_old taken)
-run_gives_front view s t settings left left_new met_end taken_old taken start same none p =
+    → OfLinesRead left left_new met_end
+    (GivesFrontFrom (view s).history (view s).hearers (view t).hearers settings.form taken_old taken)
+run_gives_front view s t settings left left_new met_end taken_old taken same none p =
     of_lines_read_weaker left left_new met_end _ _
-    (λ lines served. gives_front view s t settings taken_old taken lines start same none served) p
+    (λ lines served. gives_front view s t settings taken_old taken lines same none served) p

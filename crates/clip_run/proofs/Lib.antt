@@ -9,3 +9,4 @@ pub mod Seats
 pub mod Sent
 pub mod Settled
 pub mod Sharing
+pub mod Waiting

@@ -57,6 +57,16 @@ pub alone_more : (mine : List Command) (c : Command) → history_alone (mine ++ 
     ≡ with_command (history_alone mine) 1 c
 alone_more mine c = then_more [] mine c
 
+then_long : (h : History) (mine : List Command) → length (then_alone h mine) ≡ length h + length mine
+then_long h [] = omega arith
+then_long h (c ∷ mine) =
+    let rest = then_long (with_command h 1 c) mine in
+    omega (arith, rest, length-append h (next_entry h 1 c ∷ []))
+
+-- the history has an entry for each command
+pub alone_long : (mine : List Command) → length (history_alone mine) ≡ length mine
+alone_long mine = let h = then_long [] mine in omega (arith, h)
+
 -- what a history was before its last entry
 abbrev fronts : History → History
 fronts [] = []

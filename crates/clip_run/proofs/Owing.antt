@@ -1,7 +1,7 @@
 -- What is owed, and what was given.
 use Rattle.std.proofs.Common.{◌≡◌, ℕ, zero, suc, ◌+◌, ◌<◌, ◌≤◌, List, [], ◌∷◌, ◌++◌, length, drop, map, refl, sym, ap}
 use Rattle.std.proofs.Common.{ap₂, ◌∙◌, subst, arith, add-one, append_assoc}
-use Rattle.std.specs.Prelude.{Option, Result, Ok, Err, OnOk, OnErr}
+use Rattle.std.specs.Prelude.{Option}
 use Rattle.clip_stream.specs.Device.{AppendsFront, HandsOver}
 use Rattle.clip_stream.proofs.Flows.{front_behind, handed_more, handed_none, none_taken}
 use Rattle.std.proofs.lemmas.List.{map-append}
@@ -443,17 +443,3 @@ pub front_ready : (hearers : List Hearer) (o : Owed) (text : List ℕ) (form : F
     → AppendsFront old new (gathered ++ (owed_of hearers o).text form)
 front_ready hearers o text form old new gathered is front =
     subst (λ p. AppendsFront old new (gathered ++ (owed_of hearers p).text form)) (sym is) front
-
--- ---- results
-
-pub on_ok_more : {A E : Type 0} {P Q : Type 0} (r : Result A E) → OnOk r P → (P → Q) → OnOk r Q
-on_ok_more (Ok a) p f = f p
-on_ok_more (Err e) p f = tt
-
-pub on_err_more : {A E : Type 0} {P Q : Type 0} (r : Result A E) → OnErr r P → (P → Q) → OnErr r Q
-on_err_more (Ok a) p f = tt
-on_err_more (Err e) p f = f p
-
-pub on_err_any : {A E : Type 0} {P : Type 0} (r : Result A E) → P → OnErr r P
-on_err_any (Ok a) p = tt
-on_err_any (Err e) p = p

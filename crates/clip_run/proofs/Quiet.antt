@@ -29,7 +29,7 @@ shown_unheard WithHits i j ids views alerts same_id same_ids same =
     λ k. unheard_data (same_id k) (same_ids k) (same k)
 
 -- the form is known by whether the alerts are given
-pub form_shown : (form : Form) (views : Option (List Alert)) (alerts : List Alert) → views ≡ alerts_shown form alerts
+pub same_form : (form : Form) (views : Option (List Alert)) (alerts : List Alert) → views ≡ alerts_shown form alerts
     → form_with views ≡ form
-form_shown Plain views alerts same = ap form_with same
-form_shown WithHits views alerts same = ap form_with same
+same_form Plain views alerts same = ap form_with same
+same_form WithHits views alerts same = ap form_with same

@@ -1,12 +1,15 @@
 -- A batch that is settled, article by article.
-use Rattle.std.proofs.Common.{◌≡◌, ℕ, List, sym, ap, ◌∙◌, subst}
+use Rattle.std.proofs.Common.{◌≡◌, ℕ, List, [], ◌∷◌, refl, sym, ap₂, subst, arith}
 use Rattle.std.specs.Prelude.{Option, IfSome}
+use Rattle.clip_model.specs.History.{History}
 use Rattle.clip_ledger.specs.Rows.{RowValue}
 use Rattle.clip_protocol.specs.declared.found.Found.{Found}
 use Rattle.clip_front.specs.declared.settings.Settings.{Settings}
 use Rattle.clip_run.specs.Crews.{CrewIs}
-use Rattle.clip_run.specs.Due.{IsDue, KeepsDue, TakesAnswer, WaitsAt, due_by, due_to}
+use Rattle.clip_run.specs.Owed.{Owed}
+use Rattle.clip_run.specs.Due.{AreDue, IsDue, KeepsDue, TakesAnswer, WaitsAt, due_by, due_to}
 use Rattle.clip_run.specs.declared.batch.Batch.{Batch}
+use Rattle.clip_run.specs.declared.batch.Pending.TheVariants as pending
 use Rattle.clip_run.specs.declared.group.Answer.{Answer}
 
 -- what a helper found of an article of a batch that waits is due
@@ -26,9 +29,20 @@ pub left_due : (settings : Settings) (line : ℕ) (batch : Batch) (article : ℕ
 left_due settings line batch article start old new found takes keeps =
     λ items here due. (takes settings items (keeps items here due)).0
 
--- rows that are kept by a crew, and by what it becomes
-pub rows_then : (s t u : CrewIs) (first more : List RowValue) → t ≡ record s { rows = first }
-    → u ≡ record t { rows = more } → u ≡ record s { rows = more }
-rows_then s t u first more e f =
-    let with_more : CrewIs → CrewIs = λ c. record c { rows = more } in
-    f ∙ ap with_more e
+-- of a batch that waits alone nothing was found
+pub waits_alone : (settings : Settings) (batch : Batch) (answers : List Answer) → answers ≡ []
+    → WaitsAt settings 0 batch answers
+waits_alone settings batch answers none = record {
+  items = pending.Waiting batch ∷ [];
+  here = refl;
+  due = subst (AreDue settings (pending.Waiting batch ∷ [])) (sym none) (λ k d within. absurd (omega (arith, within)));
+}
+
+-- a crew, by the rows that are kept and the settings
+abbrev with_books : History → List Owed → List RowValue → Settings → CrewIs
+with_books history owed rows settings =
+    record { history = history; rows = rows; settings = settings; owed = owed }
+
+pub crew_then : (history : History) (owed : List Owed) (rows now : List RowValue) (settings kept : Settings)
+    → now ≡ rows → kept ≡ settings → with_books history owed now kept ≡ with_books history owed rows settings
+crew_then history owed rows now settings kept e f = ap₂ (with_books history owed) e f

@@ -19,9 +19,9 @@ pub record CrewIs : Type 0 where
   pub settings : Settings
   pub owed : List Owed
 
--- Nothing was accepted yet, no row is kept, and nothing is owed.
+-- It has answered no line: no row is kept, and nothing is owed.
 abbrev pub IsNew : CrewIs → Type 0
-IsNew crew = (crew.history ≡ []) × (crew.rows ≡ []) × (crew.owed ≡ [])
+IsNew crew = (crew.rows ≡ []) × (crew.owed ≡ [])
 
 -- with these listeners
 abbrev pub course : CrewIs → List Hearer → Course

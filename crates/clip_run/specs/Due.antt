@@ -10,7 +10,7 @@ use Rattle.clip_front.specs.declared.settings.Settings.{Settings}
 use Rattle.clip_run.specs.declared.batch.Batch.{Batch}
 use Rattle.clip_run.specs.declared.batch.Pending.{Pending}
 use Rattle.clip_run.specs.declared.batch.Pending.TheVariants as pending
-use Rattle.clip_run.specs.declared.crew.Turn.{Turn}
+use Rattle.clip_run.specs.declared.giver.Turn.{Turn}
 use Rattle.clip_run.specs.declared.group.Answer.{Answer}
 use Rattle.clip_run.specs.declared.helpers.Asked.{Asked}
 use Rattle.clip_run.specs.declared.helpers.Helper.{Helper}

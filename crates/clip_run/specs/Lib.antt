@@ -1,4 +1,5 @@
 pub mod Alone
+pub mod Caller
 pub mod Crews
 pub mod Due
 pub mod Owed

@@ -1,5 +1,5 @@
 -- What a run owes to lines that it has taken, and what it gives meanwhile.
-use Rattle.std.specs.Prelude.{◌≡◌, ℕ, List, [], ◌∷◌, ◌++◌, Option}
+use Rattle.std.specs.Prelude.{◌≡◌, ℕ, suc, List, [], ◌∷◌, ◌++◌, Option}
 use Rattle.clip_stream.specs.Device.{AppendsFront, HandsOver}
 use Rattle.clip_meaning.specs.Article.{ArticleValue}
 use Rattle.clip_model.specs.History.{History}
@@ -14,6 +14,12 @@ use Rattle.clip_front.specs.Steps.Serving.{Answering, Breaking}
 pub data Owed : Type 0 where
   ready : List ℕ → Owed
   matched : ℕ → History → List ArticleValue → Owed
+
+-- how many batches wait among what is owed
+abbrev pub batches_owed : List Owed → ℕ
+batches_owed [] = 0
+batches_owed (ready text ∷ owed) = batches_owed owed
+batches_owed (matched n h articles ∷ owed) = suc (batches_owed owed)
 
 abbrev pub owed_of : List Hearer → Owed → Outcome
 owed_of hearers (ready text) = record { text = λ form. text; alerts = []; rows = [] }

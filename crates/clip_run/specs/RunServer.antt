@@ -10,7 +10,7 @@ use Rattle.clip_run.specs.Unpurged.{GoesOnUnpurged}
 use Rattle.clip_run.specs.declared.alone.RunServer.{RunServer}
 
 abbrev pub held_at : {A : Type 0} → (A → List Hearer) → RunServer × A → Held
-held_at hearers s = held s.0.registry.registrar.history (hearers s.1) s.0.books
+held_at hearers s = held s.0.registry.registrar.history (hearers s.1) s.0.giver.books
 
 -- The line is answered by what is held, and where it means a purge, the registrar is purged, once; no other line purges
 -- it.

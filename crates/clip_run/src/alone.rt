@@ -1,105 +1,27 @@
 //! A run on one thread: a registrar of its own, its books, and merge turns between the lines.
-ghost use Rattle.std.specs.Prelude.{◌≡◌, ◌≢◌, ◌++◌, true, Err, IfErr, IfOk, OnErr, OnOk};
-ghost use Rattle.clip_listen.specs.Heard.{HearsFront};
-ghost use Rattle.clip_stream.specs.Device.{AppendsFront, HandsOver};
+ghost use Rattle.std.specs.Prelude.{◌≡◌, map, true, Err, IfOk, OnErr};
 ghost use Rattle.clip_stream.specs.Lines.{OfInput, OfLinesRead};
 ghost use Rattle.clip_front.specs.Devices.{AreFresh, IsHonest, devices_at};
-ghost use Rattle.clip_protocol.specs.LineMeaning.{matching};
-ghost use Rattle.clip_protocol.specs.Reply.{alerts_of_all, reply};
-ghost use Rattle.clip_protocol.specs.Steps.Putting.{stand};
-ghost use Rattle.clip_match.specs.Due.{due_value, AreTheirHits};
-ghost use Rattle.clip_front.specs.Giving.{GivesArticle, giving};
-ghost use Rattle.clip_front.specs.Outcome.{GivesAll, GivesFront};
-ghost use Rattle.clip_front.specs.Steps.Answers.{GoesOn, held};
+ghost use Rattle.clip_front.specs.Outcome.{GivesAll, GivesFront, GivesLines};
+ghost use Rattle.clip_run.specs.Ran.{RanAgain, told};
 
-use crate::finding::{hits_found, views_shown, wants_alerts};
+use crate::batch::Batch;
+use crate::giver::Giver;
 use crate::own_registrar::OwnRegistrar;
-use clip_front::{Books, Ended, MatchReply, Server, Settings, Taken, serve, take_line};
+use clip_front::{Ended, Server, Settings, Step, serve, take_kept, take_line};
 use clip_listen::Audience;
-use clip_match::{DueEntries, entries_due};
-use clip_meaning::Article;
-use clip_protocol::Found;
-use clip_registry::View;
+use clip_match::OpenGate;
 use clip_stream::{Flow, RunFault, Sink, Source};
-use clip_words::WordPool;
 use std::alloc::Global;
 
-/// The registry of a run, its books, and words of its last articles. They answer requests, with an audience to which
-/// alerts are told.
+/// The registry of a run, and what gives batches. They answer requests, with an audience to which alerts are told.
 #[derive(Drop)]
-struct RunServer {
+struct RunServer<'g> {
     registry: OwnRegistrar,
-    books: Books,
-    pool: WordPool,
+    giver: Giver<'g, OpenGate>,
 }
 
-/// Delivers what is due to an article, posts it, and puts what the reply shows of it. No alert is made where no query
-/// has a listener and no rows are kept.
-pub fn answer_article<A: Audience, W: Sink>(
-    alloc: Global,
-    audience: &mut A,
-    books: &mut Books,
-    flow: &mut Flow<'_, W>,
-    answer: &mut MatchReply,
-    due: DueEntries<'_>,
-) -> Result<(), RunFault>
-    requires { AreTheirHits due }
-    ensures same_reference { flow.new.writer.ghost_name ≡ flow.old.writer.ghost_name }
-    ensures gives { GivesArticle
-        (giving (A.hearers audience.old) books.old.ledger books.old.settings answer.old
-        (stand W.taken W.has_failed flow.old.writer.now flow.old.outbox.now))
-        (giving (A.hearers audience.new) books.new.ledger books.new.settings answer.new
-        (stand W.taken W.has_failed flow.new.writer.now flow.new.outbox.now)) (due_value due.entry) result }
-    ensures well { OnOk result (W.has_failed flow.new.writer.now ≡ W.has_failed flow.old.writer.now) }
-    ensures fault { IfErr result (λ e. e ≢ RunFault.Read) }
-    ensures write { result ≡ Err RunFault.Write → W.has_failed flow.new.writer.now ≡ true }
-{
-    if wants_alerts(books.settings, &due) {
-        let found = Found::Alerts(due.alerts(alloc)?);
-        return answer.add(alloc, audience, books, flow, &found);
-    }
-    let queries = due.queries(alloc)?;
-    let views = views_shown(alloc, books.settings.form, &due)?;
-    answer.add_unheard(alloc, flow, due.article_id(), &queries, views.as_deref())
-}
-
-/// Matches articles at a view, article by article: delivers the alerts of one, and puts what the reply to the line of
-/// this number shows of it, before the next is matched.
-fn answer_match<A: Audience, W: Sink>(
-    alloc: Global,
-    view: &View,
-    audience: &mut A,
-    books: &mut Books,
-    flow: &mut Flow<'_, W>,
-    number: u64,
-    articles: &[Article],
-) -> Result<(), RunFault>
-    ensures same_reference { flow.new.writer.ghost_name ≡ flow.old.writer.ghost_name }
-    ensures goes_on { OnOk result (GoesOn (held view.now.history (A.hearers audience.old) books.old)
-        (held view.now.history (A.hearers audience.new) books.new) number (matching articles.now)
-        (reply books.old.settings.form (A.hearers audience.old) number view.now.history (matching articles.now))) }
-    ensures moved { OnOk result (HandsOver (W.taken flow.old.writer.now) (flow.old.outbox.now
-        ++ reply books.old.settings.form (A.hearers audience.old) number view.now.history (matching articles.now))
-        (W.taken flow.new.writer.now) flow.new.outbox.now) }
-    ensures well { OnOk result (W.has_failed flow.new.writer.now ≡ W.has_failed flow.old.writer.now) }
-    ensures fault { IfErr result (λ e. e ≢ RunFault.Read) }
-    ensures write { result ≡ Err RunFault.Write → W.has_failed flow.new.writer.now ≡ true }
-    ensures err { OnErr result (HearsFront (alerts_of_all view.now.history articles.now)
-        (A.hearers audience.old) (A.hearers audience.new)) }
-    ensures front { OnErr result (AppendsFront (W.taken flow.old.writer.now) (W.taken flow.new.writer.now)
-        (flow.old.outbox.now
-        ++ reply books.old.settings.form (A.hearers audience.old) number view.now.history (matching articles.now))) }
-{
-    let hits = hits_found(books.settings);
-    let mut answer = MatchReply::begin(alloc, flow, number)?;
-    for article in articles {
-        let due = entries_due(alloc, view, article, hits)?;
-        answer_article(alloc, audience, books, flow, &mut answer, due)?;
-    }
-    answer.end(alloc, flow)
-}
-
-impl<A: Audience, W: Sink> Server<A, W> for RunServer {
+impl<A: Audience, W: Sink> Server<A, W> for RunServer<'_> {
     ghost use Rattle.std.specs.Prelude.{⊤};
     ghost use Rattle.clip_front.specs.Steps.Answers.{BreaksIn};
     ghost use Rattle.clip_run.specs.RunServer.{AnswersAlone, held_at};
@@ -112,33 +34,26 @@ impl<A: Audience, W: Sink> Server<A, W> for RunServer {
 
     fn answer(
         &mut self,
-        alloc: Global,
         audience: &mut A,
         flow: &mut Flow<'_, W>,
         number: u64,
         bytes: &[u8],
         _has_more: bool,
     ) -> Result<(), RunFault> {
-        match take_line(
-            alloc,
-            &mut self.pool,
-            &mut self.registry,
-            audience,
-            number,
-            bytes,
-        )? {
-            Taken::Text(text) => flow.put(&text),
-            Taken::Articles(articles) => {
+        let alloc = self.giver.alloc;
+        match take_line(alloc, &mut self.registry, audience, number, bytes)? {
+            Step::Reply(text) => flow.put(&text),
+            Step::Match(drafts) => {
                 let view = self.registry.registrar.view()?;
-                answer_match(
-                    alloc,
-                    &view,
-                    audience,
-                    &mut self.books,
-                    flow,
+                let batch = Batch {
                     number,
-                    &articles,
-                )
+                    batch: 0,
+                    view,
+                    drafts,
+                };
+                let mut none = Vec::new(alloc);
+                self.giver
+                    .settle_batch(audience, 0, &batch, &mut none, flow)
             }
         }
     }
@@ -201,15 +116,43 @@ pub fn run_alone<R: Source, W: Sink, A: Audience>(
     ensures front { OnErr result (OfLinesRead (R.left reader.old) (R.left reader.new) (R.met_end reader.new)
         (GivesFront (A.hearers audience.old) (A.hearers audience.new) settings.form
         (W.taken writer.old) (W.taken writer.new))) }
+
+    // Where a read failed, each line that was read whole is answered: its reply is written and flushed, and its alerts
+    // are told. Any read may fail, so whenever the reader is asked nothing is held back.
+    ensures none_held { result ≡ Err RunFault.Read → (W.is_flushed writer.new ≡ true)
+        × OfLinesRead (R.left reader.old) (R.left reader.new) (R.met_end reader.new)
+        (GivesLines (A.hearers audience.old) (A.hearers audience.new) settings.form
+        (W.taken writer.old) (W.taken writer.new)) }
 {
+    run_alone_again(alloc, reader, writer, audience, settings, Vec::new(alloc))
+}
+
+/// Takes lines that were kept, with nobody answered, and answers those of the reader then, as `run_alone` does.
+///
+/// `NoMemory` also where the taking answers it. Cost: that of `take_kept`, and of `run_alone`.
+pub fn run_alone_again<R: Source, W: Sink, A: Audience>(
+    alloc: Global,
+    reader: &mut R,
+    writer: &mut W,
+    audience: &mut A,
+    settings: Settings,
+    kept: Vec<Vec<u8>>,
+) -> Result<Ended, RunFault>
+    requires fresh { AreFresh (devices_at R.Source W.Sink reader.old writer.old) }
+    ensures { RanAgain (map (λ line. line.items) kept.items) settings
+        (told R.Source W.Sink A.Audience reader.old writer.old audience.old)
+        (told R.Source W.Sink A.Audience reader.new writer.new audience.new)
+        result }
+{
+    let gate = OpenGate;
     let mut server = RunServer {
         registry: OwnRegistrar::new(alloc),
-        books: Books::new(alloc, settings),
-        pool: WordPool::new(alloc),
+        giver: Giver::new(alloc, &gate, settings),
     };
+    take_kept(alloc, &mut server.registry, audience, kept)?;
     let lines = serve(alloc, reader, writer, audience, &mut server)?;
     Ok(Ended {
         lines,
-        ledger: server.books.ledger,
+        ledger: server.giver.into_ledger(),
     })
 }

@@ -6,7 +6,7 @@ ghost use Rattle.clip_protocol.specs.Found.{found_value};
 ghost use Rattle.clip_front.specs.Steps.Found.{IsFor};
 ghost use Rattle.clip_run.specs.Due.{IsDue, due_to};
 
-use crate::finding::{hits_found, views_shown, wants_alerts};
+use crate::finding::{hits_found, views_to_show, wants_alerts};
 use clip_front::Settings;
 use clip_match::{DueEntries, Gate, entries_due};
 use clip_meaning::Article;
@@ -39,7 +39,7 @@ pub enum Pending {
 
 /// What the alerts that are due to the article at the view say, for proofs alone. Costs nothing.
 #[inline(always)]
-fn said_due(_view: &View, _article: &Article) -> AlertsSaid
+fn alerts_said(_view: &View, _article: &Article) -> AlertsSaid
     ensures { result.value ≡ alerts_due _view.now _article.now }
 {
     AlertsSaid {}
@@ -62,7 +62,7 @@ fn found_of(
         return Ok(Found::Alerts(due.alerts(alloc)?));
     }
     let queries = due.queries(alloc)?;
-    let views = views_shown(alloc, settings.form, &due)?;
+    let views = views_to_show(alloc, settings.form, &due)?;
     let shown = Shown::unmade(alloc, due.article_id(), &queries, views.as_deref(), said)?;
     Ok(Found::Shown(shown))
 }
@@ -101,7 +101,7 @@ impl Batch {
     /// made.
     ///
     /// `NoMemory` where an allocation failed. Cost: that of `JudgedDraft::read` and of `Batch::due`; and of
-    /// `DueEntries::alerts`, or of `DueEntries::queries`, `views_shown` and `Shown::unmade`.
+    /// `DueEntries::alerts`, or of `DueEntries::queries`, `views_to_show` and `Shown::unmade`.
     pub fn find<G: Gate>(
         &self,
         alloc: Global,
@@ -116,6 +116,6 @@ impl Batch {
         let draft = &self.drafts[article];
         let read = draft.read(alloc, pool)?;
         let due = self.due(alloc, &read, article, settings, gate)?;
-        found_of(alloc, settings, due, said_due(&self.view, &read))
+        found_of(alloc, settings, due, alerts_said(&self.view, &read))
     }
 }

@@ -1,11 +1,12 @@
 //! The run as the only caller at a desk.
 ghost use Rattle.std.specs.Prelude.{◌≡◌, IfOk, OnOk};
+ghost use Rattle.clip_desk.specs.Purges.{IsPurgedAt};
 ghost use Rattle.clip_run.specs.Alone.{history_alone};
 ghost use Rattle.clip_run.specs.Seated.{IsOnly};
 
 use clip_desk::{Desk, DeskName, Nudge, Refused, Seat, UpdateLog};
 use clip_front::Registry;
-use clip_registry::View;
+use clip_registry::{MergeTurn, View};
 use clip_standing::{Applied, Command};
 use clip_words::NoMemory;
 use crossbeam_channel::Sender;
@@ -13,7 +14,9 @@ use std::alloc::Global;
 use std::marker::Model;
 use std::sync::Wait;
 
-/// The only caller at a desk, who tells the merging thread of each accepted command.
+/// The only caller at a desk, which has segments merged after each accepted command: by a merging thread that it tells,
+/// or by merge turns of its own where there is none. It is seen as what was accepted, and how long the history was at
+/// its last purge.
 #[derive(Drop)]
 pub struct Caller<'r, 'd, R, N: DeskName> {
     rt: &'r R,
@@ -23,34 +26,41 @@ pub struct Caller<'r, 'd, R, N: DeskName> {
 }
 
 impl<'r, 'd, R, N: DeskName> Model for Caller<'r, 'd, R, N> {
-    ghost use Rattle.clip_model.specs.History.{History, history_code};
     ghost use Rattle.clip_run.specs.Alone.{history_alone};
+    ghost use Rattle.clip_run.specs.Caller.{CallerIs, caller_code};
     ghost use Rattle.clip_run.specs.Seated.{IsOnly};
 
-    ghost Value = { History };
+    ghost Value = { CallerIs };
 
-    ghost coded = { history_code };
+    ghost coded = { caller_code };
 
-    ghost view = { λ c. history_alone c.seat.mine };
+    ghost view = { λ c. record { history = history_alone c.seat.mine; purged_at = c.seat.purged_at } };
 
     ghost invariant = { λ c. IsOnly N.book N.callers c.desk.now c.seat };
 }
 
 impl<'r, 'd, R: Wait, N: DeskName> Caller<'r, 'd, R, N> {
-    /// The caller of a seat. Constant time.
-    pub fn new(
-        rt: &'r R,
-        desk: &'d Desk<N, UpdateLog>,
-        seat: Seat,
-        nudges: Sender<Nudge>,
-    ) -> Caller<'r, 'd, R, N>
+    /// The caller of a seat, which merges by itself. Constant time.
+    pub fn new(rt: &'r R, desk: &'d Desk<N, UpdateLog>, seat: Seat) -> Caller<'r, 'd, R, N>
         requires { IsOnly N.book N.callers desk.now seat }
-        ensures { result ≡ history_alone seat.mine }
+        ensures { result ≡ record { history = history_alone seat.mine; purged_at = seat.purged_at } }
     {
         Caller {
             rt,
             desk,
             seat,
+            nudges: None,
+        }
+    }
+
+    /// The caller, which tells a merging thread from now on. Constant time.
+    pub fn with_merging_thread(self, nudges: Sender<Nudge>) -> Caller<'r, 'd, R, N>
+        ensures { result ≡ self.entry }
+    {
+        Caller {
+            rt: self.rt,
+            desk: self.desk,
+            seat: self.seat,
             nudges: Some(nudges),
         }
     }
@@ -60,18 +70,32 @@ impl<'r, 'd, R: Wait, N: DeskName> Caller<'r, 'd, R, N> {
         self.rt
     }
 
-    /// The registry as it stands, with all that was accepted. `NoMemory` where the desk's look answers it.
+    /// The registry as it stands, with all that was accepted, and no entry that was dead at the caller's last purge.
+    /// `NoMemory` where the desk's look answers it.
     pub fn look(&mut self) -> Result<View, NoMemory>
-        ensures view { IfOk result (λ view. view.history ≡ self.old) }
+        ensures view { IfOk result (λ view. view.history ≡ self.old.history) }
+        ensures purged { IfOk result (λ view. IsPurgedAt view self.old.purged_at) }
         ensures same { OnOk result (self.new ≡ self.old) }
     {
         self.seat.look()
     }
 
-    /// Tells the merging thread that there may be segments to merge. A nudge that is refused memory is dropped.
-    fn nudge(&self) {
-        if let Some(nudges) = &self.nudges {
-            let _ = nudges.send(self.rt, Nudge::Merge);
+    /// Takes merge turns until there is nothing to merge, or one is refused memory.
+    fn merge_all(&self) {
+        for _ in self.rt.forever() {
+            let Ok(MergeTurn::Installed) = self.desk.merge_once(self.rt) else {
+                return;
+            };
+        }
+    }
+
+    /// Has segments merged, where there are some to merge. A nudge that is refused memory is dropped.
+    fn have_merged(&self) {
+        match &self.nudges {
+            Some(nudges) => {
+                let _ = nudges.send(self.rt, Nudge::Merge);
+            }
+            None => self.merge_all(),
         }
     }
 
@@ -86,18 +110,18 @@ impl<'r, 'd, R: Wait, N: DeskName> Caller<'r, 'd, R, N> {
 }
 
 impl<'r, 'd, R: Wait, N: DeskName> Registry for Caller<'r, 'd, R, N> {
-    ghost use Rattle.std.specs.Prelude.{◌≡◌, ⊤};
+    ghost use Rattle.clip_run.specs.Caller.{HasNotPurged, HasPurged};
 
-    ghost history_in = { λ h. h };
+    ghost history_in = { λ c. c.history };
 
-    ghost purges = { λ old new. new ≡ old };
+    ghost purges = { HasPurged };
 
-    ghost goes_on = { λ old new. ⊤ };
+    ghost goes_on = { HasNotPurged };
 
     fn accept(&mut self, command: Command) -> Result<Option<Applied>, NoMemory> {
         match self.desk.commit(self.rt, &mut self.seat, command) {
             Ok(receipt) => {
-                self.nudge();
+                self.have_merged();
                 Ok(Some(receipt.applied()))
             }
             Err((_, Refused::Full)) => Ok(None),
@@ -107,10 +131,10 @@ impl<'r, 'd, R: Wait, N: DeskName> Registry for Caller<'r, 'd, R, N> {
     }
 
     fn purge_dead(&mut self) -> Result<(), NoMemory> {
-        match self.desk.purge(self.rt, &mut self.seat) {
-            Ok(()) => Ok(()),
-            Err(_) => Err(NoMemory),
-        }
+        let Ok(()) = self.desk.purge(self.rt, &mut self.seat) else {
+            return Err(NoMemory);
+        };
+        Ok(())
     }
 
     fn count(&mut self) -> Result<u64, NoMemory> {

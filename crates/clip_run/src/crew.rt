@@ -6,33 +6,32 @@
 //!
 //! Each batch waits with the registry that the lines before it leave. Where no more lines stand read, or 32 batches
 //! wait, this thread matches what no helper took (here x), and puts all that is owed in the order of the lines.
-ghost use Rattle.std.specs.Prelude.{◌≡◌, ◌≢◌, ◌<◌, [], ◌∷◌, ◌++◌, map, vec_len, false, true, Err, IfErr};
+ghost use Rattle.std.specs.Prelude.{◌≡◌, ◌≢◌, ◌<◌, [], ◌∷◌, ◌++◌, map, false, true, Err, IfErr};
 ghost use Rattle.std.specs.Prelude.{OnErr, OnOk};
 ghost use Rattle.clip_stream.specs.Device.{AppendsFront, HandsOver};
-ghost use Rattle.clip_front.specs.Giving.{GivesDue, giving};
 ghost use Rattle.clip_front.specs.Outcome.{kept_rows};
 ghost use Rattle.clip_front.specs.Steps.Serving.{AnswersInto, BreaksInto};
 ghost use Rattle.clip_listen.specs.Heard.{told_all, HearsFront};
-ghost use Rattle.clip_protocol.specs.Steps.Putting.{stand};
 ghost use Rattle.clip_run.specs.Crews.{CrewIs, course, course_at};
-ghost use Rattle.clip_run.specs.Due.{AreDue, IsTurn, KeepsDue, WaitsAt, due_to};
+ghost use Rattle.clip_run.specs.Due.{AreDue};
 ghost use Rattle.clip_run.specs.Owed.{owed_of, matched, with_owed, BreaksIn, BreaksOff, PaysInto, StopsPaying, Turns};
-ghost use Rattle.clip_run.specs.Owed.{TurnsIn};
-ghost use Rattle.clip_run.specs.Pending.{owed_at, owed_by, owed_to};
+ghost use Rattle.clip_run.specs.Owed.{TurnsIn, batches_owed};
+ghost use Rattle.clip_run.specs.Pending.{owed_at, owed_by};
 
-use crate::alone::answer_article;
 use crate::batch::{Batch, Pending};
 use crate::caller::Caller;
-use crate::group::{Answer, Group, take_answer};
+use crate::giver::Giver;
+use crate::group::{Answer, Group};
 use crate::helpers::{Helpers, Load};
-use clip_desk::DeskName;
-use clip_front::{Books, MatchReply, Settings, TakenUnread, take_line_unread};
+use clip_desk::{DeskName, Nudge};
+use clip_front::{Settings, Step, take_line};
 use clip_ledger::Ledger;
 use clip_listen::Audience;
 use clip_match::Gate;
-use clip_protocol::{Found, JudgedDraft};
+use clip_protocol::JudgedDraft;
 use clip_stream::{Flow, RunFault, Sink};
-use clip_words::{NoMemory, WordPool};
+use clip_words::NoMemory;
+use crossbeam_channel::Sender;
 use std::alloc::Global;
 use std::marker::Model;
 use std::mem;
@@ -42,26 +41,13 @@ use std::thread::Threads;
 /// The most batches that wait.
 const MOST_WAITING: u32 = 32;
 
-/// An article of a batch whose turn has come, with what a helper found of it, if one has taken it.
-#[derive(Drop)]
-pub struct Turn<'a> {
-    /// The batch.
-    pub batch: &'a Batch,
-    /// Its place among the articles of the batch.
-    pub article: usize,
-    /// What was found of it.
-    pub found: Option<Found>,
-}
-
-/// What answers the lines of a run: the only caller at a desk, its books, words of the articles that were matched on
-/// its thread, what it owes, and the threads that help it.
+/// What answers the lines of a run: the only caller at a desk, what gives batches on its thread, what it owes, and the
+/// threads that help it.
 #[derive(Drop)]
 pub struct Crew<'r, 'd, 'g, R, N: DeskName, G> {
     rt: &'r R,
-    gate: &'g G,
+    giver: Giver<'g, G>,
     caller: Caller<'r, 'd, R, N>,
-    books: Books,
-    pool: WordPool,
     pending: Vec<Pending>,
     waiting: u32,
     load: Load,
@@ -70,20 +56,24 @@ pub struct Crew<'r, 'd, 'g, R, N: DeskName, G> {
 }
 
 impl<'r, 'd, 'g, R, N: DeskName, G> Model for Crew<'r, 'd, 'g, R, N, G> {
-    ghost use Rattle.std.specs.Prelude.{map};
+    ghost use Rattle.std.specs.Prelude.{◌<◌, ◌≤◌, map};
     ghost use Rattle.clip_run.specs.Crews.{CrewIs, crew_code};
+    ghost use Rattle.clip_run.specs.Owed.{batches_owed};
     ghost use Rattle.clip_run.specs.Pending.{owed_by};
+    ghost use Rattle.clip_run.specs.declared.crew.TheConstants.{MOST_WAITING};
 
     ghost Value = { CrewIs };
 
     ghost coded = { crew_code };
 
     ghost view = { λ c. record {
-      history = c.caller;
-      rows = c.books.ledger;
-      settings = c.books.settings;
+      history = c.caller.history;
+      rows = c.giver.books.ledger;
+      settings = c.giver.books.settings;
       owed = map owed_by c.pending.items;
     } };
+
+    ghost invariant = { λ c. c.waiting < MOST_WAITING → batches_owed (map owed_by c.pending.items) ≤ c.waiting };
 }
 
 impl<'r, 'd, 'g, R: Threads + Wait + Sync, N: DeskName, G: Gate + Clone + Send + 'static> Crew<
@@ -101,14 +91,12 @@ impl<'r, 'd, 'g, R: Threads + Wait + Sync, N: DeskName, G: Gate + Clone + Send +
         caller: Caller<'r, 'd, R, N>,
         settings: Settings,
     ) -> Crew<'r, 'd, 'g, R, N, G>
-        ensures { result ≡ record { history = caller.entry; rows = []; settings = settings; owed = [] } }
+        ensures { result ≡ record { history = caller.entry.history; rows = []; settings = settings; owed = [] } }
     {
         Crew {
             rt: caller.runtime(),
-            gate,
+            giver: Giver::new(alloc, gate, settings),
             caller,
-            books: Books::new(alloc, settings),
-            pool: WordPool::new(alloc),
             pending: Vec::new(alloc),
             waiting: 0,
             load: Load::none(),
@@ -117,110 +105,24 @@ impl<'r, 'd, 'g, R: Threads + Wait + Sync, N: DeskName, G: Gate + Clone + Send +
         }
     }
 
-    /// Matches an article of a batch on this thread, delivers what is due to it, posts it, and puts what the reply to
-    /// its line shows of it. What nobody hears is shown with no alert made, where it needs none.
-    fn match_here<A: Audience, W: Sink>(
-        &mut self,
-        alloc: Global,
-        audience: &mut A,
-        batch: &Batch,
-        article: usize,
-        reply: &mut MatchReply,
-        flow: &mut Flow<'_, W>,
-    ) -> Result<(), RunFault>
-        requires { article < vec_len batch.now.drafts }
-        ensures same_reference { flow.new.writer.ghost_name ≡ flow.old.writer.ghost_name }
-        ensures crew { self.new ≡ record self.old { rows = self.new.rows } }
-        ensures gives { GivesDue (due_to batch.now) article
-            (giving (A.hearers audience.old) self.old.rows self.old.settings reply.old
-            (stand W.taken W.has_failed flow.old.writer.now flow.old.outbox.now))
-            (giving (A.hearers audience.new) self.new.rows self.new.settings reply.new
-            (stand W.taken W.has_failed flow.new.writer.now flow.new.outbox.now)) result }
-        ensures well { OnOk result (W.has_failed flow.new.writer.now ≡ W.has_failed flow.old.writer.now) }
-        ensures fault { IfErr result (λ e. e ≢ RunFault.Read) }
-        ensures write { result ≡ Err RunFault.Write → W.has_failed flow.new.writer.now ≡ true }
+    /// The crew, which tells a merging thread of each change from now on. Constant time.
+    pub fn with_merging_thread(self, nudges: Sender<Nudge>) -> Crew<'r, 'd, 'g, R, N, G>
+        ensures { result ≡ self.entry }
     {
-        let draft = &batch.drafts[article];
-        let read = draft.read(alloc, &mut self.pool)?;
-        let due = batch.due(alloc, &read, article, self.books.settings, self.gate)?;
-        answer_article(alloc, audience, &mut self.books, flow, reply, due)
-    }
-
-    /// Delivers what is due to an article whose turn has come, posts it, and puts what the reply to its line shows of
-    /// it: by what a helper found of it, and else it is matched here.
-    fn give<A: Audience, W: Sink>(
-        &mut self,
-        alloc: Global,
-        audience: &mut A,
-        turn: &Turn<'_>,
-        reply: &mut MatchReply,
-        flow: &mut Flow<'_, W>,
-    ) -> Result<(), RunFault>
-        requires turn { IsTurn self.old.settings turn.now }
-        ensures same_reference { flow.new.writer.ghost_name ≡ flow.old.writer.ghost_name }
-        ensures crew { self.new ≡ record self.old { rows = self.new.rows } }
-        ensures gives { GivesDue (due_to turn.now.batch.now) turn.now.article
-            (giving (A.hearers audience.old) self.old.rows self.old.settings reply.old
-            (stand W.taken W.has_failed flow.old.writer.now flow.old.outbox.now))
-            (giving (A.hearers audience.new) self.new.rows self.new.settings reply.new
-            (stand W.taken W.has_failed flow.new.writer.now flow.new.outbox.now)) result }
-        ensures well { OnOk result (W.has_failed flow.new.writer.now ≡ W.has_failed flow.old.writer.now) }
-        ensures fault { IfErr result (λ e. e ≢ RunFault.Read) }
-        ensures write { result ≡ Err RunFault.Write → W.has_failed flow.new.writer.now ≡ true }
-    {
-        match &turn.found {
-            Some(found) => reply.add(alloc, audience, &mut self.books, flow, found),
-            None => self.match_here(alloc, audience, turn.batch, turn.article, reply, flow),
+        Crew {
+            caller: self.caller.with_merging_thread(nudges),
+            ..self
         }
     }
 
-    /// Gives what is owed to a line of which a batch waits at this place of the lines, article by article: what is due
-    /// to one is delivered, and what the reply shows of it is put, before the next is taken.
-    fn settle_batch<A: Audience, W: Sink>(
-        &mut self,
-        alloc: Global,
-        audience: &mut A,
-        line: usize,
-        batch: &Batch,
-        answers: &mut Vec<Answer>,
-        flow: &mut Flow<'_, W>,
-    ) -> Result<(), RunFault>
-        requires waits { WaitsAt self.old.settings line batch.now answers.old.items }
-        ensures same_reference { flow.new.writer.ghost_name ≡ flow.old.writer.ghost_name }
-        ensures heard { OnOk result (A.hearers audience.new
-            ≡ told_all (owed_to (A.hearers audience.old) batch.now).alerts (A.hearers audience.old)) }
-        ensures crew { OnOk result (self.new ≡ record self.old {
-          rows = self.old.rows ++ kept_rows self.old.settings.keeps_rows
-              (owed_to (A.hearers audience.old) batch.now).rows;
-        }) }
-        ensures due { OnOk result (KeepsDue self.old.settings line batch.now answers.old.items answers.new.items) }
-        ensures moved { OnOk result (HandsOver (W.taken flow.old.writer.now)
-            (flow.old.outbox.now ++ (owed_to (A.hearers audience.old) batch.now).text self.old.settings.form)
-            (W.taken flow.new.writer.now) flow.new.outbox.now) }
-        ensures well { OnOk result (W.has_failed flow.new.writer.now ≡ W.has_failed flow.old.writer.now) }
-        ensures fault { IfErr result (λ e. e ≢ RunFault.Read) }
-        ensures write { result ≡ Err RunFault.Write → W.has_failed flow.new.writer.now ≡ true }
-        ensures err { OnErr result (HearsFront (owed_to (A.hearers audience.old) batch.now).alerts
-            (A.hearers audience.old) (A.hearers audience.new)) }
-        ensures front { OnErr result (AppendsFront (W.taken flow.old.writer.now) (W.taken flow.new.writer.now)
-            (flow.old.outbox.now ++ (owed_to (A.hearers audience.old) batch.now).text self.old.settings.form)) }
-    {
-        let mut reply = MatchReply::begin(alloc, flow, batch.number)?;
-        for article in 0..batch.drafts.len() {
-            let turn = Turn {
-                batch,
-                article,
-                found: take_answer(answers, line, article),
-            };
-            self.give(alloc, audience, &turn, &mut reply, flow)?;
-        }
-        reply.end(alloc, flow)
+    /// What the crew takes memory from. Constant time.
+    pub fn allocator(&self) -> Global {
+        self.giver.alloc
     }
 
     /// Puts what is owed to the line at a place of the lines into the flow, and delivers its alerts.
     fn settle<A: Audience, W: Sink>(
         &mut self,
-        alloc: Global,
         audience: &mut A,
         items: &[Pending],
         line: usize,
@@ -253,16 +155,16 @@ impl<'r, 'd, 'g, R: Threads + Wait + Sync, N: DeskName, G: Gate + Clone + Send +
         };
         match item {
             Pending::Ready(text) => flow.put(text),
-            Pending::Waiting(batch) => self.settle_batch(
-                alloc, audience, line, batch, answers, flow,
-            ),
+            Pending::Waiting(batch) => {
+                self.giver
+                    .settle_batch(audience, line, batch, answers, flow)
+            }
         }
     }
 
     /// Puts what is owed to each of these lines into the flow, in order, where nothing else is owed.
     fn settle_all<A: Audience, W: Sink>(
         &mut self,
-        alloc: Global,
         audience: &mut A,
         items: &[Pending],
         mut answers: Vec<Answer>,
@@ -285,7 +187,7 @@ impl<'r, 'd, 'g, R: Threads + Wait + Sync, N: DeskName, G: Gate + Clone + Send +
             (W.taken flow.new.writer.now)) }
     {
         for line in 0..items.len() {
-            self.settle(alloc, audience, items, line, &mut answers, flow)?;
+            self.settle(audience, items, line, &mut answers, flow)?;
         }
         Ok(())
     }
@@ -294,7 +196,6 @@ impl<'r, 'd, 'g, R: Threads + Wait + Sync, N: DeskName, G: Gate + Clone + Send +
     /// where there are enough of them.
     fn pay<A: Audience, W: Sink>(
         &mut self,
-        alloc: Global,
         audience: &mut A,
         flow: &mut Flow<'_, W>,
     ) -> Result<(), RunFault>
@@ -310,20 +211,24 @@ impl<'r, 'd, 'g, R: Threads + Wait + Sync, N: DeskName, G: Gate + Clone + Send +
             (course self.new (A.hearers audience.new)) (W.taken flow.old.writer.now) flow.old.outbox.now
             (W.taken flow.new.writer.now)) }
     {
+        let alloc = self.giver.alloc;
         let items = mem::replace(&mut self.pending, Vec::new(alloc));
         let load = mem::replace(&mut self.load, Load::none());
         self.waiting = 0;
         self.helpers.greet(self.rt);
-        let count = self.helpers.wanted(load, self.gate.may_hold());
+        let count = self.helpers.count_for(load, self.giver.gate.may_hold());
         if count == 0 {
-            return self.settle_all(alloc, audience, &items, Vec::new(alloc), flow);
+            return self.settle_all(audience, &items, Vec::new(alloc), flow);
         }
-        let gate = self.gate.clone()?;
-        let group = Arc::new(alloc, Group::of(alloc, items, self.books.settings, gate)?)?;
+        let gate = self.giver.gate.clone()?;
+        let group = Arc::new(
+            alloc,
+            Group::of(alloc, items, self.giver.books.settings, gate)?,
+        )?;
         let answers = self
             .helpers
-            .answers(self.rt, alloc, &mut self.pool, &group, load, count);
-        self.settle_all(alloc, audience, &group.items, answers, flow)
+            .answers(self.rt, &mut self.giver.pool, &group, load, count);
+        self.settle_all(audience, &group.items, answers, flow)
     }
 
     /// Lets a batch wait, to be matched at the registry as it stands.
@@ -351,37 +256,31 @@ impl<'r, 'd, 'g, R: Threads + Wait + Sync, N: DeskName, G: Gate + Clone + Send +
     }
 
     /// Takes a line, and owes what it gives.
-    fn take<A: Audience>(
-        &mut self,
-        alloc: Global,
-        audience: &A,
-        number: u64,
-        bytes: &[u8],
-    ) -> Result<(), NoMemory>
+    fn take<A: Audience>(&mut self, audience: &A, number: u64, bytes: &[u8]) -> Result<(), NoMemory>
         ensures ok { OnOk result (Turns (course self.old (A.hearers audience.now))
             (course self.new (A.hearers audience.now)) number bytes.now []) }
         ensures err { OnErr result (BreaksOff (course self.old (A.hearers audience.now))
             (course self.new (A.hearers audience.now)) number bytes.now []) }
     {
-        match take_line_unread(alloc, &mut self.caller, audience, number, bytes)? {
-            TakenUnread::Text(text) => {
+        match take_line(self.giver.alloc, &mut self.caller, audience, number, bytes)? {
+            Step::Reply(text) => {
                 self.pending.push(Pending::Ready(text))?;
                 Ok(())
             }
-            TakenUnread::Drafts(drafts) => self.let_wait(number, drafts, bytes.len()),
+            Step::Match(drafts) => self.let_wait(number, drafts, bytes.len()),
         }
     }
 
     /// Takes the line of this number, and puts what is given now into the flow: all that is owed, or nothing yet, where
-    /// another line stands read already. Where none does, nothing is owed after it.
+    /// another line stands read already. Where none does, nothing is owed after it, and fewer than 32 batches wait after
+    /// any line.
     ///
     /// `NoMemory` where an allocation failed or a listener answers it, `Write` where the writer fails; the listeners
     /// have heard a prefix of the alerts of what was owed and of the line then, and a prefix of their text is put.
-    /// Cost: that of `take_line_unread`; and of what is given that of `Batch::find` for each article, shared among the
+    /// Cost: that of `take_line`; and of what is given that of `Batch::find` for each article, shared among the
     /// helpers and this thread, and that of `MatchReply::add`. It waits for helpers that have taken an article.
     pub fn answer<A: Audience, W: Sink>(
         &mut self,
-        alloc: Global,
         audience: &mut A,
         flow: &mut Flow<'_, W>,
         number: u64,
@@ -393,6 +292,7 @@ impl<'r, 'd, 'g, R: Threads + Wait + Sync, N: DeskName, G: Gate + Clone + Send +
             (self.new, audience.new) number bytes.now
             (W.taken flow.old.writer.now) flow.old.outbox.now (W.taken flow.new.writer.now) flow.new.outbox.now) }
         ensures settled { OnOk result (has_more ≡ false → self.new.owed ≡ []) }
+        ensures few { OnOk result (batches_owed self.new.owed < MOST_WAITING) }
         ensures well { OnOk result (W.has_failed flow.new.writer.now ≡ W.has_failed flow.old.writer.now) }
         ensures fault { IfErr result (λ e. e ≢ RunFault.Read) }
         ensures write { result ≡ Err RunFault.Write → W.has_failed flow.new.writer.now ≡ true }
@@ -400,11 +300,11 @@ impl<'r, 'd, 'g, R: Threads + Wait + Sync, N: DeskName, G: Gate + Clone + Send +
             (self.old, audience.old) (self.new, audience.new) number bytes.now
             (W.taken flow.old.writer.now) flow.old.outbox.now (W.taken flow.new.writer.now)) }
     {
-        self.take(alloc, audience, number, bytes)?;
+        self.take(audience, number, bytes)?;
         if has_more && 0 < self.waiting && self.waiting < MOST_WAITING {
             return Ok(());
         }
-        self.pay(alloc, audience, flow)
+        self.pay(audience, flow)
     }
 
     /// Joins each helper that is late, lets go what is owed, and tells the merging thread to stop. It waits for the
@@ -420,6 +320,6 @@ impl<'r, 'd, 'g, R: Threads + Wait + Sync, N: DeskName, G: Gate + Clone + Send +
     pub fn into_ledger(self) -> Ledger
         ensures { result ≡ self.entry.rows }
     {
-        self.books.ledger
+        self.giver.into_ledger()
     }
 }

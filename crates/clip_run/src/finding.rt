@@ -33,7 +33,7 @@ pub fn wants_alerts(settings: Settings, due: &DueEntries<'_>) -> bool
 /// What the alerts of what is due would say, where the form shows their hits.
 ///
 /// `NoMemory` where an allocation failed. Cost: that of `DueEntries::views`, or none.
-pub fn views_shown<'a>(
+pub fn views_to_show<'a>(
     alloc: Global,
     form: Form,
     due: &'a DueEntries<'_>,

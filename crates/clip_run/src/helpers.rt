@@ -135,6 +135,7 @@ const UNSHARED_COUNTS: u64 = 32;
 /// The threads that help a run, each with one group, and what is known of how soon they come.
 #[derive(Drop)]
 pub struct Helpers {
+    alloc: Global,
     /// How many there may be at a time.
     most: usize,
     /// Those that had not come when all articles of their group were taken.
@@ -171,6 +172,7 @@ impl Helpers {
     /// The helpers of so many workers, of which the thread that takes the lines is one. None has been started.
     pub fn new(alloc: Global, workers: u32) -> Helpers {
         Helpers {
+            alloc,
             most: workers.saturating_sub(1) as usize,
             late: VecDeque::new(alloc),
             pools: Vec::new(alloc),
@@ -180,7 +182,7 @@ impl Helpers {
 
     /// How many helpers a group of this load is to have: none where it would be matched before they have come, but as
     /// many as there may be where a gate may hold an article until another has come.
-    pub fn wanted(&mut self, load: Load, may_hold: bool) -> usize {
+    pub fn count_for(&mut self, load: Load, may_hold: bool) -> usize {
         let others = load.articles.saturating_sub(1);
         let most = others.min(self.most.saturating_sub(self.late.len()));
         if may_hold || most == 0 {
@@ -210,12 +212,12 @@ impl Helpers {
     fn start<R: Threads, G: Gate + Drop + Send + 'static>(
         &mut self,
         rt: &R,
-        alloc: Global,
         group: &Arc<Group<G>>,
         count: usize,
     ) -> Vec<Helper>
         ensures { All (IsAskedFor (arc_value group.now).settings (arc_value group.now).items.items) result.items }
     {
+        let alloc = self.alloc;
         let mut started = Vec::new(alloc);
         for _ in 0..count {
             if started.reserve(1).is_err() || self.late.reserve(count).is_err() {
@@ -267,7 +269,6 @@ impl Helpers {
     pub fn answers<R: Threads, G: Gate + Drop + Send + 'static>(
         &mut self,
         rt: &R,
-        alloc: Global,
         pool: &mut WordPool,
         group: &Arc<Group<G>>,
         load: Load,
@@ -275,8 +276,8 @@ impl Helpers {
     ) -> Vec<Answer>
         ensures { AreDue (arc_value group.now).settings (arc_value group.now).items.items result.items }
     {
-        let mut started = self.start(rt, alloc, group, count);
-        let mut answers = group.take_articles(alloc, pool);
+        let mut started = self.start(rt, group, count);
+        let mut answers = group.take_articles(self.alloc, pool);
         self.learn(load, answers.len(), started.len());
         for _ in 0..started.len() {
             self.finish_last(rt, &mut started, &mut answers);

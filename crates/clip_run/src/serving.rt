@@ -1,8 +1,8 @@
 //! The lines of a run with workers, one after the other.
-ghost use Rattle.std.specs.Prelude.{◌≡◌, [], IfOk, OnOk, OnErr};
+ghost use Rattle.std.specs.Prelude.{◌≡◌, [], true, Err, IfOk, OnOk, OnErr};
 ghost use Rattle.clip_stream.specs.Lines.{OfInput, OfLinesRead};
 ghost use Rattle.clip_front.specs.Devices.{AreFresh, IsHonest, devices_at};
-ghost use Rattle.clip_front.specs.Steps.Serving.{ServesAll, ServesFront};
+ghost use Rattle.clip_front.specs.Steps.Serving.{ServesAll, ServesFront, ServesLines};
 ghost use Rattle.clip_run.specs.Crews.{course_at};
 ghost use Rattle.clip_run.specs.Owed.{TurnsIn, BreaksIn};
 
@@ -51,6 +51,13 @@ pub fn serve_crew<
     // What was written was flushed and no device has failed, where all went well, and each fault has its reason.
     ensures honest { IsHonest result (devices_at S.Source W.Sink reader.new writer.new) }
 
+    // Where a read failed, each line that was read whole is answered, and the answers are written and flushed. Any read
+    // may fail, so whenever the reader is asked nothing is held back.
+    ensures none_held { result ≡ Err RunFault.Read → (W.is_flushed writer.new ≡ true) × (crew.new.owed ≡ [])
+        × OfLinesRead (S.left reader.old) (S.left reader.new) (S.met_end reader.new)
+        (ServesLines (TurnsIn (course_at A.hearers)) (crew.old, audience.old) (crew.new, audience.new)
+        (W.taken writer.old) (W.taken writer.new)) }
+
     // After a fault, the crew has answered some first ones of the lines that were read and begun one more of them at
     // most, and the writer has taken a prefix of the answers and of what was on its way of that one.
     ensures front { OnErr result (OfLinesRead (S.left reader.old) (S.left reader.new) (S.met_end reader.new)
@@ -70,6 +77,6 @@ pub fn serve_crew<
         }
         count += 1;
         has_more = lines.has_line();
-        crew.answer(alloc, audience, &mut flow, count, &line, has_more)?;
+        crew.answer(audience, &mut flow, count, &line, has_more)?;
     }
 }

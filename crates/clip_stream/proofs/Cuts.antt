@@ -6,6 +6,7 @@ use Rattle.clip_stream.proofs.Bytes.{cut_twice, cut_none, cut_some, cut_nothing,
 use Rattle.clip_stream.proofs.Bytes.{consumes_kept}
 use Rattle.std.specs.Io.KnownBytes.{Consumes, Keeps}
 use Rattle.clip_stream.specs.Steps.Reading.{Reading, has_feed, first_line, after_line, cut, Reads, Gathers, FindsLine}
+use Rattle.clip_stream.specs.Steps.Reading.{FindsNone}
 
 -- ---- a list whose bytes are tested one by one
 
@@ -196,4 +197,16 @@ gathered_end true old now left_old left line g f none end =
         g.is ∙ ap cut (sym (ap first_line whole ∙ first_line-no_feed g.front g.unended)),
         none ∙ sym (ap after_line whole ∙ after_line-no_feed g.front g.unended),
       );
+    }
+
+-- a read failed behind a front without a line feed
+pub finds_none : (old now new : Reading) (left_old left left_new : Option (List ℕ)) (line : List ℕ)
+    → Gathers old now left_old left line → Keeps left left_new → old.is_at_end ≡ false → has_feed now.pending ≡ false
+    → new.is_at_end ≡ false → FindsNone old new left_old left_new
+unfolding reads_kept
+finds_none old now new left_old left left_new line g kept before none unmet =
+    record {
+      reads = reads_kept old now new left_old left left_new g.reads kept before;
+      unended = ap has_feed g.parts ∙ has_feed-append g.front now.pending g.unended none;
+      unmet = unmet;
     }

@@ -33,6 +33,16 @@ ended_lines-first : (bytes : List ℕ) → has_feed bytes ≡ true
 ended_lines-first [] h = absurd (true≢false (sym h))
 ended_lines-first (b ∷ bytes) h = ended_step (b == 10) (has_feed bytes) b bytes h (ended_lines-first bytes)
 
+ended_none : (t r : Bool) (b : ℕ) (lines : List (List ℕ)) → (t || r) ≡ false → (r ≡ false → lines ≡ [])
+    → cond t ([] ∷ lines) (onto_ended b lines) ≡ []
+ended_none true r b lines h more = absurd (true≢false h)
+ended_none false r b lines h more = ap (onto_ended b) (more h)
+
+pub ended_lines-no_feed : (bytes : List ℕ) → has_feed bytes ≡ false → ended_lines bytes ≡ []
+ended_lines-no_feed [] h = refl
+ended_lines-no_feed (b ∷ bytes) h =
+    ended_none (b == 10) (has_feed bytes) b (ended_lines bytes) h (ended_lines-no_feed bytes)
+
 -- ---- the first line of what was read
 
 feed_in_front : (bytes more : List ℕ) → has_feed bytes ≡ true → has_feed (bytes ++ more) ≡ true

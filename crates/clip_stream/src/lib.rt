@@ -11,6 +11,6 @@ mod outbox;
 pub use device::{Failed, Sink, Source, StdSink, StdSource};
 pub use fault::RunFault;
 pub use flow::Flow;
-pub use limits::{MOST_LINE_BYTES, MOST_READS, MOST_WORKERS};
-pub use lines::{LineReader, lines_read_come_first};
+pub use limits::{HELD_LINE_BYTES, MOST_LINE_BYTES, MOST_READS, MOST_WORKERS};
+pub use lines::{LineReader, extend_cut, feed_of, lines_read_come_first};
 pub use outbox::Outbox;

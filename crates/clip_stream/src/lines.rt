@@ -4,12 +4,12 @@ ghost use Rattle.std.specs.Prelude.{is_err, is_ok, IfOk, OnOk, OnErr, IfSome, If
 ghost use Rattle.std.specs.Prelude.{IfErr};
 ghost use Rattle.std.specs.Io.KnownBytes.{Consumes, IsAtEnd, Keeps};
 ghost use Rattle.clip_stream.specs.Lines.{LinesReadComeFirst};
-ghost use Rattle.clip_stream.specs.Steps.Reading.{has_feed, first_line, after_line, cut, fuel, FindsLine, IsFeedOf};
-ghost use Rattle.clip_stream.specs.Steps.Reading.{Reads};
+ghost use Rattle.clip_stream.specs.Steps.Reading.{has_feed, first_line, after_line, cut, fuel, FindsLine, FindsNone};
+ghost use Rattle.clip_stream.specs.Steps.Reading.{IsFeedOf, Reads};
 
 use crate::device::Source;
 use crate::fault::RunFault;
-use crate::limits::{MOST_LINE_BYTES, MOST_READS};
+use crate::limits::{HELD_LINE_BYTES, MOST_READS};
 use clip_words::NoMemory;
 use memchr::memchr;
 use std::alloc::Global;
@@ -17,9 +17,6 @@ use std::marker::Model;
 
 /// How many bytes a read may return.
 const CHUNK: usize = 65_536;
-
-/// How many bytes of a line are kept: one more than a line may have tells that it is too long.
-const KEPT: usize = MOST_LINE_BYTES + 1;
 
 /// What was read and not yet taken, where its first line feed is, and how many reads are left.
 #[derive(Drop)]
@@ -51,19 +48,20 @@ impl Model for LineReader {
         × IsFeedOf r.feed (take (r.end - r.start) (drop r.start r.buffer.items)) };
 }
 
-/// Where the first line feed is.
-fn feed_of(bytes: &[u8]) -> Option<usize>
+/// Where the first line feed is. Its cost is the bytes up to it.
+pub fn feed_of(bytes: &[u8]) -> Option<usize>
     ensures { IsFeedOf result bytes.now }
 {
     memchr(b'\n', bytes)
 }
 
-/// Adds bytes to a line, of which no more is kept than tells that it is too long.
-fn extend_cut(line: &mut Vec<u8>, bytes: &[u8]) -> Result<(), NoMemory>
-    requires { length line.old.items ≤ KEPT }
-    ensures { OnOk result (line.new.items ≡ cut (line.old.items ++ bytes.now)) }
+/// Adds bytes to a line that has no more than are held of one: no more are held than tell that it is too long.
+/// `NoMemory` where an allocation failed. Its cost is the bytes that are added.
+pub fn extend_cut(line: &mut Vec<u8>, bytes: &[u8]) -> Result<(), NoMemory>
+    ensures { length line.old.items ≤ HELD_LINE_BYTES
+        → OnOk result (line.new.items ≡ cut (line.old.items ++ bytes.now)) }
 {
-    let room = KEPT - line.len();
+    let room = HELD_LINE_BYTES.saturating_sub(line.len());
     let more = bytes.len().min(room);
     line.extend_from_slice(&bytes[..more])?;
     Ok(())
@@ -89,7 +87,7 @@ impl LineReader {
 impl LineReader {
     /// Takes what is pending up to a line feed, or all of it.
     fn take_front(&mut self, line: &mut Vec<u8>) -> Result<bool, NoMemory>
-        requires { length line.old.items ≤ KEPT }
+        requires { length line.old.items ≤ HELD_LINE_BYTES }
         ensures line { OnOk result (line.new.items
             ≡ cut (line.old.items ++ first_line self.old.pending)) }
         ensures rest { OnOk result (self.new.pending ≡ after_line self.old.pending) }
@@ -181,6 +179,8 @@ impl LineReader {
         ensures line { IfOk result (λ found. FindsLine found self.old self.new
             (R.left reader.old) (R.left reader.new) line.new.items) }
         ensures given { OnErr result (Reads self.old self.new (R.left reader.old) (R.left reader.new)) }
+        ensures unfound { result ≡ Err RunFault.Read
+            → FindsNone self.old self.new (R.left reader.old) (R.left reader.new) }
         ensures none { IfOk result (λ found. found ≡ false → has_feed self.old.pending ≡ false) }
         ensures fuel { IfOk result (λ found. found ≡ true → fuel self.new < fuel self.old) }
         ensures failed { OnOk result (R.has_failed reader.new ≡ R.has_failed reader.old) }

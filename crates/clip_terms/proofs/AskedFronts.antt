@@ -19,7 +19,7 @@ use Rattle.clip_terms.specs.Terms.{number_of, term_at}
 use Rattle.clip_terms.specs.Steps.KeysByField.{is_word}
 use Rattle.clip_terms.specs.Steps.Numbers.{known}
 use Rattle.clip_terms.specs.Steps.Fronts.{other_fronts, asked_fronts, AddsNumbersOf}
-use Rattle.clip_terms.proofs.ReadingOf.{or_none, known_within, known_is}
+use Rattle.clip_terms.proofs.ReadingOf.{or_assoc, known_within, known_is}
 
 -- ---- fronts that two words share
 
@@ -32,10 +32,6 @@ or_other true b c o f later = refl
 or_other false true c o f later = refl
 or_other false false true o f later = refl
 or_other false false false o f later = later
-
-or_assoc : (a b c : Bool) → ((a || b) || c) ≡ (a || (b || c))
-or_assoc true b c = refl
-or_assoc false b c = refl
 
 module _ (test : List ℕ → Bool) where
   others_alone : (fs : List (List ℕ)) → list_any test (other_fronts [] fs) ≡ list_any test fs
@@ -114,7 +110,7 @@ known_append (x ∷ xs) ys terms =
     ∙ sym (append_assoc (option_to_list (number_of terms x)) (known (map (number_of terms) xs))
     (known (map (number_of terms) ys)))
 
-added_more : (terms keys more : List KeyValue) (old now new : List ℕ) → AddsNumbersOf terms keys old now
+pub added_more : (terms keys more : List KeyValue) (old now new : List ℕ) → AddsNumbersOf terms keys old now
     → AddsNumbersOf terms more now new → AddsNumbersOf terms (keys ++ more) old new
 added_more terms keys more old now new before next = record {
   within = λ all. next.within (before.within all);
@@ -164,42 +160,46 @@ word_again terms name last old goal ps i p lt is same before =
     (sym (none_other (fronts last)))
     ∙ ap (λ ws. old ++ known (map (number_of terms) (map (Front name) (asked_fronts last ws)))) (sym next) ∙ before
 
+-- the numbers of keys
+pub keys_added : (terms keys : List KeyValue) (old new : List ℕ) → IsStrictlySortedBy key_cmp terms
+    → new ≡ old ++ known (map (number_of terms) keys) → AddsNumbersOf terms keys old new
+keys_added terms keys old new strict added = record {
+  within = λ all. All-same (λ n. n < length terms) _ _ added
+      (All-append (λ n. n < length terms) old (known (map (number_of terms) keys)) all (known_within terms keys));
+  among = λ n lt.
+      ap (list_any (nat_eq n)) added
+      ∙ list_any-append (nat_eq n) old (known (map (number_of terms) keys))
+      ∙ ap (λ b. list_any (nat_eq n) old || b) (known_is terms n strict lt keys);
+}
+
 -- a field's fronts
 pub field_asked : (terms : List KeyValue) (field : List ℕ × List (List ℕ)) (name : List ℕ) (ps : List Place)
     (old new : List ℕ) → IsStrictlySortedBy key_cmp terms → name ≡ field.0 → IsPermutation (numbered 0 field.1) ps
     → new ≡ old ++ known (map (number_of terms) (map (Front name) (asked_fronts [] (words_at ps))))
     → AddsNumbersOf terms (front_keys field) old new
 field_asked terms field name ps old new strict same moved added =
-    let asked = map (Front name) (asked_fronts [] (words_at ps)) in
+    let all = keys_added terms (map (Front name) (asked_fronts [] (words_at ps))) old new strict added in
     record {
-      within = λ all. All-same (λ n. n
-          < length terms) _ _ added
-          (All-append (λ n. n < length terms) old (known (map (number_of terms) asked)) all (known_within terms asked));
+      within = all.within;
       among = λ n lt.
           let is : KeyValue → Bool = is_same (term_at terms n) in
-          ap (list_any (nat_eq n)) added
-          ∙ list_any-append (nat_eq n) old (known (map (number_of terms) asked))
-          ∙ ap (λ b. list_any (nat_eq n) old || b) (known_is terms n strict lt asked
-          ∙ fronts_at is name field.1 ps moved ∙ ap (λ of. list_any is (front_keys (of, field.1))) same);
+          all.among n lt
+          ∙ ap (λ b. list_any (nat_eq n) old || b) (fronts_at is name field.1 ps moved
+          ∙ ap (λ of. list_any is (front_keys (of, field.1))) same);
     }
 
--- no field, no numbers
-pub nothing_added : (terms : List KeyValue) (numbers : List ℕ) → AddsNumbersOf terms [] numbers numbers
-nothing_added terms numbers =
-    record { within = λ before. before; among = λ n lt. sym (or_none (list_any (nat_eq n) numbers)) }
-
 -- a field more
-pub fields_added : (terms : List KeyValue) (fields : List (List ℕ × List (List ℕ))) (i : ℕ) (field : List ℕ
-    × List (List ℕ)) (old now new : List ℕ) → i < length fields → field ≡ get_or fields i field
-    → AddsNumbersOf terms (front_keys field) now new
-    → AddsNumbersOf terms (flat_map front_keys (take i fields)) old now
-    → AddsNumbersOf terms (flat_map front_keys (take (i + 1) fields)) old new
-fields_added terms fields i field old now new lt is more before =
+pub fields_added : (terms first : List KeyValue) (keys_of : List ℕ × List (List ℕ) → List KeyValue)
+    (fields : List (List ℕ × List (List ℕ))) (i : ℕ) (field : List ℕ × List (List ℕ)) (old now new : List ℕ)
+    → i < length fields → field ≡ get_or fields i field → AddsNumbersOf terms (keys_of field) now new
+    → AddsNumbersOf terms (first ++ flat_map keys_of (take i fields)) old now
+    → AddsNumbersOf terms (first ++ flat_map keys_of (take (i + 1) fields)) old new
+fields_added terms first keys_of fields i field old now new lt is more before =
     subst (λ (keys : List KeyValue). AddsNumbersOf terms keys old new)
-    (flat_map_more front_keys [] (take i fields) field
-    ∙ ap (flat_map front_keys) (ap (λ (f : List ℕ × List (List ℕ)). take i fields ++ f ∷ []) is
+    (flat_map_more keys_of first (take i fields) field
+    ∙ ap (λ fs. first ++ flat_map keys_of fs) (ap (λ (f : List ℕ × List (List ℕ)). take i fields ++ f ∷ []) is
     ∙ sym (take_more fields i field lt)))
-    (added_more terms (flat_map front_keys (take i fields)) (front_keys field) old now new before more)
+    (added_more terms (first ++ flat_map keys_of (take i fields)) (keys_of field) old now new before more)
 
 -- ---- front by front
 

@@ -1,9 +1,9 @@
 -- Flags that are raised where a run stands.
-use Rattle.std.proofs.Common.{◌≡◌, ℕ, suc, ◌+◌, ◌-◌, ◌<◌, ◌≤◌, Bool, true, false, ◌&&◌, ◌||◌, nat_le, nat_lt, List}
-use Rattle.std.proofs.Common.{length, drop, get_or, Option, Some, None, MatchOption, refl, sym, ap, ◌∙◌, subst, arith}
+use Rattle.std.proofs.Common.{◌≡◌, ℕ, ◌+◌, ◌-◌, ◌<◌, ◌≤◌, true, false, nat_le, nat_lt, List}
+use Rattle.std.proofs.Common.{length, drop, get_or, Option, Some, None, MatchOption, refl, sym, ap, ◌∙◌, arith}
 use Rattle.std.proofs.Common.{max, inl, inr}
 use Rattle.std.proofs.lemmas.Bool.{cases_eq, cases_lt, or_cases, or_left, or_right, and_parts, and_from, le-leb}
-use Rattle.std.proofs.lemmas.Bool.{leb-true, lt-ltb, ltb-true, false≢true, true≢false}
+use Rattle.std.proofs.lemmas.Bool.{leb-true, lt-ltb, ltb-true, false≢true}
 use Rattle.clip_grammar.proofs.Booleans.{same_answer}
 use Rattle.clip_meaning.specs.Hits.{is_within}
 use Rattle.clip_meaning.specs.Steps.Marks.{is_up, AreRaised}

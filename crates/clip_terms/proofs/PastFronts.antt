@@ -8,7 +8,7 @@ use Rattle.std.specs.Str.{IsUtf8, chars, encode_utf8_all}
 use Rattle.std.specs.Cmp.Lexicographic.{nat_list_cmp_total}
 use Rattle.std.proofs.lemmas.Bool.{cases_lt, cases_eq, and_parts, and_from, or_left, or_right, false≢true}
 use Rattle.std.proofs.lemmas.Bool.{false_from_ne_true}
-use Rattle.std.proofs.lemmas.List.{get_or-map, length-map, length-append, take-append-drop, drop_more, map_more}
+use Rattle.std.proofs.lemmas.List.{get_or-map, length-map, take-append-drop}
 use Rattle.std.proofs.lemmas.List.Elements.{All-head, All-tail}
 use Rattle.std.proofs.lemmas.List.Folds.{list_any-append}
 use Rattle.std.proofs.lemmas.Str.{encodes-append, encodes-chars}
@@ -251,54 +251,6 @@ front_not_had keys leads lengths field words start end next i are shorts part lo
     (subst (λ t. IsLead (text_of t) (get_or leads i 0)) (is Any) (lead_at terms leads are i Any inside))
     (subst (λ t. IsShortLength (text_of t) (get_or lengths i 0)) (is Any) (length_at terms lengths shorts i Any inside))
     past before
-
--- ---- field by field
-
-pub leads_split : (xs ys : List KeyValue) (leads : List ℕ) → AreLeads (xs ++ ys) leads
-    → AreLeads xs (take (length xs) leads) × AreLeads ys (drop (length xs) leads)
-leads_split [] ys leads are = (tt, are)
-leads_split (x ∷ xs) ys [] are = absurd are
-leads_split (x ∷ xs) ys (lead ∷ leads) are = let r = leads_split xs ys leads are.1 in ((are.0, r.0), r.1)
-
-pub field_split : (fields : List (List ℕ × List (List ℕ))) (i : ℕ) (field : List ℕ × List (List ℕ)) (leads : List ℕ)
-    (count : ℕ) → i < length fields → field ≡ get_or fields i field
-    → count ≡ length (ordered_keys field) → AreLeads (flat_map ordered_keys (drop i fields)) leads
-    → (count ≤ length leads) × AreLeads (ordered_keys field) (take count leads)
-    × AreLeads (flat_map ordered_keys (drop (i + 1) fields)) (drop count leads)
-field_split fields i field leads count inside is long are =
-    let next : drop i fields ≡ field ∷ drop (i + 1) fields = drop_more fields i field inside
-    ∙ ap (λ f. f ∷ drop (i + 1) fields) (sym is) in
-    let both : AreLeads (ordered_keys field ++ flat_map ordered_keys (drop (i + 1) fields)) leads =
-    subst (λ (fs : List (List ℕ × List (List ℕ))). AreLeads (flat_map ordered_keys fs) leads) next are in
-    let r = leads_split (ordered_keys field) (flat_map ordered_keys (drop (i + 1) fields)) leads both in
-    let all = leads_long _ leads both in (
-      omega (arith, all, length-append (ordered_keys field) (flat_map ordered_keys (drop (i + 1) fields)), long),
-      subst (λ c. AreLeads (ordered_keys field) (take c leads)) (sym long) r.0,
-      subst (λ c. AreLeads (flat_map ordered_keys (drop (i + 1) fields)) (drop c leads)) (sym long) r.1,
-    )
-
--- a field's keys are counted
-pub added_count : (keys : List Key) (old : List KeyValue) (field : List ℕ × List (List ℕ))
-    → map key_of keys ≡ old ++ ordered_keys field → length keys ≡ length old + length (ordered_keys field)
-added_count keys old field is =
-    omega (arith, ap length is, length-map keys key_of, length-append old (ordered_keys field))
-
-pub counts_more : (fields : List (List ℕ × List (List ℕ))) (i : ℕ) (field : List ℕ × List (List ℕ)) (counts : List ℕ)
-    (count : ℕ) → i < length fields → field ≡ get_or fields i field
-    → count ≡ length (ordered_keys field) → counts ≡ map (λ field. length (ordered_keys field)) (take i fields)
-    → counts ++ count ∷ [] ≡ map (λ field. length (ordered_keys field)) (take (i + 1) fields)
-counts_more fields i field counts count inside is long before =
-    ap (λ c. counts ++ c ∷ []) (long ∙ ap (λ f. length (ordered_keys f)) is)
-    ∙ ap (λ cs. cs ++ length (ordered_keys (get_or fields i field)) ∷ []) before
-    ∙ sym (map_more (λ field. length (ordered_keys field)) fields i field inside)
-
-pub count_at : (fields : List (List ℕ × List (List ℕ))) (counts : List ℕ) (i c : ℕ) (field : List ℕ × List (List ℕ))
-    → i < length fields → field ≡ get_or fields i field
-    → counts ≡ map (λ field. length (ordered_keys field)) fields → c ≡ get_or counts i 0
-    → c ≡ length (ordered_keys field)
-count_at fields counts i c field inside is all read =
-    read ∙ ap (λ cs. get_or cs i 0) all ∙ get_or-map (λ f. length (ordered_keys f)) fields i field 0 inside
-    ∙ ap (λ f. length (ordered_keys f)) (sym is)
 
 -- ---- from front to front
 

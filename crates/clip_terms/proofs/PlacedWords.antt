@@ -1,16 +1,15 @@
 -- The places of a field's words among the keys, as they are written posting by posting.
 use Rattle.std.proofs.Common.{◌≡◌, ℕ, zero, suc, ◌+◌, ◌-◌, ◌<◌, Bool, true, false, cond, List, [], ◌∷◌, ◌++◌, All}
-use Rattle.std.proofs.Common.{IsPermutation, map, flat_map, length, take, drop, set, get_or, Option, Some, None}
+use Rattle.std.proofs.Common.{IsPermutation, map, length, take, drop, set, get_or, Option, Some, None}
 use Rattle.std.proofs.Common.{unwrap_or, slice_get, Vec, Global, refl, sym, ap, ◌∙◌, subst, arith, append_assoc}
 use Rattle.std.proofs.Common.{append-nil, get_or-set_same, get_or-set_other, bytes_eq, inl, inr}
 use Rattle.std.proofs.lemmas.Bool.{cases_eq}
-use Rattle.std.proofs.lemmas.List.{length-append, get_or_at, drop_more, take_more, flat_map_more, map_push, map_more}
+use Rattle.std.proofs.lemmas.List.{length-append, get_or_at, drop_more}
 use Rattle.std.proofs.lemmas.List.Elements.{All-nil, All-cons, All-head, All-tail, All-take, All-more}
 use Rattle.std.proofs.lemmas.List.Sorted.{All-permutation, IsPermutation-sym}
 use Rattle.std.proofs.lemmas.Option.{slice_get_within}
 use Rattle.clip_meaning.specs.Index.{numbered}
 use Rattle.clip_extract.specs.Keys.{KeyValue, Any, Word}
-use Rattle.clip_extract.specs.Covering.{field_keys}
 use Rattle.clip_terms.specs.Terms.{term_at}
 use Rattle.clip_terms.specs.Steps.KeysByField.{differing, key_added}
 use Rattle.clip_terms.specs.Steps.Places.{AreOfWords, IsPlaced, EndsWith}
@@ -208,50 +207,3 @@ all_placed field keys places words ps moved long placed =
     read_back field keys places [] places words refl long
     (All-permutation (IsPlaced field keys places) ps (numbered 0 words)
     (IsPermutation-sym (numbered 0 words) ps moved) placed)
-
--- ---- field by field
-
-words_stay : (keys more : List KeyValue) (field : List ℕ) (ps : List ℕ) (ws : List (List ℕ))
-    → map (term_at keys) ps ≡ map (Word field) ws → map (term_at (keys ++ more)) ps ≡ map (Word field) ws
-words_stay keys more field [] [] e = refl
-words_stay keys more field [] (w ∷ ws) e = cc
-words_stay keys more field (p ∷ ps) [] e = cc
-words_stay keys more field (p ∷ ps) (w ∷ ws) e =
-    let here : term_at keys p ≡ Word field w = cc in
-    let later : map (term_at keys) ps ≡ map (Word field) ws = cc in
-    λ i. still_there keys more p field w here i ∷ words_stay keys more field ps ws later i
-
-fields_stay : {V : Type 0} (items : V
-    → List ℕ) (keys more : List KeyValue) (all : List V) (fields : List (List ℕ × List (List ℕ)))
-    → map (λ v. map (term_at keys) (items v)) all ≡ map field_keys fields
-    → map (λ v. map (term_at (keys ++ more)) (items v)) all ≡ map field_keys fields
-fields_stay items keys more [] [] e = refl
-fields_stay items keys more [] (f ∷ fields) e = cc
-fields_stay items keys more (v ∷ all) [] e = cc
-fields_stay items keys more (v ∷ all) (f ∷ fields) e =
-    let here : map (term_at keys) (items v) ≡ map (Word f.0) f.1 = cc in
-    let later : map (λ v. map (term_at keys) (items v)) all ≡ map field_keys fields = cc in
-    λ i. words_stay keys more f.0 (items v) f.1 here i ∷ fields_stay items keys more all fields later i
-
--- a field more
-pub fields_more : {V : Type 0} (items : V → List ℕ) (old more new : List KeyValue) (all : List V) (v : V)
-    (fields : List (List ℕ × List (List ℕ))) (i : ℕ) (field : List ℕ × List (List ℕ)) → i < length fields
-    → field ≡ get_or fields i field → new ≡ old ++ more → map (λ v. map (term_at old) (items v)) all
-    ≡ map field_keys (take i fields) → map (term_at new) (items v) ≡ field_keys field
-    → map (λ v. map (term_at new) (items v)) (all ++ v ∷ []) ≡ map field_keys (take (i + 1) fields)
-fields_more items old more new all v fields i field lt is grown so here =
-    let before : map (λ v. map (term_at new) (items v)) all ≡ map field_keys (take i fields) =
-    ap (λ ks. map (λ v. map (term_at ks) (items v)) all) grown ∙ fields_stay items old more all (take i fields) so in
-    map_push (λ v. map (term_at new) (items v)) all v
-    ∙ (λ j. before j ++ here j ∷ [])
-    ∙ ap (λ f. map field_keys (take i fields) ++ field_keys f ∷ []) is
-    ∙ sym (map_more field_keys fields i field lt)
-
--- its keys
-pub keys_of_more : (before : KeyValue) (f : List ℕ × List (List ℕ)
-    → List KeyValue) (fields : List (List ℕ × List (List ℕ))) (i : ℕ) (field : List ℕ × List (List ℕ))
-    → i < length fields → field ≡ get_or fields i field
-    → (before ∷ flat_map f (take i fields)) ++ f field ≡ before ∷ flat_map f (take (i + 1) fields)
-keys_of_more before f fields i field lt is =
-    flat_map_more f (before ∷ []) (take i fields) field
-    ∙ ap (λ fs. before ∷ flat_map f fs) (ap (λ x. take i fields ++ x ∷ []) is ∙ sym (take_more fields i field lt))

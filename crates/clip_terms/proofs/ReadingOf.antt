@@ -10,7 +10,7 @@ use Rattle.std.specs.List.Sorted.{IsStrictlySortedBy}
 use Rattle.std.proofs.lemmas.Bool.{cases_eq, or_right}
 use Rattle.std.proofs.lemmas.Cmp.{nat_eq_equiv}
 use Rattle.std.proofs.lemmas.List.{map-append}
-use Rattle.std.proofs.lemmas.List.Elements.{All-nil, All-cons, All-append, All-same}
+use Rattle.std.proofs.lemmas.List.Elements.{All-nil, All-cons, All-append}
 use Rattle.std.proofs.lemmas.List.Folds.{list_any-append, list_any_more}
 use Rattle.std.proofs.lemmas.Option.{slice_get-map, unwrap_or-slice_get}
 use Rattle.clip_extract.specs.Keys.{KeyValue, Any, Word, key_cmp, is_same}
@@ -19,10 +19,12 @@ use Rattle.clip_extract.specs.Covering.{field_keys, front_keys}
 use Rattle.clip_extract.proofs.Covers.{all_keys}
 use Rattle.clip_extract.proofs.Order.{key_cmp_total, among_in_order}
 use Rattle.clip_terms.specs.Terms.{term_at, number_of}
-use Rattle.clip_terms.specs.Reading.{has_key, word_part_keys}
+use Rattle.clip_terms.specs.Reading.{has_key}
 use Rattle.clip_terms.specs.Steps.Fronts.{AddsNumbersOf}
+use Rattle.clip_terms.specs.Steps.KeysByField.{ordered_keys}
 use Rattle.clip_terms.specs.Steps.Numbers.{known, number_at, AreFlags}
 use Rattle.clip_terms.specs.Steps.Runs.{is_number}
+use Rattle.clip_terms.proofs.KeysByField.{keys_by_field}
 use Rattle.clip_terms.proofs.NumberedKeys.{term_of_number, key_numbered}
 
 pub or_none : (b : Bool) → (b || false) ≡ b
@@ -125,7 +127,7 @@ module _ (terms keys : List KeyValue) where
       ap (λ (o : Option (Option ℕ)). unwrap_or o None) (slice_get-map (number_of terms) keys p)
       ∙ found_at (Word name word) (slice_get keys p) (no_word name word) is
 
-  places_numbered : (name : List ℕ) (ps : List ℕ) (ws : List (List ℕ)) → map (term_at keys) ps ≡ map (Word name) ws
+  pub places_numbered : (name : List ℕ) (ps : List ℕ) (ws : List (List ℕ)) → map (term_at keys) ps ≡ map (Word name) ws
       → map (number_at (map (number_of terms) keys)) ps ≡ map (number_of terms) (map (Word name) ws)
   places_numbered name [] [] e = refl
   places_numbered name [] (w ∷ ws) e = cc
@@ -135,34 +137,49 @@ module _ (terms keys : List KeyValue) where
       let later : map (term_at keys) ps ≡ map (Word name) ws = cc in
       λ i. placed_at name w p here i ∷ places_numbered name ps ws later i
 
-  pub fields_numbered : {V : Type 0} (items : V → List ℕ) (all : List V) (fields : List (List ℕ × List (List ℕ)))
-      → map (λ v. map (term_at keys) (items v)) all ≡ map field_keys fields
-      → map (λ v. map (number_at (map (number_of terms) keys)) (items v)) all
-      ≡ map (λ field. map (number_of terms) (field_keys field)) fields
-  fields_numbered items [] [] e = refl
-  fields_numbered items [] (f ∷ fields) e = cc
-  fields_numbered items (v ∷ all) [] e = cc
-  fields_numbered items (v ∷ all) (f ∷ fields) e =
-      let here : map (term_at keys) (items v) ≡ map (Word f.0) f.1 = cc in
-      let later : map (λ v. map (term_at keys) (items v)) all ≡ map field_keys fields = cc in
-      λ i. places_numbered f.0 (items v) f.1 here i ∷ fields_numbered items all fields later i
-
 -- ---- the numbers of all keys of an article
 
-module _ (terms : List KeyValue) (fields : Fields) (keys : List KeyValue) (old new : List ℕ) (of_words : keys
-    ≡ word_part_keys fields) (first : old ≡ known (map (number_of terms) keys))
-    (fronts : AddsNumbersOf terms (flat_map front_keys (finite.entries fields)) old new) where
-  pub numbers_within : All (λ n. n < length terms) new
-  numbers_within = fronts.within (All-same (λ n. n < length terms) _ _ first (known_within terms keys))
+swapped : (a b c d : Bool) → ((a || b) || (c || d)) ≡ ((a || c) || (b || d))
+swapped true b c d = refl
+swapped false true true d = refl
+swapped false true false d = refl
+swapped false false c d = refl
 
-  pub numbers_had : IsStrictlySortedBy key_cmp terms → (n : ℕ) → n < length terms
-      → list_any (nat_eq n) new ≡ has_key fields (term_at terms n)
-  numbers_had strict n lt =
+pub or_assoc : (a b c : Bool) → ((a || b) || c) ≡ (a || (b || c))
+or_assoc true b c = refl
+or_assoc false b c = refl
+
+-- the keys of a field's words and of their fronts
+abbrev pub all_of_field : List ℕ × List (List ℕ) → List KeyValue
+all_of_field field = ordered_keys field ++ front_keys field
+
+by_kind : (test : KeyValue → Bool) (fields : List (List ℕ × List (List ℕ)))
+    → list_any test (flat_map all_of_field fields)
+    ≡ (list_any test (flat_map ordered_keys fields) || list_any test (flat_map front_keys fields))
+by_kind test [] = refl
+by_kind test (f ∷ fields) =
+    list_any-append test (all_of_field f) (flat_map all_of_field fields)
+    ∙ (λ i. list_any-append test (ordered_keys f) (front_keys f) i || by_kind test fields i)
+    ∙ swapped (list_any test (ordered_keys f)) (list_any test (front_keys f))
+    (list_any test (flat_map ordered_keys fields)) (list_any test (flat_map front_keys fields))
+    ∙ sym (λ i. list_any-append test (ordered_keys f) (flat_map ordered_keys fields) i
+    || list_any-append test (front_keys f) (flat_map front_keys fields) i)
+
+module _ (terms : List KeyValue) (fields : Fields) (new : List ℕ)
+    (added : AddsNumbersOf terms (Any ∷ flat_map all_of_field (finite.entries fields)) [] new) where
+  pub numbers_within : All (λ n. n < length terms) new
+  numbers_within = added.within (All-nil (λ n. n < length terms))
+
+  pub numbers_had : (n : ℕ) → n < length terms → list_any (nat_eq n) new ≡ has_key fields (term_at terms n)
+  numbers_had n lt =
       let is : KeyValue → Bool = is_same (term_at terms n) in
-      let words : List KeyValue = Any ∷ flat_map field_keys (finite.entries fields) in
-      let others : Bool = list_any is (flat_map front_keys (finite.entries fields)) in
-      fronts.among n lt
-      ∙ ap (λ b. b || others) (ap (list_any (nat_eq n)) first ∙ known_is terms n strict lt keys
-      ∙ ap (list_any is) of_words ∙ among_in_order words (term_at terms n))
-      ∙ sym (list_any-append is words (flat_map front_keys (finite.entries fields)))
+      let entries = finite.entries fields in
+      let words : List KeyValue = Any ∷ flat_map field_keys entries in
+      let others : Bool = list_any is (flat_map front_keys entries) in
+      added.among n lt
+      ∙ ap (λ b. is Any || b) (by_kind is entries)
+      ∙ sym (or_assoc (is Any) (list_any is (flat_map ordered_keys entries)) others)
+      ∙ ap (λ (keys : List KeyValue). list_any is keys || others) (keys_by_field fields)
+      ∙ ap (λ b. b || others) (among_in_order words (term_at terms n))
+      ∙ sym (list_any-append is words (flat_map front_keys entries))
       ∙ sym (among_in_order (all_keys fields) (term_at terms n))

@@ -1,9 +1,9 @@
 -- Where a run of numbers stands: at a spot of each of its numbers.
-use Rattle.std.proofs.Common.{◌≡◌, ℕ, zero, suc, ◌+◌, ◌-◌, ◌<◌, ◌≤◌, Bool, true, false, ◌&&◌, ◌||◌, nat_le, List, []}
-use Rattle.std.proofs.Common.{◌∷◌, length, drop, get_or, Option, Some, None, MatchOption, is_some, unwrap_or, slice_get}
-use Rattle.std.proofs.Common.{refl, sym, ap, ◌∙◌, subst, arith, eqb-true, eq-eqb, nat_eq, inl, inr}
+use Rattle.std.proofs.Common.{◌≡◌, ℕ, zero, suc, ◌+◌, ◌-◌, ◌<◌, ◌≤◌, Bool, true, false, ◌&&◌, nat_le, List, []}
+use Rattle.std.proofs.Common.{◌∷◌, length, drop, get_or, Option, Some, None, MatchOption, is_some}
+use Rattle.std.proofs.Common.{sym, ap, ◌∙◌, arith, eqb-true, inl, inr}
 use Rattle.std.specs.List.{list_any}
-use Rattle.std.proofs.lemmas.Bool.{or_cases, or_left, or_right, and_parts, and_from, le-leb, leb-true}
+use Rattle.std.proofs.lemmas.Bool.{or_cases, or_left, or_right, and_parts, and_from, le-leb}
 use Rattle.std.proofs.lemmas.Bool.{false_from_ne_true, false≢true, true≢false}
 use Rattle.std.proofs.lemmas.Option.{unwrap_or-slice_get}
 use Rattle.clip_grammar.proofs.Booleans.{same_answer}
@@ -11,9 +11,8 @@ use Rattle.clip_meaning.specs.Hits.{is_within}
 use Rattle.clip_terms.specs.declared.field_numbers.Anchor.{Anchor}
 use Rattle.clip_terms.specs.declared.field_numbers.Spot.{Spot}
 use Rattle.clip_terms.specs.declared.repeats.Aligned.{Aligned}
-use Rattle.clip_terms.specs.Steps.Numbers.{number_at}
 use Rattle.clip_terms.specs.Steps.Runs.{is_number, begins_with, stands_among}
-use Rattle.clip_terms.specs.Steps.FieldNumbers.{HasEach, IsAnchor, begins_before, covers_before, is_covered_from}
+use Rattle.clip_terms.specs.Steps.FieldNumbers.{IsAnchor, begins_before, covers_before, is_covered_from}
 use Rattle.clip_terms.proofs.Repeating.{begins_there, past_end, whole_stands}
 use Rattle.clip_terms.specs.Steps.Repeats.{IsNext}
 

@@ -11,7 +11,7 @@ use Rattle.std.specs.Cmp.Lexicographic.{nat_list_cmp_total}
 use Rattle.std.specs.declared.cmp.Ordering.{Ordering}
 use Rattle.std.specs.declared.cmp.Ordering.TheVariants.{Less, Equal, Greater}
 use Rattle.std.proofs.lemmas.Bool.{cases_lt, or_cases, or_left, or_right, and_parts, and_from, ltb-true, lt-ltb}
-use Rattle.std.proofs.lemmas.Bool.{ltb-false, leb-true, le-leb, false≢true, true≢false}
+use Rattle.std.proofs.lemmas.Bool.{leb-true, le-leb, false≢true, true≢false}
 use Rattle.std.proofs.lemmas.List.{get_or-drop, get_or-take, length-map, length-drop, length-take-le}
 use Rattle.std.proofs.lemmas.List.Folds.{list_any-append, list_any_at}
 use Rattle.std.proofs.lemmas.List.Sorted.{list_any-IsPermutation, ranks_by, sorted_far}
@@ -21,7 +21,7 @@ use Rattle.clip_meaning.specs.Index.{numbered}
 use Rattle.clip_extract.specs.Keys.{KeyValue, Any, Word, key_cmp}
 use Rattle.clip_extract.specs.Covering.{field_keys}
 use Rattle.clip_terms.specs.declared.field_numbers.Spot.{Spot}
-use Rattle.clip_terms.specs.Terms.{term_at, number_of}
+use Rattle.clip_terms.specs.Terms.{number_of}
 use Rattle.clip_terms.specs.Steps.Numbers.{number_at}
 use Rattle.clip_terms.specs.Steps.FieldNumbers.{spot_of, spots_of, HasEach, NumbersRise, AreSpotsOf}
 use Rattle.clip_terms.proofs.Headings.{rises_at}

@@ -1,4 +1,5 @@
 -- What the proofs of this crate go through, and private fields as contracts see them; no public clause cites it.
+pub mod AskedField
 pub mod Asking
 pub mod FieldNumbers
 pub mod FieldTerms
@@ -15,3 +16,4 @@ pub mod Repeats
 pub mod Runs
 pub mod Sought
 pub mod Spots
+pub mod WordKeys

@@ -33,7 +33,7 @@ pub(crate) fn leads_of(alloc: Global, keys: &[Key]) -> Result<Vec<u64>, NoMemory
 }
 
 /// The length of a text of up to eight bytes, and nine for a longer one.
-fn short_length(text: &str) -> u8
+pub(crate) fn short_length(text: &str) -> u8
     ensures { IsShortLength text.now result }
 {
     text.len().min(9) as u8

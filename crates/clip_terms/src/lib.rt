@@ -17,6 +17,7 @@ mod reading;
 mod repeats;
 mod spots;
 mod terms;
+mod word_keys;
 
 pub use asking::Asking;
 pub use field_terms::FieldTerms;

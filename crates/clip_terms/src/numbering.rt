@@ -1,8 +1,9 @@
 //! The numbers of an article's keys.
-ghost use Rattle.std.specs.Prelude.{◌≡◌, ◌++◌, [], ◌<◌, IfOk, OnOk, length, map, slice_index, flat_map};
+ghost use Rattle.std.specs.Prelude.{◌≡◌, ◌++◌, [], ◌<◌, IfOk, OnOk, length, map, slice_index};
 ghost use Rattle.std.specs.Prelude.{option_map, option_to_list};
-ghost use Rattle.std.specs.FinMap as finite;
-ghost use Rattle.clip_extract.specs.Keys.{Front, key_of, text_of};
+ghost use Rattle.std.specs.Arc.{arc_str_bytes};
+ghost use Rattle.std.specs.List.Sorted.{IsStrictlySortedBy};
+ghost use Rattle.clip_extract.specs.Keys.{Word, Front, key_of, key_cmp, text_of};
 ghost use Rattle.clip_extract.specs.Fronts.{fronts};
 ghost use Rattle.clip_extract.specs.Covering.{front_keys};
 ghost use Rattle.clip_terms.specs.Terms.{number_of};
@@ -12,7 +13,6 @@ ghost use Rattle.clip_terms.specs.Steps.Leads.{AreLeads, IsShortLength, AreShort
 ghost use Rattle.clip_terms.specs.Steps.Numbers.{known};
 ghost use Rattle.clip_terms.specs.Steps.Fronts.{other_fronts, asked_fronts, AddsNumbersOf};
 
-use crate::asking::Asking;
 use crate::field_terms::FieldTerms;
 use crate::leads::Sought;
 use crate::likely::LikelyPlaces;
@@ -21,6 +21,50 @@ use clip_extract::{Fronts, Key};
 use clip_meaning::{Field, Posting};
 use clip_words::NoMemory;
 use std::alloc::Global;
+use std::sync::ArcStr;
+
+/// The number of a word of a field, none of one that is no term. The first of these leads is that of the word, whose
+/// short length this is, and the others are likely those of the words after it.
+fn word_number(
+    of_field: &FieldTerms<'_>,
+    likely: &mut LikelyPlaces,
+    word: &ArcStr,
+    leads: &[u64],
+    short: u8,
+) -> Option<u32>
+    requires some { 0 < length leads.now }
+    requires lead { IsLead (arc_str_bytes word.now) (slice_index leads.now 0) }
+    requires short { IsShortLength (arc_str_bytes word.now) short }
+    ensures { result ≡ number_of of_field.now.terms (Word of_field.now.field (arc_str_bytes word.now)) }
+{
+    let place = likely.next(of_field, leads);
+    of_field.word_near(&Sought::with(word, leads[0], short), place)
+}
+
+/// The numbers of words of a field, beside which their leads and short lengths are given, in order; none of a word that
+/// is no term.
+pub(crate) fn word_numbers(
+    alloc: Global,
+    of_field: &FieldTerms<'_>,
+    words: &[&ArcStr],
+    leads: &[u64],
+    lengths: &[u8],
+) -> Result<Vec<Option<u32>>, NoMemory>
+    requires leads { AreLeads (map (λ w. Word of_field.now.field (arc_str_bytes w.now)) words.now) leads.now }
+    requires lengths { AreShortLengths
+        (map (λ w. Word of_field.now.field (arc_str_bytes w.now)) words.now) lengths.now }
+    ensures { IfOk result (λ numbers. numbers.items ≡ map (number_of of_field.now.terms)
+        (map (λ w. Word of_field.now.field (arc_str_bytes w.now)) words.now)) }
+{
+    let mut numbers = Vec::with_capacity(alloc, words.len())?;
+    let mut likely = LikelyPlaces::none();
+    for place in 0..words.len() {
+        let from = &leads[place..];
+        let short = lengths[place];
+        numbers.push(word_number(of_field, &mut likely, words[place], from, short))?;
+    }
+    Ok(numbers)
+}
 
 /// The number of a key, none of a key that is no term. The first of these leads is that of the key's text, whose short
 /// length this is, and the others are likely those of the keys after it. The terms of a field become those of its
@@ -47,8 +91,7 @@ fn key_number<'a>(
         *of_field = terms.of_field(field);
         likely.clear();
     }
-    let place = likely.next(of_field, leads);
-    of_field.word_near(&Sought::with(word, leads[0], short), place)
+    word_number(of_field, likely, word, leads, short)
 }
 
 /// The numbers of keys, beside which their leads and short lengths are given, in order; none of a key that is no term.
@@ -77,7 +120,7 @@ pub(crate) fn key_numbers<'a>(
 }
 
 /// Adds a number, if it is one.
-fn add_known(number: Option<u32>, numbers: &mut Vec<u32>) -> Result<(), NoMemory>
+pub(crate) fn add_known(number: Option<u32>, numbers: &mut Vec<u32>) -> Result<(), NoMemory>
     ensures { OnOk result (numbers.new.items ≡ numbers.old.items ++ option_to_list number) }
 {
     if let Some(number) = number {
@@ -86,15 +129,14 @@ fn add_known(number: Option<u32>, numbers: &mut Vec<u32>) -> Result<(), NoMemory
     Ok(())
 }
 
-/// The numbers of the keys that have one, in order.
-pub(crate) fn known_numbers(alloc: Global, by_key: &[Option<u32>]) -> Result<Vec<u32>, NoMemory>
-    ensures { IfOk result (λ numbers. numbers.items ≡ known by_key.now) }
+/// Adds the numbers of the keys that have one, in order.
+pub(crate) fn add_all_known(by_key: &[Option<u32>], numbers: &mut Vec<u32>) -> Result<(), NoMemory>
+    ensures { OnOk result (numbers.new.items ≡ numbers.old.items ++ known by_key.now) }
 {
-    let mut numbers = Vec::with_capacity(alloc, by_key.len())?;
     for number in by_key {
-        add_known(*number, &mut numbers)?;
+        add_known(*number, numbers)?;
     }
-    Ok(numbers)
+    Ok(())
 }
 
 /// Whether a text is there and is this one.
@@ -151,42 +193,23 @@ fn add_posting_fronts(
 /// How many fronts of a table a walk passes in less time than it takes to look the fronts of one word up in it.
 const FRONTS_FOR_A_WORD: usize = 32;
 
-/// Adds the numbers of the fronts of a field's words, whose leads these are. Walks over the fronts among the terms, or
-/// looks each front of the words up where these are so few that this takes less time.
-fn add_field_fronts(
-    terms: &Terms,
+/// Adds the numbers of the fronts of a field's words, whose leads these are, among the terms of the field. Walks over
+/// the fronts among these, or looks each front of the words up where the words are so few that this takes less time.
+pub(crate) fn add_field_fronts(
+    of_field: &FieldTerms<'_>,
     field: &Field,
     leads: &[u64],
     numbers: &mut Vec<u32>,
 ) -> Result<(), NoMemory>
-    requires { AreLeads (ordered_keys field.now) leads.now }
-    ensures { OnOk result (AddsNumbersOf terms.now (front_keys field.now) numbers.old.items numbers.new.items) }
+    requires strict { IsStrictlySortedBy key_cmp of_field.now.terms }
+    requires field { of_field.now.field ≡ field.now.0 }
+    requires leads { AreLeads (ordered_keys field.now) leads.now }
+    ensures { OnOk result
+        (AddsNumbersOf of_field.now.terms (front_keys field.now) numbers.old.items numbers.new.items) }
 {
-    terms.order_law();
-    let of_field = terms.of_field(field.name());
     if of_field.front_count() / FRONTS_FOR_A_WORD <= field.words().len() {
         return of_field.add_fronts_of(field, leads, numbers);
     }
-    add_posting_fronts(&of_field, field.postings(), numbers)?;
-    Ok(())
-}
-
-/// Adds the numbers of the fronts of the words of an article's fields.
-pub(crate) fn add_front_numbers(
-    terms: &Terms,
-    asking: &Asking<'_>,
-    numbers: &mut Vec<u32>,
-) -> Result<(), NoMemory>
-    ensures { OnOk result (AddsNumbersOf terms.now
-        (flat_map front_keys (finite.entries asking.now.fields)) numbers.old.items numbers.new.items) }
-{
-    let fields = asking.article().fields();
-    let counts = asking.counts();
-    let mut leads = asking.leads().split_at(1).1;
-    for place in 0..fields.len() {
-        let (of_field, others) = leads.split_at(counts[place]);
-        add_field_fronts(terms, &fields[place], of_field, numbers)?;
-        leads = others;
-    }
+    add_posting_fronts(of_field, field.postings(), numbers)?;
     Ok(())
 }

@@ -1,20 +1,23 @@
 //! Articles as they are asked by the numbers of terms.
-ghost use Rattle.std.specs.Prelude.{◌≡◌, ℕ, ◌<◌, [], IfOk, nat_eq, length, map, get_or};
+ghost use Rattle.std.specs.Prelude.{◌≡◌, ℕ, ◌<◌, ◌++◌, [], IfOk, OnOk, nat_eq, length, map, get_or};
 ghost use Rattle.std.specs.FinMap as finite;
 ghost use Rattle.std.specs.List.{All, list_any, list_all};
 ghost use Rattle.clip_terms.specs.Spots.{spots_among};
-ghost use Rattle.clip_extract.specs.Covering.{field_keys};
+ghost use Rattle.clip_extract.specs.Covering.{field_keys, front_keys};
 ghost use Rattle.clip_terms.specs.Terms.{number_of, term_at};
 ghost use Rattle.clip_terms.specs.Reading.{has_key, has_run};
+ghost use Rattle.clip_terms.specs.Steps.Fronts.{AddsNumbersOf};
+ghost use Rattle.clip_terms.specs.Steps.KeysByField.{ordered_keys};
 ghost use Rattle.clip_terms.specs.Steps.Numbers.{number_at, AreFlags};
 ghost use Rattle.clip_terms.specs.Steps.Runs.{stands_among};
 
-use crate::asking::Asking;
+use crate::asking::{AskedField, Asking};
 use crate::field_numbers::FieldNumbers;
-use crate::numbering::{add_front_numbers, key_numbers, known_numbers};
+use crate::numbering::{add_all_known, add_field_fronts, add_known};
 use crate::spots::FieldSpots;
 use crate::terms::Terms;
-use clip_meaning::{Article, Field};
+use clip_extract::Key;
+use clip_meaning::Article;
 use clip_pieces::Marks;
 use clip_words::NoMemory;
 use std::alloc::Global;
@@ -81,39 +84,26 @@ fn numbers_at(
     Ok(numbers)
 }
 
-/// The numbers of a field's words among terms, whose keys are at these places.
-fn numbers_of(
+/// Reads a field of an article by these terms: the numbers of its words. Adds the numbers of the terms among its keys.
+fn read_field(
     alloc: Global,
     terms: &Terms,
-    field: &Field,
-    places: &[usize],
-    by_key: &[Option<u32>],
+    asked: &AskedField<'_>,
+    numbers: &mut Vec<u32>,
 ) -> Result<FieldNumbers, NoMemory>
-    requires { map (number_at by_key.now) places.now ≡ map (number_of terms.now) (field_keys field.now) }
-    ensures { IfOk result (λ numbers. numbers ≡ map (number_of terms.now) (field_keys field.now)) }
+    ensures added { OnOk result (AddsNumbersOf terms.now (ordered_keys asked.now ++ front_keys asked.now)
+        numbers.old.items numbers.new.items) }
+    ensures read { IfOk result (λ read. read ≡ map (number_of terms.now) (field_keys asked.now)) }
 {
-    let numbers = numbers_at(alloc, places, by_key)?;
-    FieldNumbers::of(alloc, terms, field, numbers)
-}
-
-/// For each field the numbers of its words among terms, whose keys are at these places.
-fn field_numbers(
-    alloc: Global,
-    terms: &Terms,
-    fields: &[Field],
-    places: &[Vec<usize>],
-    by_key: &[Option<u32>],
-) -> Result<Vec<FieldNumbers>, NoMemory>
-    requires { map (λ places. map (number_at by_key.now) places.items) places.now
-        ≡ map (λ field. map (number_of terms.now) (field_keys field)) fields.now }
-    ensures { IfOk result (λ numbers. numbers.items
-        ≡ map (λ field. map (number_of terms.now) (field_keys field)) fields.now) }
-{
-    let mut numbers = Vec::with_capacity(alloc, fields.len())?;
-    for place in 0..fields.len() {
-        numbers.push(numbers_of(alloc, terms, &fields[place], &places[place], by_key)?)?;
-    }
-    Ok(numbers)
+    terms.order_law();
+    let field = asked.field();
+    let of_field = terms.of_field(field.name());
+    let by_key = asked.numbers(alloc, &of_field)?;
+    let by_place = numbers_at(alloc, asked.places(), &by_key)?;
+    let read = FieldNumbers::of(alloc, terms, field, by_place)?;
+    add_all_known(&by_key, numbers)?;
+    add_field_fronts(&of_field, field, asked.leads(), numbers)?;
+    Ok(read)
 }
 
 impl<'a> Reading<'a> {
@@ -127,21 +117,16 @@ impl<'a> Reading<'a> {
         ensures { IfOk result (λ reading. reading ≡ record { terms = terms.now; article = asking.now }) }
     {
         terms.order_law();
-        let by_key = key_numbers(
-            alloc,
-            terms,
-            asking.keys(),
-            asking.leads(),
-            asking.lengths(),
-        )?;
-        let mut numbers = known_numbers(alloc, &by_key)?;
-        add_front_numbers(terms, asking, &mut numbers)?;
+        let mut numbers = Vec::new(alloc);
+        add_known(terms.number(&Key::Any), &mut numbers)?;
+        let mut fields = Vec::with_capacity(alloc, asking.fields().len())?;
+        for asked in asking.fields() {
+            fields.push(read_field(alloc, terms, asked, &mut numbers)?)?;
+        }
         let marks = marks_of(alloc, &numbers, terms.len())?;
-        let article = asking.article();
-        let fields = field_numbers(alloc, terms, article.fields(), asking.places(), &by_key)?;
         Ok(Reading {
             terms,
-            article,
+            article: asking.article(),
             numbers,
             marks,
             fields,

@@ -11,7 +11,7 @@ use std::alloc::Global;
 use unicode_segmentation::UnicodeSegmentation;
 
 /// Where a word stands in a text: from byte `start` up to before byte `end`.
-#[derive(Clone, Copy, Debug, PartialEq, Eq)]
+#[derive(Clone, Copy)]
 pub struct WordSpan {
     /// The first byte of the word.
     pub start: usize,

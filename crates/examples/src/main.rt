@@ -7,7 +7,7 @@ use clip_command_line::{feed, mail, named};
 use clip_listen::Listeners;
 use clip_run::{Form, OpenGate, Settings, run};
 use clip_stream::{MOST_WORKERS, StdSink, StdSource};
-use clip_trace_lines::run_trace;
+use clip_trace::run_trace;
 use std::alloc::Global;
 use std::fs::Files;
 use std::io::Read;

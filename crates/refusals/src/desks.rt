@@ -93,7 +93,7 @@ fn of_purge<N: DeskName, R: Print + Wait>(
     desk: &Desk<N, UpdateLog>,
     seat: &mut Seat,
 ) -> bool
-    ensures { seat.new ≡ seat.old }
+    ensures { (seat.new.book ≡ seat.old.book) × (seat.new.callers ≡ seat.old.callers) }
 {
     call(rt, "Desk::purge");
     match desk.purge(rt, seat) {

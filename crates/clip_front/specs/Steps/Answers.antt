@@ -10,16 +10,15 @@ use Rattle.clip_listen.specs.Heard.{Hearer, told_all, HearsFront}
 use Rattle.clip_ledger.specs.Rows.{RowValue}
 use Rattle.clip_protocol.specs.Request.{Listing}
 use Rattle.clip_protocol.specs.LineMeaning.{Meaning, Means, IsTakenAs, AreTakenAs, IsRefusedFor, FirstRefused, after}
-use Rattle.clip_protocol.specs.Reply.{Reply, answer_to, reply}
+use Rattle.clip_protocol.specs.Reply.{Reply, answer_to, reply, reply_text}
 use Rattle.clip_front.specs.Outcome.{alerts_told, rows_posted, kept_rows, names_in}
 use Rattle.clip_protocol.specs.Steps.Outline.{Outline, MeansOutline, matches}
 use Rattle.clip_front.specs.Steps.Serving.{Answering, Breaking}
 use Rattle.clip_front.specs.Steps.Taking.{IsQuiet}
-use Rattle.clip_protocol.specs.Steps.Views.{reply_view}
 use Rattle.clip_protocol.specs.declared.listing.ListFault.{ListFault}
 use Rattle.clip_protocol.specs.declared.listing.ListFault.TheVariants as fault
-use Rattle.clip_front.specs.declared.answer.Response.{Response}
-use Rattle.clip_front.specs.declared.answer.Response.TheVariants as response
+use Rattle.clip_front.specs.declared.answer.Step.{Step}
+use Rattle.clip_front.specs.declared.answer.Step.TheVariants as step
 use Rattle.clip_front.specs.declared.books.Books.{Books}
 use Rattle.clip_front.specs.declared.settings.Settings.{Settings}
 use Rattle.clip_protocol.specs.declared.form.Form.{Form}
@@ -53,10 +52,15 @@ pub record Replies (old new : History) (m : Meaning) (r : Reply) : Type 0 where
 abbrev pub Settles : List (List ℕ) → History → History → Outline → Reply → Type 0
 Settles names old new o r = (m : Meaning) × MeansOutline names old o m × Replies old new m r
 
--- The line is answered so, or it lists the articles that these drafts are.
-abbrev pub Comes : List (List ℕ) → History → History → Outline → Response → Type 0
-Comes names old new o (response.Reply r) = Settles names old new o (reply_view r)
-Comes names old new o (response.Match drafts) = (o ≡ matches drafts.items) × (new ≡ old)
+-- It is the text of this reply to line n.
+abbrev pub Says : ℕ → Reply → Step → Type 0
+Says n r (step.Reply text) = text.items ≡ reply_text n r
+Says n r (step.Match drafts) = ⊥
+
+-- Line n is answered by the text of its reply, or it lists the articles that these drafts are.
+abbrev pub Comes : List (List ℕ) → History → History → ℕ → Outline → Step → Type 0
+Comes names old new n o (step.Reply text) = (r : Reply) × Settles names old new o r × (text.items ≡ reply_text n r)
+Comes names old new n o (step.Match drafts) = (o ≡ matches drafts.items) × (new ≡ old)
 
 -- ---- any line
 
@@ -93,8 +97,7 @@ pub record Answers (old new : Held) (n : ℕ) (line text : List ℕ) : Type 0 wh
   pub goes_on : GoesOn old new n meaning text
 
 -- Where the answering of line n was broken off, the listeners have heard a front of the line's alerts, and the text
--- that
--- was on its way is a front of the reply.
+-- that was on its way is a front of the reply.
 pub record Breaks (old new : Held) (n : ℕ) (line text : List ℕ) : Type 0 where
   pub meaning : Meaning
   pub means : Means (names_in old.hearers) old.history line meaning

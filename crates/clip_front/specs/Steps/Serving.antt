@@ -51,9 +51,15 @@ pub record ServesAll {S : Type 0} (answers : Answering S) (old new : S) (taken_o
   pub written : Appends taken_old taken_new text
   pub counted : count ≡ length (lines_of input)
 
+-- Just these lines were answered, and their answers were written.
+pub record ServesLines {S : Type 0} (answers : Answering S) (old new : S) (taken_old taken_new : Option (List ℕ))
+    (lines : List (List ℕ)) : Type 0 where
+  pub text : List ℕ
+  pub served : Serves answers old new 1 lines text
+  pub written : Appends taken_old taken_new text
+
 -- Some first ones of the lines were answered, the next was begun at most, and a front of the answers, and of what was
--- on
--- its way of the next one, was written.
+-- on its way of the next one, was written.
 pub record ServesFront {S : Type 0} (answers : Answering S) (breaks : Breaking S) (old new : S)
     (taken_old taken_new : Option (List ℕ)) (lines : List (List ℕ)) : Type 0 where
   pub between : S

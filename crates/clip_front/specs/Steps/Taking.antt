@@ -6,10 +6,8 @@ use Rattle.clip_protocol.specs.LineMeaning.{Meaning, Means, after, nothing, refu
 use Rattle.clip_protocol.specs.LineMeaning.{counting, showing, matching}
 use Rattle.clip_protocol.specs.Reply.{reply}
 use Rattle.clip_protocol.specs.declared.form.Form.{Form}
-use Rattle.clip_front.specs.declared.answer.Taken.{Taken}
-use Rattle.clip_front.specs.declared.answer.Taken.TheVariants as taken
-use Rattle.clip_front.specs.declared.answer.TakenUnread.{TakenUnread}
-use Rattle.clip_front.specs.declared.answer.TakenUnread.TheVariants as unread
+use Rattle.clip_front.specs.declared.answer.Step.{Step}
+use Rattle.clip_front.specs.declared.answer.Step.TheVariants as step
 
 -- A line that tells no alert means this.
 abbrev pub IsQuiet : Meaning → Type 0
@@ -32,15 +30,10 @@ pub record TakesQuietly (names : List (List ℕ)) (old new : History) (n : ℕ) 
   pub replies : (form : Form) (hearers : List Hearer) → text ≡ reply form hearers n old meaning
 
 -- From the first history to the second by line n, where the listeners of these names are here, and this is what it
--- comes to.
-abbrev pub Takes : List (List ℕ) → History → History → ℕ → List ℕ → Taken → Type 0
-Takes names old new n line (taken.Text text) = TakesQuietly names old new n line text.items
-Takes names old new n line (taken.Articles articles) = Means names old line (matching articles.items) × (new ≡ old)
-
--- From the first history to the second by line n, where this is what it comes to, and drafts stand for the articles.
-abbrev pub TakesUnread : List (List ℕ) → History → History → ℕ → List ℕ → TakenUnread → Type 0
-TakesUnread names old new n line (unread.Text text) = TakesQuietly names old new n line text.items
-TakesUnread names old new n line (unread.Drafts drafts) = Means names old line (matching drafts.items) × (new ≡ old)
+-- comes to: the text of its reply, or drafts that stand for the articles that it lists.
+abbrev pub Takes : List (List ℕ) → History → History → ℕ → List ℕ → Step → Type 0
+Takes names old new n line (step.Reply text) = TakesQuietly names old new n line text.items
+Takes names old new n line (step.Match drafts) = Means names old line (matching drafts.items) × (new ≡ old)
 
 -- No purge was made of the registry: it stayed, or went on without one.
 abbrev pub Unpurged : {H : Type 0} → (H → H → Type 0) → H → H → Type 0

@@ -5,7 +5,7 @@ use Rattle.serde_json.specs.Data.{Data, Items, no_items, item, Members, no_membe
 use Rattle.serde_json.specs.Events.{members_len}
 use Rattle.serde_json.specs.Find.{get, as_str, as_array, as_object}
 use Rattle.std.specs.List.{list_all}
-use Rattle.clip_meaning.specs.Article.{ArticleValue, may_be}
+use Rattle.clip_meaning.specs.Article.{ArticleValue}
 use Rattle.clip_words.specs.Ids.{is_id}
 use Rattle.clip_model.specs.History.{History}
 use Rattle.clip_model.specs.declared.limits.TheConstants.{MOST_LISTED}
@@ -60,6 +60,15 @@ counts_members n (Some ms) = members_len ms == n
 unfoldable pub has_members : ℕ → Data → Bool
 has_members n d = counts_members n (as_object d)
 
+-- the first of these that has this name
+abbrev pub named_in : {O : Type 0} → List (List ℕ × O) → List ℕ → Option O
+named_in [] word = None
+named_in (p ∷ ps) word = if bytes_eq word p.0 then Some p.1 else named_in ps word
+
+-- the operation, of these under their names, that an object asks for
+abbrev pub asked_in : {O : Type 0} → List (List ℕ × O) → Data → Option O
+asked_in these d = option_and_then (named_in these) (option_and_then as_str (get (codes "op") d))
+
 -- ---- requests
 
 -- what each item is, where each is one
@@ -99,19 +108,14 @@ draft_by p = option_and_then (λ id. option_map (λ fields. record { id = id; fi
 unfoldable pub draft_of : Data → Option Draft
 draft_of d = option_and_then draft_by (two_members (codes "fields") (codes "id") d)
 
-unfoldable pub operation_of : List ℕ → Option Operation
-operation_of word =
-    if bytes_eq word (codes "register") then Some operation.Register
-    else (if bytes_eq word (codes "delete") then Some operation.Delete
-    else (if bytes_eq word (codes "clear") then Some operation.Clear
-    else (if bytes_eq word (codes "purge") then Some operation.Purge
-    else (if bytes_eq word (codes "count") then Some operation.Count
-    else (if bytes_eq word (codes "show") then Some operation.Show
-    else (if bytes_eq word (codes "match") then Some operation.Match else None))))))
+abbrev pub operations : List (List ℕ × Operation)
+operations = (codes "register", operation.Register) ∷ (codes "delete", operation.Delete)
+    ∷ (codes "clear", operation.Clear) ∷ (codes "purge", operation.Purge) ∷ (codes "count", operation.Count)
+    ∷ (codes "show", operation.Show) ∷ (codes "match", operation.Match) ∷ []
 
--- the operation that an object asks for
+-- the operation of a run that an object asks for
 unfoldable pub operation_in : Data → Option Operation
-operation_in d = option_and_then operation_of (option_and_then as_str (get (codes "op") d))
+operation_in d = asked_in operations d
 
 abbrev pub alone : Request → Data → Option Request
 alone r d = if has_members 1 d then Some r else None
@@ -169,6 +173,12 @@ requests request.count = counts
 requests (request.show id) = shows id
 requests (request.match drafts) = matches (map article_of drafts)
 
+-- the outline of what a line says
+abbrev pub outline_said : line.Line Request → Outline
+outline_said line.blank = blank
+outline_said (line.refused r) = refused r
+outline_said (line.asks r) = requests r
+
 abbrev pub outline_of_request : Request → Outline
 outline_of_request r = if within r then requests r else refused refusal.Limit
 
@@ -179,6 +189,12 @@ outline_of_asked (Some r) = outline_of_request r
 abbrev pub outline_of_value : Option Data → Outline
 outline_of_value None = refused refusal.Json
 outline_of_value (Some d) = outline_of_asked (request_of d)
+
+-- the outline of a line with this value
+abbrev pub outline_of_line : line.Line Data → Outline
+outline_of_line line.blank = blank
+outline_of_line (line.refused r) = refused r
+outline_of_line (line.asks d) = outline_of_asked (request_of d)
 
 unfoldable pub outline : List ℕ → Outline
 outline bytes = if is_long bytes then refused refusal.Long
@@ -215,6 +231,6 @@ Outlines value o (Ok a) = o ≡ value a
 Outlines value o (Err (unread.Refused r)) = o ≡ refused r
 Outlines value o (Err unread.NoMemory) = ⊤
 
--- the articles, where each may be one
+-- the articles, where a line may list so many and each may be one
 abbrev pub articles_in : List Draft → Option (List ArticleValue)
-articles_in drafts = if list_all (λ d. may_be d.id d.fields) drafts then Some (map article_of drafts) else None
+articles_in drafts = if within (request.match drafts) then Some (map article_of drafts) else None

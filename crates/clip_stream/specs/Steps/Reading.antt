@@ -66,6 +66,12 @@ pub record FindsLine (found : Bool) (old new : Reading) (left_old left_new : Opt
     pub reads : Reads old new left_old left_new
     pub takes : TakesLine found new.is_at_end (old.pending ++ reads.bytes) line new.pending
 
+-- No whole line was pending, and none came: the reader gave bytes without a line feed, and its end was not met.
+pub record FindsNone (old new : Reading) (left_old left_new : Option (List ℕ)) : Type 0 where
+  pub reads : Reads old new left_old left_new
+  pub unended : has_feed (old.pending ++ reads.bytes) ≡ false
+  pub unmet : new.is_at_end ≡ false
+
 -- The beginning of a line was taken from what was pending and what the reader gave.
 pub record Gathers (old now : Reading) (left_old left : Option (List ℕ)) (line : List ℕ) : Type 0 where
   pub reads : Reads old now left_old left

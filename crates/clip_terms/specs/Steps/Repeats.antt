@@ -1,5 +1,5 @@
 -- How the beginnings of a run repeat, by which a search moves it on.
-use Rattle.std.specs.Prelude.{◌≡◌, ℕ, ◌+◌, ◌-◌, ◌<◌, ◌≤◌, true, false, ◌||◌, List, get_or, length, slice_index, Option}
+use Rattle.std.specs.Prelude.{◌≡◌, ℕ, ◌+◌, ◌<◌, ◌≤◌, true, false, ◌||◌, List, get_or, length, slice_index, Option}
 use Rattle.std.specs.Prelude.{None, drop}
 use Rattle.clip_meaning.specs.Hits.{is_within}
 use Rattle.clip_meaning.specs.Steps.Marks.{is_up}

@@ -1,7 +1,7 @@
 //! Traces over devices that fail. Whole traces are in files that `examples` plays.
 use crate::runs::devices::{Failing, MANY, blank_tape, script_of};
 use clip_stream::RunFault;
-use clip_trace_lines::run_trace;
+use clip_trace::run_trace;
 use std::process::Abort;
 
 /// A purge, and how it is answered on line 1.

@@ -1,7 +1,7 @@
 use Rattle.std.proofs.Common.{◌∙◌, ◌+◌, ap, subst, sym, arith, List}
 use Rattle.std.proofs.lemmas.Grind.{common_steps}
 use Rattle.left_right.specs.Sides.{view}
-use Rattle.clip_chronicle.specs.Ends.{seen_keeps}
+use Rattle.clip_desk.specs.Ends.{seen_keeps}
 use Rattle.clip_desk.specs.Seats.{SeatIs, AreSeated, new_seat}
 use Rattle.clip_desk.proofs.Seating.{seated_more}
 use Rattle.clip_desk.proofs.parts.seat_all.Goals as goal

@@ -1,6 +1,6 @@
 use Rattle.std.proofs.Common.{◌≡◌, vec_len}
 use Rattle.left_right.specs.Sides.{view}
-use Rattle.clip_chronicle.specs.Ends.{seen_keeps}
+use Rattle.clip_desk.specs.Ends.{seen_keeps}
 use Rattle.clip_desk.specs.Seats.{AreSeated}
 use Rattle.clip_desk.proofs.parts.seat_all.Given as goal
 

@@ -1,4 +1,4 @@
-use Rattle.clip_chronicle.proofs.EndSteps.{admits, forks, merges}
+use Rattle.clip_desk.proofs.EndSteps.{admits, forks, merges}
 use Rattle.clip_desk.proofs.parts.seat_one.Goals as goal
 
 pub reader-requires : goal.reader-requires

@@ -8,4 +8,5 @@ use Rattle.clip_engine.proofs.found.add_alerts.Given as goal
 abbrev pub invariant-loop-alert : goal.invariant-loop-alert
 invariant-loop-alert l = l.bytes.items
     ≡ l.fn.bytes.items
-    ++ (number_bytes (length l.alerts) ++ flat_map (alert_bytes l.shows_hits) (map alert_value (take l.alert-index l.alerts)))
+    ++ (number_bytes (length l.alerts)
+    ++ flat_map (alert_bytes l.shows_hits) (map alert_value (take l.alert-index l.alerts)))

@@ -1,4 +1,4 @@
-use Rattle.std.proofs.Common.{◌≡◌, ℕ, ◌+◌, List, ◌++◌, length, map}
+use Rattle.std.proofs.Common.{ℕ, ◌+◌, List, ◌++◌, length, map}
 use Rattle.std.specs.Arc.{arc_value}
 use Rattle.std.specs.Vec.Iter.{into_iter_items}
 use Rattle.clip_model.specs.Standing.{Standing}

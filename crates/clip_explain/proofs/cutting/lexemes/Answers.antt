@@ -6,15 +6,13 @@ use Rattle.clip_explain.proofs.Lexing.{cut_up}
 use Rattle.clip_explain.proofs.Standing.{cut_stands}
 use Rattle.clip_explain.proofs.cutting.lexemes.Goals as goal
 
-pub returns-clause-cut : goal.returns-clause-cut
-returns-clause-cut c =
-    let letters : c.in_ok-chars.chars.items ≡ chars c.args.text.now = search (rules, chars_from_encodes) in
-    IfOk-weaker c.cut.result _ _
-    (λ lexed h. cut_up c.args.text.now _ _ _ (c.deref.ensures.value ∙ letters) h) c.cut.ensures
-
-pub returns-clause-apart : goal.returns-clause-apart
-returns-clause-apart c =
-    let letters : c.in_ok-chars.chars.items ≡ chars c.args.text.now = search (rules, chars_from_encodes) in
-    IfOk-weaker c.cut.result _ _
-    (λ lexed h. cut_stands c.args.text.now _ _ c.utf8.text
-    (cut_up c.args.text.now _ _ _ (c.deref.ensures.value ∙ letters) h)) c.cut.ensures
+pub returns : goal.returns
+returns c =
+    let text = c.args.text.now in
+    let letters : c.in_ok-chars.chars.items ≡ chars text = search (rules, chars_from_encodes) in
+    let is = c.deref.ensures.value ∙ letters in
+    record {
+      cut = IfOk-weaker c.cut.result _ _ (λ lexed h. cut_up text _ _ _ is h) c.cut.ensures;
+      apart = IfOk-weaker c.cut.result _ _ (λ lexed h. cut_stands text _ _ c.utf8.text (cut_up text _ _ _ is h))
+          c.cut.ensures;
+    }

@@ -1,7 +1,6 @@
 -- Answered here, so that a wrong body is refused at once.
-use Rattle.std.proofs.Common.{arith}
-use Rattle.std.proofs.lemmas.Grind.{common_steps}
+use Rattle.std.proofs.Common.{rules}
 use Rattle.clip_explain_lines.proofs.spans.write_span.Goals as goal
 
 pub returns : goal.returns
-returns c = grind (arith, common_steps)
+returns c = search rules

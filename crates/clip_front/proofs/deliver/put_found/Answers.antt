@@ -25,14 +25,14 @@ returns-in-Shown-clause-front g c =
     let shown = c.in-Shown.shown in
     let fit = subst (IsFor c.args.settings) c.in-Shown.is c.requires in
     subst
-    (λ found. OnErr c.put_shown.result
-    (AppendsFront (taken c.args.flow.now.writer.now) (taken c.put_shown.new.flow.writer.now)
+    (λ found. OnErr c.put_article_text.result
+    (AppendsFront (taken c.args.flow.now.writer.now) (taken c.put_article_text.new.flow.writer.now)
     (c.args.flow.now.outbox.now
     ++ item_text c.args.later (alerts_data c.args.settings.form (alerts_by_id (found_value found))))))
     (sym c.in-Shown.is)
     (subst
-    (λ form. OnErr c.put_shown.result
-    (AppendsFront (taken c.args.flow.now.writer.now) (taken c.put_shown.new.flow.writer.now)
+    (λ form. OnErr c.put_article_text.result
+    (AppendsFront (taken c.args.flow.now.writer.now) (taken c.put_article_text.new.flow.writer.now)
     (c.args.flow.now.outbox.now
     ++ item_text c.args.later (alerts_data form (alerts_by_id shown.alerts.value)))))
-    fit.0 c.put_shown.ensures.front)
+    fit.0 c.put_article_text.ensures.front)

@@ -19,7 +19,7 @@ entries = map (λ (h : Held). h.registered.now)
 
 pub invariant_of-result : goal.invariant_of-result
 invariant_of-result c =
-    let found = c.in_ok-asked.field-0.held.items in
+    let found = c.in_ok-asked.field-0.entries.held.items in
     let sorted = c.sort_by_id.new.held.items in
     record {
       heard = c.in_ok-asked.ensures.heard
@@ -30,8 +30,8 @@ invariant_of-result c =
 pub returns-clause-hits : goal.returns-clause-hits
 returns-clause-hits c =
     let article = c.args.article.now in
-    let found = c.in_ok-asked.field-0.all_hits in
-    let held = c.in_ok-asked.field-0.held.items in
+    let found = c.in_ok-asked.field-0.entries.all_hits in
+    let held = c.in_ok-asked.field-0.entries.held.items in
     let sorted = c.sort_by_id.new.held.items in
     subst (λ (list : Vec Hit Global). All (AreItsHits article (map hit_value list.items)) sorted)
     (sym c.in_ok-all_hits.ensures.ok)
@@ -42,7 +42,7 @@ pub returns-clause-due : goal.returns-clause-due
 returns-clause-due c =
     let state = c.args.view.now in
     let article = c.args.article.now in
-    let found = c.in_ok-asked.field-0.held.items in
+    let found = c.in_ok-asked.field-0.entries.held.items in
     let sorted = entries c.sort_by_id.new.held.items in
     let moved : IsPermutation (filter (λ r. holds r.standing.tree article.fields) (candidates_of state article))
     sorted =
@@ -56,6 +56,6 @@ returns-clause-due c =
 
 pub returns-clause-there : goal.returns-clause-there
 returns-clause-there c = λ at_once.
-    All-permutation (λ (h : Held). is_some h.hits ≡ true) c.in_ok-asked.field-0.held.items
+    All-permutation (λ (h : Held). is_some h.hits ≡ true) c.in_ok-asked.field-0.entries.held.items
     c.sort_by_id.new.held.items c.sort_by_id.ensures.moved
     (λ k d lt. (c.in_ok-asked.ensures.hits k d lt).there at_once)

@@ -6,7 +6,7 @@ use denote.RattleType.{RattleType}
 use denote.Exit.{no}
 use denote.Param.Send.{IsSend, IsSync, param_send, param_sync, arg_send, shr_send, shr_slice_send, sendable}
 use denote.Param.SendFields.{declared_send, as_row_send}
-use denote.Struct.Field.{row_field, shr_ref_field, shr_slice_field, u64-field, u32-field}
+use denote.Struct.Field.{row_field, shr_ref_field, shr_slice_field}
 use denote.Param.{param}
 use denote.Struct.Tuple.{TupleAt, type_at}
 use Rattle.std.specs.contracts.alloc.Global as global
@@ -22,28 +22,26 @@ use Rattle.clip_registry.proofs.Sent.{view_is_sync}
 use Rattle.clip_meaning.specs.contracts.article.Article as article
 use Rattle.clip_meaning.proofs.article.Article.TheSendSync as article_sent
 use Rattle.clip_standing.proofs.Sent.{alerts_send}
+use Rattle.clip_match.specs.contracts.pieces.Pieces as pieces
 use Rattle.clip_match.proofs.pieces.+pieces.Goals as goal
 
--- a closure of eight captures
-captures_send : (name : Sym) (A B C D E F G H : RattleType) → IsSend A → IsSend B → IsSend C → IsSend D → IsSend E
-    → IsSend F → IsSend G → IsSend H → IsSend (TupleAt name (A ∷ B ∷ C ∷ D ∷ E ∷ F ∷ G ∷ H ∷ []))
-captures_send name A B C D E F G H a b c d e f g h =
-    declared_send (type_at name (A ∷ B ∷ C ∷ D ∷ E ∷ F ∷ G ∷ H ∷ [])) (
+-- a closure of six captures
+captures_send : (name : Sym) (A B C D E F : RattleType) → IsSend A → IsSend B → IsSend C → IsSend D → IsSend E
+    → IsSend F → IsSend (TupleAt name (A ∷ B ∷ C ∷ D ∷ E ∷ F ∷ []))
+captures_send name A B C D E F a b c d e f =
+    declared_send (type_at name (A ∷ B ∷ C ∷ D ∷ E ∷ F ∷ [])) (
       as_row_send (row_field A) a,
       (
         as_row_send (row_field B) b,
         (
           as_row_send (row_field C) c,
-          (
-            as_row_send (row_field D) d,
-            (
-              as_row_send (row_field E) e,
-              (as_row_send (row_field F) f, (as_row_send (row_field G) g, (as_row_send (row_field H) h, tt))),
-            ),
-          ),
+          (as_row_send (row_field D) d, (as_row_send (row_field E) e, (as_row_send (row_field F) f, tt))),
         ),
       ),
     )
+
+pieces_send : IsSend pieces.the_row
+pieces_send = declared_send pieces.the_type (search sendable, (search sendable, (search sendable, tt)))
 
 pub join-first-requires-send-F : goal.join-first-requires-send-F
 join-first-requires-send-F g t c κs within =
@@ -53,14 +51,13 @@ join-first-requires-send-F g t c κs within =
     let looked = (shr_ref_field (record { mir = named 7; lft = κs.1.1.1.1.1.1.1.0 }) view.the_row tt).row in
     let front = (shr_slice_field (record { mir = named 8; lft = κs.1.1.1.1.1.1.1.1.0 }) article.the_row tt).row in
     let gate = (shr_ref_field (record { mir = named 9; lft = κs.1.1.1.1.1.1.1.1.1.0 }) (param 1 g.row.G) tt).row in
-    let number = u32-field.row in
-    let captured = rt ∷ global.the_row ∷ looked ∷ front ∷ u64-field.row ∷ number ∷ number ∷ gate ∷ [] in
+    let captured = rt ∷ global.the_row ∷ looked ∷ front ∷ pieces.the_row ∷ gate ∷ [] in
     let name = codes "clip_match::pieces::fn::match_from::join+arg2+Self" in
     param_send 1 _ (arg_send _ no (TupleAt name captured)
-    (captures_send name rt global.the_row looked front u64-field.row number number gate
+    (captures_send name rt global.the_row looked front pieces.the_row gate
     (shr_send _ _ _ (param_sync 0 _ r)) global_sent.the_send (shr_send _ _ _ view_is_sync)
     (shr_slice_send _ _ _ article_sent.the_sync)
-    (search sendable) (search sendable) (search sendable) (shr_send _ _ _ (param_sync 1 _ s))))
+    pieces_send (shr_send _ _ _ (param_sync 1 _ s))))
 
 pub join-first-requires-send-A : goal.join-first-requires-send-A
 join-first-requires-send-A g t c κs within =

@@ -24,11 +24,11 @@ loop-position-preserved c =
     let i = c.loop-position.position-index in
     let p = get_or ps i 0 in
     let one : Held = c.with_hits.result in
-    let now = c.loop-position.held.items in
+    let now = c.loop-position.entries.held.items in
     let there : slice_get es p ≡ Some one.registered.now =
     sym c.in-Some.ensures.entry ∙ ap Some (sym c.with_hits.ensures.registered) in
     let article = c.args.reading.now.article in
-    let all = map hit_value c.loop-position.all_hits.items in
+    let all = map hit_value c.loop-position.entries.all_hits.items in
     let found = hits one.registered.now.standing.tree article.fields in
     let made : map hit_value c.add_hits.new.found.items ≡ all ++ found =
     subst (λ (a : AskedValue). (entry : Registered) → slice_get a.entries p ≡ Some entry
@@ -36,13 +36,13 @@ loop-position-preserved c =
     c.in_ok-add_hits.ensures one.registered.now there in
     let places : HitPlaces = record { start = c.len-start.result; end = c.len-end.result } in
     let start : places.start ≡ length all =
-    omega (arith, c.len-start.ensures, length-map c.loop-position.all_hits.items hit_value) in
+    omega (arith, c.len-start.ensures, length-map c.loop-position.entries.all_hits.items hit_value) in
     let end : places.end ≡ length (all ++ found) =
     omega (arith, c.len-end.ensures, length-map c.add_hits.new.found.items hit_value, ap length made) in
     record {
       entries =
-          entry_added es ps i c.args.held.now.items now c.push-in-loop-position.new.self.items one c.loop-position-test.true there
-          c.in_ok-push-2.ensures.items c.loop-position.invariant.entries;
+          entry_added es ps i c.args.entries.now.held.items now c.push-in-loop-position.new.self.items one
+          c.loop-position-test.true there c.in_ok-push-2.ensures.items c.loop-position.invariant.entries;
       hits =
           λ before.
           subst (All (HasItsHits c.args.hits article (map hit_value c.add_hits.new.found.items)))
@@ -61,17 +61,17 @@ loop-position-preserved c =
 
 pub loop-position-preserved-then-not-finds_more : goal.loop-position-preserved-then-not-finds_more
 loop-position-preserved-then-not-finds_more c =
-    let now = c.loop-position.held.items in
+    let now = c.loop-position.entries.held.items in
     let after = c.push.new.self.items in
     record {
       entries =
           entry_added c.args.reading.now.entries c.args.positions.now c.loop-position.position-index
-          c.args.held.now.items now after c.in-Some.one c.loop-position-test.true (sym c.in-Some.ensures.entry)
+          c.args.entries.now.held.items now after c.in-Some.one c.loop-position-test.true (sym c.in-Some.ensures.entry)
           c.in_ok-push.ensures.items c.loop-position.invariant.entries;
       hits =
           λ before.
-          added_without c.args.hits c.args.reading.now.article (map hit_value c.loop-position.all_hits.items) now after
-          c.in-Some.one c.in-Some.ensures.hits
+          added_without c.args.hits c.args.reading.now.article (map hit_value c.loop-position.entries.all_hits.items)
+          now after c.in-Some.one c.in-Some.ensures.hits
           (λ at_once. false≢true (sym c.if-not-finds_more.true ∙ c.finds_more.ensures at_once))
           c.in_ok-push.ensures.items (c.loop-position.invariant.hits before);
     }

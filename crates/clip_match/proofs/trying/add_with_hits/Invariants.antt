@@ -6,8 +6,8 @@ use Rattle.clip_match.proofs.trying.add_with_hits.Given as goal
 
 abbrev pub invariant-loop-position : goal.invariant-loop-position
 invariant-loop-position l = record {
-  entries : map (λ h. h.registered.now) l.held.items ≡ map (λ h. h.registered.now) l.fn.held.items
+  entries : map (λ h. h.registered.now) l.entries.held.items ≡ map (λ h. h.registered.now) l.fn.entries.held.items
       ++ entries_at l.reading.entries (take l.position-index l.positions);
-  hits : All (HasItsHits l.hits l.reading.article (map hit_value l.fn.all_hits.items)) l.fn.held.items
-      → All (HasItsHits l.hits l.reading.article (map hit_value l.all_hits.items)) l.held.items;
+  hits : All (HasItsHits l.hits l.reading.article (map hit_value l.fn.entries.all_hits.items)) l.fn.entries.held.items
+      → All (HasItsHits l.hits l.reading.article (map hit_value l.entries.all_hits.items)) l.entries.held.items;
 }

@@ -101,10 +101,10 @@ loop-place-preserved c =
     let segment : List Registered = arc_value c.index-segments-place.result in
     let others : List Registered =
     all_entries (map arc_value (drop (c.loop-place.place + 1) c.segments-segments.result.now)) in
-    let found = map (λ (x : Held). x.registered.now) c.loop-place.judged.held.items in
-    let holding : map (λ (x : Held). x.registered.now) c.try_segment.new.judged.held.items
+    let found = map (λ (x : Held). x.registered.now) c.loop-place.judged.entries.held.items in
+    let holding : map (λ (x : Held). x.registered.now) c.try_segment.new.judged.entries.held.items
     ≡ found ++ filter held (live_with h ks segment) =
-    subst (λ (r : AskedValue). map (λ (x : Held). x.registered.now) c.try_segment.new.judged.held.items
+    subst (λ (r : AskedValue). map (λ (x : Held). x.registered.now) c.try_segment.new.judged.entries.held.items
     ≡ found ++ filter (λ x. holds x.standing.tree r.article.fields)
     (live_with h (article_keys r.article.fields) r.entries))
     (value at) c.in_ok-try_segment.ensures.held in
@@ -118,10 +118,10 @@ loop-place-preserved c =
           ∙ c.loop-place.invariant.held;
       hits =
           subst (λ (r : AskedValue).
-          All (HasItsHits c.args.hits r.article (map hit_value c.loop-place.judged.all_hits.items))
-          c.loop-place.judged.held.items
-          → All (HasItsHits c.args.hits r.article (map hit_value c.try_segment.new.judged.all_hits.items))
-          c.try_segment.new.judged.held.items)
+          All (HasItsHits c.args.hits r.article (map hit_value c.loop-place.judged.entries.all_hits.items))
+          c.loop-place.judged.entries.held.items
+          → All (HasItsHits c.args.hits r.article (map hit_value c.try_segment.new.judged.entries.all_hits.items))
+          c.try_segment.new.judged.entries.held.items)
           (value at) c.in_ok-try_segment.ensures.hits c.loop-place.invariant.hits;
       heard =
           subst (λ (r : AskedValue). c.try_segment.new.judged.is_heard
@@ -147,7 +147,7 @@ returns c =
     let all : live_with state.history ks (all_entries (map arc_value segments))
     ≡ candidates_of state c.args.article.now =
     ap (λ ss. live_with state.history ks (all_entries ss)) c.segments-segments.ensures.segments in
-    let found = map (λ (h : Held). h.registered.now) c.loop-place.judged.held.items in
+    let found = map (λ (h : Held). h.registered.now) c.loop-place.judged.entries.held.items in
     record {
       asked =
           let rest : length (live_with state.history ks (all_entries (map arc_value (drop i segments)))) ≡ 0 =

@@ -14,11 +14,11 @@ invariant-loop-place l = record {
   asked : l.judged.asked + length (live_with l.view.history (article_keys l.article.fields)
       (all_entries (map arc_value (drop l.place l.segments))))
       ≡ length (live_with l.view.history (article_keys l.article.fields) (all_entries (map arc_value l.segments)));
-  held : map (λ h. h.registered.now) l.judged.held.items
+  held : map (λ h. h.registered.now) l.judged.entries.held.items
       ++ filter (λ r. holds r.standing.tree l.article.fields) (live_with l.view.history
       (article_keys l.article.fields) (all_entries (map arc_value (drop l.place l.segments))))
       ≡ filter (λ r. holds r.standing.tree l.article.fields) (live_with l.view.history
       (article_keys l.article.fields) (all_entries (map arc_value l.segments)));
-  hits : All (HasItsHits l.hits l.article (map hit_value l.judged.all_hits.items)) l.judged.held.items;
-  heard : l.judged.is_heard ≡ list_any has_listener (map (λ h. h.registered.now) l.judged.held.items);
+  hits : All (HasItsHits l.hits l.article (map hit_value l.judged.entries.all_hits.items)) l.judged.entries.held.items;
+  heard : l.judged.is_heard ≡ list_any has_listener (map (λ h. h.registered.now) l.judged.entries.held.items);
 }

@@ -11,8 +11,8 @@ loop-position-preserved c =
     let first = tree_of c.args.first.now in
     let second = tree_of c.args.second.now in
     let words = map arc_str_bytes c.args.words.now in
-    let here = not_here c.args.between first second words c.loop-position.position c.last_end-end.result c.last_end-end.ensures
-    (sym c.stands_behind.ensures ∙ c.if-stands_behind.false) in
+    let here = not_here c.args.between first second words c.loop-position.position c.last_end-end.result
+    c.last_end-end.ensures (sym c.stands_behind.ensures ∙ c.if-stands_behind.false) in
     record {
       last = c.last_end-end.ensures;
       none = none_upto (stand_close c.args.between first second words) c.loop-position.position

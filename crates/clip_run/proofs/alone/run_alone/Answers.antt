@@ -1,37 +1,13 @@
-use Rattle.std.proofs.Common.{ap}
-use Rattle.clip_stream.proofs.Faults.{on_err}
-use Rattle.clip_run.proofs.AnsweredAlone.{alone_gives, alone_gives_front}
+use Rattle.std.proofs.Common.{ap, map}
+use Rattle.clip_run.specs.Ran.{told}
+use Rattle.clip_run.proofs.Outcomes.{ran_from_nothing}
 use Rattle.clip_run.proofs.alone.run_alone.Goals as goal
 
-pub returns-in_err-lines-clause-front : goal.returns-in_err-lines-clause-front
-returns-in_err-lines-clause-front g c =
-    on_err c.from_residual.result
-    (alone_gives_front g.A.Audience.hearers (
-      record {
-        registry = c.new.result;
-        books = c.new-2.result;
-        pool =
-            c.new-3.result;
-      },
-      c.args.audience.now,
-    ) (c.serve.new.server, c.serve.new.lent) c.args.settings
-    (g.R.Source.left c.args.reader.now) (g.R.Source.left c.serve.new.reader)
-    (g.R.Source.met_end c.serve.new.reader) (g.W.Sink.taken c.args.writer.now) (g.W.Sink.taken c.serve.new.writer)
-    (ap (λ s. s.history) c.new.ensures.registrar) c.new-2.ensures.settings
-    c.in_err-lines.ensures.front)
-
-pub returns-clause-outcome : goal.returns-clause-outcome
-returns-clause-outcome g c =
-    alone_gives g.A.Audience.hearers (
-      record {
-        registry = c.new.result;
-        books = c.new-2.result;
-        pool =
-            c.new-3.result;
-      },
-      c.args.audience.now,
-    ) (c.serve.new.server, c.serve.new.lent) c.args.settings
-    (g.R.Source.left c.args.reader.now) (g.W.Sink.taken c.args.writer.now) (g.W.Sink.taken c.serve.new.writer)
-    c.in_ok-lines.lines
-    (ap (λ s. s.history) c.new.ensures.registrar) c.new-2.ensures.ledger c.new-2.ensures.settings
-    c.in_ok-lines.ensures.served
+pub returns : goal.returns
+returns g c =
+    let r = c.run_alone_again in
+    let ran = ran_from_nothing _ c.args.settings
+    (told g.R.Source g.W.Sink g.A.Audience c.args.reader.now c.args.writer.now c.args.audience.now)
+    (told g.R.Source g.W.Sink g.A.Audience r.new.reader r.new.writer r.new.audience) r.result
+    (ap (map (λ line. line.items)) c.new.ensures.items) r.ensures in
+    record { outcome = ran.outcome; honest = ran.honest; front = ran.front; none_held = ran.none_held }

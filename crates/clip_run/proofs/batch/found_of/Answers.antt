@@ -3,7 +3,7 @@ use Rattle.clip_match.specs.Due.{due_value}
 use Rattle.clip_model.specs.Alerts.{Alert}
 use Rattle.clip_protocol.specs.Reply.{alerts_data, article_data, form_with, query_ids}
 use Rattle.clip_protocol.specs.Steps.Views.{alerts_by_id}
-use Rattle.clip_run.proofs.Quiet.{form_shown, shown_unheard, unlistened}
+use Rattle.clip_run.proofs.Quiet.{same_form, shown_unheard, unlistened}
 use Rattle.clip_run.proofs.batch.found_of.Goals as goal
 
 pub unmade-requires-clause-unheard : goal.unmade-requires-clause-unheard
@@ -20,5 +20,5 @@ unmade-requires-clause-data c =
     let same = c.as_deref.ensures.value ∙ c.in_ok-views.ensures in
     shown_unheard form _ due.article _ views due.alerts c.article_id.ensures ids same
     ∙ ap (λ f. article_data f due.article (query_ids due.alerts) due.alerts)
-    (sym (form_shown form views due.alerts same))
+    (sym (same_form form views due.alerts same))
     ∙ ap (λ v. alerts_data (form_with views) (alerts_by_id v)) (sym c.requires.said)

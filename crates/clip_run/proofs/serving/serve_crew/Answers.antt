@@ -1,8 +1,10 @@
-use Rattle.std.proofs.Common.{◌≡◌, [], ◌∙◌, refl, sym, subst, rules, false}
+use Rattle.std.proofs.Common.{◌≡◌, [], ◌∙◌, refl, sym, ap, subst, rules, false}
+use Rattle.std.proofs.lemmas.Result.{err_from_is_err_and}
+use Rattle.std.specs.Prelude.{Err}
 use Rattle.clip_stream.proofs.Faults.{on_err}
 use Rattle.clip_front.specs.Devices.{devices_at}
 use Rattle.clip_front.proofs.Progress.{Goes, front_at, all_at, goes_first, goes_flowing, goes_to_end, fault_first}
-use Rattle.clip_front.proofs.Progress.{breaks_handing, breaks_reading, breaks_flowing}
+use Rattle.clip_front.proofs.Progress.{breaks_handing, breaks_reading, breaks_flowing, breaks_unfound, lines_at, feed_before}
 use Rattle.clip_run.specs.Crews.{course_at}
 use Rattle.clip_run.specs.Owed.{TurnsIn, BreaksIn}
 use Rattle.clip_run.proofs.serving.serve_crew.Goals as goal
@@ -59,6 +61,26 @@ returns-in_err-next_line-clause-front g c =
     g.W.Sink.taken c.hand_over.new.self.writer.now} (search rules)
     (breaks_reading c.lines.invariant.goes c.in_ok-hand_over.ensures.moved c.in_err-next_line.ensures.given
     c.in_err-next_line.ensures.met))
+
+pub returns-in_err-next_line-clause-none_held : goal.returns-in_err-next_line-clause-none_held
+returns-in_err-next_line-clause-none_held g c =
+    let handed = c.in_ok-hand_over.ensures in
+    let on = err_from_is_err_and c.from_residual-in_err-next_line.result
+    c.from_residual-in_err-next_line.ensures.1 in
+    λ failed.
+    let unfound = c.in_err-next_line.ensures.unfound (ap Err (cc (failed, on.1, on.2))) in
+    let none : c.lines.has_more ≡ false =
+    c.lines.invariant.goes.pending ∙ feed_before c.lines.lines.pending unfound.reads.bytes unfound.unended in
+    let all = breaks_unfound c.lines.invariant.goes handed.moved handed.none_held unfound
+    c.in_err-next_line.ensures.met in (
+      search (rules, handed.flushed none),
+      all.0,
+      lines_at (TurnsIn (course_at g.A.Audience.hearers)) (c.args.crew.now, c.args.audience.now)
+          (c.lines.crew, c.lines.audience) (g.S.Source.left c.args.reader.now)
+          (g.S.Source.left c.next_line.new.reader) (g.S.Source.met_end c.next_line.new.reader)
+          (g.W.Sink.taken c.args.writer.now) {taken =
+          g.W.Sink.taken c.hand_over.new.self.writer.now} (search rules) all.1,
+    )
 
 pub returns-in_err-answer-clause-front : goal.returns-in_err-answer-clause-front
 returns-in_err-answer-clause-front g c =

@@ -1,35 +1,43 @@
 use Rattle.std.proofs.Common.{◌≡◌, ℕ, ◌-◌, ◌+◌, ◌<◌, List, ◌++◌, All, Some, option_map, map, length, take, drop, set}
-use Rattle.std.proofs.Common.{length-set, append-nil, refl, ap, sym, ◌∙◌, subst, arith}
+use Rattle.std.proofs.Common.{length-set, append-nil, refl, ap, sym, ◌∙◌, subst, Bor, Global}
 use Rattle.std.specs.Arc.{arc_str_bytes}
-use Rattle.std.proofs.lemmas.List.{take_all, drop_all, length-map}
+use Rattle.std.specs.declared.sync.ArcStr.{ArcStr}
+use Rattle.std.proofs.lemmas.List.{take_all, drop_all}
 use Rattle.std.proofs.lemmas.List.Elements.{All-nil}
-use Rattle.clip_extract.specs.Keys.{Word, key_of}
+use Rattle.clip_extract.specs.Keys.{Word}
 use Rattle.clip_terms.specs.Steps.KeysByField.{differing, key_added}
 use Rattle.clip_terms.specs.Steps.Places.{IsPlaced, EndsWith}
+use Rattle.clip_terms.specs.Steps.WordKeys.{keys_in}
 use Rattle.clip_terms.proofs.PlacedWords.{Place, counted, words_at, keys_more, ends_more, position_within, placed_more}
 use Rattle.clip_terms.proofs.asking.place_words.Goals as goal
 
 pub loop-posting-init : goal.loop-posting-init
 loop-posting-init c = record {
+  field = refl;
+  kept = c.requires.kept;
   keys = refl;
   last = tt;
   long = refl;
   placed =
-      All-nil (IsPlaced (arc_str_bytes c.args.name.now) (map key_of c.args.keys.now.items) c.args.places.now.items);
+      All-nil (IsPlaced (arc_str_bytes c.args.keys.now.field.now) (keys_in c.args.keys.now) c.args.places.now.items);
 }
+
+pub add_differing-requires : goal.add_differing-requires
+add_differing-requires c = c.loop-posting.invariant.kept
 
 pub overflow_sub-len : goal.overflow_sub-len
 overflow_sub-len c =
-    let name = arc_str_bytes c.args.name.now in
+    let name = arc_str_bytes c.args.keys.now.field.now in
     let last = option_map (λ w. w.now) c.loop-posting.last in
-    let old = map key_of c.loop-posting.keys.items in
-    let new = map key_of c.add_differing.new.keys.items in
-    let word = c.word-word.result.now in
-    let some : 0 < length new =
-    (ends_more name (arc_str_bytes word) last old new c.loop-posting.invariant.last
-    c.in_ok-add_differing.ensures).0 in
-    subst (λ (n : ℕ). 0 < n) (length-map c.add_differing.new.keys.items key_of ∙ counted c.add_differing.new.keys
-    ∙ sym c.len.ensures) some
+    let old = keys_in c.loop-posting.keys in
+    let new = keys_in c.add_differing.new.keys in
+    let x = c.posting-item.result in
+    let grown : new ≡ old ++ key_added name last x.0 =
+    c.in_ok-add_differing.ensures.added
+    ∙ ap (λ (f : Bor (ArcStr Global)). old ++ key_added (arc_str_bytes f.now) last x.0)
+    c.loop-posting.invariant.field in
+    let some : 0 < length new = (ends_more name x.0 last old new c.loop-posting.invariant.last grown).0 in
+    subst (λ (n : ℕ). 0 < n) (sym c.len.ensures) some
 
 pub index_mut-requires : goal.index_mut-requires
 index_mut-requires c =
@@ -39,14 +47,15 @@ index_mut-requires c =
     subst (λ (n : ℕ). n < c.loop-posting.places.len) (sym c.position.ensures)
     (subst (λ (n : ℕ). x.1 < n) (sym c.loop-posting.invariant.long
     ∙ counted c.loop-posting.places)
-    (position_within ps (length c.args.places.now.items) i x c.requires c.loop-posting-test.true c.posting-item.is))
+    (position_within ps (length c.args.places.now.items) i x c.requires.postings c.loop-posting-test.true
+    c.posting-item.is))
 
 pub loop-posting-preserved : goal.loop-posting-preserved
 loop-posting-preserved c =
-    let name = arc_str_bytes c.args.name.now in
+    let name = arc_str_bytes c.args.keys.now.field.now in
     let last = option_map (λ w. w.now) c.loop-posting.last in
-    let old = map key_of c.loop-posting.keys.items in
-    let new = map key_of c.add_differing.new.keys.items in
+    let old = keys_in c.loop-posting.keys in
+    let new = keys_in c.add_differing.new.keys in
     let places = c.loop-posting.places.items in
     let ps = c.args.postings.now in
     let i = c.loop-posting.posting-index in
@@ -54,11 +63,14 @@ loop-posting-preserved c =
     let lt = c.loop-posting-test.true in
     let is = c.posting-item.is in
     let before = c.loop-posting.invariant in
-    let word : c.as_str.result.now ≡ x.0 = c.as_str.ensures.value ∙ c.word-word.ensures in
+    let word : c.as_str.result.now ≡ x.0 = c.as_str.ensures.value ∙ c.word.ensures in
     let grown : new ≡ old ++ key_added name last x.0 =
-    c.in_ok-add_differing.ensures ∙ ap (λ (v : List ℕ). old ++ key_added name last v) c.word-word.ensures in
-    let place : c.len.result - 1 ≡ length new - 1 = omega (arith, length-map c.add_differing.new.keys.items key_of) in
+    c.in_ok-add_differing.ensures.added
+    ∙ ap (λ (f : Bor (ArcStr Global)). old ++ key_added (arc_str_bytes f.now) last x.0) before.field in
+    let place : c.len.result - 1 ≡ length new - 1 = ap (λ n. n - 1) c.len.ensures in
     record {
+      field = c.in_ok-add_differing.ensures.field ∙ before.field;
+      kept = c.in_ok-add_differing.ensures.kept;
       keys = ap (λ (v : List ℕ). new ++ map (Word name) (differing (Some v) (words_at (drop (i + 1) ps)))) word
           ∙ keys_more name last old new _ ps i x lt is grown before.keys;
       last = subst (λ (v : List ℕ). EndsWith name (Some v) new) (sym word)
@@ -67,14 +79,20 @@ loop-posting-preserved c =
       placed =
           subst (λ (n : ℕ). All (IsPlaced name new (set places n (c.len.result - 1))) (take (i + 1) ps))
           (sym c.position.ensures)
-          (placed_more name last old new places (c.len.result - 1) (length c.args.places.now.items) ps i x c.requires
-          before.long lt is grown place before.last before.placed);
+          (placed_more name last old new places (c.len.result - 1) (length c.args.places.now.items) ps i x
+          c.requires.postings before.long lt is grown place before.last before.placed);
     }
+
+pub returns-clause-field : goal.returns-clause-field
+returns-clause-field c = c.loop-posting.invariant.field
+
+pub returns-clause-kept : goal.returns-clause-kept
+returns-clause-kept c = c.loop-posting.invariant.kept
 
 pub returns-clause-keys : goal.returns-clause-keys
 returns-clause-keys c =
-    let name = arc_str_bytes c.args.name.now in
-    let new = map key_of c.loop-posting.keys.items in
+    let name = arc_str_bytes c.args.keys.now.field.now in
+    let new = keys_in c.loop-posting.keys in
     let last = option_map (λ w. w.now) c.loop-posting.last in
     sym (append-nil new)
     ∙ ap (λ (ps : List Place). new ++ map (Word name) (differing last (words_at ps)))
@@ -84,7 +102,7 @@ returns-clause-keys c =
 pub returns-clause-placed : goal.returns-clause-placed
 returns-clause-placed c =
     subst (λ (ps : List Place).
-    All (IsPlaced (arc_str_bytes c.args.name.now) (map key_of c.loop-posting.keys.items)
+    All (IsPlaced (arc_str_bytes c.args.keys.now.field.now) (keys_in c.loop-posting.keys)
     c.loop-posting.places.items) ps)
     (take_all c.loop-posting.posting-index c.args.postings.now c.loop-posting-test.false)
     c.loop-posting.invariant.placed

@@ -1,4 +1,4 @@
-use Rattle.std.proofs.Common.{ℕ, ◌≡◌, ◌+◌, ◌-◌, ◌≤◌, length}
+use Rattle.std.proofs.Common.{◌+◌, ◌-◌, ◌≤◌, length}
 use Rattle.clip_terms.specs.Steps.Repeats.{Returns}
 use Rattle.clip_terms.proofs.repeats.returning.Given as goal
 

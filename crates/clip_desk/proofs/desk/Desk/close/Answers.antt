@@ -1,6 +1,6 @@
 use Rattle.std.proofs.Common.{◌∙◌, ◌≤◌, ℕ, slice_get, refl, sym, ap, subst}
 use Rattle.clip_model.specs.History.{History}
-use Rattle.clip_chronicle.specs.Callers.{IsBy}
+use Rattle.clip_desk.specs.Callers.{IsBy}
 use Rattle.clip_desk.specs.Seats.{IsAccounted}
 use Rattle.clip_desk.proofs.desk.Desk.close.Goals as goal
 

@@ -1,14 +1,17 @@
 use Rattle.std.proofs.Common.{◌≡◌, ◌<◌, ◌≤◌, ◌∙◌, ℕ, List, [], ◌∷◌, ◌++◌, ap, sym, refl, subst, arith, rules}
 use Rattle.clip_model.specs.History.{History, next_entry, own, with_command, IsLegal}
 use Rattle.clip_standing.specs.Command.{command_of}
-use Rattle.clip_chronicle.specs.Callers.{IsBy}
-use Rattle.clip_chronicle.specs.Chronicle.{head_of}
+use Rattle.clip_registry.specs.RegistryState.{RegistryState, state_after}
+use Rattle.clip_desk.specs.Callers.{IsBy}
+use Rattle.clip_desk.specs.Chronicle.{head_of}
+use Rattle.clip_desk.specs.Purges.{IsPurgedAt}
 use Rattle.clip_desk.specs.Updates.{AllFollow, AreTold, Heard, event_of}
 use mathlib.Core.List.{IsPrefix}
-use Rattle.clip_chronicle.proofs.Beginnings.{prefix_self}
+use Rattle.clip_desk.proofs.Beginnings.{prefix_self}
 use Rattle.clip_desk.specs.Seats.{SeatIs}
 use Rattle.clip_desk.proofs.Following.{all_follow_entry}
 use Rattle.clip_desk.proofs.Commits.{followed, own_grown, mine_grown, own_fits, seen_grown, by_grown}
+use Rattle.clip_desk.proofs.Purges.{purged_after}
 use Rattle.clip_desk.proofs.locked.Locked.commit.Goals as goal
 
 pub invariant_of-self : goal.invariant_of-self
@@ -41,6 +44,16 @@ show_surely-requires-clause-callers g c =
     let high : caller ≤ g.N.DeskName.callers = omega (arith, known.1, same, c.requires.desk.1) in
     by_grown shown.callers g.N.DeskName.callers caller shown.view.history seen view command shown.callers_are
     (ap (λ v. v.history) i.shown_is ∙ sym i.log) is low high i.shown_callers
+
+pub show_surely-requires-clause-purged : goal.show_surely-requires-clause-purged
+show_surely-requires-clause-purged g c =
+    let shown = c.self.inside.writer.desk.shown.value in
+    let caller = c.caller-caller.result in
+    let command = command_of c.args.command in
+    let is : c.in-Ok.grown.view ≡ state_after shown.view caller command = c.in-Ok.ensures.view
+    ∙ c.in-Ok.ensures.registrar ∙ ap (λ s. state_after s caller command) (sym c.self.invariant.0.shown_is) in
+    subst (λ (s : RegistryState). IsPurgedAt s shown.purged_at) (sym is)
+    (purged_after shown.view caller command shown.purged_at shown.purged_is)
 
 pub add-requires-clause-desk : goal.add-requires-clause-desk
 add-requires-clause-desk g c =

@@ -1,5 +1,5 @@
 use Rattle.std.proofs.Common.{◌≡◌, ℕ, ap, subst}
-use Rattle.clip_chronicle.specs.Callers.{IsBy}
+use Rattle.clip_desk.specs.Callers.{IsBy}
 use Rattle.clip_desk.proofs.locked.Locked.end.Goals as goal
 
 pub returns-clause-legal : goal.returns-clause-legal

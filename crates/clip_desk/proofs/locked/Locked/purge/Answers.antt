@@ -1,5 +1,9 @@
-use Rattle.std.proofs.Common.{rules}
+use Rattle.std.proofs.Common.{rules, ◌≡◌, ◌∙◌, ℕ, length, ap, sym, subst}
+use Rattle.clip_registry.specs.Merging.{purged}
+use Rattle.clip_registry.specs.RegistryState.{RegistryState}
+use Rattle.clip_desk.specs.Purges.{IsPurgedAt}
 use Rattle.clip_desk.proofs.Following.{all_follow_purge}
+use Rattle.clip_desk.proofs.Purges.{purged_here}
 use Rattle.clip_desk.proofs.locked.Locked.purge.Goals as goal
 
 pub invariant_of-self : goal.invariant_of-self
@@ -11,5 +15,15 @@ invariant_of-self g c =
     )
 
 -- proved by search alone: it stands here so that a wrong body is refused at once
-pub put-requires : goal.put-requires
-put-requires g c = search rules
+pub put-requires-clause-same : goal.put-requires-clause-same
+put-requires-clause-same g c = search rules
+
+pub put-requires-clause-purged : goal.put-requires-clause-purged
+put-requires-clause-purged g c =
+    let s = c.self.inside in
+    let is : c.purge.new.self ≡ purged s.registrar = c.in_ok-purge.ensures.purged ∙ ap purged c.in_ok-next.ensures in
+    let count : length s.registrar.history ≡ s.seen_history.count = ap length (sym c.self.invariant.0.log)
+    ∙ sym s.seen_history.counted in
+    subst (IsPurgedAt c.purge.new.self) count
+    (subst (λ (state : RegistryState). IsPurgedAt state (length s.registrar.history)) (sym is)
+    (purged_here s.registrar))

@@ -1,7 +1,7 @@
 use Rattle.std.proofs.Common.{◌≡◌, ◌∙◌, ap, sym, subst}
 use mathlib.Core.List.{IsPrefix}
-use Rattle.clip_chronicle.specs.Callers.{IsBy}
-use Rattle.clip_chronicle.proofs.Beginnings.{prefix_self}
+use Rattle.clip_desk.specs.Callers.{IsBy}
+use Rattle.clip_desk.proofs.Beginnings.{prefix_self}
 use Rattle.clip_desk.proofs.locked.Locked.put.Goals as goal
 
 pub show-requires-clause-later : goal.show-requires-clause-later
@@ -10,7 +10,7 @@ show-requires-clause-later g c =
     let view = c.in_ok-view.view.history in
     let same : shown ≡ view = ap (λ s. s.history) c.self.invariant.0.shown_is
     ∙ (ap (λ s. s.registry.history) c.self.view_is
-    ∙ (sym c.requires.0 ∙ sym (ap (λ s. s.history) c.in_ok-view.ensures))) in
+    ∙ (sym c.requires.same.0 ∙ sym (ap (λ s. s.history) c.in_ok-view.ensures))) in
     subst (IsPrefix shown) same (prefix_self shown)
 
 pub show-requires-clause-callers : goal.show-requires-clause-callers
@@ -19,5 +19,5 @@ show-requires-clause-callers g c =
     let view = c.in_ok-view.view.history in
     let same : shown.view.history ≡ view = ap (λ s. s.history) c.self.invariant.0.shown_is
     ∙ (ap (λ s. s.registry.history) c.self.view_is
-    ∙ (sym c.requires.0 ∙ sym (ap (λ s. s.history) c.in_ok-view.ensures))) in
+    ∙ (sym c.requires.same.0 ∙ sym (ap (λ s. s.history) c.in_ok-view.ensures))) in
     subst (IsBy shown.callers) same shown.callers_are

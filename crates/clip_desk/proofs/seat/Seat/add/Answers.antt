@@ -2,7 +2,7 @@ use Rattle.std.proofs.Common.{◌∙◌, [], ◌∷◌, length, ap, sym, arith, 
 use Rattle.std.proofs.lemmas.List.{length-take-le}
 use Rattle.clip_model.proofs.Counting.{own_length}
 use Rattle.clip_model.specs.History.{own}
-use Rattle.clip_chronicle.specs.Chronicle.{head_of}
+use Rattle.clip_desk.specs.Chronicle.{head_of}
 use Rattle.clip_desk.proofs.seat.Seat.add.Goals as goal
 
 pub follow-requires-clause-head : goal.follow-requires-clause-head

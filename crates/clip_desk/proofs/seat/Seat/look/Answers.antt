@@ -1,6 +1,7 @@
-use Rattle.std.proofs.Common.{◌≡◌, ◌∙◌, ap}
+use Rattle.std.proofs.Common.{◌≡◌, ◌∙◌, ◌≤◌, ap, arith}
 use Rattle.left_right.specs.Sides.{view}
-use Rattle.clip_chronicle.specs.Ends.{seen_keeps}
+use Rattle.clip_desk.specs.Ends.{seen_keeps}
+use Rattle.clip_desk.proofs.Purges.{purged_before}
 use Rattle.clip_desk.proofs.seat.Seat.look.Goals as goal
 
 pub invariant_of-self : goal.invariant_of-self
@@ -21,4 +22,12 @@ returns-in_default-clause-same c =
       book = (c.self.view_is i).book;
       seen = s.seen_history.seen.log;
       mine = (c.self.view_is i).mine;
+      purged_at = (c.self.view_is i).purged_at;
     }
+
+pub returns-clause-purged : goal.returns-clause-purged
+returns-clause-purged c =
+    let shown = c.in-Ok.shown in
+    let mine = ap (λ v. v.purged_at) c.self.view_is in
+    let kept : c.args.self.now.purged_at ≤ shown.purged_at = omega (arith, mine, c.if-purged_at-self.false) in
+    purged_before shown.view c.args.self.now.purged_at shown.purged_at kept shown.purged_is

@@ -47,9 +47,6 @@ overflow_add-index_mut c =
     let short = kept.legal.short in
     omega arith
 
-pub with-requires : goal.with-requires
-with-requires c = let b = c.len.ensures in let d = c.if-len-ge-MOST_ENTRIES.false in omega arith
-
 -- the registry after the command, as its fields hold it
 abbrev next_of : In_ok-changed → RegistryState
 next_of c = record {
@@ -65,8 +62,8 @@ accepted : (c : In_ok-changed)
 accepted c =
     let h : History = (state_of c.self.inside).history in
     let command : model.Command = command_of c.args.command.now in
-    let short : length h < MOST_ENTRIES = let b = c.len.ensures in let d = c.if-len-ge-MOST_ENTRIES.false in
-    omega arith in
+    let short : length h < MOST_ENTRIES = subst (λ (s : RegistryState). length s.history < MOST_ENTRIES)
+    (sym c.self.view_is) c.requires.unended in
     let log : c.in_ok-log.log ≡ record c.self.inside.log { history = with_command h c.args.caller command } =
     c.in_ok-log.ensures
     ∙ ap (λ (e : model.HistoryEntry). record c.self.inside.log { history = h ++ e ∷ [] }) (c.in_ok-entry.ensures

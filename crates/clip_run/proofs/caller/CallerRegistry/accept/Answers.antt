@@ -1,4 +1,4 @@
-use Rattle.std.proofs.Common.{◌∙◌, rules}
+use Rattle.std.proofs.Common.{◌∙◌, ap, rules}
 use Rattle.clip_standing.specs.Command.{command_of}
 use Rattle.clip_run.proofs.OnlyCaller.{accepted, refused}
 use Rattle.clip_run.proofs.caller.CallerRegistry.accept.Goals as goal
@@ -12,7 +12,7 @@ returns-in-Ok g c =
           (accepted e.last.0 c.in-Ok.receipt.history c.self.inside.desk.now.callers c.self.inside.seat.caller
           c.self.inside.seat.mine c.commit.new.seat.mine (command_of c.args.command) c.applied.result e.last.1
           (c.applied.ensures ∙ e.last.2) e.legal.0 e.legal.1 i.desk_alone i.first e.mine.0 e.mine.1);
-      goes_on = tt;
+      goes_on = ap (λ s. s.purged_at) c.commit.ensures.seat ∙ ap (λ c. c.purged_at) c.self.view_is;
     }
 
 pub returns-in-Err-default-Full : goal.returns-in-Err-default-Full
@@ -25,7 +25,7 @@ returns-in-Err-default-Full g c =
           (refused c.commit.new.seat.seen c.self.inside.desk.now.callers c.self.inside.seat.caller
           c.self.inside.seat.mine c.commit.new.seat.mine (command_of c.args.command) full.0 full.1 full.2
           i.desk_alone i.first full.3 e.stays);
-      goes_on = tt;
+      goes_on = ap (λ s. s.purged_at) c.commit.ensures.seat ∙ ap (λ c. c.purged_at) c.self.view_is;
     }
 
 -- proved by search alone: it stands here so that a wrong body is refused at once

@@ -1,4 +1,4 @@
-use Rattle.std.proofs.Common.{◌≡◌, ◌++◌, [], map, refl, sym, ap, subst, ◌∙◌}
+use Rattle.std.proofs.Common.{◌≡◌, ◌++◌, [], map, sym, ap, subst, ◌∙◌}
 use Rattle.std.specs.Prelude.{OnOk, OnErr, Some}
 use Rattle.std.proofs.lemmas.Result.{on_err_weaker, on_ok_weaker}
 use Rattle.clip_stream.specs.Device.{AppendsFront, HandsOver}
@@ -7,11 +7,12 @@ use Rattle.clip_stream.proofs.Flows.{handed_none}
 use Rattle.clip_listen.specs.Heard.{told_all, HearsFront}
 use Rattle.clip_listen.proofs.Hearing.{no_front}
 use Rattle.clip_front.specs.Outcome.{kept_rows}
-use Rattle.clip_run.specs.Due.{AreDue}
 use Rattle.clip_run.specs.Owed.{owed_of, ready}
-use Rattle.clip_run.specs.Pending.{owed_at, owed_from, owed_to}
+use Rattle.clip_run.specs.Pending.{owed_at, owed_by, owed_from, owed_to}
 use Rattle.clip_run.specs.declared.batch.Pending.TheVariants as pending
 use Rattle.clip_run.proofs.Owing.{owed_past, handed_ready, front_ready, heard_none, kept_none}
+use Rattle.clip_run.proofs.AnsweredAlone.{both_ok}
+use Rattle.clip_run.proofs.Settled.{crew_then}
 use Rattle.clip_run.proofs.Sharing.{got}
 use Rattle.clip_run.proofs.crew.Crew.settle.Goals as goal
 
@@ -20,7 +21,7 @@ settle_batch-requires-clause-waits g c κs within = record {
   items = c.args.items.now;
   here = got c.args.items.now c.args.line c.in-Some.item.now c.in-Some.ensures.lookup.3.0 c.in-Some.ensures.lookup.1
       ∙ ap Some c.in-Waiting.is;
-  due = c.requires;
+  due = rw (← c.self.view_is) at c.requires;
 }
 
 pub returns-in_default-clause-heard : goal.returns-in_default-clause-heard
@@ -106,23 +107,28 @@ returns-in-Waiting-clause-heard g c =
 
 pub returns-in-Waiting-clause-crew : goal.returns-in-Waiting-clause-crew
 returns-in-Waiting-clause-crew g c =
+    let i = c.self.inside in
     let old = g.A.Audience.hearers c.args.audience.now in
-    let crew = c.args.self.now in
     let items = c.args.items.now in
     let line = c.args.line in
     let read = got items line c.in-Some.item.now c.in-Some.ensures.lookup.3.0 c.in-Some.ensures.lookup.1 in
     let same : owed_to old c.in-Waiting.batch ≡ owed_of old (owed_at items line) =
     ap (λ item. owed_of old (owed_from item)) (sym (read ∙ ap Some c.in-Waiting.is)) in
-    subst (λ o. OnOk c.settle_batch.result (c.settle_batch.new.self
-    ≡ record crew { rows = crew.rows ++ kept_rows crew.settings.keeps_rows o.rows })) same
-    c.settle_batch.ensures.crew
+    let books = i.giver.books in
+    rw (← c.self.view_is)
+    (both_ok c.settle_batch.result
+    (λ rows settings. crew_then i.caller.history (map owed_by i.pending.items) _ _ _ _
+    (rows ∙ ap (λ o. books.ledger ++ kept_rows books.settings.keeps_rows o.rows) same) settings)
+    c.settle_batch.ensures.rows c.settle_batch.ensures.settings)
 
 pub returns-in-Waiting-clause-due : goal.returns-in-Waiting-clause-due
 returns-in-Waiting-clause-due g c =
     let items = c.args.items.now in
     let read = got items c.args.line c.in-Some.item.now c.in-Some.ensures.lookup.3.0 c.in-Some.ensures.lookup.1 in
-    on_ok_weaker c.settle_batch.result (λ keeps. keeps items (read ∙ ap Some c.in-Waiting.is) c.requires)
-    c.settle_batch.ensures.due
+    let due = rw (← c.self.view_is) at c.requires in
+    rw (← c.self.view_is)
+    (on_ok_weaker c.settle_batch.result (λ keeps. keeps items (read ∙ ap Some c.in-Waiting.is) due)
+    c.settle_batch.ensures.due)
 
 pub returns-in-Waiting-clause-moved : goal.returns-in-Waiting-clause-moved
 returns-in-Waiting-clause-moved g c =
@@ -133,10 +139,11 @@ returns-in-Waiting-clause-moved g c =
     let read = got items line c.in-Some.item.now c.in-Some.ensures.lookup.3.0 c.in-Some.ensures.lookup.1 in
     let same : owed_to old c.in-Waiting.batch ≡ owed_of old (owed_at items line) =
     ap (λ item. owed_of old (owed_from item)) (sym (read ∙ ap Some c.in-Waiting.is)) in
-    subst (λ o. OnOk c.settle_batch.result
+    rw (← c.self.view_is)
+    (subst (λ o. OnOk c.settle_batch.result
     (HandsOver (taken c.args.flow.now.writer.now) (c.args.flow.now.outbox.now
-    ++ o.text c.args.self.now.settings.form) (taken c.settle_batch.new.flow.writer.now)
-    c.settle_batch.new.flow.outbox.now)) same c.settle_batch.ensures.moved
+    ++ o.text c.self.inside.giver.books.settings.form) (taken c.settle_batch.new.flow.writer.now)
+    c.settle_batch.new.flow.outbox.now)) same c.settle_batch.ensures.moved)
 
 pub returns-in-Waiting-clause-err : goal.returns-in-Waiting-clause-err
 returns-in-Waiting-clause-err g c =
@@ -159,6 +166,8 @@ returns-in-Waiting-clause-front g c =
     let read = got items line c.in-Some.item.now c.in-Some.ensures.lookup.3.0 c.in-Some.ensures.lookup.1 in
     let same : owed_to old c.in-Waiting.batch ≡ owed_of old (owed_at items line) =
     ap (λ item. owed_of old (owed_from item)) (sym (read ∙ ap Some c.in-Waiting.is)) in
-    subst (λ o. OnErr c.settle_batch.result
+    rw (← c.self.view_is)
+    (subst (λ o. OnErr c.settle_batch.result
     (AppendsFront (taken c.args.flow.now.writer.now) (taken c.settle_batch.new.flow.writer.now)
-    (c.args.flow.now.outbox.now ++ o.text c.args.self.now.settings.form))) same c.settle_batch.ensures.front
+    (c.args.flow.now.outbox.now ++ o.text c.self.inside.giver.books.settings.form))) same
+    c.settle_batch.ensures.front)

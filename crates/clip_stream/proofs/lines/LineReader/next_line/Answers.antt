@@ -2,7 +2,7 @@ use Rattle.std.proofs.Common.{◌≡◌, ◌<◌, length, sym, ap, ◌∙◌, ar
 use Rattle.std.proofs.lemmas.Bool.Decides.{nat_tests}
 use Rattle.clip_stream.proofs.Bytes.{cut_short}
 use Rattle.clip_stream.proofs.Cuts.{after_line-no_feed, gathered_found, gathered_more, gathered_end, gathers_nothing}
-use Rattle.clip_stream.proofs.Cuts.{reads_same, reads_kept}
+use Rattle.clip_stream.proofs.Cuts.{reads_same, reads_kept, finds_none}
 use Rattle.clip_stream.proofs.Faults.{on_err}
 use Rattle.clip_stream.proofs.Fuel.{fuel_found, fuel_end, fuel_more, some_before}
 use Rattle.clip_stream.proofs.lines.LineReader.next_line.Goals as goal
@@ -57,6 +57,15 @@ returns-in_err-refill-clause-given g c =
     on_err c.from_residual-in_err-refill.result
     (reads_kept c.args.self.now c.pieces.self c.refill.new.self (left c.args.reader.now) (left c.pieces.reader)
     (left c.refill.new.reader) c.pieces.invariant.gathers.reads c.in_err-refill.ensures.kept before)
+
+pub returns-in_err-refill-clause-unfound : goal.returns-in_err-refill-clause-unfound
+returns-in_err-refill-clause-unfound g c =
+    let left = g.R.Source.left in
+    let before = sym c.pieces.invariant.same_end
+    ∙ (sym c.in_ok-take_front.ensures.end ∙ c.in_err-refill.ensures.open.0) in
+    λ _. finds_none c.args.self.now c.pieces.self c.refill.new.self (left c.args.reader.now) (left c.pieces.reader)
+    (left c.refill.new.reader) c.pieces.line.items c.pieces.invariant.gathers c.in_err-refill.ensures.kept before
+    (sym c.in_ok-take_front.ensures.found ∙ c.if-branch.false) c.in_err-refill.ensures.open.1
 
 pub returns-then-not-branch-clause-fuel : goal.returns-then-not-branch-clause-fuel
 returns-then-not-branch-clause-fuel g c =

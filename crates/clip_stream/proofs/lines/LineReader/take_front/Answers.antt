@@ -43,7 +43,7 @@ returns-in_ok-extend_cut-in-None-clause-line c =
     let same = ap (λ xs. take (c.self.inside.end - c.self.inside.start) (drop c.self.inside.start xs))
     c.deref.ensures.value ∙ ap (λ r. r.pending) c.self.view_is in
     let none = rw c.in-None.is at c.self.invariant.5 in
-    c.in_ok-extend_cut-in-None.ensures
+    c.in_ok-extend_cut-in-None.ensures c.requires
     ∙ ap (λ xs. cut (c.args.line.now.items ++ xs)) (same
     ∙ sym (first_line-no_feed _ (sym (ap (λ r. has_feed r.pending) c.self.view_is) ∙ none)))
 

@@ -1,49 +1,75 @@
-use Rattle.std.proofs.Common.{ℕ, List, map, flat_map, length, Vec, Global, sym, ap, ◌∙◌, subst}
+use Rattle.std.proofs.Common.{◌≡◌, ◌++◌, ◌∷◌, [], ℕ, List, Option, option_to_list, map, flat_map, take, length, sym, ap}
+use Rattle.std.proofs.Common.{◌∙◌, subst, append-nil}
 use Rattle.std.specs.FinMap as finite
+use Rattle.std.proofs.lemmas.List.{map_more, take_all}
 use Rattle.clip_meaning.specs.Article.{ArticleValue}
-use Rattle.clip_extract.specs.Keys.{key_of}
-use Rattle.clip_extract.specs.Covering.{field_keys, front_keys}
+use Rattle.clip_extract.specs.Keys.{Any}
+use Rattle.clip_extract.specs.Covering.{field_keys}
+use Rattle.clip_terms.specs.Spots.{FieldValue}
 use Rattle.clip_terms.specs.Terms.{term_at, number_of}
 use Rattle.clip_terms.specs.Reading.{has_key}
 use Rattle.clip_terms.specs.Steps.Fronts.{AddsNumbersOf}
-use Rattle.clip_terms.specs.Steps.Numbers.{known, number_at, AreFlags}
-use Rattle.clip_terms.proofs.ReadingOf.{numbers_within, numbers_had, fields_numbered}
+use Rattle.clip_terms.specs.Steps.Numbers.{AreFlags}
+use Rattle.clip_terms.proofs.AskedFronts.{keys_added, fields_added}
+use Rattle.clip_terms.proofs.ReadingOf.{all_of_field, numbers_within, numbers_had}
 use Rattle.clip_terms.proofs.reading.Reading.of.Goals as goal
+
+pub loop-asked-init : goal.loop-asked-init
+loop-asked-init c =
+    let terms = c.args.terms.now in
+    record {
+      added = keys_added terms (Any ∷ []) [] c.add_known.new.numbers.items c.order_law.ensures
+          (c.in_ok-add_known.ensures
+          ∙ ap (λ (xs : List ℕ). xs ++ option_to_list c.number.result) c.new-numbers.ensures.items
+          ∙ ap (λ (o : Option ℕ). option_to_list o) c.number.ensures
+          ∙ sym (append-nil (option_to_list (number_of terms Any))));
+      fields = c.in_ok-fields.ensures.items;
+    }
+
+pub loop-asked-preserved : goal.loop-asked-preserved
+loop-asked-preserved c =
+    let terms = c.args.terms.now in
+    let read = λ (field : FieldValue). map (number_of terms) (field_keys field) in
+    let fields = c.fields-asked-items.result.now in
+    let i = c.loop-asked.asked-index in
+    let field = c.asked-item.result in
+    let lt = c.loop-asked-test.true in
+    let is = c.asked-item.is in
+    record {
+      added = fields_added terms (Any ∷ []) all_of_field fields i field [] c.loop-asked.numbers.items
+          c.read_field.new.numbers.items lt is c.in_ok-read_field.ensures.added c.loop-asked.invariant.added;
+      fields =
+          c.in_ok-push.ensures.items
+          ∙ ap (λ (all : List (List (Option ℕ))). all ++ c.in_ok-read_field.field-0 ∷ []) c.loop-asked.invariant.fields
+          ∙ ap (λ (numbers : List (Option ℕ)). map read (take i fields) ++ numbers ∷ [])
+          (c.in_ok-read_field.ensures.read ∙ ap read is)
+          ∙ sym (map_more read fields i field lt);
+    }
 
 pub invariant_of-result : goal.invariant_of-result
 invariant_of-result c =
     let terms = c.args.terms.now in
-    let keys = map key_of c.keys.result.now in
     let fields = c.args.asking.now.fields in
-    let old = c.in_ok-numbers.numbers.items in
-    let new = c.add_front_numbers.new.numbers.items in
-    let first = c.in_ok-numbers.ensures ∙ ap known (c.deref.ensures.value ∙ c.in_ok-by_key.ensures) in
-    let fronts : AddsNumbersOf terms (flat_map front_keys (finite.entries fields)) old new =
-    c.in_ok-add_front_numbers.ensures in
-    let had = numbers_had terms fields keys old new c.keys.ensures first fronts c.order_law.ensures in
+    let new = c.loop-asked.numbers.items in
+    let read = λ (field : FieldValue). map (number_of terms) (field_keys field) in
+    let all : take c.loop-asked.asked-index c.fields-asked-items.result.now ≡ finite.entries fields =
+    take_all c.loop-asked.asked-index c.fields-asked-items.result.now c.loop-asked-test.false
+    ∙ c.fields-asked-items.ensures in
+    let added = subst (λ (fs : List FieldValue). AddsNumbersOf terms (Any ∷ flat_map all_of_field fs) [] new) all
+    c.loop-asked.invariant.added in
+    let had = numbers_had terms fields new added in
     let flags : AreFlags c.in_ok-marks.marks (length terms) new =
     subst (λ (m : ℕ). AreFlags c.in_ok-marks.marks m new) c.len.ensures
-    (subst (λ (ns : List ℕ). AreFlags c.in_ok-marks.marks c.len.result ns) c.deref-2.ensures.value
+    (subst (λ (ns : List ℕ). AreFlags c.in_ok-marks.marks c.len.result ns) c.deref.ensures.value
     c.in_ok-marks.ensures.flags) in
     record {
       strict = c.order_law.ensures;
-      within = numbers_within terms fields keys old new c.keys.ensures first fronts;
+      within = numbers_within terms fields new added;
       numbers = λ n lt. had n lt
-          ∙ ap (λ (a : ArticleValue). has_key a.fields (term_at terms n)) (sym c.article-article.ensures);
+          ∙ ap (λ (a : ArticleValue). has_key a.fields (term_at terms n)) (sym c.article.ensures);
       long = c.in_ok-marks.ensures.long ∙ c.len.ensures;
       flags = λ n lt. flags n lt ∙ had n lt
-          ∙ ap (λ (a : ArticleValue). has_key a.fields (term_at terms n)) (sym c.article-article.ensures);
-      fields = c.in_ok-fields.ensures ∙ ap (map (λ field. map (number_of terms) (field_keys field))) c.fields.ensures;
+          ∙ ap (λ (a : ArticleValue). has_key a.fields (term_at terms n)) (sym c.article.ensures);
+      fields = c.loop-asked.invariant.fields ∙ ap (map read) all
+          ∙ ap (λ (a : ArticleValue). map read (finite.entries a.fields)) (sym c.article.ensures);
     }
-
-pub field_numbers-requires : goal.field_numbers-requires
-field_numbers-requires c =
-    let terms = c.args.terms.now in
-    let keys = map key_of c.keys.result.now in
-    let fields = c.args.asking.now.fields in
-    ap (λ by. map (λ (v : Vec ℕ Global). map (number_at by) v.items) c.places.result.now) (c.deref-3.ensures.value
-    ∙ c.in_ok-by_key.ensures)
-    ∙ fields_numbered terms keys (λ (v : Vec ℕ Global). v.items) c.places.result.now (finite.entries fields)
-    (c.places.ensures c.keys.result.now c.keys.ensures)
-    ∙ ap (map (λ field. map (number_of terms) (field_keys field)))
-    (sym (c.fields.ensures ∙ ap (λ (a : ArticleValue). finite.entries a.fields) c.article-article.ensures))

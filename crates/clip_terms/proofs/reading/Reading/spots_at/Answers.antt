@@ -1,4 +1,4 @@
-use Rattle.std.proofs.Common.{◌≡◌, ◌<◌, ℕ, [], arith, ap, subst, sym, ◌∙◌, length, map, get_or}
+use Rattle.std.proofs.Common.{◌≡◌, ◌<◌, [], arith, ap, subst, sym, ◌∙◌, length, map, get_or}
 use Rattle.std.specs.FinMap as finite
 use Rattle.std.proofs.lemmas.List.{get_or_default}
 use Rattle.clip_extract.specs.Covering.{field_keys}

@@ -1,4 +1,4 @@
-use Rattle.std.proofs.Common.{ℕ, ◌≡◌, ◌≤◌, zero, suc, false, length, drop, arith, ap, inl, inr, ◌∙◌}
+use Rattle.std.proofs.Common.{◌≡◌, false, drop, arith, ap, inl, inr, ◌∙◌}
 use Rattle.std.proofs.lemmas.Bool.{cases_eq, cases_lt}
 use Rattle.clip_terms.specs.Steps.Runs.{begins_with}
 use Rattle.clip_terms.proofs.Repeating.{moved_short, moved_agrees, moved_nowhere, part_stands, past_end}

@@ -1,4 +1,4 @@
-use Rattle.std.proofs.Common.{ℕ, List, ◌≡◌, arith, ap, sym, subst, ◌∙◌}
+use Rattle.std.proofs.Common.{ℕ, List, ◌≡◌, arith, subst, ◌∙◌}
 use Rattle.clip_terms.specs.Steps.Repeats.{Moves, NoneBelow}
 use Rattle.clip_terms.proofs.Repeating.{moved_returns, moved_least}
 use Rattle.clip_terms.proofs.repeats.Repeats.of.Goals as goal

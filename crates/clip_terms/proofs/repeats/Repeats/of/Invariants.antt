@@ -1,4 +1,4 @@
-use Rattle.std.proofs.Common.{◌≡◌, ℕ, ◌+◌, ◌-◌, ◌<◌, ◌≤◌, length}
+use Rattle.std.proofs.Common.{◌≡◌, ℕ, ◌+◌, ◌-◌, ◌<◌, length}
 use Rattle.clip_terms.specs.Steps.Repeats.{AreRepeats, Returns, NoneBelow}
 use Rattle.clip_terms.proofs.repeats.Repeats.of.Given as goal
 

@@ -1,7 +1,7 @@
 use Rattle.std.proofs.Common.{◌≡◌, ◌<◌, ◌≤◌, ◌+◌, take, get_or, arith, sym, subst}
 use Rattle.std.proofs.lemmas.List.{get_or-take, length-take-le}
 use Rattle.clip_terms.specs.declared.repeats.Span.{Span}
-use Rattle.clip_terms.specs.Steps.Repeats.{Returns, NoneBelow, IsOutside}
+use Rattle.clip_terms.specs.Steps.Repeats.{Returns, NoneBelow}
 use Rattle.clip_terms.proofs.Repeating.{in_span}
 use Rattle.clip_terms.proofs.repeats.Repeats.period.Goals as goal
 

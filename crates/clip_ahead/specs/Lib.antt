@@ -1,0 +1,5 @@
+pub mod Ahead
+pub mod Changes
+pub mod Handing
+pub mod Keeping
+pub mod Pieces

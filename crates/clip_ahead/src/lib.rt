@@ -1,0 +1,9 @@
+//! Changes that are kept ahead: a reader of lines that hands out no byte before the changes for which it asks are in a
+//! journal and synced.
+#![tactic(auto)]
+
+mod changes;
+mod keeper;
+mod kept_source;
+
+pub use kept_source::{KeptParts, KeptSource, RunName};

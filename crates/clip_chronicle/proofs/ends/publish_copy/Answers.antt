@@ -1,8 +1,0 @@
-use Rattle.std.proofs.Common.{sym, subst}
-use Rattle.clip_chronicle.specs.declared.published.Published.{Published}
-use Rattle.clip_chronicle.specs.Ends.{Continues}
-use Rattle.clip_chronicle.proofs.ends.publish_copy.Goals as goal
-
-pub publish-requires : goal.publish-requires
-publish-requires g c = subst (λ (p : Published). Continues c.args.writer.desk.shown.value p) (sym c.in-Ok.ensures)
-    c.requires

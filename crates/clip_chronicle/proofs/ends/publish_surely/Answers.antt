@@ -1,8 +1,0 @@
-use Rattle.std.proofs.Common.{sym, subst}
-use Rattle.clip_chronicle.specs.declared.published.Published.{Published}
-use Rattle.clip_chronicle.specs.Ends.{Continues}
-use Rattle.clip_chronicle.proofs.ends.publish_surely.Goals as goal
-
-pub publish_copy-tried-requires : goal.publish_copy-tried-requires
-publish_copy-tried-requires g c =
-    subst (λ (x : Published). Continues x c.args.next.now) (sym c.loop.invariant) c.requires

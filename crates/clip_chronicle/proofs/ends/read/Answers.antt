@@ -1,5 +1,0 @@
-use Rattle.clip_chronicle.proofs.EndSteps.{turns, continues_self}
-use Rattle.clip_chronicle.proofs.ends.read.Goals as goal
-
-pub enter_as-requires : goal.enter_as-requires
-enter_as-requires c x = turns _ _ x x (continues_self x)

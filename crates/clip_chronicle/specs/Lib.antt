@@ -1,4 +1,0 @@
-pub mod Chronicle
-pub mod Callers
-pub mod Ends
-pub mod Rights

@@ -1,0 +1,117 @@
+//! What the writer publishes and the seats read, and the rule over their ends.
+ghost use Rattle.std.specs.Prelude.{◌≡◌, ℕ, IfOk, Some, MatchResult};
+ghost use Rattle.std.specs.Coded.{Coded-set};
+ghost use Rattle.std.proofs.Props.{props};
+ghost use Rattle.clip_model.specs.History.{history_code};
+ghost use Rattle.clip_desk.specs.Callers.{IsBy};
+ghost use Rattle.clip_desk.specs.Purges.{IsPurgedAt};
+
+use crate::chronicle::SeenHistory;
+use atomic_table::{Join, Split};
+use clip_registry::View;
+use crossbeam_utils::rule::{Outcome, Protocol};
+use left_right::Absorb;
+use left_right::reader::Reader;
+use left_right::writer::Writer;
+use std::alloc::AllocError;
+
+/// What a desk publishes: a view, the beginning that its history is, how many callers the desk has, and how long the
+/// history was at the last purge.
+#[derive(Drop)]
+pub(crate) struct Published {
+    /// The registry as it stood.
+    pub(crate) view: View,
+    /// Its history.
+    pub(crate) seen_history: SeenHistory,
+    /// Callers are numbered from 1 to this.
+    pub(crate) callers: u32,
+    /// How long its history was at the last purge, or 0 where there was none.
+    pub(crate) purged_at: usize,
+    pub(crate) ghost same: { seen_history.seen.log ≡ view.history } by { Coded-set history_code _ _ },
+    pub(crate) ghost callers_are: { IsBy callers view.history },
+    pub(crate) ghost purged_is: { IsPurgedAt view purged_at } by { Prim.hlevel props },
+}
+
+impl Published {
+    /// A copy, or `AllocError` where a count of holders is at its end. Constant time.
+    pub(crate) fn copy(&self) -> Result<Published, AllocError>
+        ensures { IfOk result (λ p. p ≡ self.now) }
+    {
+        let Ok(view) = self.view.copy() else {
+            return Err(AllocError);
+        };
+        Ok(Published {
+            view,
+            seen_history: self.seen_history.again(),
+            callers: self.callers,
+            purged_at: self.purged_at,
+        })
+    }
+}
+
+// Each operation replaces the whole value.
+impl Absorb<Published> for Published {
+    type State = Published;
+
+    ghost state = { λ p. p };
+
+    ghost applied = { λ before operation. operation };
+
+    fn absorb_first(
+        &mut self,
+        operation: &Published,
+        _other: &Published,
+    ) -> Result<(), AllocError> {
+        *self = operation.copy()?;
+        Ok(())
+    }
+
+    fn absorb_second(&mut self, operation: Published, _other: &Published) -> Result<(), Published> {
+        *self = operation;
+        Ok(())
+    }
+}
+
+/// What an end knows is the value that it saw last.
+pub(crate) struct Rules;
+
+impl Protocol<Published, Option<Published>> for Rules {
+    ghost use Rattle.std.specs.Prelude.{None};
+    ghost use Rattle.clip_desk.specs.Ends.{Keeps};
+
+    ghost holds = { Keeps };
+
+    ghost first = { None };
+}
+
+/// An end sees what is published.
+pub(crate) struct Sight;
+
+impl Outcome<Published, Option<Published>> for Sight {
+    ghost use Rattle.clip_desk.specs.Ends.{Sees};
+
+    ghost then = { Sees };
+}
+
+/// What the writer saw goes to a reader.
+pub(crate) struct Handover;
+
+impl Split<Option<Published>> for Handover {
+    ghost left = { λ v. v };
+
+    ghost right = { λ v. v };
+}
+
+impl Join<Option<Published>> for Handover {
+    ghost use Rattle.std.specs.Prelude.{None};
+
+    ghost both = { λ v w. w };
+
+    ghost spent = { None };
+}
+
+/// The end by which a seat reads.
+pub(crate) type ReaderEnd = Reader<Published, Option<Published>, Rules>;
+
+/// The end by which a desk publishes. It has no `Drop`: end it by `take`.
+pub(crate) type WriterEnd = Writer<Published, Published, Option<Published>, Rules>;

@@ -1,0 +1,7 @@
+pub mod Live
+pub mod Looking
+pub mod Opening
+pub mod Printed
+pub mod Serving
+pub mod Statuses
+pub mod Words

@@ -1,6 +1,0 @@
-use Rattle.std.proofs.Common.{◌≡◌, ◌++◌, drop}
-use Rattle.clip_terms.specs.Steps.Numbers.{known}
-use Rattle.clip_terms.proofs.numbering.known_numbers.Given as goal
-
-abbrev pub invariant-loop-number : goal.invariant-loop-number
-invariant-loop-number l = l.numbers.items ++ known (drop l.number-index l.by_key) ≡ known l.by_key

@@ -1,2 +1,0 @@
-pub mod TraceRequestLaw
-pub mod Traced

@@ -1,4 +1,0 @@
-pub mod Steps
-pub mod TraceLine
-pub mod TraceOutcome
-pub mod TraceRequest

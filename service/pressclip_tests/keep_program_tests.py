@@ -1,0 +1,354 @@
+"""Tests of the program `pressclip-keep`: the engine itself is the judge."""
+
+from __future__ import annotations
+
+import json
+import os
+import re
+import subprocess
+from pathlib import Path
+from random import Random
+from typing import Callable, Sequence
+
+from .inputs import Source, joined, with_long_lines
+from .judge import SERVICE, Due, folder, need, replies_of_engine, same
+from .keep_runs import dump_of as dump_of_service
+from .keep_runs import run_keep
+from .processes import ENDED, PATIENCE_SECONDS, Spoken
+from .streams_tests import closing
+
+BUILT = SERVICE.parent / "crates" / "pressclip_keep" / "out" / "pressclip-keep"
+KILLS = 40
+# A line that is refused so was kept all the same: it asks for a change.
+KEPT_REFUSALS = ("query", "listener", "full")
+CHANGES = ("registered", "deleted", "cleared")
+# The bytes of an entry beside what it says, and those of a journal that keeps nothing.
+ENTRY_BYTES, EMPTY_BYTES = 80, 96
+
+
+def keeper() -> str:
+    """The program: what the variable PRESSCLIP_KEEP names, or what this checkout built."""
+    return os.environ.get("PRESSCLIP_KEEP") or str(BUILT)
+
+
+def run(journal: Path, text: bytes, *words: str,
+        before: Callable[[], None] | None = None) -> tuple[int, bytes, str]:
+    """Status, what was printed and what was told, of a run over a whole input."""
+    done = subprocess.run([keeper(), str(journal), *words], input=text, stdout=subprocess.PIPE, stderr=subprocess.PIPE,
+                          preexec_fn=before, timeout=PATIENCE_SECONDS, check=False)
+    return done.returncode, done.stdout, done.stderr.decode()
+
+
+def changes_in(journal: Path) -> int:
+    """How many changes a journal has."""
+    if not (journal / "changes").exists():
+        return 0
+    status, told, why = run(journal, b"", "--check")
+    found = re.fullmatch(rb"(\d+) changes are kept\n", told)
+    if status or not found:
+        raise AssertionError(f"status {status}, {told!r}, {why}")
+    return int(found[1])
+
+
+def asks_change(reply: bytes | None) -> bool:
+    """Whether the line that was answered so is kept."""
+    value = json.loads(reply) if reply else {}
+    return any(word in value for word in CHANGES) or value.get("refused") in KEPT_REFUSALS
+
+
+def entries(text: bytes) -> list[tuple[int, int]]:
+    """Where the entries of a journal begin and end."""
+    found, start = [], 0
+    while start < len(text):
+        end = start + ENTRY_BYTES + int.from_bytes(text[start + 8:start + 16], "big")
+        found.append((start, end))
+        start = end
+    return found
+
+
+def answers_as_the_engine() -> None:
+    """A whole input at once, with lines that are too long and a last line without its line feed, by each form."""
+    for seed, words in ((1, ()), (2, ("0",)), (3, ("2", "hits")), (4, ("hits",))):
+        source = Source(seed)
+        text = joined(with_long_lines(source.lines(1_500), source.dice)) + b'{"op":"count"}'
+        with folder() as name:
+            status, replies, told = run(Path(name) / "j", text, *words)
+            need(status == 0, told)
+            same(replies, replies_of_engine(text, [word for word in words if word == "hits"]), f"seed {seed}")
+
+
+def goes_on_after_its_end() -> None:
+    """An input in parts, each by a run of its own on one journal."""
+    source = Source(3)
+    due = Due.of(source.lines(1_200))
+    with folder() as name:
+        start = 0
+        for end in (*sorted(source.dice.sample(range(1, 1_200), 6)), 1_200):
+            status, replies, told = run(Path(name), joined(due.lines[start:end]))
+            need(status == 0, told)
+            wanted = [due.numbered_from(start, place) for place in range(start, end)]
+            same(replies, b"".join(reply + b"\n" for reply in wanted if reply is not None), f"lines {start} to {end}")
+            start = end
+        need(changes_in(Path(name)) == sum(map(asks_change, due.replies)), "not each change is kept once")
+
+
+class Client:
+    """Sends the lines of an input to one run after another, each ended at some place, and judges each reply."""
+
+    def __init__(self, due: Due, journal: Path, dice: Random) -> None:
+        self.due = due
+        self.journal = journal
+        self.dice = dice
+        self.asks = [asks_change(reply) for reply in due.replies]
+        self.at = 0
+
+    def run(self, kills: int) -> None:
+        """Goes through the whole input, with so many ends on the way."""
+        for place in sorted(self.dice.sample(range(1, len(self.due.lines)), kills)):
+            self._run_to(max(place, self.at + 1))
+        self._run_to(len(self.due.lines))
+
+    def _run_to(self, stop: int) -> None:
+        """Serves from where things stand, and ends the run once lines up to a place are on their way."""
+        keep = Spoken([keeper(), str(self.journal), self.dice.choice(["0", "2"])])
+        start = at = answered = self.at
+        window = self.dice.choice([1, 1, 4, 60])
+        is_last = stop == len(self.due.lines)
+        while answered < stop:
+            while at < stop and at - answered < window:
+                keep.send(self.due.lines[at])
+                at += 1
+            answered = self._judged([], start, answered, at)
+            if at == stop and not is_last:
+                break
+            if at > answered:
+                replies = keep.wait_for_replies()
+                need(bool(replies), f"it ended: {keep.told()}")
+                answered = self._judged(replies, start, answered, at)
+        if is_last:
+            keep.close()
+            need(keep.status == 0, keep.last_words)
+            return
+        for _ in range(self.dice.randint(0, 3)):
+            keep.turn(self.dice.choice([0, 0.001, 0.01]))
+        keep.kill()
+        ENDED.append("pressclip-keep")
+        self._go_on(self._judged(keep.replies(), start, answered, at), at)
+
+    def _judged(self, replies: Sequence[bytes], start: int, answered: int, sent: int) -> int:
+        """The place behind the last answered line, where each reply that came is the one that is due."""
+        for reply in replies:
+            answered = self._behind_blanks(answered, sent)
+            due = self.due.numbered_from(start, answered)
+            need(answered < sent and reply == due, f"line {answered + 1}: got {reply[:300]!r}, due {due!r:.300}")
+            answered += 1
+        return self._behind_blanks(answered, sent)
+
+    def _behind_blanks(self, answered: int, sent: int) -> int:
+        while answered < sent and self.due.replies[answered] is None:
+            answered += 1
+        return answered
+
+    def _go_on(self, answered: int, sent: int) -> None:
+        """The next run goes on behind the last change that is kept, which was sent and maybe not answered."""
+        kept = changes_in(self.journal)
+        least, most = sum(self.asks[:answered]), sum(self.asks[:sent])
+        need(least <= kept <= most, f"{kept} changes are kept, and {least} were answered and {most} sent")
+        self.at = answered
+        while sum(self.asks[:self.at]) < kept:
+            self.at += 1
+
+
+def ended_at_random_places() -> None:
+    """Ended by SIGKILL between lines, and within them."""
+    source = Source(4)
+    due = Due.of(source.lines(2_000))
+    with folder() as name:
+        client = Client(due, Path(name) / "j", source.dice)
+        client.run(KILLS)
+        need(changes_in(Path(name) / "j") == sum(client.asks), "not each change is kept once")
+
+
+def a_journal(name: str) -> tuple[Path, bytes]:
+    """A journal of several entries, and the bytes of its file."""
+    journal = Path(name) / "j"
+    status, _, told = run(journal, joined(Source(6).lines(60)))
+    need(status == 0, told)
+    return journal, (journal / "changes").read_bytes()
+
+
+def a_torn_end_is_left_out() -> None:
+    """The last entry cut anywhere is told, left out, and kept in a file beside the journal."""
+    with folder() as name:
+        journal, whole = a_journal(name)
+        start, end = entries(whole)[-1]
+        kept = changes_in(journal) - 1
+        dice = Random(7)
+        for number, cut in enumerate([start + 1, end - 1, *(dice.randrange(start + 1, end) for _ in range(8))], 1):
+            (journal / "changes").write_bytes(whole[:cut])
+            need(changes_in(journal) == kept, "a torn entry counts")
+            status, replies, told = run(journal, b'{"op":"count"}\n')
+            need(status == 0 and f"{cut - start} torn bytes" in told and f"{kept} changes are kept" in told, told)
+            need((journal / "changes").read_bytes() == whole[:start], "the torn entry is not cut off")
+            same((journal / f"changes.torn.{number}").read_bytes(), whole[start:cut], "what was torn")
+            again = run(journal, b'{"op":"count"}\n')
+            need(again[:2] == (0, replies) and "torn" not in again[2], again[2])
+
+
+def a_broken_middle_ends_it() -> None:
+    """A wrong byte anywhere, an entry too few or twice: status 3, the byte's place, and nothing changed."""
+    with folder() as name:
+        journal, whole = a_journal(name)
+        places = entries(whole)
+        dice = Random(8)
+        broken = []
+        for place in (dice.randrange(len(whole)) for _ in range(30)):
+            text = whole[:place] + bytes([whole[place] ^ (1 << dice.randrange(8))]) + whole[place + 1:]
+            broken.append((text, max(start for start, _ in places if start <= place)))
+        (start, end), (last, _) = places[3], places[-1]
+        broken += [(whole[:start] + whole[end:], start), (whole[:end] + whole[start:], end), (whole[end:], 0),
+                   (whole + whole, len(whole)), (b"journal", 0)]
+        need(last > end, "too few entries")
+        for text, place in broken:
+            (journal / "changes").write_bytes(text)
+            for words in ((), ("--check",), ("--dump",), ("--stats",)):
+                status, replies, told = run(journal, b'{"op":"count"}\n', *words)
+                need((status, replies) == (3, b"") and f"broken at byte {place};" in told, f"{words}: {status} {told}")
+            need((journal / "changes").read_bytes() == text, "the broken journal was changed")
+
+
+def files_of(journal: Path) -> dict[str, bytes]:
+    """The files of a folder."""
+    return {path.name: path.read_bytes() for path in journal.iterdir()}
+
+
+def asking(source: Source) -> bytes:
+    """Lines that ask what is registered: a count, each query's text, and some articles."""
+    shows = [json.dumps({"op": "show", "id": query}).encode() for query in source.ids]
+    return joined([b'{"op":"count"}', *shows, *(source.match() for _ in range(60))])
+
+
+def a_journal_of_the_service_is_refused() -> None:
+    """It is named, nothing is changed, and what it dumps is taken over."""
+    source = Source(9)
+    with folder() as name:
+        old, new = Path(name) / "old", Path(name) / "new"
+        status, _, told = run_keep(old, joined(source.lines(400)))
+        need(status == 0, told)
+        before = files_of(old)
+        for words in ((), ("--check",), ("--dump",)):
+            status, replies, told = run(old, b'{"op":"count"}\n', *words)
+            need((status, replies) == (3, b"") and "service/keep --journal OLD --dump" in told, f"{status} {told}")
+        need(files_of(old) == before, "the folder was changed")
+        status, _, told = run(new, dump_of_service(old))
+        need(status == 0, told)
+        text = asking(source)
+        same(run(new, text)[1], run_keep(old, text)[1], "what is registered")
+
+
+def a_dump_registers_the_same_queries() -> None:
+    """In the engine itself, by one line for each query that is live."""
+    source = Source(10)
+    text = joined(source.lines(900))
+    asked = asking(source)
+    with folder() as name:
+        journal = Path(name)
+        need(run(journal, text)[0] == 0, "no journal")
+        status, dump, told = run(journal, b"", "--dump")
+        need(status == 0, told)
+        lines = dump.count(b"\n")
+        due = replies_of_engine(text + asked).splitlines()[-len(asked.splitlines()):]
+        got = replies_of_engine(dump + asked).splitlines()[lines:]
+        need([without_line(reply) for reply in got] == [without_line(reply) for reply in due], "other queries")
+        need(json.loads(got[0])["count"] == lines, "not one line for each query")
+        again = Path(name) / "again"
+        need(run(again, dump)[0] == 0 and run(again, b"", "--dump")[1] == dump, "another dump of what was dumped")
+
+
+def without_line(reply: bytes) -> dict[str, object]:
+    """A reply but for its line's number."""
+    return {name: value for name, value in json.loads(reply).items() if name != "line"}
+
+
+def a_long_journal_is_written_anew() -> None:
+    """At the start, where it has over 1,000 changes and more than twice the queries of its last writing."""
+    source = Source(11)
+    lines = [source.register() for _ in range(1_100)] + [source.delete() for _ in range(200)]
+    asked = asking(source)
+    with folder() as name:
+        journal = Path(name)
+        need(run(journal, joined(lines))[0] == 0, "no journal")
+        before = json.loads(run(journal, b"", "--stats")[1])
+        dump = run(journal, b"", "--dump")[1]
+        status, replies, told = run(journal, asked)
+        need(status == 0 and f"{before['changes']} changes are kept" in told, told)
+        stats = json.loads(run(journal, b"", "--stats")[1])
+        need(list(stats) == ["bytes", "changes", "live", "since", "torn"], f"{stats}")
+        need(stats == {"bytes": EMPTY_BYTES + len(dump) + (ENTRY_BYTES - 1) * dump.count(b"\n"),
+                       "changes": before["changes"], "live": dump.count(b"\n"), "since": 0, "torn": 0}, f"{stats}")
+        need(before["since"] == before["changes"] > 1_000 and stats["bytes"] < before["bytes"], f"{before}")
+        same(run(journal, b"", "--dump")[1], dump, "the dump")
+        due = replies_of_engine(joined(lines) + asked).splitlines()[-len(asked.splitlines()):]
+        need([without_line(reply) for reply in replies.splitlines()] == [without_line(reply) for reply in due],
+             "other queries")
+
+
+def a_second_one_is_refused() -> None:
+    """The lock of a journal is free again once its holder is ended, however that was."""
+    with folder() as name:
+        first = Spoken([keeper(), name])
+        first.send(b'{"op":"register","queries":[{"id":"q1","query":"tea"}]}')
+        need(bool(first.wait_for_replies()), "no reply")
+        status, replies, told = run(Path(name), b'{"op":"count"}\n')
+        need((status, replies) == (5, b"") and "another process has the journal" in told, f"{status} {told}")
+        need(changes_in(Path(name)) == 1, "a journal that is open can't be looked at")
+        first.kill()
+        ENDED.append("pressclip-keep")
+        status, replies, told = run(Path(name), b'{"op":"count"}\n')
+        need((status, replies) == (0, b'{"count":1,"line":1}\n'), told)
+
+
+def other_words_are_refused() -> None:
+    """With what there is on standard error and status 2, and nothing is made."""
+    with folder() as name:
+        journal = str(Path(name) / "j")
+        others: list[list[str]] = [
+            [], [""], ["--help"], [journal, "65"], [journal, "hits", "4"], [journal, "run"],
+            [journal, "--dump", "--check"], [journal, "4", "--dump"], [journal, "--version"]]
+        for words in others:
+            done = subprocess.run([keeper(), *words], input=b"", capture_output=True, check=False)
+            need(done.returncode == 2 and done.stderr.startswith(b"usage: pressclip-keep "), f"{words}: {done}")
+            need(not done.stdout and not Path(journal).exists(), f"{words}: something was made")
+
+
+def what_can_not_be_used_is_told() -> None:
+    """A folder that can't be made, a journal that is not there, an input or an output that is closed."""
+    with folder() as name:
+        line = b'{"op":"register","queries":[{"id":"q1","query":"tea"}]}\n'
+        for words in ((), ("--check",)):
+            status, _, told = run(Path(name) / "none" / "j", line, *words)
+            need(status == 4 and "can't be opened" in told, f"{words}: {status} {told}")
+        journal = Path(name) / "j"
+        for closed, due in (((0,), (0, 4)), ((1,), (6,)), ((0, 1), (0, 4, 6))):
+            status, _, told = run(journal, line, before=closing(*closed))
+            need(status in due, f"{closed}: {status} {told}")
+        with open("/dev/full", "wb") as full:
+            done = subprocess.run([keeper(), str(journal)], input=line, stdout=full, stderr=subprocess.PIPE,
+                                  check=False)
+        need(done.returncode == 6 and b"nobody reads the replies" in done.stderr, f"{done}")
+        need((journal / "lock").read_bytes() == b"", "replies in the lock")
+        need(run(journal, b'{"op":"count"}\n')[:2] == (0, b'{"count":1,"line":1}\n'), "what was kept is not there")
+
+
+ALL: tuple[Callable[[], None], ...] = (
+    answers_as_the_engine, goes_on_after_its_end, ended_at_random_places, a_torn_end_is_left_out,
+    a_broken_middle_ends_it, a_journal_of_the_service_is_refused, a_dump_registers_the_same_queries,
+    a_long_journal_is_written_anew, a_second_one_is_refused, other_words_are_refused, what_can_not_be_used_is_told)
+
+
+def tests() -> tuple[Callable[[], None], ...]:
+    """All of them where the program is there, and else none, which is said."""
+    if os.access(keeper(), os.X_OK):
+        return ALL
+    print(f"left out: the tests of pressclip-keep, since there is no program at {keeper()}", flush=True)
+    return ()
