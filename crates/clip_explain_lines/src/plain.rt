@@ -22,7 +22,7 @@ fn shown(c: char) -> char {
 }
 
 /// Puts a text behind what is there as it is shown: on one line.
-fn push_shown(out: &mut String, text: &str) -> Result<(), NoMemory> {
+fn push_visible(out: &mut String, text: &str) -> Result<(), NoMemory> {
     for c in text.chars() {
         out.push(shown(c))?;
     }
@@ -86,7 +86,7 @@ fn push_read(out: &mut String, alloc: Global, told: &Explanation) -> Result<(), 
 
 /// Puts behind what is there what is told of a query's text.
 fn push_query(out: &mut String, alloc: Global, text: &str) -> Result<(), NoMemory> {
-    push_shown(out, text)?;
+    push_visible(out, text)?;
     match explain(alloc, text)? {
         Explained::Read(told) => {
             push_remarks(out, alloc, text)?;
@@ -123,7 +123,7 @@ fn push_word(out: &mut String, alloc: Global, text: &str, span: &WordSpan) -> Re
 
 /// Puts the words of a text behind what is there, each with where it stands.
 fn push_words(out: &mut String, alloc: Global, text: &str) -> Result<(), NoMemory> {
-    push_shown(out, text)?;
+    push_visible(out, text)?;
     let spans = word_spans(alloc, text)?;
     for span in &spans {
         push_word(out, alloc, text, span)?;
@@ -145,7 +145,7 @@ fn push_fault(out: &mut String, line: &str, fault: &LineFault) -> Result<(), NoM
 
 /// Puts behind what is there what a line of the protocol would be refused for.
 fn push_cause(out: &mut String, alloc: Global, line: &str) -> Result<(), NoMemory> {
-    push_shown(out, line)?;
+    push_visible(out, line)?;
     match fault_of_line(alloc, line.as_bytes())? {
         Some(fault) => push_fault(out, line, &fault),
         None => push_line(

@@ -38,6 +38,13 @@ impl<'a> DueEntries<'a> {
         self.article.shared_id().as_str()
     }
 
+    /// How many queries were tried. Constant time.
+    pub fn asked(&self) -> u64
+        ensures { result ≡ (due_value self.now).asked }
+    {
+        self.asked
+    }
+
     /// Whether one of the queries has a listener. Constant time.
     pub fn has_listener(&self) -> bool
         ensures { result ≡ list_any (λ a. is_some a.listener) (due_value self.now).alerts }

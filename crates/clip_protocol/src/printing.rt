@@ -130,7 +130,7 @@ pub fn query_ids<'a>(alloc: Global, alerts: &'a [Alert]) -> Result<Vec<&'a str>,
 }
 
 /// What alerts say where the form shows it, in their order, and nothing in the plain form.
-pub fn views_shown(
+pub fn views_with_hits(
     alloc: Global,
     form: Form,
     alerts: &Alerts,
@@ -219,7 +219,7 @@ fn write_alerts(out: &mut Writer, alloc: Global, form: Form, found: &Alerts) -> 
         (data_tokens (alerts_data form (alerts_by_id (alerts_value found.now)))) }
 {
     let queries = query_ids(alloc, &found.alerts)?;
-    let alerts = views_shown(alloc, form, found)?;
+    let alerts = views_with_hits(alloc, form, found)?;
     write_article(out, alloc, form, found.article.as_str(), &queries, &alerts)
 }
 

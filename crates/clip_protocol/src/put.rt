@@ -15,7 +15,7 @@ ghost use Rattle.clip_protocol.specs.Steps.Views.{alerts_by_id};
 
 use crate::form::Form;
 use crate::found::separate;
-use crate::printing::{article_begun_text, hits_text, ids_text, query_ids, views_shown};
+use crate::printing::{article_begun_text, hits_text, ids_text, query_ids, views_with_hits};
 use clip_meaning::Hit;
 use clip_standing::{AlertView, Alerts};
 use clip_stream::{Flow, RunFault, Sink};
@@ -238,7 +238,7 @@ pub fn put_alerts<W: Sink>(
         (flow.old.outbox.now ++ item_text later (alerts_data form (alerts_by_id (alerts_value alerts.now))))) }
 {
     let queries = query_ids(alloc, &alerts.alerts)?;
-    let views = views_shown(alloc, form, alerts)?;
+    let views = views_with_hits(alloc, form, alerts)?;
     let part = ArticlePart {
         form,
         later,

@@ -28,7 +28,7 @@ pub struct Shown {
 }
 
 /// The form that shows hits where what alerts say is given, which tells them.
-fn form_shown(views: Option<&[AlertView<'_>]>) -> Form
+fn form_of_views(views: Option<&[AlertView<'_>]>) -> Form
     ensures { result ≡ form_with (option_map (λ v. v.now) views.entry) }
 {
     match views {
@@ -76,7 +76,7 @@ impl Shown {
     {
         let text = unheard_text(alloc, article, queries, views)?;
         Ok(Shown {
-            form: form_shown(views),
+            form: form_of_views(views),
             text,
             alerts,
         })

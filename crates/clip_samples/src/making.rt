@@ -39,7 +39,7 @@ pub fn article(alloc: Global, id: &str, fields: &[(&str, &str)]) -> Result<Artic
 }
 
 /// The article of an id and of fields, or why it is refused, with words that are shared with those of a pool.
-pub fn article_sharing(
+pub fn article_from_pool(
     alloc: Global,
     pool: &mut WordPool,
     id: &str,

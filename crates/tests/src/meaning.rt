@@ -1,6 +1,6 @@
 //! Articles: worked examples.
 use clip_meaning::{Article, ArticleFault, Field};
-use clip_samples::{article, article_sharing};
+use clip_samples::{article, article_from_pool};
 use clip_words::WordPool;
 use std::alloc::{AllocError, Global};
 use std::test::Fail;
@@ -127,7 +127,7 @@ fn an_article_has_the_words_and_the_postings_of_each_field_by_name(
     for (id, fields, wanted) in &ARTICLES {
         let told = article_or_fault(rt.alloc(), article(rt.alloc(), id, fields))?;
         assert!(rt; told.as_str() == *wanted, "{told}");
-        let sharing = article_sharing(rt.alloc(), &mut pool, id, fields);
+        let sharing = article_from_pool(rt.alloc(), &mut pool, id, fields);
         let told = article_or_fault(rt.alloc(), sharing)?;
         assert!(rt; told.as_str() == *wanted, "with a pool: {told}");
     }
