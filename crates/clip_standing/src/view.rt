@@ -50,6 +50,13 @@ impl<'a> AlertView<'a> {
         }
     }
 
+    /// The id of the query. Takes constant time.
+    pub fn query(&self) -> &'a str
+        ensures { result.now ≡ self.now.query }
+    {
+        self.standing.id()
+    }
+
     /// The hits, where they were found already: those that `hits` returns. Takes constant time.
     pub fn found_hits(&self) -> Option<&'a [Hit]>
         ensures { IfSome result (λ hits. map hit_value hits.now ≡ self.now.hits) }
