@@ -28,6 +28,14 @@ alert_bytes shows alert = text_bytes alert.query ++ hits_bytes (if shows then al
 abbrev pub alerts_bytes : Bool → List Alert → List ℕ
 alerts_bytes shows alerts = number_bytes (length alerts) ++ flat_map (alert_bytes shows) alerts
 
+-- the id of a query, and no hits
+abbrev pub plain_alert_bytes : List ℕ → List ℕ
+plain_alert_bytes query = text_bytes query ++ hits_bytes []
+
+-- these after their count
+abbrev pub plain_alerts_bytes : List (List ℕ) → List ℕ
+plain_alerts_bytes queries = number_bytes (length queries) ++ flat_map plain_alert_bytes queries
+
 -- how many queries were tried, and the alerts
 abbrev pub found_bytes : Bool → ℕ → List Alert → List ℕ
 found_bytes shows asked alerts = number_bytes asked ++ alerts_bytes shows alerts

@@ -5,7 +5,7 @@ ghost use Rattle.std.specs.FinMap as finite;
 ghost use Rattle.clip_model.specs.History.{Clear, Delete, applied, fits, has_room, replay};
 ghost use Rattle.clip_model.specs.Alerts.{alerts};
 ghost use Rattle.clip_meaning.specs.Article.{article_value, fault_of, pairs_of};
-ghost use Rattle.clip_listen.specs.Heard.{alerts_of};
+ghost use Rattle.clip_match.specs.Due.{due_value, AreTheirHits};
 ghost use Rattle.clip_words.specs.Ids.{is_id};
 ghost use Rattle.clip_protocol.specs.Steps.Views.{listing_view};
 ghost use Rattle.clip_protocol.specs.declared.refusal.Unread.TheVariants as unread;
@@ -14,19 +14,21 @@ ghost use Rattle.clip_engine.specs.Asked.{IsAsked};
 ghost use Rattle.clip_engine.specs.Engine.{Accepts, Registers, Replies, fresh, has_feed, history_of, purged_engine};
 ghost use Rattle.clip_engine.specs.Found.{ids_bytes};
 ghost use Rattle.clip_engine.specs.Many.{RegistersMany};
+ghost use Rattle.clip_engine.specs.Texts.{IsFoundAt};
 
 use crate::answer::answer;
+use crate::found::bytes_of_due;
 use crate::house::House;
 use crate::ids::bytes_of_ids;
 use crate::many::take_many;
 use clip_front::take_listing;
-use clip_match::{HitsFound, entries_due};
+use clip_match::{DueEntries, HitsFound, entries_due};
 use clip_meaning::{Article, ArticleFault};
 use clip_model::MOST_LISTED;
 use clip_protocol::{Form, ListFault, Listing, Refusal, Unread};
 use clip_registry::View;
 use clip_run::OwnRegistrar;
-use clip_standing::{Alerts, Applied, Command, Refused};
+use clip_standing::{Applied, Command, Refused};
 use clip_words::{NoMemory, WordPool, is_id};
 use std::alloc::Global;
 use std::marker::Model;
@@ -82,19 +84,20 @@ fn read_article(
     }
 }
 
-/// The alerts of an article at a view, and how many queries were tried.
-fn alerts_at(
+/// What is due to an article at a view, and how many queries were tried.
+fn due_at<'a>(
     alloc: Global,
-    view: &View,
-    article: &Article,
+    view: &'a View,
+    article: &'a Article,
     hits: HitsFound,
-) -> Result<Alerts, NoMemory>
-    ensures alerts { IfOk result (λ found. alerts_of found ≡ alerts view.now.history article.now) }
-    ensures asked { IfOk result (λ found. IsAsked view.now.history article.now found.asked) }
+) -> Result<DueEntries<'a>, NoMemory>
+    ensures alerts { IfOk result (λ due. (due_value due).alerts ≡ alerts view.now.history article.now) }
+    ensures asked { IfOk result (λ due. IsAsked view.now.history article.now (due_value due).asked) }
+    ensures hits { IfOk result (λ due. AreTheirHits due) }
 {
     // What it ensures of the view makes the count one of registered queries.
     let _segments = view.segments();
-    entries_due(alloc, view, article, hits)?.alerts(alloc)
+    entries_due(alloc, view, article, hits)
 }
 
 impl Engine {
@@ -109,13 +112,6 @@ impl Engine {
             lines: 0,
             hits,
         }
-    }
-
-    /// Whether its replies show hits. Constant time.
-    pub fn shows_hits(&self) -> bool
-        ensures { result ≡ self.now.hits }
-    {
-        self.hits
     }
 
     /// Answers a line of the protocol, without its line feed: the text of the reply, with its line feed, or nothing for
@@ -325,21 +321,23 @@ impl Engine {
         bytes_of_ids(self.alloc, &self.owned.registrar.view()?)
     }
 
-    /// The alerts of an article: of each registered query that holds of it one, in the byte order of their ids, and of
-    /// no other; with how many queries were tried. No listener hears them, and the count of lines stays. They carry
-    /// their hits where the replies show hits.
+    /// The alerts of an article as bytes: of each registered query that holds of it one, in the byte order of their ids,
+    /// and of no other. First stands how many queries were tried, then the count of alerts, and then for each the id of
+    /// the query and its hits, of which there are none where the replies show none. A text stands after its length, hits
+    /// after their count, and a hit is a field's name and a position; numbers are eight bytes, the lowest first. No
+    /// listener hears them, and the count of lines stays.
     ///
     /// `Limit` where the id or a field is beyond its limits, the first that `Article::read` refuses; `NoMemory` where
     /// an allocation failed. Whatever it answers, the engine stays as it is.
     ///
-    /// Cost: that of `Article::read_sharing`, with the words of the engine's last articles, of
-    /// `clip_match::entries_due` and of `DueEntries::alerts`.
-    #[tactic(auto, using(crate::proofs::Asking::asked_at))]
-    pub fn match_article(&mut self, id: &str, fields: &[(String, String)]) -> Result<Alerts, Unread>
-        ensures alerts { IfOk result (λ found. alerts_of found
-            ≡ alerts (history_of self.old) (article_value id.now (pairs_of fields.now))) }
-        ensures asked { IfOk result (λ found.
-            IsAsked (history_of self.old) (article_value id.now (pairs_of fields.now)) found.asked) }
+    /// Cost: that of `Article::read_sharing`, with the words of the engine's last articles, and of
+    /// `clip_match::entries_due`; and a copy of the ids, and of the hits where they are shown. No alert is made.
+    pub fn match_article(
+        &mut self,
+        id: &str,
+        fields: &[(String, String)],
+    ) -> Result<Vec<u8>, Unread>
+        ensures found { IfOk result (λ bytes. IsFoundAt self.old id.now (pairs_of fields.now) bytes.items) }
         ensures kept { OnOk result (fault_of id.now (pairs_of fields.now) ≡ None) }
         ensures refused { IfErr result (λ why. (why ≡ unread.NoMemory) ⊎ ((why ≡ unread.Refused Refusal.Limit)
             × (fault_of id.now (pairs_of fields.now) ≡ None → ⊥))) }
@@ -352,7 +350,8 @@ impl Engine {
         } else {
             HitsFound::WhenAsked
         };
-        Ok(alerts_at(self.alloc, &view, &article, hits)?)
+        let due = due_at(self.alloc, &view, &article, hits)?;
+        Ok(bytes_of_due(self.alloc, &due, self.hits)?)
     }
 
     /// How many queries are registered. `NoMemory` where the count of the registry's holders is at its end. Constant

@@ -1,12 +1,13 @@
 //! What was found of an article, as bytes that a caller outside of Rattle can take apart.
-ghost use Rattle.std.specs.Prelude.{◌≡◌, ◌++◌, [], IfOk, OnOk, map, if◌then◌else◌};
-ghost use Rattle.clip_listen.specs.Heard.{alerts_of};
+ghost use Rattle.std.specs.Prelude.{◌≡◌, ◌++◌, true, IfOk, OnOk, map};
+ghost use Rattle.clip_match.specs.Due.{due_value, AreTheirHits};
 ghost use Rattle.clip_meaning.specs.Hits.{hit_value};
-ghost use Rattle.clip_standing.specs.Alerts.{alert_value};
 ghost use Rattle.clip_engine.specs.Found.{alert_bytes, alerts_bytes, found_bytes, hits_bytes, number_bytes, text_bytes};
+ghost use Rattle.clip_engine.specs.Found.{plain_alert_bytes, plain_alerts_bytes};
 
+use clip_match::DueEntries;
 use clip_meaning::Hit;
-use clip_standing::{Alert, Alerts};
+use clip_standing::AlertView;
 use clip_words::NoMemory;
 use std::alloc::Global;
 
@@ -39,65 +40,69 @@ fn add_hits(bytes: &mut Vec<u8>, hits: &[Hit]) -> Result<(), NoMemory>
     Ok(())
 }
 
-/// Adds the hits of an alert, or none where they are not shown.
-fn add_shown_hits(
-    alloc: Global,
-    bytes: &mut Vec<u8>,
-    alert: &Alert,
-    shows_hits: bool,
-) -> Result<(), NoMemory>
-    ensures { OnOk result (bytes.new.items ≡ bytes.old.items
-        ++ hits_bytes (if shows_hits then (alert_value alert.now).hits else [])) }
+/// Adds an alert: the id of its query, and its hits.
+fn add_alert(alloc: Global, bytes: &mut Vec<u8>, alert: &AlertView<'_>) -> Result<(), NoMemory>
+    ensures { OnOk result (bytes.new.items ≡ bytes.old.items ++ alert_bytes true alert.now) }
 {
-    if !shows_hits {
-        return add_hits(bytes, &[]);
-    }
+    add_text(bytes, alert.query())?;
     match alert.found_hits() {
         Some(hits) => add_hits(bytes, hits),
         None => add_hits(bytes, &alert.hits(alloc)?),
     }
 }
 
-/// Adds an alert: the id of its query, and its hits where they are shown.
-fn add_alert(
-    alloc: Global,
-    bytes: &mut Vec<u8>,
-    alert: &Alert,
-    shows_hits: bool,
-) -> Result<(), NoMemory>
-    ensures { OnOk result (bytes.new.items ≡ bytes.old.items ++ alert_bytes shows_hits (alert_value alert.now)) }
-{
-    add_text(bytes, alert.query().as_str())?;
-    add_shown_hits(alloc, bytes, alert, shows_hits)
-}
-
-/// Adds alerts after their count.
-fn add_alerts(
-    alloc: Global,
-    bytes: &mut Vec<u8>,
-    alerts: &[Alert],
-    shows_hits: bool,
-) -> Result<(), NoMemory>
-    ensures { OnOk result (bytes.new.items ≡ bytes.old.items ++ alerts_bytes shows_hits (map alert_value alerts.now)) }
+/// Adds alerts after their count, each with its hits.
+fn add_alerts(alloc: Global, bytes: &mut Vec<u8>, alerts: &[AlertView<'_>]) -> Result<(), NoMemory>
+    ensures { OnOk result (bytes.new.items ≡ bytes.old.items ++ alerts_bytes true alerts.now) }
 {
     add_number(bytes, alerts.len() as u64)?;
     for alert in alerts {
-        add_alert(alloc, bytes, alert, shows_hits)?;
+        add_alert(alloc, bytes, alert)?;
     }
     Ok(())
 }
 
-/// The alerts of an article as bytes: how many queries were tried, the count of alerts, and then for each the id of the
+/// Adds an alert of which no hits are shown: the id of its query, and that there are none.
+fn add_plain_alert(bytes: &mut Vec<u8>, query: &str) -> Result<(), NoMemory>
+    ensures { OnOk result (bytes.new.items ≡ bytes.old.items ++ plain_alert_bytes query.now) }
+{
+    add_text(bytes, query)?;
+    add_hits(bytes, &[])
+}
+
+/// Adds the alerts of these queries after their count, of which no hits are shown.
+fn add_plain_alerts(bytes: &mut Vec<u8>, queries: &[&str]) -> Result<(), NoMemory>
+    ensures { OnOk result (bytes.new.items
+        ≡ bytes.old.items ++ plain_alerts_bytes (map (λ query. query.now) queries.now)) }
+{
+    add_number(bytes, queries.len() as u64)?;
+    for query in queries {
+        add_plain_alert(bytes, query)?;
+    }
+    Ok(())
+}
+
+/// What is due to an article as bytes: how many queries were tried, the count of alerts, and then for each the id of the
 /// query and its hits, of which there are none where they are not shown. A text stands after its length, hits after
-/// their count, and a hit is a field's name and a position; numbers are eight bytes, the lowest first.
+/// their count, and a hit is a field's name and a position; numbers are eight bytes, the lowest first. No alert is made.
 ///
-/// `NoMemory` where an allocation failed. Cost: a copy of the texts, and where hits are shown that of `Alert::hits` for
-/// each alert that doesn't carry them.
-pub fn bytes_of_found(alloc: Global, found: &Alerts, shows_hits: bool) -> Result<Vec<u8>, NoMemory>
-    ensures { IfOk result (λ bytes. bytes.items ≡ found_bytes shows_hits found.now.asked (alerts_of found.now)) }
+/// `NoMemory` where an allocation failed. Cost: a copy of the ids, and where hits are shown that of `AlertView::hits`
+/// for each alert whose hits were not found.
+pub(crate) fn bytes_of_due(
+    alloc: Global,
+    due: &DueEntries<'_>,
+    shows_hits: bool,
+) -> Result<Vec<u8>, NoMemory>
+    requires { AreTheirHits due.now }
+    ensures { IfOk result (λ bytes. bytes.items
+        ≡ found_bytes shows_hits (due_value due.now).asked (due_value due.now).alerts) }
 {
     let mut bytes = Vec::new(alloc);
-    add_number(&mut bytes, found.asked)?;
-    add_alerts(alloc, &mut bytes, &found.alerts, shows_hits)?;
+    add_number(&mut bytes, due.asked())?;
+    if shows_hits {
+        add_alerts(alloc, &mut bytes, &due.views(alloc)?)?;
+    } else {
+        add_plain_alerts(&mut bytes, &due.queries(alloc)?)?;
+    }
     Ok(bytes)
 }

@@ -35,7 +35,6 @@ ghost use Rattle.clip_engine.specs.Calls.{
 use crate::code;
 use crate::engine::Engine;
 use crate::explained::{line_told, query_told, words_told};
-use crate::found::bytes_of_found;
 use crate::listed::{Listed, Which, listings_of, which_of};
 use crate::parts::{Part, gathered};
 use clip_protocol::Listing;
@@ -304,7 +303,7 @@ impl Kept {
     }
 
     /// What is found of an article, as bytes.
-    #[tactic(auto, using(crate::proofs::Asking::found_at))]
+    #[tactic(auto, using(crate::proofs::Asking::told_at))]
     fn found(&mut self, alloc: Global, id: &[u8], fields: &[Field<'_>]) -> Result<Vec<u8>, u32>
         ensures ok { IfOk result (λ bytes. IsFoundAt self.old.engine id.now (fields_of fields.now) bytes.items) }
         ensures is { OnOk result (IsUtf8 id.now × All IsField (fields_of fields.now)
@@ -316,10 +315,7 @@ impl Kept {
         let id = text_of(alloc, id)?;
         let pairs = texts_of(alloc, fields)?;
         match self.engine.match_article(id.as_str(), &pairs) {
-            Ok(found) => match bytes_of_found(alloc, &found, self.engine.shows_hits()) {
-                Ok(bytes) => Ok(bytes),
-                Err(NoMemory) => Err(code::NO_MEMORY),
-            },
+            Ok(bytes) => Ok(bytes),
             Err(why) => Err(code::code_of(why)),
         }
     }

@@ -17,7 +17,6 @@ mod parts;
 mod slot;
 
 pub use engine::{Engine, LineFault};
-pub use found::bytes_of_found;
 pub use kept::{Field, Kept};
 pub use listed::Listed;
 pub use pair::{Pair, near};

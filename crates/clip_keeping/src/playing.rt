@@ -8,25 +8,15 @@ use crate::fault::Fault;
 use crate::looking::print_looked;
 use crate::streams::keep;
 use crate::words::{Asked, Task, read_words};
-use clip_command_line::{feed, mail, named};
+use clip_command_line::{feed, mail, named, words_of};
 use clip_listen::Listeners;
 use clip_run::Settings;
-use std::env;
 use std::fs::File;
-use std::io::{self, ErrorKind};
+use std::io::ErrorKind;
 use std::process::ExitCode;
 use std::rt::{Env, Files};
 use std::sync::Wait;
 use std::thread::Threads;
-
-/// The words after the program's name. An error where there is no memory for them, or where one is no text.
-fn words_of<R: Env + AllocGlobal>(rt: &R) -> io::Result<Vec<String>> {
-    let mut words = Vec::new(rt.alloc());
-    for word in env::args(rt)?.skip(1) {
-        words.push(word)?;
-    }
-    Ok(words)
-}
 
 /// Does what is asked for of the journal in a folder, with the listeners `mail` and `feed`. The faults and the cost are
 /// those of `keep` and of `print_looked`, and `NoMemory` where the listeners get none.

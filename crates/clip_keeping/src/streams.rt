@@ -4,6 +4,7 @@ ghost use Rattle.std.specs.Prelude.{◌≤◌};
 use crate::fault::Fault;
 use crate::folder::open_folder;
 use crate::serving::serve_store;
+use clip_command_line::keep_freed;
 use clip_listen::Audience;
 use clip_run::Settings;
 use clip_stream::{MOST_WORKERS, StdSink, StdSource};
@@ -36,7 +37,9 @@ pub fn keep<
     requires { settings.workers ≤ MOST_WORKERS }
 {
     let _held = hold_streams(rt)?;
-    let store = open_folder(rt, rt.alloc(), folder)?;
+    let alloc = rt.alloc();
+    keep_freed(alloc);
+    let store = open_folder(rt, alloc, folder)?;
     let source = StdSource::new(rt.reader());
     let mut sink = StdSink::new(io::writer(rt));
     serve_store(rt, source, &mut sink, audience, store, settings)

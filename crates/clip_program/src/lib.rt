@@ -2,9 +2,7 @@
 #![tactic(auto)]
 
 mod ending;
-mod memory;
 mod playing;
 mod streams;
-mod words;
 
 pub use playing::play;

@@ -4,8 +4,7 @@ ghost use Rattle.std.specs.Process.{exit_status};
 
 use crate::ending::{end, end_refused};
 use crate::streams::{run_heard, run_traced, told_version};
-use crate::words::words_of;
-use clip_command_line::{Mode, command_line};
+use clip_command_line::{Mode, command_line, words_of};
 use clip_stream::RunFault;
 use std::io::ErrorKind;
 use std::process::ExitCode;

@@ -1,8 +1,7 @@
 //! Runs and traces over the standard streams.
 ghost use Rattle.std.specs.Prelude.{◌≤◌};
 
-use crate::memory::keep_freed;
-use clip_command_line::{VERSION, feed, mail, named};
+use clip_command_line::{VERSION, feed, keep_freed, mail, named};
 use clip_listen::Listeners;
 use clip_run::{Ended, Form, OpenGate, Settings, run};
 use clip_stream::{MOST_WORKERS, RunFault, StdSink, StdSource};

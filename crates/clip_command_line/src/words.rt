@@ -1,4 +1,4 @@
-//! The words that the program is given.
+//! The words that a program is given.
 use std::rt::Env;
 use std::{env, io};
 

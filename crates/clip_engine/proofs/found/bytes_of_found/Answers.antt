@@ -1,6 +1,0 @@
--- Answered here, so that a wrong body is refused at once.
-use Rattle.std.proofs.Common.{rules}
-use Rattle.clip_engine.proofs.found.bytes_of_found.Goals as goal
-
-pub returns : goal.returns
-returns c = search rules
