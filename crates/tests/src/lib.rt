@@ -1,10 +1,7 @@
-//! Tests of all crates by their public calls: worked examples, limits, each call that takes memory once, pieces of a
-//! batch in threads, callers, merges and purges of a shared desk, update listeners, runs with workers over devices in
-//! memory, traces, and the command line.
+//! Tests of the crates below a run, by their public calls: worked examples, limits, each call that takes memory once,
+//! pieces of a batch in threads, callers, merges and purges of a shared desk, and update listeners.
 #![tactic(auto)]
 
-#[cfg(test)]
-mod command_line;
 #[cfg(test)]
 mod desk;
 #[cfg(test)]
@@ -33,8 +30,6 @@ mod merge;
 mod pieces;
 #[cfg(test)]
 mod registry;
-#[cfg(test)]
-mod runs;
 #[cfg(test)]
 mod script;
 #[cfg(test)]
