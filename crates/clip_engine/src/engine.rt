@@ -332,6 +332,7 @@ impl Engine {
     ///
     /// Cost: that of `Article::read_sharing`, with the words of the engine's last articles, and of
     /// `clip_match::entries_due`; and a copy of the ids, and of the hits where they are shown. No alert is made.
+    #[tactic(auto, using(crate::proofs::Asking::found_at))]
     pub fn match_article(
         &mut self,
         id: &str,
