@@ -11,6 +11,8 @@ from pathlib import Path
 
 TOP = Path(__file__).resolve().parents[2]
 PROGRAMS = {"pressclip": "pressclip", "pressclip-explain": "pressclip_explain"}
+# Those that run with nothing beside them. The package's pressclip-keep is service/keep.
+STATIC_PROGRAMS = {**PROGRAMS, "pressclip-keep": "pressclip_keep"}
 LIBRARY = TOP / "bindings" / "c"
 MACHINE = "amd64"
 # Version numbers of glibc's symbols.
@@ -94,7 +96,8 @@ def kit() -> Path:
 
 def static_program(name: str, into: Path) -> Path:
     """A program with all of the C library that it calls in it, linked of the same proved object file."""
-    objects = built(TOP / "crates" / PROGRAMS[name] / "out" / f"{PROGRAMS[name]}.o", "./build")
+    crate = STATIC_PROGRAMS[name]
+    objects = built(TOP / "crates" / crate / "out" / f"{crate}.o", "./build")
     path = into / name
     output_of("gcc", "-static", "-s", "-Wl,--build-id=none", "-Wl,-z,noexecstack", "-o", path, objects,
               kit() / "c" / "libos_c.a", kit() / "c" / "liblibc_c.a")
