@@ -3,6 +3,7 @@ mod Asking
 mod Gathering
 mod Keeping
 mod Ordered
+mod Plain
 mod Reading
 mod Sent
 mod Telling

@@ -82,6 +82,24 @@ fn add_plain_alerts(bytes: &mut Vec<u8>, queries: &[&str]) -> Result<(), NoMemor
     Ok(())
 }
 
+/// Adds what is due after its count, with the hits of each alert where they are shown.
+#[tactic(auto, using(crate::proofs::Plain::plain_are))]
+fn add_due(
+    alloc: Global,
+    bytes: &mut Vec<u8>,
+    due: &DueEntries<'_>,
+    shows_hits: bool,
+) -> Result<(), NoMemory>
+    requires { AreTheirHits due.now }
+    ensures { OnOk result (bytes.new.items
+        ≡ bytes.old.items ++ alerts_bytes shows_hits (due_value due.now).alerts) }
+{
+    if shows_hits {
+        return add_alerts(alloc, bytes, &due.views(alloc)?);
+    }
+    add_plain_alerts(bytes, &due.queries(alloc)?)
+}
+
 /// What is due to an article as bytes: how many queries were tried, the count of alerts, and then for each the id of the
 /// query and its hits, of which there are none where they are not shown. A text stands after its length, hits after
 /// their count, and a hit is a field's name and a position; numbers are eight bytes, the lowest first. No alert is made.
@@ -99,10 +117,6 @@ pub(crate) fn bytes_of_due(
 {
     let mut bytes = Vec::new(alloc);
     add_number(&mut bytes, due.asked())?;
-    if shows_hits {
-        add_alerts(alloc, &mut bytes, &due.views(alloc)?)?;
-    } else {
-        add_plain_alerts(&mut bytes, &due.queries(alloc)?)?;
-    }
+    add_due(alloc, &mut bytes, due, shows_hits)?;
     Ok(bytes)
 }
