@@ -1,11 +1,11 @@
 /* Plays calls of the library for bench/run, and says what they took.
  *
- * Its input is blocks. A block is how many bytes it has, and then calls: `r` with the id and the text of a query to
- * register, `m` with the id of an article, how many fields it has, and the name and the text of each, or `c`, which
- * counts. A text stands after its length; numbers are 8 bytes, as this machine has them. The answer to a block is a
- * line of three numbers, which are nanoseconds by the clock, nanoseconds of processor time, and how many bytes follow,
- * and then a line for each `m` and `c`, as the program answers them. What is timed are the calls, with the reading of
- * what they found, and not the block's way in nor the answer's way out. */
+ * Its input is blocks. A block is how many bytes it has, and then calls: `r` with how many queries are to be registered
+ * in one change, and the id and the text of each, `m` with the id of an article, how many fields it has, and the name
+ * and the text of each, or `c`, which counts. A text stands after its length; numbers are 8 bytes, as this machine has
+ * them. The answer to a block is a line of three numbers, which are nanoseconds by the clock, nanoseconds of processor
+ * time, and how many bytes follow, and then a line for each `m` and `c`, as the program answers them. What is timed are
+ * the calls, with the reading of what they found, and not the block's way in nor the answer's way out. */
 #define _GNU_SOURCE
 #include "pressclip.h"
 
@@ -16,6 +16,7 @@
 #include <time.h>
 
 #define MOST_FIELDS 16
+#define MOST_QUERIES 1024
 
 /* A block that is read from its front. */
 typedef struct block {
@@ -105,10 +106,15 @@ static void match(pressclip *engine, block *from, answer *to) {
 }
 
 static void enter(pressclip *engine, block *from) {
-    size_t id_length, query_length;
-    const char *id = take_text(from, &id_length);
-    const char *query = take_text(from, &query_length);
-    expect(pressclip_register(engine, id, id_length, query, query_length, NULL, 0));
+    static pressclip_listing listings[MOST_QUERIES];
+    uint64_t count = take_number(from);
+    size_t which;
+    if (count > MOST_QUERIES) fail("a change has too many queries");
+    for (uint64_t place = 0; place < count; place++) {
+        listings[place].id = take_text(from, &listings[place].id_length);
+        listings[place].query = take_text(from, &listings[place].query_length);
+    }
+    expect(pressclip_register_many(engine, listings, (size_t)count, &which));
 }
 
 static void tell_count(pressclip *engine, answer *to) {

@@ -57,7 +57,9 @@ def calls_of(line: bytes) -> bytes:
     """The calls that a line asks for."""
     asked = json.loads(line)
     if asked["op"] == "register":
-        return b"".join(b"r" + text_of(query["id"]) + text_of(query["query"]) for query in asked["queries"])
+        queries = asked["queries"]
+        return b"".join([b"r", struct.pack("=Q", len(queries)),
+                         *(text_of(query["id"]) + text_of(query["query"]) for query in queries)])
     if asked["op"] == "match":
         return b"".join(article_of(article) for article in asked["articles"])
     if asked["op"] == "count":
