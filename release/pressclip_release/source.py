@@ -13,6 +13,7 @@ TOP = Path(__file__).resolve().parents[2]
 PROGRAMS = {"pressclip": "pressclip", "pressclip-explain": "pressclip_explain"}
 # Those that run with nothing beside them. The package's pressclip-keep is service/keep.
 STATIC_PROGRAMS = {**PROGRAMS, "pressclip-keep": "pressclip_keep"}
+BUILT_BY = "./build (after rt ci: ./build --over-gate)"
 LIBRARY = TOP / "bindings" / "c"
 MACHINE = "amd64"
 # Version numbers of glibc's symbols.
@@ -74,7 +75,7 @@ def built(path: Path, by: str) -> Path:
 
 def program(name: str) -> Path:
     """A program as ./build leaves it."""
-    return built(TOP / "crates" / PROGRAMS[name] / "out" / name, "./build")
+    return built(TOP / "crates" / PROGRAMS[name] / "out" / name, BUILT_BY)
 
 
 def shared_library() -> Path:
@@ -97,7 +98,7 @@ def kit() -> Path:
 def static_program(name: str, into: Path) -> Path:
     """A program with all of the C library that it calls in it, linked of the same proved object file."""
     crate = STATIC_PROGRAMS[name]
-    objects = built(TOP / "crates" / crate / "out" / f"{crate}.o", "./build")
+    objects = built(TOP / "crates" / crate / "out" / f"{crate}.o", BUILT_BY)
     path = into / name
     output_of("gcc", "-static", "-s", "-Wl,--build-id=none", "-Wl,-z,noexecstack", "-o", path, objects,
               kit() / "c" / "libos_c.a", kit() / "c" / "liblibc_c.a")
