@@ -65,8 +65,8 @@ fn run_mode(words: &[String]) -> Option<Mode>
 }
 
 /// What the words after the program's name ask for: `run`, after it or not a number of workers of one or two digits and
-/// at most 64, and after that or not `hits`; or `trace`, or `--version`; `None` for all else. Linear in the words' first
-/// bytes.
+/// at most 64, and after that or not `hits`; or `trace`, or `--version`; `None` for all else. Linear in the words'
+/// first bytes.
 pub fn mode(words: &[String]) -> Option<Mode>
     ensures named { result ≡ mode_of words.now }
     ensures few { IfSome result HasFewWorkers }

@@ -45,7 +45,8 @@ read_lists f (l ∷ lists) give same =
 
 shown_bytes : (shows : Bool) (found : List Alert) → all_bytes (map (shown shows) found) ≡ alerts_bytes shows found
 shown_bytes shows found =
-    ap₂ (λ n bytes. number_bytes n ++ bytes) (length-map found (shown shows)) (flat_map-map told_bytes (shown shows) found)
+    ap₂ (λ n bytes. number_bytes n ++ bytes) (length-map found (shown shows))
+    (flat_map-map told_bytes (shown shows) found)
 
 pub are_whole : PartsAreMerged → AreWhole
 are_whole law d h article shows parts count tell =

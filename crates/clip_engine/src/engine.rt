@@ -77,7 +77,7 @@ fn read_article(
     ensures refused { IfErr result (λ why. (why ≡ unread.NoMemory) ⊎ ((why ≡ unread.Refused Refusal.Limit)
         × (fault_of id.now (pairs_of fields.now) ≡ None → ⊥))) }
 {
-    match Article::read_sharing(alloc, pool, id, fields) {
+    match Article::read_with_pool(alloc, pool, id, fields) {
         Ok(article) => Ok(article),
         Err(ArticleFault::NoMemory) => Err(Unread::NoMemory),
         Err(_) => Err(Unread::Refused(Refusal::Limit)),
@@ -321,16 +321,16 @@ impl Engine {
         bytes_of_ids(self.alloc, &self.owned.registrar.view()?)
     }
 
-    /// The alerts of an article as bytes: of each registered query that holds of it one, in the byte order of their ids,
-    /// and of no other. First stands how many queries were tried, then the count of alerts, and then for each the id of
-    /// the query and its hits, of which there are none where the replies show none. A text stands after its length, hits
-    /// after their count, and a hit is a field's name and a position; numbers are eight bytes, the lowest first. No
-    /// listener hears them, and the count of lines stays.
+    /// The alerts of an article as bytes: of each registered query that holds of it one, in the byte order of their
+    /// ids, and of no other. First stands how many queries were tried, then the count of alerts, and then for each the
+    /// id of the query and its hits, of which there are none where the replies show none. A text stands after its
+    /// length, hits after their count, and a hit is a field's name and a position; numbers are eight bytes, the lowest
+    /// first. No listener hears them, and the count of lines stays.
     ///
     /// `Limit` where the id or a field is beyond its limits, the first that `Article::read` refuses; `NoMemory` where
     /// an allocation failed. Whatever it answers, the engine stays as it is.
     ///
-    /// Cost: that of `Article::read_sharing`, with the words of the engine's last articles, and of
+    /// Cost: that of `Article::read_with_pool`, with the words of the engine's last articles, and of
     /// `clip_match::entries_due`; and a copy of the ids, and of the hits where they are shown. No alert is made.
     #[tactic(auto, using(crate::proofs::Asking::found_at))]
     pub fn match_article(

@@ -100,9 +100,10 @@ fn add_due(
     add_plain_alerts(bytes, &due.queries(alloc)?)
 }
 
-/// What is due to an article as bytes: how many queries were tried, the count of alerts, and then for each the id of the
-/// query and its hits, of which there are none where they are not shown. A text stands after its length, hits after
-/// their count, and a hit is a field's name and a position; numbers are eight bytes, the lowest first. No alert is made.
+/// What is due to an article as bytes: how many queries were tried, the count of alerts, and then for each the id of
+/// the query and its hits, of which there are none where they are not shown. A text stands after its length, hits after
+/// their count, and a hit is a field's name and a position; numbers are eight bytes, the lowest first. No alert is
+/// made.
 ///
 /// `NoMemory` where an allocation failed. Cost: a copy of the ids, and where hits are shown that of `AlertView::hits`
 /// for each alert whose hits were not found.

@@ -15,8 +15,9 @@ use Rattle.clip_front.specs.Outcome.{kept_rows, rows_of_article}
 use Rattle.clip_front.specs.declared.deliver.MatchReply.{MatchReply}
 use Rattle.clip_front.specs.declared.settings.Settings.{Settings}
 
--- what holds between two articles of a line: what the listeners have heard, the rows, where they are kept, the settings,
--- the number of the line, what was said of its alerts, whether its reply shows an article, and how far the text has come
+-- what holds between two articles of a line: what the listeners have heard, the rows, where they are kept, the
+-- settings, the number of the line, what was said of its alerts, whether its reply shows an article, and how far the
+-- text has come
 pub record Giving : Type 0 where
   pub hearers : List Hearer
   pub rows : List RowValue
@@ -54,8 +55,8 @@ unbegun hearers rows settings number flow = record {
 abbrev pub shown_next : Giving → AlertsValue → List ℕ
 shown_next s v = item_text s.has_article (alerts_data s.settings.form (alerts_by_id v))
 
--- The alerts of an article were told, noted and posted, and what the reply shows of it was put; or a front of the alerts
--- was told, and a front of the text written.
+-- The alerts of an article were told, noted and posted, and what the reply shows of it was put; or a front of the
+-- alerts was told, and a front of the text written.
 pub record GivesArticle {T : Type 0} (old new : Giving) (v : AlertsValue) (result : Result T RunFault) : Type 0 where
   pub number : new.number ≡ old.number
   pub settings : new.settings ≡ old.settings

@@ -159,8 +159,8 @@ fn put_article_text<W: Sink>(
     flow.put(shown.as_slice())
 }
 
-/// Puts what a reply shows of an article, after a comma where it stands behind another: of its alerts in the form of the
-/// settings, or the text that is shown already, which is of that form.
+/// Puts what a reply shows of an article, after a comma where it stands behind another: of its alerts in the form of
+/// the settings, or the text that is shown already, which is of that form.
 fn put_found<W: Sink>(
     flow: &mut Flow<'_, W>,
     alloc: Global,

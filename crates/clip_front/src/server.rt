@@ -85,7 +85,8 @@ pub fn serve<R: Source, W: Sink, L, S: Server<L, W>>(
     ensures none_held { result ≡ Err RunFault.Read → (W.is_flushed writer.new ≡ true)
         × S.is_settled (server.new, lent.new)
         × OfLinesRead (R.left reader.old) (R.left reader.new) (R.met_end reader.new)
-        (ServesLines S.answers (server.old, lent.old) (server.new, lent.new) (W.taken writer.old) (W.taken writer.new)) }
+        (ServesLines S.answers (server.old, lent.old) (server.new, lent.new)
+        (W.taken writer.old) (W.taken writer.new)) }
 
     // After a fault, the server has answered some first ones of the lines that were read and begun one more of them at
     // most, and the writer has taken a front of the answers and of what was on its way of that one.

@@ -64,7 +64,7 @@ impl Article {
         ensures refused { IfErr result (λ fault. fault ≡ refusal_of id.now (pairs_of fields.now)) }
     {
         let mut pool = WordPool::new(alloc);
-        Article::read_sharing(alloc, &mut pool, id, fields)
+        Article::read_with_pool(alloc, &mut pool, id, fields)
     }
 
     /// The article of an id and of pairs of a field's name and its text, where it may be one. Its words are shared with
@@ -74,7 +74,7 @@ impl Article {
     /// # Errors
     ///
     /// Those of `read`; `NoMemory` also where the count of a text's handles is at its end.
-    pub fn read_sharing(
+    pub fn read_with_pool(
         alloc: Global,
         pool: &mut WordPool,
         id: &str,

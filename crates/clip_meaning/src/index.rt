@@ -143,7 +143,8 @@ impl Model for WordIndex {
     ghost use Rattle.std.specs.List.{All};
     ghost use Rattle.clip_meaning.specs.Leads.{AreBytes};
 
-    ghost invariant = { λ index. IsSorted posting_cmp index.postings.items × All (λ p. AreBytes p.0) index.postings.items };
+    ghost invariant = { λ index. IsSorted posting_cmp index.postings.items
+        × All (λ p. AreBytes p.0) index.postings.items };
 }
 
 /// The words in order, each with its position.

@@ -51,6 +51,7 @@ others_pass_by keeps h e others id is =
     let part = replay (kept keeps h) in
     inside keeps (replay h) part id (part_replayed keeps h) is
     ∙ ap (λ k. stands k id) (sym (passed_by keeps 0 e.command part others))
-    ∙ sym (inside keeps (after_command (listed h) e.command (replay h)) (after_command 0 (kept_command keeps e.command) part)
+    ∙ sym (inside keeps (after_command (listed h) e.command (replay h))
+    (after_command 0 (kept_command keeps e.command) part)
     id (part_after keeps (listed h) 0 e.command (replay h) part (part_replayed keeps h)) is)
     ∙ ap (λ k. stands k id) (sym (replays_on h e))

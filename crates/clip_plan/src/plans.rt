@@ -69,6 +69,13 @@ impl Model for Plans {
     ghost invariant = { AreWhole };
 }
 
+/// What the steps of plans are made with: where memory comes from, and the terms by whose numbers they name words.
+#[derive(Clone, Copy)]
+struct Planner<'a> {
+    alloc: Global,
+    terms: &'a Terms,
+}
+
 /// The number of a word, which is a term.
 fn number_of(terms: &Terms, field: &ArcStr, word: &ArcStr) -> u32
     requires { IsTrue (are_terms terms.now (Word (arc_str_bytes field.now) (arc_str_bytes word.now) ∷ [])) }
@@ -81,19 +88,15 @@ fn number_of(terms: &Terms, field: &ArcStr, word: &ArcStr) -> u32
 }
 
 /// The numbers of words, which are terms.
-fn numbers_of(
-    alloc: Global,
-    terms: &Terms,
-    field: &ArcStr,
-    words: &[ArcStr],
-) -> Result<Vec<u32>, NoMemory>
-    requires { IsTrue (are_terms terms.now (map (Word (arc_str_bytes field.now)) (map arc_str_bytes words.now))) }
-    ensures { IfOk result (λ run. map (term_at terms.now) run.items
+fn numbers_of(planner: &Planner<'_>, field: &ArcStr, words: &[ArcStr]) -> Result<Vec<u32>, NoMemory>
+    requires { IsTrue (are_terms planner.now.terms.now
+        (map (Word (arc_str_bytes field.now)) (map arc_str_bytes words.now))) }
+    ensures { IfOk result (λ run. map (term_at planner.now.terms.now) run.items
         ≡ map (Word (arc_str_bytes field.now)) (map arc_str_bytes words.now)) }
 {
-    let mut run = Vec::new(alloc);
+    let mut run = Vec::new(planner.alloc);
     for word in words {
-        run.push(number_of(terms, field, word))?;
+        run.push(number_of(planner.terms, field, word))?;
     }
     Ok(run)
 }
@@ -110,20 +113,20 @@ pub(crate) fn kept_place(place: usize) -> Result<u32, NoMemory>
 
 /// Adds the numbers of a phrase's words as a run, and gives its place.
 fn add_run(
-    alloc: Global,
-    terms: &Terms,
+    planner: &Planner<'_>,
     field: &ArcStr,
     words: &[ArcStr],
     runs: &mut PackedLists<u32>,
 ) -> Result<u32, NoMemory>
-    requires { IsTrue (are_terms terms.now (map (Word (arc_str_bytes field.now)) (map arc_str_bytes words.now))) }
+    requires { IsTrue (are_terms planner.now.terms.now
+        (map (Word (arc_str_bytes field.now)) (map arc_str_bytes words.now))) }
     ensures grows { IfOk result (λ _. Grows runs.old runs.new) }
     ensures long { length runs.old ≤ length runs.new }
     ensures inside { IfOk result (λ place. place < length runs.new) }
-    ensures run { IfOk result (λ place. map (term_at terms.now) (unwrap_or (slice_get runs.new place) [])
+    ensures run { IfOk result (λ place. map (term_at planner.now.terms.now) (unwrap_or (slice_get runs.new place) [])
         ≡ map (Word (arc_str_bytes field.now)) (map arc_str_bytes words.now)) }
 {
-    let run = numbers_of(alloc, terms, field, words)?;
+    let run = numbers_of(planner, field, words)?;
     let place = kept_place(runs.len())?;
     runs.push(&run)?;
     Ok(place)
@@ -131,27 +134,27 @@ fn add_run(
 
 /// Adds the step of a phrase, as a clause: of two words a pair, of another number of words a run.
 fn add_phrase(
-    alloc: Global,
-    terms: &Terms,
+    planner: &Planner<'_>,
     occur: Occur,
     field: &ArcStr,
     words: &[ArcStr],
     runs: &mut PackedLists<u32>,
     steps: &mut Vec<Step>,
 ) -> Result<(), NoMemory>
-    requires { IsTrue (are_terms terms.now (map (Word (arc_str_bytes field.now)) (map arc_str_bytes words.now))) }
+    requires { IsTrue (are_terms planner.now.terms.now
+        (map (Word (arc_str_bytes field.now)) (map arc_str_bytes words.now))) }
     ensures long { length runs.old ≤ length runs.new }
-    ensures added { OnOk result ((queries : List Query) → Adds terms.now runs.old queries steps.old.items
+    ensures added { OnOk result ((queries : List Query) → Adds planner.now.terms.now runs.old queries steps.old.items
         runs.new queries steps.new.items (Leaf occur
         (Run (map (Word (arc_str_bytes field.now)) (map arc_str_bytes words.now))) ∷ [])) }
 {
     let step = match words {
         [first, second] => Step::Pair(
             occur,
-            number_of(terms, field, first),
-            number_of(terms, field, second),
+            number_of(planner.terms, field, first),
+            number_of(planner.terms, field, second),
         ),
-        _ => Step::Phrase(occur, add_run(alloc, terms, field, words, runs)?),
+        _ => Step::Phrase(occur, add_run(planner, field, words, runs)?),
     };
     steps.push(step)?;
     Ok(())
@@ -177,8 +180,7 @@ pub(crate) fn add_query(
 
 /// Adds the step of a query that is no group, as a clause.
 fn add_leaf(
-    alloc: Global,
-    terms: &Terms,
+    planner: &Planner<'_>,
     occur: Occur,
     query: &Query,
     runs: &mut PackedLists<u32>,
@@ -186,28 +188,26 @@ fn add_leaf(
     steps: &mut Vec<Step>,
 ) -> Result<(), NoMemory>
     requires leaf { IsNoGroup query.now }
-    requires words { IsTrue (are_terms terms.now (word_keys (tree_of query.now))) }
+    requires words { IsTrue (are_terms planner.now.terms.now (word_keys (tree_of query.now))) }
     ensures runs { length runs.old ≤ length runs.new }
     ensures queries { length queries.old.items ≤ length queries.new.items }
-    ensures added { OnOk result (Adds terms.now runs.old queries.old.items steps.old.items
+    ensures added { OnOk result (Adds planner.now.terms.now runs.old queries.old.items steps.old.items
         runs.new queries.new.items steps.new.items (clause_marks occur (tree_of query.now))) }
 {
     match query {
         Query::Term { field, word } => {
-            steps.push(Step::Term(occur, number_of(terms, field, word)))?;
+            steps.push(Step::Term(occur, number_of(planner.terms, field, word)))?;
             Ok(())
         }
-        Query::Phrase { field, words } => {
-            add_phrase(alloc, terms, occur, field, words, runs, steps)
-        }
+        Query::Phrase { field, words } => { add_phrase(planner, occur, field, words, runs, steps) }
         Query::Prefix { field: _, front: _ } => {
-            add_query(occur, copied(alloc, query)?, queries, steps)
+            add_query(occur, copied(planner.alloc, query)?, queries, steps)
         }
         Query::Span {
             field: _,
             low: _,
             high: _,
-        } => add_query(occur, copied(alloc, query)?, queries, steps),
+        } => add_query(occur, copied(planner.alloc, query)?, queries, steps),
         Query::All => add_query(occur, Query::All, queries, steps),
         Query::Group(_) => Ok(()),
     }
@@ -259,18 +259,17 @@ fn bare(query: &Query) -> &Query
 
 /// Adds the steps of a query as a clause.
 fn add_clause(
-    alloc: Global,
-    terms: &Terms,
+    planner: &Planner<'_>,
     occur: Occur,
     query: &Query,
     runs: &mut PackedLists<u32>,
     queries: &mut Vec<Query>,
     steps: &mut Vec<Step>,
 ) -> Result<(), NoMemory>
-    requires { IsTrue (are_terms terms.now (word_keys (tree_of query.now))) }
+    requires { IsTrue (are_terms planner.now.terms.now (word_keys (tree_of query.now))) }
     ensures runs { length runs.old ≤ length runs.new }
     ensures queries { length queries.old.items ≤ length queries.new.items }
-    ensures added { OnOk result (Adds terms.now runs.old queries.old.items steps.old.items
+    ensures added { OnOk result (Adds planner.now.terms.now runs.old queries.old.items steps.old.items
         runs.new queries.new.items steps.new.items (clause_marks occur (tree_of query.now))) }
 {
     match bare(query) {
@@ -278,37 +277,36 @@ fn add_clause(
             let opening = steps.len();
             steps.push(Step::Open(occur, 0))?;
             for (occur, child) in clauses {
-                add_clause(alloc, terms, *occur, child, runs, queries, steps)?;
+                add_clause(planner, *occur, child, runs, queries, steps)?;
             }
             end_group(occur, opening, steps)
         }
-        leaf => add_leaf(alloc, terms, occur, leaf, runs, queries, steps),
+        leaf => add_leaf(planner, occur, leaf, runs, queries, steps),
     }
 }
 
 /// Adds the steps of a query's plan.
 fn add_plan(
-    alloc: Global,
-    terms: &Terms,
+    planner: &Planner<'_>,
     query: &Query,
     runs: &mut PackedLists<u32>,
     queries: &mut Vec<Query>,
     steps: &mut Vec<Step>,
 ) -> Result<(), NoMemory>
-    requires { IsTrue (are_terms terms.now (word_keys (tree_of query.now))) }
+    requires { IsTrue (are_terms planner.now.terms.now (word_keys (tree_of query.now))) }
     ensures runs { length runs.old ≤ length runs.new }
     ensures queries { length queries.old.items ≤ length queries.new.items }
-    ensures added { OnOk result (Adds terms.now runs.old queries.old.items steps.old.items
+    ensures added { OnOk result (Adds planner.now.terms.now runs.old queries.old.items steps.old.items
         runs.new queries.new.items steps.new.items (plan_of (tree_of query.now))) }
 {
     match bare(query) {
         Query::Group(clauses) => {
             for (occur, child) in clauses {
-                add_clause(alloc, terms, *occur, child, runs, queries, steps)?;
+                add_clause(planner, *occur, child, runs, queries, steps)?;
             }
             Ok(())
         }
-        leaf => add_leaf(alloc, terms, Occur::Must, leaf, runs, queries, steps),
+        leaf => add_leaf(planner, Occur::Must, leaf, runs, queries, steps),
     }
 }
 
@@ -365,9 +363,9 @@ impl Plans {
             ++ plan_of (tree_of query.now) ∷ []) }
     {
         let mut steps = Vec::new(alloc);
+        let planner = Planner { alloc, terms };
         add_plan(
-            alloc,
-            terms,
+            &planner,
             query,
             &mut self.runs,
             &mut self.queries,

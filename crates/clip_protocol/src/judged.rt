@@ -54,11 +54,11 @@ impl JudgedDraft {
     }
 
     /// The article that the draft is, whose words are shared with those of the pool. `NoMemory` where an allocation
-    /// failed or the count of a text's handles is at its end, and only there. Cost: that of `Article::read_sharing`.
+    /// failed or the count of a text's handles is at its end, and only there. Cost: that of `Article::read_with_pool`.
     pub fn read(&self, alloc: Global, pool: &mut WordPool) -> Result<Article, NoMemory>
         ensures { IfOk result (λ article. article ≡ self.now) }
     {
-        match Article::read_sharing(alloc, pool, self.draft.id.as_str(), &self.draft.fields) {
+        match Article::read_with_pool(alloc, pool, self.draft.id.as_str(), &self.draft.fields) {
             Ok(article) => Ok(article),
             Err(ArticleFault::NoMemory) => Err(NoMemory),
             Err(_) => unreachable!(),
@@ -86,7 +86,7 @@ pub fn judge_drafts(alloc: Global, drafts: Vec<Draft>) -> Result<Vec<JudgedDraft
 
 /// The articles that judged drafts are, in order, whose words are shared with those of the pool. `NoMemory` where an
 /// allocation failed or the count of a text's handles is at its end, and only there. Cost: that of
-/// `Article::read_sharing` for each.
+/// `Article::read_with_pool` for each.
 pub fn articles_of(
     alloc: Global,
     pool: &mut WordPool,

@@ -272,8 +272,8 @@ impl<'r, 'd, 'g, R: Threads + Wait + Sync, N: DeskName, G: Gate + Clone + Send +
     }
 
     /// Takes the line of this number, and puts what is given now into the flow: all that is owed, or nothing yet, where
-    /// another line stands read already. Where none does, nothing is owed after it, and fewer than 32 batches wait after
-    /// any line.
+    /// another line stands read already. Where none does, nothing is owed after it, and fewer than 32 batches wait
+    /// after any line.
     ///
     /// `NoMemory` where an allocation failed or a listener answers it, `Write` where the writer fails; the listeners
     /// have heard a prefix of the alerts of what was owed and of the line then, and a prefix of their text is put.

@@ -45,5 +45,5 @@ pub fn article_from_pool(
     id: &str,
     fields: &[(&str, &str)],
 ) -> Result<Article, ArticleFault> {
-    Article::read_sharing(alloc, pool, id, &pairs(alloc, fields)?)
+    Article::read_with_pool(alloc, pool, id, &pairs(alloc, fields)?)
 }

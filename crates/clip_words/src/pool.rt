@@ -1,6 +1,7 @@
 //! Words that were met lately, whose texts are shared with those that are met again.
 ghost use Rattle.std.specs.Prelude.{◌≡◌, IfOk, IfSome};
 ghost use Rattle.std.specs.Arc.{arc_str_bytes};
+ghost use Rattle.clip_words.specs.Pool.{IsSmall};
 
 use crate::NoMemory;
 use std::alloc::Global;
@@ -58,7 +59,9 @@ fn place_of(word: &str) -> usize {
 
 impl WordPool {
     /// A pool with no words. Takes no memory before the first word comes.
-    pub fn new(alloc: Global) -> WordPool {
+    pub fn new(alloc: Global) -> WordPool
+        ensures { IsSmall result }
+    {
         WordPool {
             words: Vec::new(alloc),
             places: PLACES,
@@ -66,7 +69,9 @@ impl WordPool {
     }
 
     /// A pool that never keeps a word, and takes no memory.
-    pub fn without_places(alloc: Global) -> WordPool {
+    pub fn without_places(alloc: Global) -> WordPool
+        ensures { IsSmall result }
+    {
         WordPool {
             words: Vec::new(alloc),
             places: 0,
@@ -75,18 +80,33 @@ impl WordPool {
 
     /// Makes its places, where they are not there.
     #[inline(always)]
-    fn make_places(&mut self) -> Result<(), NoMemory> {
+    fn make_places(&mut self) -> Result<(), NoMemory>
+        ensures { IsSmall self.old → IsSmall self.new }
+    {
         if self.words.len() < self.places {
             self.add_places()?;
         }
         Ok(())
     }
 
-    fn add_places(&mut self) -> Result<(), NoMemory> {
+    fn add_places(&mut self) -> Result<(), NoMemory>
+        ensures { IsSmall self.old → IsSmall self.new }
+    {
         self.words
             .reserve(self.places.saturating_sub(self.words.len()))?;
-        for _ in self.words.len()..self.places {
+        while self.words.len() < self.places {
             self.words.push(None)?;
+        }
+        Ok(())
+    }
+
+    /// Keeps a text at a place that there is, if it is short. `NoMemory` where the count of its handles is at its end.
+    #[inline(always)]
+    fn keep(&mut self, place: usize, text: &ArcStr) -> Result<(), NoMemory>
+        ensures { IsSmall self.old → IsSmall self.new }
+    {
+        if place < self.words.len() && text.len() <= MOST_KEPT_BYTES {
+            self.words[place] = Some(text.clone()?);
         }
         Ok(())
     }
@@ -107,7 +127,8 @@ impl WordPool {
     /// `NoMemory` where an allocation failed, or where the count of a text's handles is at its end. Cost: a step for
     /// each byte of the word; no allocation where the word is kept.
     pub fn shared(&mut self, alloc: Global, word: &str) -> Result<ArcStr, NoMemory>
-        ensures { IfOk result (λ text. arc_str_bytes text ≡ word.now) }
+        ensures text { IfOk result (λ text. arc_str_bytes text ≡ word.now) }
+        ensures small { IsSmall self.old → IsSmall self.new }
     {
         self.make_places()?;
         let place = place_of(word);
@@ -115,9 +136,7 @@ impl WordPool {
             return Ok(kept.clone()?);
         }
         let text = ArcStr::from_str(alloc, word)?;
-        if place < self.words.len() && word.len() <= MOST_KEPT_BYTES {
-            self.words[place] = Some(text.clone()?);
-        }
+        self.keep(place, &text)?;
         Ok(text)
     }
 }

@@ -8,4 +8,4 @@ pub returns : goal.returns
 returns c =
     let lower : map to_ascii_lowercase c.args.word.now ≡ c.args.word.now = search rules in
     subst (λ t. IfOk c.shared-2.result (λ text. arc_str_bytes text ≡ t))
-    (sym (fold_of_ascii c.args.word.now c.requires ∙ lower)) c.shared-2.ensures
+    (sym (fold_of_ascii c.args.word.now c.requires ∙ lower)) c.shared-2.ensures.text

@@ -167,8 +167,8 @@ fn large_replies(alloc: Global, large: LargeMatch) -> Result<String, Fail> {
     Ok(text)
 }
 
-/// The reply to a large match is written in pieces of little more than 64 KiB, and whichever write fails, what was taken
-/// is a prefix of it, and nothing more is written.
+/// The reply to a large match is written in pieces of little more than 64 KiB, and whichever write fails, what was
+/// taken is a prefix of it, and nothing more is written.
 fn flows<H: Threads + Wait + Sync + Abort + AllocGlobal>(
     rt: &H,
     large: LargeMatch,

@@ -14,10 +14,10 @@ pub loop-occur-init : goal.loop-occur-init
 loop-occur-init t c =
     let runs = c.args.runs.now in
     let queries = c.args.queries.now.items in
-    subst (λ (l : List Step). Adds c.args.terms.now runs queries
+    subst (λ (l : List Step). Adds c.args.planner.now.terms.now runs queries
     (c.args.steps.now.items ++ step.Open c.args.occur 0 ∷ []) runs queries l [])
     (sym c.in_ok-push-in-Group.ensures.items)
-    (adds_nothing c.args.terms.now runs runs queries queries
+    (adds_nothing c.args.planner.now.terms.now runs runs queries queries
     (c.args.steps.now.items ++ step.Open c.args.occur 0 ∷ []) (grows_not runs) (grows_not queries))
 
 pub end_group-requires : goal.end_group-requires
@@ -39,13 +39,14 @@ add_clause-requires t c =
     let fewer : nodes (tree_of child.1) < nodes tree = child_nodes tree cs i child left c.loop-occur-test.true
     c.loop-occur-item.is in (
       omega (arith, fewer, c.decreases),
-      child_words c.args.terms.now tree cs i child left c.requires c.loop-occur-test.true c.loop-occur-item.is,
+      child_words c.args.planner.now.terms.now tree cs i child left c.requires c.loop-occur-test.true
+          c.loop-occur-item.is,
     )
 
 pub add_leaf-requires : goal.add_leaf-requires
 add_leaf-requires t c = record {
   leaf = c.in_default.not-Group;
-  words = subst (λ (keys : List KeyValue). IsTrue (are_terms c.args.terms.now keys))
+  words = subst (λ (keys : List KeyValue). IsTrue (are_terms c.args.planner.now.terms.now keys))
       (sym (ap word_keys c.bare.ensures ∙ bare_words (tree_of c.args.query.now))) c.requires;
 }
 
@@ -53,7 +54,8 @@ pub returns-in_default : goal.returns-in_default
 returns-in_default t c = record {
   runs = c.add_leaf.ensures.runs;
   queries = c.add_leaf.ensures.queries;
-  added = subst (λ (ms : List (Mark KeyValue)). OnOk c.add_leaf.result (Adds c.args.terms.now c.args.runs.now
+  added = subst (λ (ms : List (Mark KeyValue)). OnOk c.add_leaf.result
+      (Adds c.args.planner.now.terms.now c.args.runs.now
       c.args.queries.now.items c.args.steps.now.items c.add_leaf.new.runs c.add_leaf.new.queries.items
       c.add_leaf.new.steps.items ms))
       (ap (clause_marks c.args.occur) c.bare.ensures ∙ bare_clause c.args.occur (tree_of c.args.query.now))

@@ -11,5 +11,6 @@ decreases-add_clause l = nodes (tree_of l.query.now)
 
 -- behind the group's beginning stand the clauses so far
 abbrev pub invariant-loop-occur : goal.invariant-loop-occur
-invariant-loop-occur l = Adds l.terms l.fn.runs l.fn.queries.items (l.fn.steps.items ++ step.Open l.fn.occur 0 ∷ [])
+invariant-loop-occur l =
+    Adds l.planner.terms.now l.fn.runs l.fn.queries.items (l.fn.steps.items ++ step.Open l.fn.occur 0 ∷ [])
     l.runs l.queries.items l.steps.items (group_marks (trees (take l.occur-index l.occur-items)))

@@ -10,13 +10,14 @@ use Rattle.clip_plan.proofs.Standing.{adds_nothing, as_long, grows_not, longer}
 use Rattle.clip_plan.proofs.plans.add_plan.Goals as goal
 
 pub loop-occur-init : goal.loop-occur-init
-loop-occur-init c = adds_nothing c.args.terms.now c.args.runs.now c.args.runs.now c.args.queries.now.items
+loop-occur-init c = adds_nothing c.args.planner.now.terms.now c.args.runs.now c.args.runs.now c.args.queries.now.items
     c.args.queries.now.items c.args.steps.now.items (grows_not c.args.runs.now) (grows_not c.args.queries.now.items)
 
 pub add_clause-requires : goal.add_clause-requires
 add_clause-requires c =
     let cs = c.deref-occur-items.result.now in
-    child_words c.args.terms.now (tree_of c.args.query.now) cs c.loop-occur.occur-index c.loop-occur-item.result
+    child_words c.args.planner.now.terms.now (tree_of c.args.query.now) cs c.loop-occur.occur-index
+    c.loop-occur-item.result
     (group_left c.args.query.now c.bare.result.now c.in-Group.clauses cs c.bare.ensures c.in-Group.is
     c.deref-occur-items.ensures.value)
     c.requires c.loop-occur-test.true c.loop-occur-item.is
@@ -24,7 +25,7 @@ add_clause-requires c =
 pub add_leaf-requires : goal.add_leaf-requires
 add_leaf-requires c = record {
   leaf = c.in_default.not-Group;
-  words = subst (λ (keys : List KeyValue). IsTrue (are_terms c.args.terms.now keys))
+  words = subst (λ (keys : List KeyValue). IsTrue (are_terms c.args.planner.now.terms.now keys))
       (sym (ap word_keys c.bare.ensures ∙ bare_words (tree_of c.args.query.now))) c.requires;
 }
 
@@ -32,7 +33,8 @@ pub returns-in_default : goal.returns-in_default
 returns-in_default c = record {
   runs = c.add_leaf.ensures.runs;
   queries = c.add_leaf.ensures.queries;
-  added = subst (λ (ms : List (Mark KeyValue)). OnOk c.add_leaf.result (Adds c.args.terms.now c.args.runs.now
+  added = subst (λ (ms : List (Mark KeyValue)). OnOk c.add_leaf.result
+      (Adds c.args.planner.now.terms.now c.args.runs.now
       c.args.queries.now.items c.args.steps.now.items c.add_leaf.new.runs c.add_leaf.new.queries.items
       c.add_leaf.new.steps.items ms))
       (leaf_plan c.bare.result.now c.in_default.not-Group ∙ ap plan_of c.bare.ensures

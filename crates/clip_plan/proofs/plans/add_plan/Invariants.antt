@@ -6,5 +6,5 @@ use Rattle.clip_plan.proofs.plans.add_plan.Given as goal
 
 abbrev pub invariant-loop-occur : goal.invariant-loop-occur
 invariant-loop-occur l =
-    Adds l.terms l.fn.runs l.fn.queries.items l.fn.steps.items l.runs l.queries.items l.steps.items
+    Adds l.planner.terms.now l.fn.runs l.fn.queries.items l.fn.steps.items l.runs l.queries.items l.steps.items
     (group_marks (trees (take l.occur-index l.occur-items)))

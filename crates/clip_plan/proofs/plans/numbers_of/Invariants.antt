@@ -5,5 +5,5 @@ use Rattle.clip_plan.proofs.Words.{phrase_words}
 use Rattle.clip_plan.proofs.plans.numbers_of.Given as goal
 
 abbrev pub invariant-loop-word : goal.invariant-loop-word
-invariant-loop-word l = map (term_at l.terms) l.run.items
+invariant-loop-word l = map (term_at l.planner.terms.now) l.run.items
     ≡ phrase_words (arc_str_bytes l.field) (take l.word-index l.words)

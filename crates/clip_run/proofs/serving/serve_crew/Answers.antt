@@ -4,7 +4,8 @@ use Rattle.std.specs.Prelude.{Err}
 use Rattle.clip_stream.proofs.Faults.{on_err}
 use Rattle.clip_front.specs.Devices.{devices_at}
 use Rattle.clip_front.proofs.Progress.{Goes, front_at, all_at, goes_first, goes_flowing, goes_to_end, fault_first}
-use Rattle.clip_front.proofs.Progress.{breaks_handing, breaks_reading, breaks_flowing, breaks_unfound, lines_at, feed_before}
+use Rattle.clip_front.proofs.Progress.{breaks_handing, breaks_reading, breaks_flowing, breaks_unfound}
+use Rattle.clip_front.proofs.Progress.{lines_at, feed_before}
 use Rattle.clip_run.specs.Crews.{course_at}
 use Rattle.clip_run.specs.Owed.{TurnsIn, BreaksIn}
 use Rattle.clip_run.proofs.serving.serve_crew.Goals as goal

@@ -4,7 +4,7 @@ use Rattle.clip_words.specs.Words.{words_of}
 use Rattle.clip_meaning.specs.Article.{Fields, pairs_of, read_fields}
 use Rattle.clip_meaning.proofs.Fields.{Entry}
 use Rattle.clip_meaning.proofs.Pairs.{once_from_fault, new_name, one_more}
-use Rattle.clip_meaning.proofs.article.Article.read_sharing.Goals as goal
+use Rattle.clip_meaning.proofs.article.Article.read_with_pool.Goals as goal
 
 -- the field's name is new
 pub insert-requires : goal.insert-requires
