@@ -36,7 +36,7 @@ use Rattle.clip_cause.specs.declared.wrong.Wrong.{Wrong}
 
 -- ---- requests
 
-untold : (r : Request) → told_of (requests r) ≡ None
+pub untold : (r : Request) → told_of (requests r) ≡ None
 untold (register listings) = refl
 untold (delete ids) = refl
 untold clear = refl

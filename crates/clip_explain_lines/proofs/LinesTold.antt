@@ -21,6 +21,7 @@ use Rattle.clip_protocol.specs.Steps.Outline.{Outline, blank, refused, registers
 use Rattle.clip_protocol.specs.Steps.Outline.{requests}
 use Rattle.clip_protocol.specs.declared.refusal.Refusal.{Refusal}
 use Rattle.clip_protocol.specs.declared.refusal.Refusal.TheVariants.{Long, Json, Shape, Limit, Query, Listener, Full}
+use Rattle.clip_cause.proofs.Telling.{untold}
 use Rattle.clip_cause.specs.Causes.{IsCauseOf, IsPlaceOf, told_of, told_refusal}
 use Rattle.clip_cause.specs.Faults.{Fault}
 use Rattle.clip_cause.specs.First.{HasPath, IsFirstFault, IsToldAs, Tells, TellsFirst, TellsFirstOf}
@@ -84,15 +85,6 @@ json_told : (bytes : List ℕ) (p : Place) (w : Wrong) (r : Refusal) → json_of
 json_told bytes (Byte at) w r none place is =
     (at, sentence_of w, place.0, ap (λ why. refused_there (at_byte at) why (sentence_of w)) is)
 json_told bytes (Member text) w r none place is = absurd (none_is_some place.0 (sym none ∙ place.1))
-
-untold : (r : Request) → told_of (requests r) ≡ None
-untold (register listings) = refl
-untold (delete ids) = refl
-untold clear = refl
-untold purge = refl
-untold count = refl
-untold (show id) = refl
-untold (match drafts) = refl
 
 cause_said : (bytes : List ℕ) (c : LineCause) (s : Line Request) → Says bytes s
     → Some c.refusal ≡ told_of (outline_said s) → IsCauseOf bytes c → TellsFirstOf bytes (Some c)

@@ -1,6 +1,7 @@
 pub mod Booleans
 pub mod Orderings
 pub mod Trees
+pub mod Bare
 pub mod Rows
 pub mod Pieces
 pub mod Fronts

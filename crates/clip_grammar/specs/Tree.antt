@@ -3,6 +3,7 @@ use Rattle.std.specs.Prelude.{ℕ, ◌+◌, max, List, [], ◌∷◌, map, strin
 use Rattle.std.specs.Arc.{arc_str_bytes}
 use Rattle.clip_grammar.specs.Tokens.{End}
 use Rattle.clip_grammar.specs.declared.query.Occur.{Occur}
+use Rattle.clip_grammar.specs.declared.query.Occur.TheVariants.{Must, Should}
 use Rattle.clip_grammar.specs.declared.query.Bound.{Bound}
 use Rattle.clip_grammar.specs.declared.query.Bound.TheVariants as bound
 use Rattle.clip_grammar.specs.declared.query.Query.{Query}
@@ -64,3 +65,9 @@ abbrev mutual
   pub clause_depth : Clauses → ℕ
   clause_depth none = 0
   clause_depth (clause _ tree clauses) = max (depth tree) (clause_depth clauses)
+
+-- a query without the groups around it whose only clause must or may hold
+abbrev pub bare : Tree → Tree
+bare (Tree.Group (clause Must child none)) = bare child
+bare (Tree.Group (clause Should child none)) = bare child
+bare tree = tree

@@ -1,4 +1,6 @@
 //! Queries.
+ghost use Rattle.std.specs.Prelude.{◌≡◌, ◌<◌, None, IfSome};
+ghost use Rattle.clip_grammar.specs.Tree.{bare, nodes, tree_of};
 
 use std::sync::ArcStr;
 
@@ -71,5 +73,38 @@ impl Drop for Query {
             Query::All => {}
             Query::Group(_) => {}
         }
+    }
+}
+
+impl Query {
+    /// The child of a group whose only clause must or may hold: the group holds where the child does.
+    fn only_child(&self) -> Option<&Query>
+        ensures some { IfSome result (λ child. bare (tree_of child.now) ≡ bare (tree_of self.now)) }
+        ensures fewer { IfSome result (λ child. nodes (tree_of child.now) < nodes (tree_of self.now)) }
+        ensures none { result ≡ None → bare (tree_of self.now) ≡ tree_of self.now }
+    {
+        let Query::Group(clauses) = self else {
+            return None;
+        };
+        if clauses.len() != 1 {
+            return None;
+        }
+        let (occur, child) = &clauses[0];
+        match occur {
+            Occur::Must | Occur::Should => Some(child),
+            Occur::MustNot => None,
+        }
+    }
+
+    /// What is left of a query without the groups around it that hold where their only child does. Takes no memory.
+    /// Cost: a step for each group that is left out.
+    pub fn bare(&self) -> &Query
+        ensures { tree_of result.now ≡ bare (tree_of self.now) }
+    {
+        let mut bare = self;
+        while let Some(child) = bare.only_child() {
+            bare = child;
+        }
+        bare
     }
 }

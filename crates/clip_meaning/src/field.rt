@@ -224,8 +224,8 @@ fn mark_runs(words: &[ArcStr], postings: &[Posting], phrase: &[ArcStr], flags: &
     }
 }
 
-/// Whether the words begin with those of a phrase.
-fn starts_with(words: &[ArcStr], phrase: &[ArcStr]) -> bool
+/// Whether the words begin with those of a phrase. Takes no memory. Cost: a comparison for each word of the phrase.
+pub fn starts_with(words: &[ArcStr], phrase: &[ArcStr]) -> bool
     ensures { result ≡ starts_with bytes_eq (map arc_str_bytes words.now) (map arc_str_bytes phrase.now) }
 {
     let mut words = words;

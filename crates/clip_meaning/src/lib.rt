@@ -18,7 +18,7 @@ mod meaning;
 
 pub use article::Article;
 pub use fault::{ArticleFault, MOST_FIELDS, MOST_NAME_BYTES, fault_of, is_field_name};
-pub use field::Field;
+pub use field::{Field, starts_with};
 pub use hit::{Hit, add_raised, hits, mark};
 pub use index::Posting;
 pub use lead::{compare_by_leads, lead_of};

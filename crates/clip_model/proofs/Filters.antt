@@ -3,6 +3,22 @@ use Rattle.std.proofs.Common.{◌≡◌, ℕ, suc, ◌+◌, ◌≤◌, ◌||◌,
 use Rattle.std.proofs.Common.{refl, ap, ◌∙◌, arith, IsTrue, ◌&&◌}
 use Rattle.std.specs.List.{filter, list_all}
 
+-- ---- two tests that are both passed
+
+pub both : (a b : Bool) → a ≡ true → b ≡ true → (a && b) ≡ true
+both true b h k = k
+both false b h k = h
+
+pub first : (a b : Bool) → (a && b) ≡ true → a ≡ true
+first true b h = refl
+first false b h = h
+
+pub second : (a b : Bool) → (a && b) ≡ true → b ≡ true
+second true b h = h
+second false b h = cc
+
+-- ---- what is kept
+
 module _ {A : Type 0} where
   pub filter_few : (p : A → Bool) (xs : List A) → length (filter p xs) ≤ length xs
   filter_few p [] = omega arith
@@ -72,18 +88,6 @@ module _ {A : Type 0} where
         | true ↦ both _ _ (first _ _ h) (all_kept p q xs (second _ _ h))
         | false ↦ all_kept p q xs (second _ _ h)
       ]
-    where
-      both : (a b : Bool) → a ≡ true → b ≡ true → (a && b) ≡ true
-      both true b h k = k
-      both false b h k = h
-
-      first : (a b : Bool) → (a && b) ≡ true → a ≡ true
-      first true b h = refl
-      first false b h = h
-
-      second : (a b : Bool) → (a && b) ≡ true → b ≡ true
-      second true b h = h
-      second false b h = cc
 
 -- a front of a list's images is the images of a front
 pub map_front : {A B : Type 0} (f : A → B) (xs : List A) (before after : List B) → map f xs ≡ before ++ after

@@ -9,7 +9,7 @@ use Rattle.clip_words.specs.Ids.{is_id}
 use Rattle.clip_model.specs.History.{History, HistoryEntry, Command, Register, Delete, Clear, own, replay, listed, fits}
 use Rattle.clip_model.specs.declared.limits.TheConstants.{MOST_LISTED, MOST_LIVE, MOST_CALLERS}
 use Rattle.clip_model.specs.Shards.{kept_command, kept_entry, kept, PartsAreLegal, PartsGoOn, PartsHaveRoom}
-use Rattle.clip_model.proofs.Filters.{filter_few, all_kept, map_front}
+use Rattle.clip_model.proofs.Filters.{filter_few, all_kept, map_front, both, first, second}
 use Rattle.clip_model.proofs.Legal.{room_small, room_short, room_from}
 use Rattle.clip_model.proofs.Divided.{part_less, part_after, part_replayed}
 
@@ -35,18 +35,6 @@ module _ (keeps : List ℕ → Bool) where
   kept_fits (Register ss) h = fewer _ _ (filter_few (λ s. keeps s.id) ss) h
   kept_fits (Delete ids) h =
       both _ _ (fewer _ _ (filter_few keeps ids) (first _ _ h)) (all_kept is_id keeps ids (second _ _ h))
-    where
-      both : (a b : Bool) → a ≡ true → b ≡ true → (a && b) ≡ true
-      both true b h k = k
-      both false b h k = h
-
-      first : (a b : Bool) → (a && b) ≡ true → a ≡ true
-      first true b h = refl
-      first false b h = h
-
-      second : (a b : Bool) → (a && b) ≡ true → b ≡ true
-      second true b h = h
-      second false b h = cc
   kept_fits Clear h = h
 
   -- the entry of the whole that an entry of the part comes from

@@ -4,12 +4,12 @@ use Rattle.std.proofs.Common.{refl, sym, ◌∙◌, subst, true≢false, unwrap_
 use Rattle.std.specs.List.{list_any}
 use Rattle.std.proofs.lemmas.Bool.{and_parts}
 use Rattle.std.proofs.lemmas.Slice.Eq.{bytes_eq-Decides}
-use Rattle.clip_grammar.specs.Tree.{Tree, none, clause}
+use Rattle.clip_grammar.specs.Tree.{Tree, none, clause, bare}
 use Rattle.clip_grammar.specs.declared.query.Occur.TheVariants.{Must, Should}
 use Rattle.clip_meaning.specs.Article.{Fields, words_in}
 use Rattle.clip_meaning.specs.Index.{numbered}
 use Rattle.clip_meaning.specs.Meaning.{holds, group_holds}
-use Rattle.clip_near.specs.Near.{bare, field_of, width, stands_at, is_close, stand_close, is_followed, is_one_field}
+use Rattle.clip_near.specs.Near.{field_of, width, stands_at, is_close, stand_close, is_followed, is_one_field}
 use Rattle.clip_near.specs.Near.{are_near, stand_near, near_holds, wider_of}
 use Rattle.clip_near.proofs.Places.{where_some, standing}
 

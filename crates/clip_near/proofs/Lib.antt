@@ -1,4 +1,3 @@
-pub mod Bare
 pub mod Places
 pub mod Ends
 pub mod Law

@@ -1,9 +1,9 @@
 -- Worked examples, computed from the definitions.
 use Rattle.std.proofs.Common.{◌≡◌, ℕ, Bool, true, false, List, [], ◌∷◌, refl, codes}
-use Rattle.clip_grammar.specs.Tree.{Tree, none, clause}
+use Rattle.clip_grammar.specs.Tree.{Tree, none, clause, bare}
 use Rattle.clip_grammar.specs.declared.query.Occur.TheVariants.{Must, Should, MustNot}
 use Rattle.clip_meaning.specs.Article.{Fields}
-use Rattle.clip_near.specs.Near.{bare, stand_near, near_holds, has_places}
+use Rattle.clip_near.specs.Near.{stand_near, near_holds, has_places}
 
 abbrev word : List ℕ → Tree
 word text = Tree.Term (codes "text") text

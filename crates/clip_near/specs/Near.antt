@@ -4,19 +4,13 @@ use Rattle.std.specs.Prelude.{ℕ, Bool, false, not, ◌+◌, ◌&&◌, ◌||◌
 use Rattle.std.specs.Prelude.{Option, Some, None, is_some, unwrap_or}
 use Rattle.std.specs.List.{list_any, starts_with}
 use Rattle.std.specs.Str.{bytes_eq}
-use Rattle.clip_grammar.specs.Tree.{Tree, none, clause}
-use Rattle.clip_grammar.specs.declared.query.Occur.TheVariants.{Must, Should}
+use Rattle.clip_grammar.specs.Tree.{Tree, none, clause, bare}
+use Rattle.clip_grammar.specs.declared.query.Occur.TheVariants.{Must}
 use Rattle.clip_meaning.specs.Article.{Fields, words_in}
 use Rattle.clip_meaning.specs.Index.{numbered}
 use Rattle.clip_meaning.specs.Meaning.{begins_with, is_nonempty}
 
 -- ---- where a query stands
-
--- a query without the groups around it whose only clause must or may hold
-abbrev pub bare : Tree → Tree
-bare (Tree.Group (clause Must child none)) = bare child
-bare (Tree.Group (clause Should child none)) = bare child
-bare tree = tree
 
 -- the field in which a word, a phrase or a prefix is sought; what else may be asked has no place in a field
 abbrev pub field_of : Tree → Option (List ℕ)

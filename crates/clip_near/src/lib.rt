@@ -15,7 +15,7 @@ mod place;
 #[cfg(test)]
 mod tests;
 
-use crate::place::{bare, field_of, is_followed};
+use crate::place::{field_of, is_followed};
 use clip_grammar::query::{Occur, Query};
 use clip_meaning::Article;
 use clip_words::NoMemory;
@@ -55,8 +55,8 @@ pub fn near_holds(
     ensures taken { OnOk result ((has_places (tree_of first.now) && has_places (tree_of second.now)) ≡ true) }
     ensures refused { OnErr result ((has_places (tree_of first.now) && has_places (tree_of second.now)) ≡ false) }
 {
-    let first = bare(first);
-    let second = bare(second);
+    let first = first.bare();
+    let second = second.bare();
     let Some(field) = field_of(first) else {
         return Err(NoPlaces);
     };

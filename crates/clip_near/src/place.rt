@@ -1,44 +1,13 @@
 //! Where in the words of a field a query stands.
 ghost use Rattle.std.specs.Prelude.{◌≡◌, ◌+◌, ◌<◌, ◌≤◌, None, drop, map, option_map, IfSome};
 ghost use Rattle.std.specs.Arc.{arc_str_bytes};
-ghost use Rattle.std.specs.List.{starts_with};
-ghost use Rattle.std.specs.Str.{bytes_eq};
-ghost use Rattle.clip_grammar.specs.Tree.{tree_of, nodes};
-ghost use Rattle.clip_near.specs.Near.{bare, field_of, width, stands, stands_at, is_followed};
+ghost use Rattle.clip_grammar.specs.Tree.{tree_of};
+ghost use Rattle.clip_near.specs.Near.{field_of, width, stands, stands_at, is_followed};
 ghost use Rattle.clip_near.specs.Steps.Ends.{ends_at, stands_behind, IsLastEnd};
 
-use clip_grammar::query::{Occur, Query};
+use clip_grammar::query::Query;
+use clip_meaning::starts_with;
 use std::sync::ArcStr;
-
-/// The child of a group whose only clause must or may hold: the group holds where the child does.
-fn only_child(query: &Query) -> Option<&Query>
-    ensures some { IfSome result (λ child. bare (tree_of child.now) ≡ bare (tree_of query.now)) }
-    ensures fewer { IfSome result (λ child. nodes (tree_of child.now) < nodes (tree_of query.now)) }
-    ensures none { result ≡ None → bare (tree_of query.now) ≡ tree_of query.now }
-{
-    let Query::Group(clauses) = query else {
-        return None;
-    };
-    if clauses.len() != 1 {
-        return None;
-    }
-    let (occur, child) = &clauses[0];
-    match occur {
-        Occur::Must | Occur::Should => Some(child),
-        Occur::MustNot => None,
-    }
-}
-
-/// What is left of a query without the groups around it that hold where their only child does.
-pub(crate) fn bare(query: &Query) -> &Query
-    ensures { tree_of result.now ≡ bare (tree_of query.now) }
-{
-    let mut bare = query;
-    while let Some(child) = only_child(bare) {
-        bare = child;
-    }
-    bare
-}
 
 /// The field in which a word, a phrase or a prefix is sought.
 pub(crate) fn field_of(query: &Query) -> Option<&str>
@@ -66,25 +35,6 @@ fn width(query: &Query) -> usize
         Query::Phrase { field: _, words } => words.len(),
         _ => 1,
     }
-}
-
-/// Whether the words begin with those of a phrase.
-fn starts_with(words: &[ArcStr], phrase: &[ArcStr]) -> bool
-    ensures { result ≡ starts_with bytes_eq (map arc_str_bytes words.now) (map arc_str_bytes phrase.now) }
-{
-    let mut words = words;
-    let mut phrase = phrase;
-    while let Some((next, others)) = phrase.split_first() {
-        let Some((word, after)) = words.split_first() else {
-            return false;
-        };
-        if next.as_str() != word.as_str() {
-            return false;
-        }
-        words = after;
-        phrase = others;
-    }
-    true
 }
 
 /// Whether a query stands at the first of these words.

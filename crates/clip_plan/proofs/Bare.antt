@@ -1,10 +1,9 @@
 -- Queries without the groups around them whose only clause must or may hold.
 use Rattle.std.proofs.Common.{◌≡◌, ◌≤◌, arith, [], ◌∷◌, ◌++◌, length, refl, sym, ap, ◌∙◌, append-nil}
-use Rattle.clip_grammar.specs.Tree.{Tree, Clauses, none, clause, nodes}
+use Rattle.clip_grammar.specs.Tree.{Tree, Clauses, none, clause, nodes, bare}
 use Rattle.clip_grammar.specs.declared.query.Occur.{Occur}
 use Rattle.clip_grammar.specs.declared.query.Occur.TheVariants.{Must, Should}
 use Rattle.clip_plan.specs.Plan.{Open, Close, clause_marks, group_marks, plan_of, word_keys}
-use Rattle.clip_plan.specs.Steps.Plans.{bare}
 
 pub bare_clause : (occur : Occur) (tree : Tree) → clause_marks occur (bare tree) ≡ clause_marks occur tree
 bare_clause occur (Tree.Group (clause Must child none)) = bare_clause occur child

@@ -14,7 +14,7 @@ ghost use Rattle.clip_grammar.specs.declared.query.Query.{Query};
 ghost use Rattle.clip_extract.specs.Keys.{KeyValue, Word};
 ghost use Rattle.clip_terms.specs.Terms.{term_at};
 ghost use Rattle.clip_plan.specs.Plan.{Mark, Leaf, Is, Run, decoded, plan_of, clause_marks, are_terms, word_keys};
-ghost use Rattle.clip_plan.specs.Steps.Plans.{first_words, Grows, Adds, IsNoGroup, bare};
+ghost use Rattle.clip_plan.specs.Steps.Plans.{first_words, Grows, Adds, IsNoGroup};
 ghost use Rattle.clip_plan.specs.declared.step.Step.TheVariants as step;
 
 use crate::copy::copied;
@@ -227,36 +227,6 @@ fn end_group(occur: Occur, opening: usize, steps: &mut Vec<Step>) -> Result<(), 
     Ok(())
 }
 
-/// The child of a group whose only clause must or may hold: the group holds where the child does.
-fn only_child(query: &Query) -> Option<&Query>
-    ensures some { IfSome result (λ child. bare (tree_of child.now) ≡ bare (tree_of query.now)) }
-    ensures fewer { IfSome result (λ child. nodes (tree_of child.now) < nodes (tree_of query.now)) }
-    ensures none { result ≡ None → bare (tree_of query.now) ≡ tree_of query.now }
-{
-    let Query::Group(clauses) = query else {
-        return None;
-    };
-    if clauses.len() != 1 {
-        return None;
-    }
-    let (occur, child) = &clauses[0];
-    match occur {
-        Occur::Must | Occur::Should => Some(child),
-        Occur::MustNot => None,
-    }
-}
-
-/// What is left of a query without the groups around it that hold where their only child does.
-fn bare(query: &Query) -> &Query
-    ensures { tree_of result.now ≡ bare (tree_of query.now) }
-{
-    let mut bare = query;
-    while let Some(child) = only_child(bare) {
-        bare = child;
-    }
-    bare
-}
-
 /// Adds the steps of a query as a clause.
 fn add_clause(
     planner: &Planner<'_>,
@@ -272,7 +242,7 @@ fn add_clause(
     ensures added { OnOk result (Adds planner.now.terms.now runs.old queries.old.items steps.old.items
         runs.new queries.new.items steps.new.items (clause_marks occur (tree_of query.now))) }
 {
-    match bare(query) {
+    match query.bare() {
         Query::Group(clauses) => {
             let opening = steps.len();
             steps.push(Step::Open(occur, 0))?;
@@ -299,7 +269,7 @@ fn add_plan(
     ensures added { OnOk result (Adds planner.now.terms.now runs.old queries.old.items steps.old.items
         runs.new queries.new.items steps.new.items (plan_of (tree_of query.now))) }
 {
-    match bare(query) {
+    match query.bare() {
         Query::Group(clauses) => {
             for (occur, child) in clauses {
                 add_clause(planner, *occur, child, runs, queries, steps)?;

@@ -94,12 +94,6 @@ pub record Adds (terms : List KeyValue) (runs : List (List ℕ)) (queries : List
     pub behind : new_steps ≡ steps ++ added
     pub stand : StandFor terms new_runs new_queries added more
 
--- a query without the groups around it whose only clause must or may hold
-abbrev pub bare : Tree → Tree
-bare (Tree.Group (clause Must child none)) = bare child
-bare (Tree.Group (clause Should child none)) = bare child
-bare tree = tree
-
 -- the query is no group
 abbrev pub IsNoGroup : Query → Type 0
 IsNoGroup query = (clauses : Vec (Occur × Query) Global) → query ≡ Group clauses → ⊥

@@ -1,4 +1,4 @@
-use Rattle.std.proofs.Common.{◌≡◌, ◌+◌, ◌-◌, ◌<◌, true, length, take, drop, slice_index, length-drop}
+use Rattle.std.proofs.Common.{◌≡◌, ◌+◌, ◌-◌, ◌<◌, ℕ, List, true, length, take, drop, slice_index, length-drop}
 use Rattle.std.proofs.Common.{ap, ap₂, sym, subst, ◌∙◌, ◌++◌, arith}
 use Rattle.std.specs.Char.{is_ascii_alphanumeric}
 use Rattle.std.specs.List.{list_all}
@@ -7,15 +7,19 @@ use Rattle.clip_words.specs.Steps.Fronts.{is_word_mark, is_separator, ends_word,
 use Rattle.clip_words.proofs.Splits.{front_word, front_word_mark, front_letters, front_boundary, cut_at, to_end}
 use Rattle.clip_words.proofs.fronts.split_front.Goals as goal
 
+-- letters at the beginning of what stands from a place on in one text do so in the other, which is the same
+letters_on : (t s : List ℕ) (i n : ℕ) → t ≡ s
+    → list_all is_ascii_alphanumeric (take n (take (length t - i) (drop i t))) ≡ true
+    → list_all is_ascii_alphanumeric (take n (drop i s)) ≡ true
+letters_on t s i n is all = subst (λ u. list_all is_ascii_alphanumeric (take n (drop i u)) ≡ true) is
+    (sym (ap (λ u. list_all is_ascii_alphanumeric (take n u)) (to_end t i)) ∙ all)
+
 pub range-requires-clause-start_boundary : goal.range-requires-clause-start_boundary
 range-requires-clause-start_boundary c =
     let s = c.args.text.now in
     let i = c.separators-start.result in
     let n = c.letters.result in
-    let letters : list_all is_ascii_alphanumeric (take n (drop i s)) ≡ true =
-    subst (λ t. list_all is_ascii_alphanumeric (take n (drop i t)) ≡ true) c.as_bytes-bytes.ensures.value
-    (sym (ap (λ t. list_all is_ascii_alphanumeric (take n t)) (to_end c.as_bytes-bytes.result.now i))
-    ∙ c.letters.ensures.all) in
+    let letters = letters_on c.as_bytes-bytes.result.now s i n c.as_bytes-bytes.ensures.value c.letters.ensures.all in
     let lt : i < length s = omega (arith, length-drop i s) in
     λ _. front_boundary s i n (omega arith) lt letters
 
@@ -25,10 +29,7 @@ returns-then-ends_word-clause-words c =
     let i = c.separators-start.result in
     let n = c.letters.result in
     let skipped : list_all is_separator (take i s) ≡ true = cc in
-    let letters : list_all is_ascii_alphanumeric (take n (drop i s)) ≡ true =
-    subst (λ t. list_all is_ascii_alphanumeric (take n (drop i t)) ≡ true) c.as_bytes-bytes.ensures.value
-    (sym (ap (λ t. list_all is_ascii_alphanumeric (take n t)) (to_end c.as_bytes-bytes.result.now i))
-    ∙ c.letters.ensures.all) in
+    let letters = letters_on c.as_bytes-bytes.result.now s i n c.as_bytes-bytes.ensures.value c.letters.ensures.all in
     let ends : ends_word (drop (i + n) s) ≡ true =
     subst (λ t. ends_word (drop (i + n) t) ≡ true) c.as_bytes-bytes.ensures.value
     (sym (ap ends_word (to_end c.as_bytes-bytes.result.now (i + n))) ∙ sym c.ends_word.ensures
@@ -42,10 +43,7 @@ returns-then-ends_word-clause-letters c =
     let i = c.separators-start.result in
     let n = c.letters.result in
     let skipped : list_all is_separator (take i s) ≡ true = cc in
-    let letters : list_all is_ascii_alphanumeric (take n (drop i s)) ≡ true =
-    subst (λ t. list_all is_ascii_alphanumeric (take n (drop i t)) ≡ true) c.as_bytes-bytes.ensures.value
-    (sym (ap (λ t. list_all is_ascii_alphanumeric (take n t)) (to_end c.as_bytes-bytes.result.now i))
-    ∙ c.letters.ensures.all) in
+    let letters = letters_on c.as_bytes-bytes.result.now s i n c.as_bytes-bytes.ensures.value c.letters.ensures.all in
     let front = front_letters s i n (omega arith) skipped letters in
     cc
 
@@ -55,10 +53,7 @@ range-requires-then-ends_word-2-clause-start_boundary c =
     let s = c.args.text.now in
     let i = c.separators-start.result in
     let n = c.letters.result in
-    let letters : list_all is_ascii_alphanumeric (take n (drop i s)) ≡ true =
-    subst (λ t. list_all is_ascii_alphanumeric (take n (drop i t)) ≡ true) c.as_bytes-bytes.ensures.value
-    (sym (ap (λ t. list_all is_ascii_alphanumeric (take n t)) (to_end c.as_bytes-bytes.result.now i))
-    ∙ c.letters.ensures.all) in
+    let letters = letters_on c.as_bytes-bytes.result.now s i n c.as_bytes-bytes.ensures.value c.letters.ensures.all in
     let lt : i < length s = omega (arith, length-drop i s) in
     λ _. front_boundary s i n (omega arith) lt letters
 
@@ -68,10 +63,7 @@ returns-then-ends_word-2-clause-words c =
     let i = c.separators-start.result in
     let n = c.letters.result in
     let skipped : list_all is_separator (take i s) ≡ true = cc in
-    let letters : list_all is_ascii_alphanumeric (take n (drop i s)) ≡ true =
-    subst (λ t. list_all is_ascii_alphanumeric (take n (drop i t)) ≡ true) c.as_bytes-bytes.ensures.value
-    (sym (ap (λ t. list_all is_ascii_alphanumeric (take n t)) (to_end c.as_bytes-bytes.result.now i))
-    ∙ c.letters.ensures.all) in
+    let letters = letters_on c.as_bytes-bytes.result.now s i n c.as_bytes-bytes.ensures.value c.letters.ensures.all in
     let mark : is_word_mark (slice_index s (i + n)) ≡ true = cc in
     let ends : ends_word (drop (i + n + 1) s) ≡ true =
     cc (ap ends_word (to_end c.as_bytes-bytes.result.now (i + n + 1))) in
@@ -85,10 +77,7 @@ returns-then-ends_word-2-clause-letters c =
     let i = c.separators-start.result in
     let n = c.letters.result in
     let skipped : list_all is_separator (take i s) ≡ true = cc in
-    let letters : list_all is_ascii_alphanumeric (take n (drop i s)) ≡ true =
-    subst (λ t. list_all is_ascii_alphanumeric (take n (drop i t)) ≡ true) c.as_bytes-bytes.ensures.value
-    (sym (ap (λ t. list_all is_ascii_alphanumeric (take n t)) (to_end c.as_bytes-bytes.result.now i))
-    ∙ c.letters.ensures.all) in
+    let letters = letters_on c.as_bytes-bytes.result.now s i n c.as_bytes-bytes.ensures.value c.letters.ensures.all in
     let front = front_letters s i n (omega arith) skipped letters in
     cc
 

@@ -1,13 +1,12 @@
 -- What is left of a query without the groups around it.
 use Rattle.std.proofs.Common.{◌≡◌, ◌⊎◌, inl, inr, ◌<◌, List, [], ◌∷◌, map, length, get_or, Vec, Global}
 use Rattle.std.proofs.Common.{refl, sym, ap, ◌∙◌, subst, arith}
-use Rattle.clip_grammar.specs.Tree.{Tree, Clauses, none, clause, clauses_of, tree_of, nodes}
+use Rattle.clip_grammar.specs.Tree.{Tree, Clauses, none, clause, clauses_of, tree_of, nodes, bare}
 use Rattle.clip_grammar.specs.declared.query.Occur.{Occur}
 use Rattle.clip_grammar.specs.declared.query.Occur.TheVariants.{Must, Should, MustNot}
 use Rattle.clip_grammar.specs.declared.query.Query.{Query}
 use Rattle.clip_grammar.specs.declared.query.Query.TheViews.{Group}
 use Rattle.clip_grammar.proofs.Trees.{tree_of_group}
-use Rattle.clip_near.specs.Near.{bare}
 
 abbrev trees : List (Occur × Query) → Clauses
 trees cs = clauses_of (map (λ c. (c.0, tree_of c.1)) cs)
