@@ -1,10 +1,10 @@
 -- The flags of a merge's segment, of which those are cleared whose entries died.
 use Rattle.std.proofs.Common.{◌≡◌, ℕ, zero, suc, ◌+◌, ◌-◌, ◌<◌, ◌≤◌, Bool, true, false, cond, not, ◌&&◌, ◌||◌, ◌==◌}
-use Rattle.std.proofs.Common.{List, [], ◌∷◌, ◌++◌, length, map, take, get_or, replicate, Some, refl, sym, ap, ap₂, ◌∙◌}
+use Rattle.std.proofs.Common.{List, [], ◌∷◌, ◌++◌, length, map, take, get_or, replicate, refl, sym, ap, ap₂, ◌∙◌}
 use Rattle.std.proofs.Common.{arith, append-nil}
 use Rattle.std.proofs.Math.Seq.{take-length}
 use Rattle.std.proofs.lemmas.Bool.{false≢true}
-use Rattle.std.proofs.lemmas.List.{get_or-map, get_or_default, map_more, take_more}
+use Rattle.std.proofs.lemmas.List.{get_or-map, get_or_default, map-append, map_more, take_more}
 use Rattle.std.proofs.lemmas.List.Elements.{filter-append}
 use Rattle.std.specs.List.{Contains}
 use Rattle.clip_pieces.specs.Marked.{is_lost}
@@ -13,7 +13,7 @@ use Rattle.clip_merge.specs.Live.{names}
 use Rattle.clip_model.specs.History.{Registered}
 use Rattle.clip_registry.specs.Steps.LiveFlags.{died, flags_of, without, without_all}
 use Rattle.clip_registry.proofs.Kept.{contains_of_filter}
-use Rattle.clip_registry.proofs.LiveFlags.{alike_of}
+use Rattle.clip_registry.proofs.LiveFlags.{alike_of, all_flagged}
 use Rattle.clip_registry.proofs.Naming.{name_picked}
 use Rattle.clip_registry.proofs.Picked.{picked}
 use Rattle.clip_registry.proofs.Whole.{all_entries-push}
@@ -63,38 +63,18 @@ one_died is was es from place r after low lost none =
     ∙ none_died is was es from (place - from) (omega arith) (λ k here before. none k here (omega arith)))
     (sym (lost_died is was es place r low) ∙ lost)
 
--- ---- tests without entries
-
-without-append : (rs ts : List Registered) (is : ℕ → Bool)
-    → without_all (rs ++ ts) is ≡ without_all ts (without_all rs is)
-without-append [] ts is = refl
-without-append (r ∷ rs) ts is = without-append rs ts (without (Some r.seq) is)
-
-cleared_twice : (one later was : Bool) → cond later false (cond one false was) ≡ cond (one || later) false was
-cleared_twice true true was = refl
-cleared_twice true false was = refl
-cleared_twice false later was = refl
-
-without_named : (rs : List Registered) (is : ℕ → Bool) (seq : ℕ)
-    → without_all rs is seq ≡ cond (names (map (λ r. r.seq) rs) seq) false (is seq)
-without_named [] is seq = refl
-without_named (r ∷ rs) is seq =
-    without_named rs (without (Some r.seq) is) seq
-    ∙ cleared_twice (r.seq == seq) (names (map (λ (q : Registered). q.seq) rs) seq) (is seq)
-
--- the entry of one lost flag more
-pub one_cleared : (is was so : ℕ → Bool) (es : List Registered) (from place seq : ℕ) → from ≤ place → place < length es
+-- the seq of one lost flag more
+pub one_more : (is was : ℕ → Bool) (es : List Registered) (from place seq : ℕ) → from ≤ place → place < length es
     → seq ≡ get_or (seqs_of es) place 0 → is_lost (flags_of was es) (flags_of is es) place ≡ true
     → ((k : ℕ) → from ≤ k → k < place → is_lost (flags_of was es) (flags_of is es) k ≡ false)
-    → without (Some seq) (without_all (died is was (take from es)) so)
-    ≡ without_all (died is was (take (place + 1) es)) so
-one_cleared is was so [] from place seq after low at lost none = absurd (omega arith)
-one_cleared is was so (e ∷ es) from place seq after low at lost none =
+    → seqs_of (died is was (take (place + 1) es)) ≡ seqs_of (died is was (take from es)) ++ seq ∷ []
+one_more is was [] from place seq after low at lost none = absurd (omega arith)
+one_more is was (e ∷ es) from place seq after low at lost none =
     let all = e ∷ es in
-    ap (λ s. without (Some s) (without_all (died is was (take from all)) so))
-    (at ∙ get_or-map (λ (r : Registered). r.seq) all place e 0 low)
-    ∙ sym (without-append (died is was (take from all)) (get_or all place e ∷ []) so)
-    ∙ ap (λ ds. without_all ds so) (sym (one_died is was all from place e after low lost none))
+    ap seqs_of (one_died is was all from place e after low lost none)
+    ∙ map-append (λ (r : Registered). r.seq) (died is was (take from all)) (get_or all place e ∷ [])
+    ∙ ap (λ s. seqs_of (died is was (take from all)) ++ s ∷ [])
+    (sym (at ∙ get_or-map (λ (r : Registered). r.seq) all place e 0 low))
 
 -- where no flag is lost from a place on, all that died stand before it
 pub all_died : (is was : ℕ → Bool) (es : List Registered) (from : ℕ) → from ≤ length es
@@ -105,19 +85,30 @@ all_died is was es from within none =
     sym (none_died is was es from (length es - from) (omega arith) (λ k after before. none k after))
     ∙ ap (λ n. died is was (take n es)) whole ∙ ap (died is was) (take-length es)
 
--- the entries of one segment more
-pub died_more : {X : Type 0} (is was so : ℕ → Bool) (f : X → List Registered) (xs : List X) (i : ℕ) (x : X)
+-- the seqs of one segment more
+pub died_more : {X : Type 0} (is was : ℕ → Bool) (f : X → List Registered) (xs : List X) (i : ℕ) (x : X)
     → i < length xs → x ≡ get_or xs i x
-    → without_all (died is was (all_entries (map f (take (i + 1) xs)))) so
-    ≡ without_all (died is was (f x)) (without_all (died is was (all_entries (map f (take i xs)))) so)
-died_more is was so f xs i x lt at =
-    ap (λ ss. without_all (died is was (all_entries ss)) so)
+    → seqs_of (died is was (all_entries (map f (take (i + 1) xs))))
+    ≡ seqs_of (died is was (all_entries (map f (take i xs)))) ++ seqs_of (died is was (f x))
+died_more is was f xs i x lt at =
+    ap (λ ss. seqs_of (died is was (all_entries ss)))
     (map_more f xs i x lt ∙ ap (λ z. map f (take i xs) ++ f z ∷ []) (sym at))
-    ∙ ap (λ es. without_all (died is was es) so) (all_entries-push (map f (take i xs)) (f x))
-    ∙ ap (λ es. without_all es so) (died-append is was (all_entries (map f (take i xs))) (f x))
-    ∙ without-append (died is was (all_entries (map f (take i xs)))) (died is was (f x)) so
+    ∙ ap (λ es. seqs_of (died is was es)) (all_entries-push (map f (take i xs)) (f x))
+    ∙ ap seqs_of (died-append is was (all_entries (map f (take i xs))) (f x))
+    ∙ map-append (λ (r : Registered). r.seq) (died is was (all_entries (map f (take i xs)))) (died is was (f x))
 
 -- ---- the flags of a merge
+
+cleared_twice : (one later was : Bool) → cond later false (cond one false was) ≡ cond (one || later) false was
+cleared_twice true true was = refl
+cleared_twice true false was = refl
+cleared_twice false later was = refl
+
+without_named : (seqs : List ℕ) (is : ℕ → Bool) (seq : ℕ)
+    → without_all seqs is seq ≡ cond (names seqs seq) false (is seq)
+without_named [] is seq = refl
+without_named (gone ∷ seqs) is seq =
+    without_named seqs (without gone is) seq ∙ cleared_twice (gone == seq) (names seqs seq) (is seq)
 
 lives : (now before : Bool) → before ≡ true → cond (before && not now) false before ≡ now
 lives true true is = refl
@@ -127,26 +118,23 @@ lives false false is = absurd (false≢true is)
 
 -- of the entries that were live the flags of those are left that still are
 pub left_flags : (is was : ℕ → Bool) (es : List Registered)
-    → flags_of (without_all (died is was es) was) (picked was es) ≡ flags_of is (picked was es)
+    → flags_of (without_all (seqs_of (died is was es)) was) (picked was es) ≡ flags_of is (picked was es)
 left_flags is was es =
     let rs = picked was es in
-    let each : (r : Registered) → Contains rs r → without_all (died is was es) was r.seq ≡ is r.seq =
+    let gone = seqs_of (died is was es) in
+    let each : (r : Registered) → Contains rs r → without_all gone was r.seq ≡ is r.seq =
     λ r h. let of = contains_of_filter (λ (q : Registered). was q.seq) r es h in
-    without_named (died is was es) was r.seq
+    without_named gone was r.seq
     ∙ ap (λ b. cond b false (was r.seq)) (name_picked (λ seq. was seq && not (is seq)) es r of.0)
     ∙ lives (is r.seq) (was r.seq) of.1 in
-    alike_of (without_all (died is was es) was) is rs
+    alike_of (without_all gone was) is rs
     (λ k d lt. each (get_or rs k d) (k, lt, get_or_default rs k (get_or rs k d) d lt))
 
 -- and at first all are set
 pub all_picked : (was : ℕ → Bool) (es : List Registered)
     → replicate (length (picked was es)) true ≡ flags_of was (picked was es)
-all_picked was [] = refl
-all_picked was (e ∷ es) =
-    let rest = all_picked was es in
-    elim (was e.seq) as (λ b. was e.seq ≡ b
-    → replicate (length (cond b (e ∷ picked was es) (picked was es))) true
-    ≡ flags_of was (cond b (e ∷ picked was es) (picked was es))) [
-      | true ↦ λ h. ap₂ (λ f fs. f ∷ fs) (sym h) rest
-      | false ↦ λ _. rest
-    ] refl
+all_picked was es =
+    let rs = picked was es in
+    all_flagged was rs (λ k d lt.
+    (contains_of_filter (λ (q : Registered). was q.seq) (get_or rs k d) es
+    (k, lt, get_or_default rs k (get_or rs k d) d lt)).1)

@@ -3,8 +3,8 @@ pub mod Picked
 pub mod Rising
 pub mod Registering
 pub mod Whole
-pub mod Flags
 pub mod Entering
+pub mod Gone
 pub mod Entries
 pub mod Entered
 pub mod Keeping

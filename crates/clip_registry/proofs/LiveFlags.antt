@@ -1,24 +1,25 @@
 -- Live flags beside segments.
-use Rattle.std.proofs.Common.{◌≡◌, ℕ, zero, suc, ◌<◌, ◌≤◌, Bool, true, false, cond, ◌==◌, List, [], ◌∷◌, ◌++◌, length}
-use Rattle.std.proofs.Common.{map, get_or, set, Option, Some, None, slice_get, option_map, refl, sym, ap, ap₂, ◌∙◌, inl}
+use Rattle.std.proofs.Common.{◌≡◌, ℕ, zero, suc, ◌<◌, Bool, true, false, cond, ◌==◌, List, [], ◌∷◌, ◌++◌, length}
+use Rattle.std.proofs.Common.{map, get_or, set, take, replicate, ◌+◌, Some, slice_get, refl, sym, ap, ap₂, subst, ◌∙◌, inl}
 use Rattle.std.proofs.Common.{inr, arith}
 use Rattle.std.proofs.lemmas.Bool.{cases_order}
-use Rattle.std.proofs.lemmas.List.{ext_get_or, length-map, get_or-map, get_or_default}
+use Rattle.std.proofs.lemmas.List.{ext_get_or, length-map, get_or-map, get_or_default, map-append, map_more}
 use Rattle.std.proofs.lemmas.List.Elements.{All-head, All-tail, Contains-append_left, Contains-append_right}
-use Rattle.std.proofs.lemmas.Option.{slice_get_within, get_or_from_slice_get, none-some, same_Some}
+use Rattle.std.proofs.lemmas.Option.{slice_get_within, get_or_from_slice_get}
 use Rattle.std.specs.Arc.{arc_value}
 use Rattle.std.specs.declared.sync.Arc.{Arc}
 use Rattle.std.specs.declared.alloc.Global.{Global}
-use Rattle.std.specs.List.{All}
-use Rattle.std.specs.FinMap as finite
+use Rattle.std.specs.List.{All, Contains}
 use Rattle.clip_segment.specs.Segment.{IsRising, all_entries, seqs_of}
-use Rattle.clip_model.specs.History.{Registered, Registry, is_live_in}
-use Rattle.clip_model.specs.Steps.Numbered.{IsNumbered}
+use Rattle.clip_model.specs.History.{Registered, is_live, replay}
+use Rattle.clip_model.proofs.Live.{live_given}
+use Rattle.clip_model.proofs.Numbering.{replay_numbered}
 use Rattle.clip_model.proofs.Numbers.{numbers_same, number_less, number_more}
-use Rattle.clip_registry.specs.Steps.LiveFlags.{flags_of, flags_by, without}
+use Rattle.clip_registry.specs.RegistryState.{RegistryState, IsWhole}
+use Rattle.clip_registry.specs.Steps.LiveFlags.{flags_of, flags_by, without, without_all}
 use Rattle.clip_registry.proofs.Kept.{all_of_some}
-use Rattle.clip_registry.proofs.Numbering.{has_seq, live_insert, live_remove}
 use Rattle.clip_registry.proofs.Rising.{rising_head, rising_tail}
+use Rattle.clip_registry.proofs.Whole.{all_entries-push, shelved}
 
 -- ---- tests that agree
 
@@ -43,20 +44,20 @@ alike_by is so (s ∷ segments) all =
 -- ---- a flag is cleared
 
 later_differs : (r : Registered) (es : List Registered) → IsRising (r ∷ es) → (is : ℕ → Bool)
-    → flags_of is es ≡ flags_of (without (Some r.seq) is) es
+    → flags_of is es ≡ flags_of (without r.seq is) es
 later_differs r es is test =
-    alike_of test (without (Some r.seq) test) es
+    alike_of test (without r.seq test) es
     (λ k d lt. let above = rising_head r es is k d lt in
     sym (ap (λ b. cond b false (test (get_or es k d).seq)) (number_less r.seq (get_or es k d).seq above)))
 
 pub cleared_here : (is : ℕ → Bool) (es : List Registered) (seq position : ℕ) → IsRising es
     → slice_get (seqs_of es) position ≡ Some seq → set (flags_of is es) position false
-    ≡ flags_of (without (Some seq) is) es
+    ≡ flags_of (without seq is) es
 cleared_here is [] seq position rises there = refl
 cleared_here is (e ∷ es) seq zero rises there =
     let same : e.seq ≡ seq = cc in
     ap₂ (λ b bs. b ∷ bs) (sym (ap (λ b. cond b false (is e.seq)) (numbers_same seq e.seq (sym same))))
-    (later_differs e es rises is ∙ ap (λ s. flags_of (without (Some s) is) es) same)
+    (later_differs e es rises is ∙ ap (λ s. flags_of (without s is) es) same)
 cleared_here is (e ∷ es) seq (suc position) rises there =
     let before : e.seq < seq = below e es seq position rises there in
     ap₂ (λ b bs. b ∷ bs) (sym (ap (λ b. cond b false (is e.seq)) (number_more seq e.seq before)))
@@ -75,7 +76,7 @@ cleared_here is (e ∷ es) seq (suc position) rises there =
 
 pub cleared_nowhere : (is : ℕ → Bool) (es : List Registered) (seq : ℕ)
     → ((position : ℕ) → slice_get (seqs_of es) position ≡ Some seq → ⊥)
-    → flags_of is es ≡ flags_of (without (Some seq) is) es
+    → flags_of is es ≡ flags_of (without seq is) es
 cleared_nowhere is [] seq none = refl
 cleared_nowhere is (e ∷ es) seq none =
     ap₂ (λ b bs. b ∷ bs) (sym (ap (λ b. cond b false (is e.seq)) other))
@@ -87,6 +88,19 @@ cleared_nowhere is (e ∷ es) seq none =
       | inr (inl less) ↦ number_less seq e.seq less
       | inr (inr more) ↦ number_more seq e.seq more
     ]
+
+-- ---- tests without seqs
+
+pub without-append : (seqs more : List ℕ) (is : ℕ → Bool)
+    → without_all (seqs ++ more) is ≡ without_all more (without_all seqs is)
+without-append [] more is = refl
+without-append (gone ∷ seqs) more is = without-append seqs more (without gone is)
+
+pub without_alike : (seqs : List ℕ) (is so : ℕ → Bool) (seq : ℕ) → is seq ≡ so seq
+    → without_all seqs is seq ≡ without_all seqs so seq
+without_alike [] is so seq same = same
+without_alike (gone ∷ seqs) is so seq same =
+    without_alike seqs (without gone is) (without gone so) seq (ap (cond (gone == seq) false) same)
 
 -- ---- lists of flags
 
@@ -118,6 +132,14 @@ pub as_long : (is : ℕ → Bool) (segments : List (List Registered)) (live : Li
     → live ≡ flags_by is segments → length live ≡ length segments
 as_long is segments live are = ap length are ∙ length-map segments (flags_of is)
 
+-- all flags are set where each entry passes
+pub all_flagged : (is : ℕ → Bool) (es : List Registered) → All (λ r. is r.seq ≡ true) es
+    → replicate (length es) true ≡ flags_of is es
+all_flagged is [] all = refl
+all_flagged is (e ∷ es) all =
+    ap₂ (λ f fs. f ∷ fs) (sym (All-head (λ (r : Registered). is r.seq ≡ true) e es all))
+    (all_flagged is es (All-tail (λ (r : Registered). is r.seq ≡ true) e es all))
+
 -- the flags that stand at a place are those of the segment there
 pub flags_here : (is : ℕ → Bool) (segments : List (List Registered)) (live : List (List Bool)) (k : ℕ)
     (flags : List Bool)
@@ -144,39 +166,40 @@ pub segment_at : (segments : List (Arc (List Registered) Global)) (k : ℕ) (seg
     ≡ arc_value segment
 segment_at segments k segment low is = get_or-map arc_value segments k segment [] low ∙ ap arc_value (sym is)
 
--- ---- what changes of a registry leave
+-- ---- whether a seq is live
 
-found_without : (found : Option Registered) (is : ℕ → Bool) (seq : ℕ) → without (option_map (λ r. r.seq) found) is seq
-    ≡ cond (has_seq found seq) false (is seq)
-found_without None is seq = refl
-found_without (Some r) is seq = refl
+pub flag_there : (is : ℕ → Bool) (es : List Registered) (seq position : ℕ) → slice_get (seqs_of es) position ≡ Some seq
+    → get_or (flags_of is es) position false ≡ is seq
+flag_there is [] seq position there = let none = slice_get_within (seqs_of []) position seq there in absurd (omega arith)
+flag_there is (e ∷ es) seq zero there = let same : e.seq ≡ seq = cc in ap is same
+flag_there is (e ∷ es) seq (suc position) there = flag_there is es seq position there
 
-pub live_before : (n : ℕ) (m : Registry) (r : Registered) (seq : ℕ) → r.seq ≡ suc n → IsNumbered n m → seq ≤ n
-    → without (option_map (λ r. r.seq) (finite.get m r.standing.id)) (is_live_in m) seq
-    ≡ is_live_in (finite.insert m r.standing.id r) seq
-live_before n m r seq next is low =
-    found_without (finite.get m r.standing.id) (is_live_in m) seq
-    ∙ sym (live_insert n m r seq next is
-    ∙ ap (λ b. cond b true (cond (has_seq (finite.get m r.standing.id) seq) false (is_live_in m seq)))
-    (number_more (suc n) seq (omega arith)))
+-- of one segment more
+pub seqs_more : (segments : List (Arc (List Registered) Global)) (k : ℕ) (segment : Arc (List Registered) Global)
+    → k < length segments → segment ≡ get_or segments k segment
+    → seqs_of (all_entries (map arc_value (take (k + 1) segments)))
+    ≡ seqs_of (all_entries (map arc_value (take k segments))) ++ seqs_of (arc_value segment)
+seqs_more segments k segment low is =
+    let before = map arc_value (take k segments) in
+    ap (λ ss. seqs_of (all_entries ss))
+    (map_more arc_value segments k segment low ∙ ap (λ s. before ++ arc_value s ∷ []) (sym is))
+    ∙ ap seqs_of (all_entries-push before (arc_value segment))
+    ∙ map-append (λ (r : Registered). r.seq) (all_entries before) (arc_value segment)
 
-pub live_left : (n : ℕ) (m : Registry) (id : List ℕ) (seq : ℕ) → IsNumbered n m
-    → without (option_map (λ r. r.seq) (finite.get m id)) (is_live_in m) seq ≡ is_live_in (finite.remove m id) seq
-live_left n m id seq is = found_without (finite.get m id) (is_live_in m) seq ∙ sym (live_remove n m id seq is)
+-- an entry's seq is among the seqs
+pub seq_among : (es : List Registered) (r : Registered) → Contains es r → Contains (seqs_of es) r.seq
+seq_among es r (k, lt, at) = (
+  k,
+  omega (arith, lt, length-map es (λ (q : Registered). q.seq)),
+  get_or-map (λ (q : Registered). q.seq) es k r r.seq lt ∙ ap (λ (q : Registered). q.seq) at,
+)
 
--- ---- the seq of an entry that is gone
-
-pub gone_seq : (entry : Option (Arc Registered Global)) (found : Option Registered) (seq : Option ℕ)
-    → seq ≡ option_map (λ r. r.value.seq) entry → option_map arc_value entry ≡ found
-    → seq ≡ option_map (λ r. r.seq) found
-gone_seq None found seq is same = is ∙ ap (option_map (λ (r : Registered). r.seq)) same
-gone_seq (Some entry) found seq is same = is ∙ ap (option_map (λ (r : Registered). r.seq)) same
-
-pub seq_given : (found : Option Registered) (seq : ℕ) → Some seq ≡ option_map (λ r. r.seq) found
-    → (r : Registered) × ((found ≡ Some r) × (r.seq ≡ seq))
-seq_given None seq is = absurd (none-some _ (sym is))
-seq_given (Some r) seq is = (r, (refl, same_Some _ _ (sym is)))
-
-pub none_given : (found : Option Registered) → None ≡ option_map (λ (r : Registered). r.seq) found → found ≡ None
-none_given None is = refl
-none_given (Some r) is = absurd (none-some _ is)
+-- a live seq is that of an entry
+pub live_among : (state : RegistryState) (seq : ℕ) → IsWhole state → is_live state.history seq ≡ true
+    → Contains (seqs_of (all_entries state.segments)) seq
+live_among state seq whole live =
+    let at = live_given (replay state.history) seq live in
+    let all = all_entries state.segments in
+    subst (Contains (seqs_of all)) at.is
+    (seq_among all at.entry
+    ((shelved state (replay_numbered state.history) whole).among at.id at.entry at.given))

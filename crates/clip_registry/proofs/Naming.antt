@@ -1,29 +1,14 @@
 -- Sets of live seqs.
-use Rattle.std.proofs.Common.{◌≡◌, ℕ, suc, ◌<◌, Bool, true, false, cond, ◌||◌, List, [], ◌∷◌, length, get_or, map, refl}
+use Rattle.std.proofs.Common.{◌≡◌, ℕ, Bool, true, false, cond, ◌||◌, List, [], ◌∷◌, map, refl}
 use Rattle.std.proofs.Common.{sym, ap, ◌∙◌, inl, inr, arith, ◌==◌}
 use Rattle.std.proofs.lemmas.Bool.{false≢true}
-use Rattle.std.proofs.lemmas.List.{length-map, get_or-map}
 use Rattle.std.specs.List.{Contains, filter}
 use Rattle.clip_grammar.proofs.Booleans.{same_answer}
-use Rattle.clip_segment.specs.Segment.{IsRising}
-use Rattle.clip_merge.specs.Live.{AreRising, named, names}
+use Rattle.clip_merge.specs.Live.{named, names}
 use Rattle.clip_model.specs.History.{Registered}
 use Rattle.clip_model.proofs.Numbers.{same_numbers, numbers_same}
-use Rattle.clip_registry.proofs.Entered.{filter_fewer}
 use Rattle.clip_registry.proofs.Rising.{contains_head, contains_later, contains_cases, contains_filter}
 use Rattle.clip_registry.proofs.Kept.{contains_of_filter}
-
--- the seqs of entries rise where these do
-pub seqs_rise : (rs : List Registered) → IsRising rs → AreRising (map (λ r. r.seq) rs)
-seqs_rise [] is = record { rises = λ i j d lt within. absurd (omega arith) }
-seqs_rise (r ∷ rs) is = record {
-  rises = λ i j d lt within.
-      let few = length-map (r ∷ rs) (λ (q : Registered). q.seq) in
-      let rises : (get_or (r ∷ rs) i r).seq < (get_or (r ∷ rs) j r).seq = is.rises i j r lt (omega arith) in
-      let low = get_or-map (λ (q : Registered). q.seq) (r ∷ rs) i r d (omega arith) in
-      let high = get_or-map (λ (q : Registered). q.seq) (r ∷ rs) j r d (omega arith) in
-      omega arith;
-}
 
 -- a member's seq is named
 pub names_member : (rs : List Registered) (r : Registered) → Contains rs r → names (map (λ r. r.seq) rs) r.seq ≡ true
@@ -55,7 +40,7 @@ named_member (r ∷ rs) seq h =
           record { entry = rest.entry; among = contains_later r rest.entry rs rest.among; is = rest.is }
     ] refl h
 
-filter_same : (p q : Registered → Bool) (rs : List Registered) → ((r : Registered) → Contains rs r → p r ≡ q r)
+pub filter_same : (p q : Registered → Bool) (rs : List Registered) → ((r : Registered) → Contains rs r → p r ≡ q r)
     → filter p rs ≡ filter q rs
 filter_same p q [] same = refl
 filter_same p q (r ∷ rs) same =
@@ -78,14 +63,3 @@ pub named_picked : (p : ℕ → Bool) (rs : List Registered) → named (map (λ 
 named_picked p rs =
     let test = λ (r : Registered). p r.seq in
     filter_same (λ r. names (map (λ r. r.seq) (filter test rs)) r.seq) test rs (name_picked p rs)
-
--- a filter that drops none keeps all
-pub filter_all : (p : Registered → Bool) (rs : List Registered) → length (filter p rs) ≡ length rs → filter p rs ≡ rs
-filter_all p [] e = refl
-filter_all p (r ∷ rs) e =
-    let few = filter_fewer p rs in
-    elim (p r) as (λ b. length (cond b (r ∷ filter p rs) (filter p rs)) ≡ suc (length rs)
-    → cond b (r ∷ filter p rs) (filter p rs) ≡ r ∷ rs) [
-      | true ↦ λ k. ap (λ x. r ∷ x) (filter_all p rs (omega arith))
-      | false ↦ λ k. absurd (omega arith)
-    ] e

@@ -1,20 +1,23 @@
 -- Entries that a test of their seqs picks, and how they are flagged.
 use Rattle.std.proofs.Common.{◌≡◌, ℕ, ◌+◌, Bool, true, false, cond, List, [], ◌∷◌, ◌++◌, length, refl, sym, ap, ◌∙◌}
-use Rattle.std.proofs.Common.{arith}
+use Rattle.std.proofs.Common.{arith, inl, inr, replicate, subst}
 use Rattle.std.proofs.lemmas.List.{length-append}
 use Rattle.std.proofs.lemmas.List.Elements.{filter-append}
 use Rattle.std.proofs.lemmas.List.Sums.{length-filter, sum_by-cons}
-use Rattle.std.specs.List.{count_by, filter}
-use Rattle.clip_segment.specs.Segment.{all_entries}
+use Rattle.std.specs.List.{Contains, count_by, filter}
+use Rattle.clip_segment.specs.Segment.{IsRising, all_entries}
 use Rattle.clip_segment.specs.Selecting.{count_set, flagged, kept_of}
 use Rattle.clip_model.specs.History.{Registered}
 use Rattle.clip_registry.specs.Steps.LiveFlags.{flags_by, flags_of}
+use Rattle.clip_registry.proofs.Kept.{all_of_some}
+use Rattle.clip_registry.proofs.Rising.{Below, rising_nil, rising_cons, rising_head, rising_tail, contains_head}
+use Rattle.clip_registry.proofs.Rising.{contains_later, contains_cases}
 
 -- the entries whose seqs pass a test
 abbrev pub picked : (ℕ → Bool) → List Registered → List Registered
 picked is es = filter (λ r. is r.seq) es
 
-flagged_by : (is : ℕ → Bool) (es : List Registered) → flagged (flags_of is es) es ≡ picked is es
+pub flagged_by : (is : ℕ → Bool) (es : List Registered) → flagged (flags_of is es) es ≡ picked is es
 flagged_by is [] = refl
 flagged_by is (e ∷ es) =
     let rest = flagged_by is es in
@@ -57,3 +60,29 @@ count_picked is (segment ∷ segments) =
       ap length (filter-append (λ (r : Registered). is r.seq) segment (all_entries segments)),
       length-append (picked is segment) (picked is (all_entries segments)),
     )
+
+-- ---- entries whose flags are set
+
+pub flagged_all : (es : List Registered) → flagged (replicate (length es) true) es ≡ es
+flagged_all [] = refl
+flagged_all (e ∷ es) = ap (λ xs. e ∷ xs) (flagged_all es)
+
+flagged_among : (flags : List Bool) (es : List Registered) (r : Registered) → Contains (flagged flags es) r
+    → Contains es r
+flagged_among [] es r (k, lt, at) = absurd (omega arith)
+flagged_among (flag ∷ flags) [] r (k, lt, at) = absurd (omega arith)
+flagged_among (true ∷ flags) (e ∷ es) r h =
+    elim (contains_cases e r (flagged flags es) h) [
+      | inl same ↦ subst (λ x. Contains (x ∷ es) r) (sym same) (contains_head r es)
+      | inr later ↦ contains_later e r es (flagged_among flags es r later)
+    ]
+flagged_among (false ∷ flags) (e ∷ es) r h = contains_later e r es (flagged_among flags es r h)
+
+pub rising_flagged : (flags : List Bool) (es : List Registered) → IsRising es → IsRising (flagged flags es)
+rising_flagged [] es is = rising_nil
+rising_flagged (flag ∷ flags) [] is = rising_nil
+rising_flagged (true ∷ flags) (e ∷ es) is =
+    rising_cons e (flagged flags es)
+    (all_of_some (Below e) es (flagged flags es) (rising_head e es is) (flagged_among flags es))
+    (rising_flagged flags es (rising_tail e es is))
+rising_flagged (false ∷ flags) (e ∷ es) is = rising_flagged flags es (rising_tail e es is)

@@ -62,11 +62,11 @@ by_id_sync = view_sync by_id_inside.the_row _ _ _ _
 
 roster_send : IsSend roster.the_row
 roster_send = view_send roster_inside.the_row _ _ _ _
-    (declared_send roster_inside.the_type (by_id_send, (search global, (search (global, flags_sent.the_send), tt))))
+    (declared_send roster_inside.the_type (by_id_send, (search global, tt)))
 
 roster_sync : IsSync roster.the_row
 roster_sync = view_sync roster_inside.the_row _ _ _ _
-    (declared_sync roster_inside.the_type (by_id_sync, (search global, (search (global, flags_sent.the_sync), tt))))
+    (declared_sync roster_inside.the_type (by_id_sync, (search global, tt)))
 
 log_send : IsSend log.the_row
 log_send = view_send log_inside.the_row _ _ _ _

@@ -1,5 +1,4 @@
 pub mod Change
-pub mod Flags
 pub mod History
 pub mod LiveFlags
 pub mod Log

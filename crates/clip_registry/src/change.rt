@@ -1,20 +1,20 @@
 //! What commands do to the segments and the roster.
-ghost use Rattle.std.specs.Prelude.{◌≡◌, ◌+◌, ◌<◌, ◌≤◌, ◌^◌, map, length, IfOk, IfErr, IsTrue};
+ghost use Rattle.std.specs.Prelude.{◌≡◌, ◌+◌, ◌<◌, ◌≤◌, ◌^◌, true, map, filter, length, replicate, IfOk, IfErr, IsTrue};
 ghost use Rattle.std.specs.Arc.{arc_value};
 ghost use Rattle.std.specs.FinMap as finite;
 ghost use Rattle.std.specs.List.{All};
 ghost use Rattle.clip_model.specs.History as model;
 ghost use Rattle.clip_model.specs.History.{fits, register_all, after_command};
 ghost use Rattle.clip_standing.specs.Command.{command_of};
+ghost use Rattle.clip_segment.specs.Segment.{IsRising, all_entries};
+ghost use Rattle.clip_segment.specs.declared.segment.TheConstants.{MOST_POSITIONS};
 ghost use Rattle.clip_registry.specs.Steps.Change.{content, IsChanged};
-ghost use Rattle.clip_registry.specs.Steps.LiveFlags.{flags_in};
-ghost use Rattle.clip_registry.specs.Steps.Roster.{live_in};
-ghost use Rattle.clip_segment.specs.Segment.{all_entries};
-ghost use Rattle.clip_model.specs.Steps.Numbered.{IsNumbered};
-ghost use Rattle.clip_registry.specs.RegistryState.{numbered, standing_after};
+ghost use Rattle.clip_registry.specs.Steps.LiveFlags.{flags_in, without_all};
+ghost use Rattle.clip_registry.specs.RegistryState.{numbered};
 ghost use Rattle.clip_standing.specs.declared.command.Refused.TheVariants as refused;
 
-use crate::live_flags::flags_of;
+use crate::live_flags::{all_set, clear, clear_each};
+use crate::purging::live_segment;
 use crate::roster::Roster;
 use clip_model::{MOST_LISTED, MOST_LIVE};
 use clip_pieces::{Shared, SharedFlags};
@@ -43,21 +43,23 @@ fn numbered_entries(
     Ok(entries)
 }
 
-/// Those of the entries that are live in the roster, or `NoMemory` where an allocation failed.
-fn live_entries(
+/// The segment of those of the entries whose seqs are not among these, and a flag for each of them, all set. `NoMemory`
+/// where an allocation failed.
+fn standing_segment(
     alloc: Global,
-    roster: &Roster,
-    entries: &[Arc<Entry>],
-) -> Result<Vec<Arc<Entry>>, NoMemory>
-    ensures { IfOk result (λ live. map arc_value live.items ≡ live_in roster.now.registry (map arc_value entries.now)) }
+    entries: Vec<Arc<Entry>>,
+    gone: &[u64],
+) -> Result<(Arc<Segment>, Shared<SharedFlags>), NoMemory>
+    requires short { length entries.items ≤ MOST_POSITIONS }
+    requires rising { IsRising (map arc_value entries.items) }
+    ensures entries { IfOk result (λ kept. kept.0.value
+        ≡ filter (λ r. without_all gone.now (λ _. true) r.seq) (map arc_value entries.items)) }
+    ensures set { IfOk result (λ kept. kept.1 ≡ replicate (length kept.0.value) true) }
 {
-    let mut live = Vec::new(alloc);
-    for entry in entries {
-        if roster.is_live(entry.seq()) {
-            live.push(entry.clone()?)?;
-        }
-    }
-    Ok(live)
+    let segment = Arc::new(alloc, Segment::build(alloc, entries)?)?;
+    let mut flags = all_set(alloc, segment.len())?;
+    clear(&mut flags, &segment, gone)?;
+    live_segment(alloc, &segment, &flags)
 }
 
 /// What a command leaves of the segments, their live flags and the roster, and the answer to it.
@@ -67,34 +69,6 @@ pub struct Changed {
     pub roster: Roster,
     pub applied: Applied,
     pub live: Vec<Shared<SharedFlags>>,
-}
-
-/// The roster with queries in the places of those with their ids, and the entries of those of them that then stand: of
-/// a repeated id the last. The live flags of the segments are then as they are in it. `NoMemory` where an allocation
-/// failed.
-fn enter(
-    alloc: Global,
-    roster: Roster,
-    standings: &[Arc<Standing>],
-    segments: &[Arc<Segment>],
-    live: &mut Vec<Shared<SharedFlags>>,
-) -> Result<(Roster, Vec<Arc<Entry>>), NoMemory>
-    requires listed { roster.listed + length standings.now < 2 ^ 64 }
-    requires flags { live.old.items ≡ flags_in roster.registry (map arc_value segments.now) }
-    requires within { All (λ r. r.seq ≤ roster.listed) (all_entries (map arc_value segments.now)) }
-    ensures registry { IfOk result (λ after. after.0.registry
-        ≡ register_all roster.listed (map arc_value standings.now) roster.registry) }
-    ensures listed { IfOk result (λ after. after.0.listed ≡ roster.listed + length standings.now) }
-    ensures live { IfOk result (λ after. map arc_value after.1.items
-        ≡ standing_after roster.listed (map arc_value standings.now) roster.registry) }
-    ensures numbered { IfOk result (λ _. IsNumbered roster.listed roster.registry) }
-    ensures flags { IfOk result (λ after.
-        live.new.items ≡ flags_in after.0.registry (map arc_value segments.now)) }
-{
-    let entries = numbered_entries(alloc, roster.listed(), standings)?;
-    let entered = roster.with_entries(alloc, &entries, segments, live)?;
-    let standing = live_entries(alloc, &entered, &entries)?;
-    Ok((entered, standing))
 }
 
 /// Registers queries: they take the places of those with their ids, and a segment with those that stand goes to the
@@ -126,15 +100,16 @@ fn register(
             live,
         });
     }
-    let (mut segments, mut live) = (segments, live);
-    let (roster, entries) = enter(alloc, roster, standings, &segments, &mut live)?;
+    let entries = numbered_entries(alloc, roster.listed(), standings)?;
+    let (roster, gone) = roster.with_entries(alloc, &entries)?;
     if roster.len() > MOST_LIVE {
         return Err(Refused::Full);
     }
-    let count = entries.len() as u64;
-    let segment = Segment::build(alloc, entries)?;
-    let flags = flags_of(alloc, &roster, &segment)?;
-    segments.push(Arc::new(alloc, segment)?)?;
+    let (mut segments, mut live) = (segments, live);
+    clear_each(&mut live, &segments, &gone)?;
+    let (segment, flags) = standing_segment(alloc, entries, &gone)?;
+    let count = segment.len() as u64;
+    segments.push(segment)?;
     live.push(flags)?;
     Ok(Changed {
         segments,
@@ -169,8 +144,9 @@ pub fn change(
         Command::Register(standings) => register(alloc, segments, live, roster, standings),
         Command::Delete(ids) => {
             let before = roster.len();
+            let (roster, gone) = roster.without_ids(alloc, ids)?;
             let mut live = live;
-            let roster = roster.without_ids(ids, &segments, &mut live)?;
+            clear_each(&mut live, &segments, &gone)?;
             let applied = Applied::Deleted(before - roster.len());
             Ok(Changed {
                 segments,

@@ -1,55 +1,23 @@
 //! The live flags of segments: for each segment a flag for each of its entries, by position.
-ghost use Rattle.std.specs.Prelude.{◌≡◌, ℕ, Bool, true, List, Some, map, length, replicate, vec_items, IfOk, OnOk};
+ghost use Rattle.std.specs.Prelude.{◌≡◌, ◌++◌, ℕ, Bool, true, List, map, length, replicate, vec_items, IfOk, OnOk};
 ghost use Rattle.std.specs.Arc.{arc_value};
-ghost use Rattle.std.specs.List.{list_all};
-ghost use Rattle.clip_model.specs.History.{Registered, is_live_in};
-ghost use Rattle.clip_segment.specs.Segment.{all_entries};
-ghost use Rattle.clip_registry.specs.Steps.LiveFlags.{died, flags_by, flags_in, flags_of, stays, without, without_all};
+ghost use Rattle.std.specs.List.{Contains, list_all};
+ghost use Rattle.clip_model.specs.History.{Registered};
+ghost use Rattle.clip_segment.specs.Segment.{all_entries, seqs_of};
+ghost use Rattle.clip_registry.specs.Steps.LiveFlags.{died, flags_by, flags_of, stays, without, without_all};
 
-use crate::roster::Roster;
 use clip_pieces::{Shared, SharedFlags};
 use clip_segment::Segment;
 use clip_words::NoMemory;
 use std::alloc::Global;
 use std::sync::Arc;
 
-/// For each entry of a segment whether it is live in the roster. `NoMemory` where an allocation failed. It costs a step
-/// for each entry, and looks at none.
-pub fn flags_of(
-    alloc: Global,
-    roster: &Roster,
-    segment: &Segment,
-) -> Result<Shared<SharedFlags>, NoMemory>
-    ensures { IfOk result (λ flags. flags ≡ flags_of (is_live_in roster.now.registry) segment.now) }
-{
-    let mut flags = SharedFlags::new(alloc);
-    for seq in segment.seqs() {
-        flags.push(roster.is_live(*seq))?;
-    }
-    Shared::new(alloc, flags)
-}
-
-/// For each of the segments its live flags. `NoMemory` where an allocation failed. It costs a step for each entry.
-pub fn all_flags(
-    alloc: Global,
-    roster: &Roster,
-    segments: &[Arc<Segment>],
-) -> Result<Vec<Shared<SharedFlags>>, NoMemory>
-    ensures { IfOk result (λ live. live.items ≡ flags_in roster.now.registry (map arc_value segments.now)) }
-{
-    let mut live = Vec::with_capacity(alloc, segments.len())?;
-    for segment in segments {
-        live.push(flags_of(alloc, roster, segment)?)?;
-    }
-    Ok(live)
-}
-
 /// Clears the flag of a seq among those of a segment, if an entry of it has the seq. `NoMemory` where an allocation
 /// failed.
 fn clear_in(flags: &mut Shared<SharedFlags>, segment: &Segment, seq: u64) -> Result<(), NoMemory>
     requires { length flags.old ≡ length segment.now }
     ensures cleared { (is : ℕ → Bool) → flags.old ≡ flags_of is segment.now
-        → OnOk result (flags.new ≡ flags_of (without (Some seq) is) segment.now) }
+        → OnOk result (flags.new ≡ flags_of (without seq is) segment.now) }
     ensures long { OnOk result (length flags.new ≡ length flags.old) }
 {
     match segment.position_of(seq) {
@@ -58,37 +26,54 @@ fn clear_in(flags: &mut Shared<SharedFlags>, segment: &Segment, seq: u64) -> Res
     }
 }
 
-/// Clears the flag of a seq, if an entry of the segments has it. `NoMemory` where an allocation failed.
-fn clear(
-    live: &mut Vec<Shared<SharedFlags>>,
-    segments: &[Arc<Segment>],
-    seq: u64,
+/// Clears the flags of these seqs among those of a segment, where its entries have them. `NoMemory` where an allocation
+/// failed. It costs a step for each seq, and a binary search for each that is not above those of the segment.
+pub fn clear(
+    flags: &mut Shared<SharedFlags>,
+    segment: &Segment,
+    seqs: &[u64],
 ) -> Result<(), NoMemory>
-    requires { map length live.old.items ≡ map length (map arc_value segments.now) }
-    ensures { (is : ℕ → Bool) → live.old.items ≡ flags_by is (map arc_value segments.now)
-        → OnOk result (live.new.items ≡ flags_by (without (Some seq) is) (map arc_value segments.now)) }
+    requires { length flags.old ≡ length segment.now }
+    ensures { (is : ℕ → Bool) → flags.old ≡ flags_of is segment.now
+        → OnOk result (flags.new ≡ flags_of (without_all seqs.now is) segment.now) }
 {
-    for (place, segment) in segments.iter().enumerate() {
-        clear_in(&mut live[place], segment, seq)?;
+    for seq in seqs {
+        clear_in(flags, segment, *seq)?;
     }
     Ok(())
 }
 
-/// Clears the flag of the seq that is gone, if one is. `NoMemory` where an allocation failed. It costs a step for each
-/// segment, and a binary search in those that have a seq that is not below it.
-pub fn clear_gone(
+/// Clears the flags of these seqs, where entries of the segments have them. `NoMemory` where an allocation failed. It
+/// costs a step for each segment, and in it what `clear` does.
+pub fn clear_each(
     live: &mut Vec<Shared<SharedFlags>>,
     segments: &[Arc<Segment>],
-    gone: Option<u64>,
+    seqs: &[u64],
 ) -> Result<(), NoMemory>
     requires { map length live.old.items ≡ map length (map arc_value segments.now) }
     ensures { (is : ℕ → Bool) → live.old.items ≡ flags_by is (map arc_value segments.now)
-        → OnOk result (live.new.items ≡ flags_by (without gone is) (map arc_value segments.now)) }
+        → OnOk result (live.new.items ≡ flags_by (without_all seqs.now is) (map arc_value segments.now)) }
 {
-    match gone {
-        Some(seq) => clear(live, segments, seq),
-        None => Ok(()),
+    for (place, segment) in segments.iter().enumerate() {
+        clear(&mut live[place], segment, seqs)?;
     }
+    Ok(())
+}
+
+/// Whether an entry of the segments has the seq, and its flag is set. It costs a step for each segment up to the one
+/// that has the seq, and a binary search in each of these that has a seq that is not below it.
+pub fn has_live(live: &[Shared<SharedFlags>], segments: &[Arc<Segment>], seq: u64) -> bool
+    requires { length live.now ≡ length segments.now }
+    ensures { (is : ℕ → Bool) → live.now ≡ flags_by is (map arc_value segments.now)
+        → (is seq ≡ true → Contains (seqs_of (all_entries (map arc_value segments.now))) seq)
+        → result ≡ is seq }
+{
+    for (place, segment) in segments.iter().enumerate() {
+        if let Some(position) = segment.position_of(seq) {
+            return live[place].value().get(position as usize).unwrap_or(false);
+        }
+    }
+    false
 }
 
 /// The flags one by one. `NoMemory` where an allocation failed.
@@ -148,57 +133,56 @@ pub fn all_set(alloc: Global, count: usize) -> Result<Shared<SharedFlags>, NoMem
     Shared::new(alloc, flags)
 }
 
-/// Clears the flags of those entries of a source that were live when a merge was begun and died since. `NoMemory` where
-/// an allocation failed.
-fn clear_dead_of(
-    live: &mut Shared<SharedFlags>,
-    segment: &Segment,
+/// Whether all flags are set. It costs a step for each.
+pub fn are_all_set(flags: &SharedFlags) -> bool
+    ensures { result ≡ true → flags.now ≡ replicate (length flags.now) true }
+{
+    for place in 0..flags.len() {
+        if !flags.get(place).unwrap_or(false) {
+            return false;
+        }
+    }
+    true
+}
+
+/// Adds the seqs of those entries of a source that were live when a merge was begun and died since. `NoMemory` where an
+/// allocation failed.
+fn add_died(
     source: &Segment,
     now: &SharedFlags,
     begun: &SharedFlags,
+    seqs: &mut Vec<u64>,
 ) -> Result<(), NoMemory>
-    requires live { length live.old ≡ length segment.now }
-    requires begun { length begun.now ≡ length source.now }
-    ensures cleared { (is was so : ℕ → Bool) → now.now ≡ flags_of is source.now → begun.now ≡ flags_of was source.now
-        → live.old ≡ flags_of so segment.now
-        → OnOk result (live.new ≡ flags_of (without_all (died is was source.now) so) segment.now) }
-    ensures long { OnOk result (length live.new ≡ length live.old) }
+    requires { length begun.now ≡ length source.now }
+    ensures { (is was : ℕ → Bool) → now.now ≡ flags_of is source.now → begun.now ≡ flags_of was source.now
+        → OnOk result (seqs.new.items ≡ seqs.old.items ++ seqs_of (died is was source.now)) }
 {
-    let seqs = source.seqs();
+    let all = source.seqs();
     let mut from = 0;
     while let Some(place) = begun.next_lost(now, from) {
-        clear_in(live, segment, seqs[place])?;
+        seqs.push(all[place])?;
         from = place + 1;
     }
     Ok(())
 }
 
-/// Clears the flags of those entries of the sources that were live when a merge was begun and died since. `NoMemory`
-/// where an allocation failed. It costs a step for each 64 entries of the sources, and a binary search among those
-/// of the merge for each that died.
-pub fn clear_dead(
-    live: &mut Shared<SharedFlags>,
-    segment: &Segment,
+/// The seqs of those entries of the sources that were live when a merge was begun and died since. `NoMemory` where an
+/// allocation failed. It costs a step for each 64 entries of the sources, and one for each that died.
+pub fn died_since(
+    alloc: Global,
     sources: &[Arc<Segment>],
     now: &[Shared<SharedFlags>],
     begun: &[Shared<SharedFlags>],
-) -> Result<(), NoMemory>
-    requires live { length live.old ≡ length segment.now }
+) -> Result<Vec<u64>, NoMemory>
     requires now { length now.now ≡ length sources.now }
     requires begun { map length begun.now ≡ map length (map arc_value sources.now) }
-    ensures { (is was so : ℕ → Bool) → now.now ≡ flags_by is (map arc_value sources.now)
-        → begun.now ≡ flags_by was (map arc_value sources.now) → live.old ≡ flags_of so segment.now
-        → OnOk result (live.new
-        ≡ flags_of (without_all (died is was (all_entries (map arc_value sources.now))) so) segment.now) }
+    ensures { (is was : ℕ → Bool) → now.now ≡ flags_by is (map arc_value sources.now)
+        → begun.now ≡ flags_by was (map arc_value sources.now)
+        → IfOk result (λ seqs. seqs.items ≡ seqs_of (died is was (all_entries (map arc_value sources.now)))) }
 {
+    let mut seqs = Vec::new(alloc);
     for (place, source) in sources.iter().enumerate() {
-        clear_dead_of(
-            live,
-            segment,
-            source,
-            now[place].value(),
-            begun[place].value(),
-        )?;
+        add_died(source, now[place].value(), begun[place].value(), &mut seqs)?;
     }
-    Ok(())
+    Ok(seqs)
 }

@@ -6,7 +6,8 @@ ghost use Rattle.clip_registry.specs.Merging.{IsOver, IsStale, LateMergesMissNot
 ghost use Rattle.clip_registry.specs.Steps.LiveFlags.{flags_in};
 ghost use Rattle.clip_registry.specs.Steps.Merging.{AreKept, replaced};
 
-use crate::live_flags::{all_set, clear_dead, flags_listed, misses_none};
+use crate::live_flags::{clear, died_since, misses_none};
+use crate::purging::select_live;
 use crate::same::place_of;
 use crate::state::State;
 use clip_pieces::{Shared, SharedFlags};
@@ -118,10 +119,7 @@ impl MergeJob {
     pub fn run(&self) -> Result<Merged, NoMemory>
         ensures { IfOk result (λ merged. merged ≡ merge_of self.now) }
     {
-        let kept = flags_listed(self.alloc, &self.flags)?;
-        let merged = Segment::select(self.alloc, &self.sources, &kept)?;
-        let live = all_set(self.alloc, merged.len())?;
-        let segment = Arc::new(self.alloc, merged)?;
+        let (segment, live) = select_live(self.alloc, &self.sources, &self.flags)?;
         Ok(Merged {
             sources: self.sources.clone()?,
             flags: self.flags.clone()?,
@@ -152,7 +150,7 @@ impl Merged {
 
     /// The live flags of the segments of a state, with those of the merge in the place of those of its sources from
     /// `first` on, or with none there where it has no entries. `NoMemory` where an allocation failed. It costs a step
-    /// for each segment, whose flags it shares, and what `clear_dead` does.
+    /// for each segment, whose flags it shares, what `died_since` does, and a binary search for each that died.
     pub(crate) fn put_flags(
         &self,
         alloc: Global,
@@ -169,8 +167,9 @@ impl Merged {
         let mut live = Vec::with_capacity(alloc, state.live.len())?;
         live.extend_with_clones(before)?;
         if !self.segment.is_empty() {
+            let died = died_since(alloc, &self.sources, now, &self.flags)?;
             let mut merged = self.live.clone()?;
-            clear_dead(&mut merged, &self.segment, &self.sources, now, &self.flags)?;
+            clear(&mut merged, &self.segment, &died)?;
             live.push(merged)?;
         }
         live.extend_with_clones(after)?;

@@ -11,7 +11,6 @@ ghost use Rattle.clip_standing.specs.declared.command.Refused.TheVariants as ref
 
 use crate::held::{copy_of, has_ended, history_of, last_of, number_of, own_copy};
 use crate::history::History;
-use crate::live_flags::all_flags;
 use crate::merging::{Installed, MergeJob, Merged};
 use crate::purging::live_segments;
 use crate::state::State;
@@ -102,14 +101,14 @@ impl Registrar {
     /// would then be registered, and `NoMemory` where an allocation failed.
     ///
     /// A register costs the extraction of the keys of each listed query, and for each a search among the registered
-    /// ids; a delete costs such a search for each listed id; a clear costs the dropping of what no view holds.
+    /// ids, and where it lists an id twice also that of `Segment::select` over what it lists; a delete costs such a
+    /// search for each listed id; a clear costs the dropping of what no view holds.
     ///
     /// A command is done to a copy of the registry, which shares all that the command leaves as it is. The copy costs
-    /// a step for each segment, one for each 16,384 history entries that are kept, one for each 1,048,576 queries
-    /// listed since the last clear, and one for each piece of the map by id, which holds up to 512 entries; then, for
-    /// the entry of the history and for each query listed, replaced or deleted, at most two pieces of 128 are copied,
-    /// and for each id that is listed one piece of the map, of each piece just once. For each query that is replaced or
-    /// deleted at most two such pieces of the live flags of its segment are copied too; the segment is found by a step
+    /// a step for each segment, one for each 16,384 history entries that are kept, and one for each piece of the map by
+    /// id, which holds up to 512 entries; then, for the entry of the history at most two pieces of 128 are copied, and
+    /// for each id that is listed one piece of the map, of each piece just once. For each query that is replaced or
+    /// deleted at most two pieces of 128 of the live flags of its segment are copied; the segment is found by a step
     /// for each segment, and a binary search in those that have a seq that is not below it. No text of a query and
     /// no id of one is copied; the ids of a delete are, into its history entry.
     pub fn apply(&mut self, caller: u32, command: Command) -> Result<Applied, (Command, Refused)>
@@ -203,8 +202,9 @@ impl Registrar {
     /// Leaves each segment with just its live entries, and takes the empty ones away. The history is kept, and so is
     /// what is registered. `NoMemory` where an allocation failed, with nothing changed.
     ///
-    /// Cost: a step for each entry, and that of `clip_merge::purge` for each segment with an entry that is dead; the
-    /// others are shared by a new list. And a copy like that of a command, of which nothing else is changed.
+    /// Cost: a step for each entry, and that of `Segment::select` for each segment with an entry that is dead; the
+    /// others are shared by a new list, with their live flags. And a copy like that of a command, of which nothing else
+    /// is changed.
     pub fn purge(&mut self) -> Result<(), NoMemory>
         ensures purged { OnOk result (self.new ≡ purged self.old) }
         ensures unchanged { OnErr result (self.new ≡ self.old) }
@@ -212,8 +212,7 @@ impl Registrar {
         let Some(shared) = &self.state else {
             return Ok(());
         };
-        let segments = live_segments(self.alloc, &shared.roster, &shared.segments)?;
-        let live = all_flags(self.alloc, &shared.roster, &segments)?;
+        let (segments, live) = live_segments(self.alloc, shared)?;
         self.state = Some(shared.with_segments(self.alloc, segments, live)?);
         Ok(())
     }

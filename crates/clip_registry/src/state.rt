@@ -9,7 +9,7 @@
 //! Here b was registered as 2 and once more as 3: the entry of seq 2 stays in `s0` until a merge, and its bit is 0.
 ghost use Rattle.std.specs.Prelude.{◌≡◌, ◌<◌, ◌≤◌, length, map, IfOk, IfErr, IsTrue, IsFalse};
 ghost use Rattle.std.specs.Arc.{arc_value};
-ghost use Rattle.clip_model.specs.History.{IsLegal, fits, has_room, next_entry, own, replay};
+ghost use Rattle.clip_model.specs.History.{IsLegal, fits, has_room, is_live, next_entry, own, replay};
 ghost use Rattle.clip_standing.specs.Command.{command_of, entry_of};
 ghost use Rattle.clip_registry.specs.Steps.Change.{IsAccepted};
 ghost use Rattle.clip_registry.specs.Steps.LiveFlags.{flags_in};
@@ -18,6 +18,7 @@ ghost use Rattle.clip_registry.specs.RegistryState.{beginning};
 ghost use Rattle.clip_standing.specs.declared.command.Refused.TheVariants as refused;
 
 use crate::change::change;
+use crate::live_flags::has_live;
 use crate::log::Log;
 use crate::roster::Roster;
 use clip_model::{MOST_CALLERS, MOST_ENTRIES};
@@ -103,6 +104,13 @@ impl State {
             return 0;
         }
         counts[caller as usize - 1] as u32
+    }
+
+    /// Whether a registered query has the seq. It costs what `has_live` does.
+    pub fn is_live(&self, seq: u64) -> bool
+        ensures { result ≡ is_live self.now.history seq }
+    {
+        has_live(&self.live, &self.segments, seq)
     }
 
     /// The entry of a caller's next command, or `NoMemory` where an allocation failed.

@@ -140,19 +140,20 @@ impl View {
         }
     }
 
-    /// Whether a registered query has the entry's seq. Constant time, and no text is read.
+    /// Whether a registered query has the entry's seq. Cost: that of `is_live_seq`; no text is read.
     pub fn is_live(&self, entry: &Entry) -> bool
         ensures { result ≡ is_live self.now.history entry.now.seq }
     {
         self.is_live_seq(entry.seq())
     }
 
-    /// Whether a registered query has the seq. Constant time.
+    /// Whether a registered query has the seq. Takes no memory. Cost: a step for each segment up to the one that has the
+    /// seq, and a binary search in each of these that has a seq that is not below it, so mostly in one.
     pub fn is_live_seq(&self, seq: u64) -> bool
         ensures { result ≡ is_live self.now.history seq }
     {
         match &self.state {
-            Some(state) => state.roster.is_live(seq),
+            Some(state) => state.is_live(seq),
             None => false,
         }
     }

@@ -1,5 +1,5 @@
-use Rattle.std.proofs.Common.{◌≡◌, ◌+◌, ◌++◌, ◌∷◌, [], ◌<◌, ℕ, sym, ap, subst, ◌∙◌, arith, List, true, false, length}
-use Rattle.std.proofs.Common.{map, ◌==◌}
+use Rattle.std.proofs.Common.{◌≡◌, ◌+◌, ◌++◌, ◌∷◌, [], ◌<◌, ◌≤◌, ℕ, sym, ap, ap₂, subst, ◌∙◌, arith, List, true}
+use Rattle.std.proofs.Common.{false, length, map, filter, replicate, ◌==◌}
 use Rattle.std.proofs.lemmas.Bool.Decides.{nat_tests}
 use Rattle.std.proofs.lemmas.List.{map-append, length-map, nil_from_length}
 use Rattle.std.specs.Arc.{arc_value}
@@ -9,12 +9,20 @@ use Rattle.clip_model.specs.declared.limits.TheConstants.{MOST_LIVE}
 use Rattle.clip_model.specs.History.{Register, Registered, register_all, is_live_in}
 use Rattle.clip_standing.specs.declared.command.Applied.TheVariants as applied
 use Rattle.clip_registry.specs.Steps.Change.{content, IsChanged}
-use Rattle.clip_registry.specs.RegistryState.{numbered}
-use Rattle.clip_registry.proofs.Entered.{filter_fewer, segments_register, nothing_registered}
+use Rattle.clip_registry.specs.Steps.LiveFlags.{flags_by, flags_in, flags_of, without_all}
+use Rattle.clip_registry.specs.Steps.Roster.{Roster, SeqsFollow, has_or_awaits, roster_with_all}
+use Rattle.clip_registry.specs.RegistryState.{numbered, standing_after}
+use Rattle.clip_registry.proofs.Clearing.{all_picked}
+use Rattle.clip_registry.proofs.Entered.{segments_register, nothing_registered}
 use Rattle.clip_registry.proofs.Distinct.{count_distinct}
-use Rattle.clip_registry.proofs.Rising.{rising_filter, numbered_rising}
+use Rattle.clip_registry.proofs.Gone.{flags_had, flags_left, those_left}
+use Rattle.clip_registry.proofs.LiveFlags.{shape_of}
+use Rattle.clip_registry.proofs.Picked.{picked}
+use Rattle.clip_registry.proofs.Registering.{insert_all-numbered, numbered_follow}
+use Rattle.clip_registry.proofs.Rising.{numbered_rising}
 use Rattle.clip_registry.proofs.Whole.{length-numbered}
 use Rattle.clip_registry.proofs.change.register.Goals as goal
+use Rattle.clip_registry.proofs.change.register.Goals.{In_ok-roster, In_ok-segment}
 
 no_length : (n : ℕ) → true ≡ (n == 0) → n ≡ 0
 no_length n h = grind (arith, nat_tests)
@@ -30,47 +38,128 @@ returns-then-is_empty-clause-changed c =
     subst (λ ss. IsChanged (Register (map arc_value ss)) before before (applied.Registered 0)) (sym none)
     (nothing_registered before c.requires.small)
 
+pub with_entries-requires : goal.with_entries-requires
+with_entries-requires c =
+    let ss = map arc_value c.args.standings.now in
+    subst (SeqsFollow c.args.roster.listed)
+    (sym (ap (map arc_value) c.deref.ensures.value ∙ c.in_ok-entries.ensures
+    ∙ ap (λ k. numbered k ss) c.listed.ensures.listed))
+    (numbered_follow c.args.roster.listed ss)
+
+-- the entries are those of the list, numbered after those listed
+numbers : (c : In_ok-roster) → map arc_value c.in_ok-entries.entries.items
+    ≡ numbered c.args.roster.listed (map arc_value c.args.standings.now)
+numbers c = c.in_ok-entries.ensures ∙ ap (λ k. numbered k (map arc_value c.args.standings.now)) c.listed.ensures.listed
+
+-- they are in the roster
+entered : (c : In_ok-roster) → c.in_ok-roster.roster
+    ≡ roster_with_all c.args.roster (numbered c.args.roster.listed (map arc_value c.args.standings.now))
+entered c = c.in_ok-roster.ensures.roster
+    ∙ ap (roster_with_all c.args.roster) (ap (map arc_value) c.deref.ensures.value ∙ numbers c)
+
+registry : (c : In_ok-roster) → c.in_ok-roster.roster.registry
+    ≡ register_all c.args.roster.listed (map arc_value c.args.standings.now) c.args.roster.registry
+registry c = ap (λ (r : Roster). r.registry) (entered c)
+    ∙ insert_all-numbered c.args.roster.listed (map arc_value c.args.standings.now) c.args.roster.registry
+
+listed : (c : In_ok-roster) → c.in_ok-roster.roster.listed
+    ≡ c.args.roster.listed + length (map arc_value c.args.standings.now)
+listed c = ap (λ (r : Roster). r.listed) (entered c)
+    ∙ ap (λ k. c.args.roster.listed + k) (length-numbered c.args.roster.listed (map arc_value c.args.standings.now))
+
 pub returns-then-len-gt-MOST_LIVE-clause-full : goal.returns-then-len-gt-MOST_LIVE-clause-full
 returns-then-len-gt-MOST_LIVE-clause-full c _ =
     let many = c.if-len-gt-MOST_LIVE.true in
     let count = c.len.ensures in
-    subst (λ m. MOST_LIVE < finite.len m) c.in_ok-roster.ensures.registry (omega arith)
+    subst (λ m. MOST_LIVE < finite.len m)
+    (registry (goal.at.returns-then-len-gt-MOST_LIVE-clause-full c).In_ok-roster) (omega arith)
 
-pub build-requires-clause-short : goal.build-requires-clause-short
-build-requires-clause-short c =
+pub clear_each-requires : goal.clear_each-requires
+clear_each-requires c =
+    let m = c.args.roster.registry in
+    let segments = map arc_value c.args.segments.items in
+    ap (map length) c.requires.flags ∙ shape_of (is_live_in m) segments
+    ∙ ap (λ ss. map length (map arc_value ss)) (sym c.deref-2.ensures.value)
+
+pub standing_segment-requires-clause-short : goal.standing_segment-requires-clause-short
+standing_segment-requires-clause-short c =
     let ss = map arc_value c.args.standings.now in
-    let n = c.args.roster.listed in
-    let live = ap length c.in_ok-roster.ensures.live in
-    let fewer = filter_fewer (λ r. is_live_in (register_all n ss c.args.roster.registry) r.seq) (numbered n ss) in
-    let same = length-numbered n ss in
-    let a = length-map c.in_ok-roster.entries.items arc_value in
-    let b = length-map c.args.standings.now arc_value in
-    let d = c.requires.fits in
-    omega arith
+    let here = (goal.at.standing_segment-requires-clause-short c).In_ok-roster in
+    let as_many = length-map c.in_ok-entries.entries.items arc_value in
+    omega (
+      arith,
+      as_many,
+      ap length (numbers here),
+      length-numbered c.args.roster.listed ss,
+      length-map c.args.standings.now arc_value,
+      c.requires.fits,
+    )
 
-pub build-requires-clause-rising : goal.build-requires-clause-rising
-build-requires-clause-rising c =
-    subst IsRising (sym c.in_ok-roster.ensures.live)
-    (rising_filter _ _ (numbered_rising c.args.roster.listed (map arc_value c.args.standings.now)))
+pub standing_segment-requires-clause-rising : goal.standing_segment-requires-clause-rising
+standing_segment-requires-clause-rising c =
+    subst IsRising (sym (numbers (goal.at.standing_segment-requires-clause-rising c).In_ok-roster))
+    (numbered_rising c.args.roster.listed (map arc_value c.args.standings.now))
+
+-- the new segment has those of them that stand
+stood : (c : In_ok-segment)
+    → map arc_value c.in_ok-entries.entries.items
+    ≡ numbered c.args.roster.listed (map arc_value c.args.standings.now)
+    → c.in_ok-roster.roster.listed ≡ c.args.roster.listed + length (map arc_value c.args.standings.now)
+    → c.in_ok-segment.segment.value
+    ≡ picked (is_live_in c.in_ok-roster.roster.registry)
+    (numbered c.args.roster.listed (map arc_value c.args.standings.now))
+stood c are count =
+    c.in_ok-segment.ensures.entries
+    ∙ (λ i. filter (λ (r : Registered). without_all (c.deref-4.ensures.value i) (λ _. true) r.seq) (are i))
+    ∙ those_left c.args.roster c.in_ok-roster.roster c.in_ok-roster.gone.items (map arc_value c.args.standings.now)
+    c.in_ok-roster.ensures.gone count
 
 pub returns-clause-changed : goal.returns-clause-changed
 returns-clause-changed c =
     let ss = map arc_value c.args.standings.now in
     let n = c.args.roster.listed in
-    let done = c.in_ok-roster.ensures in
-    let count : c.len-count.result ≡ length c.in_ok-roster.entries.items = let a = c.len-count.ensures in let held =
-    c.in_ok-roster.entries.ok.0 in omega arith in
+    let m = c.args.roster.registry in
+    let here = (goal.at.returns-clause-changed c).In_ok-roster in
+    let segments = map arc_value c.args.segments.items in
+    let standing : c.in_ok-segment.segment.value ≡ standing_after n ss m =
+    stood (goal.at.returns-clause-changed c).In_ok-segment (numbers here) (listed here)
+    ∙ ap (λ k. picked (is_live_in k) (numbered n ss)) (registry here) in
     let some : 0 < length ss = let a = length-map c.args.standings.now arc_value in let b =
     some_length (length c.args.standings.now) c.if-is_empty.ensures in omega arith in
     record {
-      registry = done.registry;
-      listed = done.listed ∙ ap (λ k. n + k) (sym (length-map c.args.standings.now arc_value));
+      registry = registry here;
+      listed = listed here;
       segments = ap (map arc_value) c.in_ok-push.ensures.items
-          ∙ map-append arc_value c.args.segments.items (c.in_ok-new.field-0 ∷ [])
-          ∙ ap (λ (s : List Registered). map arc_value c.args.segments.items ++ s ∷ []) (c.in_ok-new.ensures.ok
-          ∙ c.in_ok-segment.ensures ∙ done.live)
-          ∙ sym (segments_register (map arc_value c.args.segments.items) n c.args.roster.registry ss some);
+          ∙ map-append arc_value c.args.segments.items (c.in_ok-segment.segment ∷ [])
+          ∙ ap (λ s. segments ++ s ∷ []) standing ∙ sym (segments_register segments n m ss some);
       small = let few = c.if-len-gt-MOST_LIVE.false in let count = c.len.ensures in omega arith;
-      answer = ap applied.Registered (count ∙ sym (length-map c.in_ok-roster.entries.items arc_value)
-          ∙ ap length done.live ∙ count_distinct n ss c.args.roster.registry done.numbered);
+      answer = ap applied.Registered (c.len-count.ensures ∙ ap length (c.deref-5.ensures ∙ standing)
+          ∙ count_distinct n ss m c.listed.ensures.numbered);
     }
+
+pub returns-clause-flags : goal.returns-clause-flags
+returns-clause-flags c =
+    let ss = map arc_value c.args.standings.now in
+    let before = c.args.roster in
+    let after = c.in_ok-roster.roster in
+    let is = is_live_in after.registry in
+    let here = (goal.at.returns-clause-flags c).In_ok-roster in
+    let segments = map arc_value c.args.segments.items in
+    let new = c.in_ok-segment.segment.value in
+    let standing = stood (goal.at.returns-clause-flags c).In_ok-segment (numbers here) (listed here) in
+    let more : before.listed ≤ after.listed = let count = listed here in omega arith in
+    let left : c.clear_each.new.live.items ≡ flags_in after.registry segments =
+    c.in_ok-clear_each.ensures (has_or_awaits before)
+    (c.requires.flags ∙ flags_had before segments c.requires.within
+    ∙ ap (λ ss. flags_by (has_or_awaits before) (map arc_value ss)) (sym c.deref-2.ensures.value))
+    ∙ (λ i. flags_by (without_all (c.deref-3.ensures.value i) (has_or_awaits before))
+    (map arc_value (c.deref-2.ensures.value i)))
+    ∙ flags_left before after c.in_ok-roster.gone.items segments c.in_ok-roster.ensures.gone more c.requires.within in
+    let set : c.in_ok-segment.flags ≡ flags_of is new =
+    c.in_ok-segment.ensures.set ∙ ap (λ (rs : List Registered). replicate (length rs) true) standing
+    ∙ all_picked is (numbered before.listed ss) ∙ ap (flags_of is) (sym standing) in
+    c.in_ok-push-2.ensures.items
+    ∙ ap₂ (λ fs f. fs ++ f ∷ []) left set
+    ∙ sym (map-append (flags_of is) segments (new ∷ []))
+    ∙ ap (flags_in after.registry) (sym (ap (map arc_value) c.in_ok-push.ensures.items
+    ∙ map-append arc_value c.args.segments.items (c.in_ok-segment.segment ∷ [])))

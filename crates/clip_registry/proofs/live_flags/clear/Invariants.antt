@@ -1,13 +1,10 @@
-use Rattle.std.proofs.Common.{◌≡◌, ℕ, ◌<◌, ◌≤◌, Bool, [], Some, length, map, get_or}
-use Rattle.std.specs.Arc.{arc_value}
-use Rattle.clip_registry.specs.Steps.LiveFlags.{flags_by, flags_of, without}
+use Rattle.std.proofs.Common.{◌≡◌, ℕ, Bool, length, take}
+use Rattle.clip_registry.specs.Steps.LiveFlags.{flags_of, without_all}
 use Rattle.clip_registry.proofs.live_flags.clear.Given as goal
 
-abbrev pub invariant-loop-place : goal.invariant-loop-place
-invariant-loop-place l = record {
-  long : length l.live.items ≡ length l.fn.live.items;
-  done : (is : ℕ → Bool) → l.fn.live.items ≡ flags_by is (map arc_value l.segments)
-      → (k : ℕ) → k < l.place → get_or l.live.items k []
-      ≡ flags_of (without (Some l.seq) is) (get_or (map arc_value l.segments) k []);
-  rest : (k : ℕ) → l.place ≤ k → get_or l.live.items k [] ≡ get_or l.fn.live.items k [];
+abbrev pub invariant-loop-seq : goal.invariant-loop-seq
+invariant-loop-seq l = record {
+  long : length l.flags ≡ length l.fn.flags;
+  done : (is : ℕ → Bool) → l.fn.flags ≡ flags_of is l.segment
+      → l.flags ≡ flags_of (without_all (take l.seq-index l.seqs) is) l.segment;
 }

@@ -1,17 +1,25 @@
-use Rattle.std.proofs.Common.{◌≡◌, ◌<◌, ◌+◌, ◌++◌, ◌∷◌, [], true, false, ◌==◌, List, length, get_or, map, take, filter}
-use Rattle.std.proofs.Common.{refl, sym, ap, ◌∙◌, arith, ℕ, append-nil}
+use Rattle.std.proofs.Common.{◌≡◌, ◌<◌, ◌≤◌, ◌+◌, ◌++◌, ◌∷◌, [], ◌==◌, Bool, true, false, List, length, get_or, map, take}
+use Rattle.std.proofs.Common.{filter, replicate, refl, sym, ap, ap₂, subst, ◌∙◌, arith, ℕ, append-nil}
 use Rattle.std.proofs.lemmas.Bool.Decides.{nat_tests}
-use Rattle.std.proofs.lemmas.List.{map-append, map_more}
+use Rattle.std.proofs.lemmas.List.{length-map, map-append, take_all, take_more}
 use Rattle.std.proofs.lemmas.List.Elements.{filter-append}
 use Rattle.std.specs.Arc.{arc_value}
 use Rattle.std.specs.declared.vec.Vec.{Vec}
 use Rattle.std.specs.declared.alloc.Global.{Global}
 use Rattle.std.specs.declared.sync.Arc.{Arc}
-use Rattle.clip_model.specs.History.{Registered}
-use Rattle.clip_registry.specs.Merging.{has_entries}
-use Rattle.clip_registry.specs.Steps.Roster.{live_in}
+use Rattle.clip_segment.specs.Selecting.{flagged}
+use Rattle.clip_model.specs.History.{Registered, is_live_in, replay}
+use Rattle.clip_registry.specs.Merging.{has_entries, live_of}
+use Rattle.clip_registry.specs.RegistryState.{RegistryState, IsWhole}
+use Rattle.clip_registry.specs.Steps.LiveFlags.{flags_in, flags_of}
+use Rattle.clip_registry.specs.Steps.Merging.{AreKept}
+use Rattle.clip_registry.proofs.Clearing.{all_picked}
+use Rattle.clip_registry.proofs.Kept.{kept_purged}
+use Rattle.clip_registry.proofs.LiveFlags.{as_long, flags_here, length-flags_of, segment_at}
+use Rattle.clip_registry.proofs.Picked.{flagged_by}
 use Rattle.clip_registry.proofs.purging.live_segments.Goals as goal
-use Rattle.clip_registry.proofs.purging.live_segments.Goals.{then-not-is_empty+in_ok-push, else-not-is_empty}
+use Rattle.clip_registry.proofs.purging.live_segments.Goals.{After-index, then-not-is_empty+in_ok-push+in_ok-push-2}
+use Rattle.clip_registry.proofs.purging.live_segments.Goals.{else-not-is_empty}
 
 kept_some : (es : List Registered) → (length es == 0) ≡ false → filter has_entries (es ∷ []) ≡ es ∷ []
 kept_some [] h = grind (arith, nat_tests)
@@ -22,41 +30,104 @@ kept_none [] h = refl
 kept_none (e ∷ es) h = grind (arith, nat_tests)
 
 -- what is kept of one segment more
-kept_more : {X : Type 0} (f : X → List Registered) (g : List Registered
-    → List Registered) (xs : List X) (i : ℕ) (x : X) → i < length xs → x ≡ get_or xs i x
-    → filter has_entries (map g (map f (take i xs))) ++ filter has_entries (g (f x) ∷ [])
-    ≡ filter has_entries (map g (map f (take (i + 1) xs)))
-kept_more f g xs i x lt at =
-    sym (ap (λ ss. filter has_entries (map g ss)) (map_more f xs i x lt
-    ∙ ap (λ z. map f (take i xs) ++ f z ∷ []) (sym at))
-    ∙ ap (filter has_entries) (map-append g (map f (take i xs)) (f x ∷ []))
-    ∙ filter-append has_entries (map g (map f (take i xs))) (g (f x) ∷ []))
+kept_more : (g : List Registered → List Registered) (segments : List (List Registered)) (i : ℕ) (es : List Registered)
+    → i < length segments → get_or segments i [] ≡ es
+    → filter has_entries (map g (take i segments)) ++ filter has_entries (g es ∷ [])
+    ≡ filter has_entries (map g (take (i + 1) segments))
+kept_more g segments i es lt at =
+    sym (ap (λ ss. filter has_entries (map g ss))
+    (take_more segments i [] lt ∙ ap (λ s. take i segments ++ s ∷ []) at)
+    ∙ ap (filter has_entries) (map-append g (take i segments) (es ∷ []))
+    ∙ filter-append has_entries (map g (take i segments)) (g es ∷ []))
 
-pub loop-segment-preserved : goal.loop-segment-preserved
-loop-segment-preserved c =
-    let m = c.args.roster.now.registry in
-    let live : c.in_ok-live.live.value ≡ live_in m c.segment-item.result.value = c.in_ok-live.ensures in
-    let more = kept_more arc_value (live_in m) c.args.segments.now c.loop-segment.segment-index c.segment-item.result
-    (omega arith) c.segment-item.is in
-    let empty : (length c.in_ok-live.live.value == 0) ≡ c.is_empty.result =
-    ap (λ es. length es == 0) (sym c.deref.ensures) ∙ sym c.is_empty.ensures in
+segments : (c : After-index) → map arc_value c.deref-segment-items.result.now ≡ c.args.state.now.segments
+segments c = ap (map arc_value) c.deref-segment-items.ensures.value
+    ∙ ap (λ (s : RegistryState). s.segments) c.state.view_is
+
+item : (c : After-index) → get_or c.args.state.now.segments c.loop-place.place [] ≡ c.segment-item.result.value
+item c = ap (λ ss. get_or ss c.loop-place.place []) (sym (segments c))
+    ∙ segment_at c.deref-segment-items.result.now c.loop-place.place c.segment-item.result c.loop-place-test.true
+    c.segment-item.is
+
+within : (c : After-index) → c.loop-place.place < length c.args.state.now.segments
+within c =
+    omega (arith, c.loop-place-test.true, ap length (segments c), length-map c.deref-segment-items.result.now arc_value)
+
+-- the flags beside a segment are those of what is live
+flags : (c : After-index) → c.index.result.now
+    ≡ flags_of (is_live_in (replay c.args.state.now.history)) c.segment-item.result.value
+flags c =
+    let live = c.state.inside.live.items in
+    let m = replay c.args.state.now.history in
+    let all = c.args.state.now.segments in
+    let are : live ≡ flags_in m all =
+    c.state.invariant.1
+    ∙ ap (λ k. flags_in k (map arc_value c.state.inside.segments.items)) c.state.invariant.0.registry
+    ∙ ap (λ (s : RegistryState). flags_in (replay s.history) s.segments) c.state.view_is in
+    flags_here (is_live_in m) all live c.loop-place.place c.index.result.now are c.index.ensures
+    (omega (arith, within c, as_long (is_live_in m) all live are))
+    ∙ ap (flags_of (is_live_in m)) (item c)
+
+pub live_segment-requires : goal.live_segment-requires
+live_segment-requires c =
+    ap length (flags c)
+    ∙ length-flags_of (is_live_in (replay c.args.state.now.history)) c.segment-item.result.value
+
+pub loop-place-preserved : goal.loop-place-preserved
+loop-place-preserved c =
+    let here = (goal.at.loop-place-preserved c).After-index in
+    let state = c.args.state.now in
+    let m = replay state.history in
+    let is = is_live_in m in
+    let es = c.segment-item.result.value in
+    let kept = c.in_ok-kept.kept in
+    let before = c.loop-place.segments.items in
+    let live : kept.value ≡ live_of state es =
+    c.in_ok-kept.ensures.entries ∙ ap (λ fs. flagged fs es) (flags here) ∙ flagged_by is es in
+    let set : c.in_ok-kept.flags ≡ flags_of is kept.value =
+    c.in_ok-kept.ensures.set ∙ ap (λ (rs : List Registered). replicate (length rs) true) live ∙ all_picked is es
+    ∙ ap (flags_of is) (sym live) in
+    let more = kept_more (live_of state) state.segments c.loop-place.place es (within here) (item here) in
+    let empty : (length kept.value == 0) ≡ c.is_empty.result =
+    ap (λ (rs : List Registered). length rs == 0) (sym c.deref.ensures) ∙ sym c.is_empty.ensures in
     elim c.if-not-is_empty.branch [
-      | then-not-is_empty+in_ok-push w ↦
-          ap (λ (v : Vec (Arc (List Registered) Global) Global). map arc_value v.items) w.kept-is
-          ∙ ap (map arc_value) w.in_ok-push.ensures.items
-          ∙ map-append arc_value c.loop-segment.kept.items (c.in_ok-live.live ∷ [])
-          ∙ ap (λ l. l ++ c.in_ok-live.live.value ∷ []) c.loop-segment.invariant
-          ∙ ap (λ l. filter has_entries
-          (map (live_in m) (map arc_value (take c.loop-segment.segment-index c.args.segments.now))) ++ l)
-          (sym (kept_some c.in_ok-live.live.value (empty ∙ w.if-not-is_empty.true))
-          ∙ ap (λ es. filter has_entries (es ∷ [])) live)
-          ∙ more
+      | then-not-is_empty+in_ok-push+in_ok-push-2 w ↦
+          let segments : map arc_value c.if-not-is_empty.segments.items ≡ map arc_value before ++ kept.value ∷ [] =
+          ap (λ (v : Vec (Arc (List Registered) Global) Global). map arc_value v.items) w.segments-is
+          ∙ ap (map arc_value) w.in_ok-push.ensures.items ∙ map-append arc_value before (kept ∷ []) in
+          record {
+            kept = segments ∙ ap (λ l. l ++ kept.value ∷ []) c.loop-place.invariant.kept
+                ∙ ap (λ l. filter has_entries (map (live_of state) (take c.loop-place.place state.segments)) ++ l)
+                (sym (kept_some kept.value (empty ∙ w.if-not-is_empty.true))
+                ∙ ap (λ rs. filter has_entries (rs ∷ [])) live) ∙ more;
+            flags = ap (λ (v : Vec (List Bool) Global). v.items) w.live-is ∙ w.in_ok-push-2.ensures.items
+                ∙ ap₂ (λ fs f. fs ++ f ∷ []) c.loop-place.invariant.flags set
+                ∙ sym (map-append (flags_of is) (map arc_value before) (kept.value ∷ []))
+                ∙ ap (flags_in m) (sym segments);
+          }
       | else-not-is_empty w ↦
-          ap (λ (v : Vec (Arc (List Registered) Global) Global). map arc_value v.items) w.kept-is
-          ∙ c.loop-segment.invariant ∙ sym (append-nil _)
-          ∙ ap (λ l. filter has_entries
-          (map (live_in m) (map arc_value (take c.loop-segment.segment-index c.args.segments.now))) ++ l)
-          (sym (kept_none c.in_ok-live.live.value (empty ∙ w.if-not-is_empty.false))
-          ∙ ap (λ es. filter has_entries (es ∷ [])) live)
-          ∙ more
+          let segments : map arc_value c.if-not-is_empty.segments.items ≡ map arc_value before =
+          ap (λ (v : Vec (Arc (List Registered) Global) Global). map arc_value v.items) w.segments-is in
+          record {
+            kept = segments ∙ c.loop-place.invariant.kept ∙ sym (append-nil _)
+                ∙ ap (λ l. filter has_entries (map (live_of state) (take c.loop-place.place state.segments)) ++ l)
+                (sym (kept_none kept.value (empty ∙ w.if-not-is_empty.false))
+                ∙ ap (λ rs. filter has_entries (rs ∷ [])) live) ∙ more;
+            flags = ap (λ (v : Vec (List Bool) Global). v.items) w.live-is ∙ c.loop-place.invariant.flags
+                ∙ ap (flags_in m) (sym segments);
+          }
     ]
+
+pub returns-clause-kept : goal.returns-clause-kept
+returns-clause-kept c =
+    let state = c.args.state.now in
+    let segments : map arc_value c.deref-segment-items.result.now ≡ state.segments =
+    ap (map arc_value) c.deref-segment-items.ensures.value
+    ∙ ap (λ (s : RegistryState). s.segments) c.state.view_is in
+    let long = ap length segments in
+    let past : length state.segments ≤ c.loop-place.place =
+    omega (arith, c.loop-place-test.false, long, length-map c.deref-segment-items.result.now arc_value) in
+    subst (AreKept state)
+    (sym (c.loop-place.invariant.kept
+    ∙ ap (λ ss. filter has_entries (map (live_of state) ss)) (take_all c.loop-place.place state.segments past)))
+    (kept_purged state (subst IsWhole c.state.view_is c.state.invariant.0.whole))

@@ -1,4 +1,4 @@
-use Rattle.std.proofs.Common.{◌≡◌, ◌≤◌, Bool, List, length, map, replicate, true, vec_items, sym, ap, subst, ◌∙◌, arith}
+use Rattle.std.proofs.Common.{◌≡◌, ◌≤◌, Bool, List, length, map, replicate, true, sym, ap, subst, ◌∙◌, arith}
 use Rattle.std.proofs.lemmas.List.Elements.{same_from_all_zip}
 use Rattle.std.specs.Arc.{arc_value}
 use Rattle.clip_merge.specs.Live.{named}
@@ -15,39 +15,35 @@ use Rattle.clip_registry.proofs.Naming.{named_picked}
 use Rattle.clip_registry.proofs.Picked.{count_picked, kept_by, picked}
 use Rattle.clip_registry.proofs.Rising.{rising_filter}
 use Rattle.clip_registry.proofs.merging.MergeJob.run.Goals as goal
-use Rattle.clip_registry.proofs.merging.MergeJob.run.Goals.{After-deref-3}
+use Rattle.clip_registry.proofs.merging.MergeJob.run.Goals.{After-deref-2}
 
-abbrev of_job : After-deref-3 → List (List Registered)
+abbrev of_job : After-deref-2 → List (List Registered)
 of_job c = map arc_value c.self.inside.sources.items
 
-shared : (c : After-deref-3) → map arc_value c.deref-2.result.now ≡ of_job c
-shared c = ap (map arc_value) c.deref-2.ensures.value
+shared : (c : After-deref-2) → map arc_value c.deref.result.now ≡ of_job c
+shared c = ap (map arc_value) c.deref.ensures.value
 
-flagged : (c : After-deref-3) → map vec_items c.deref-3.result.now ≡ flags_by c.self.invariant.is (of_job c)
-flagged c =
-    ap (map vec_items) c.deref-3.ensures.value ∙ c.in_ok-kept.ensures ∙ c.deref.ensures.value ∙ c.self.invariant.flagged
+flagged : (c : After-deref-2) → c.deref-2.result.now ≡ flags_by c.self.invariant.is (of_job c)
+flagged c = c.deref-2.ensures.value ∙ c.self.invariant.flagged
 
 -- the entries that are kept
-kept : (c : After-deref-3) → kept_of (map arc_value c.deref-2.result.now) (map vec_items c.deref-3.result.now)
+kept : (c : After-deref-2) → kept_of (map arc_value c.deref.result.now) c.deref-2.result.now
     ≡ picked c.self.invariant.is (all_entries (of_job c))
 kept c = (λ i. kept_of (shared c i) (flagged c i)) ∙ kept_by c.self.invariant.is (of_job c)
 
-pub select-requires-clause-flags : goal.select-requires-clause-flags
-select-requires-clause-flags c =
-    let here = (goal.at.select-requires-clause-flags c).After-deref-3 in
-    ap (map length) (flagged here) ∙ shape_of c.self.invariant.is (of_job here) ∙ ap (map length) (sym (shared here))
+pub select_live-requires-clause-flags : goal.select_live-requires-clause-flags
+select_live-requires-clause-flags c =
+    ap (map length) (flagged c) ∙ shape_of c.self.invariant.is (of_job c) ∙ ap (map length) (sym (shared c))
 
-pub select-requires-clause-short : goal.select-requires-clause-short
-select-requires-clause-short c =
-    let here = (goal.at.select-requires-clause-short c).After-deref-3 in
-    subst (λ n. n ≤ MOST_POSITIONS) (sym (ap count_set (flagged here) ∙ count_picked c.self.invariant.is (of_job here)))
+pub select_live-requires-clause-short : goal.select_live-requires-clause-short
+select_live-requires-clause-short c =
+    subst (λ n. n ≤ MOST_POSITIONS) (sym (ap count_set (flagged c) ∙ count_picked c.self.invariant.is (of_job c)))
     c.self.invariant.short
 
-pub select-requires-clause-rising : goal.select-requires-clause-rising
-select-requires-clause-rising c =
-    let here = (goal.at.select-requires-clause-rising c).After-deref-3 in
-    subst IsRising (sym (kept here))
-    (rising_filter (λ r. c.self.invariant.is r.seq) (all_entries (of_job here)) c.self.invariant.rising)
+pub select_live-requires-clause-rising : goal.select_live-requires-clause-rising
+select_live-requires-clause-rising c =
+    subst IsRising (sym (kept c))
+    (rising_filter (λ r. c.self.invariant.is r.seq) (all_entries (of_job c)) c.self.invariant.rising)
 
 pub invariant_of-result : goal.invariant_of-result
 invariant_of-result c =
@@ -55,16 +51,14 @@ invariant_of-result c =
     let sources = map_shared c.self.inside.sources.items c.in_ok-clone.field-0.items c.in_ok-clone.ensures.cases.0 in
     let flags : c.in_ok-clone-2.field-0.items ≡ c.self.inside.flags.items =
     same_from_all_zip (λ (x y : List Bool). y ≡ x) _ _ c.in_ok-clone-2.ensures.cases.0 (λ x y e. e) in
-    let entries = c.in_ok-segment.ensures.ok ∙ c.in_ok-merged.ensures
-    ∙ kept (goal.at.invariant_of-result c).After-deref-3 in
+    let entries = c.in_ok-segment.ensures.entries ∙ kept (goal.at.invariant_of-result c).After-deref-2 in
     record {
       some = let same = ap length sources in let some = c.self.invariant.some in omega arith;
       rising = subst (λ (ss : List (List Registered)). IsRising (all_entries ss)) (sym sources) c.self.invariant.rising;
       is = is;
       flagged = flags ∙ c.self.invariant.flagged ∙ ap (flags_by is) (sym sources);
       picked = entries ∙ ap (λ ss. picked is (all_entries ss)) (sym sources);
-      all = c.in_ok-live.ensures
-          ∙ ap (λ n. replicate n true) (c.len.ensures ∙ ap length (sym c.in_ok-segment.ensures.ok ∙ entries))
+      all = c.in_ok-segment.ensures.set ∙ ap (λ (es : List Registered). replicate (length es) true) entries
           ∙ all_picked is (all_entries (map arc_value c.self.inside.sources.items)) ∙ ap (flags_of is) (sym entries);
     }
 
@@ -73,7 +67,7 @@ returns c =
     let is = c.self.invariant.is in
     let all = map arc_value c.self.inside.sources.items in
     let sources = map_shared c.self.inside.sources.items c.in_ok-clone.field-0.items c.in_ok-clone.ensures.cases.0 in
-    let entries = c.in_ok-segment.ensures.ok ∙ c.in_ok-merged.ensures ∙ kept (goal.at.returns c).After-deref-3 in
+    let entries = c.in_ok-segment.ensures.entries ∙ kept (goal.at.returns c).After-deref-2 in
     let seqs = λ (rs : List Registered). map (λ (r : Registered). r.seq) rs in
     let named_here : named (seqs (kept_of all c.self.inside.flags.items)) (all_entries all)
     ≡ picked is (all_entries all) =

@@ -6,7 +6,7 @@ use Rattle.std.proofs.lemmas.List.Elements.{same_from_all_zip}
 use Rattle.std.specs.Arc.{arc_value}
 use Rattle.std.specs.declared.vec.Vec.{Vec}
 use Rattle.std.specs.declared.alloc.Global.{Global}
-use Rattle.clip_segment.specs.Segment.{all_entries}
+use Rattle.clip_segment.specs.Segment.{all_entries, seqs_of}
 use Rattle.clip_merge.specs.Plan.{neighbours}
 use Rattle.clip_model.specs.History.{Registered, is_live_in, replay}
 use Rattle.clip_registry.specs.Merging.{Merge, shelf}
@@ -16,7 +16,7 @@ use Rattle.clip_registry.specs.Steps.Merging.{replaced}
 use Rattle.clip_registry.proofs.Clearing.{left_flags}
 use Rattle.clip_registry.proofs.LiveFlags.{shape_of}
 use Rattle.clip_registry.proofs.merging.Merged.put_flags.Goals as goal
-use Rattle.clip_registry.proofs.merging.Merged.put_flags.Goals.{then-not-is_empty+in_ok-merged+in_ok-clear_dead+in_ok-push}
+use Rattle.clip_registry.proofs.merging.Merged.put_flags.Goals.{then-not-is_empty+in_ok-died+in_ok-merged+in_ok-clear+in_ok-push}
 use Rattle.clip_registry.proofs.merging.Merged.put_flags.Goals.{else-not-is_empty}
 
 shelf_some : (es : List Registered) → (length es == 0) ≡ false → shelf es ≡ es ∷ []
@@ -59,19 +59,23 @@ returns c =
     ∙ take-map (flags_of (is_live_in m)) first segments in
     let middle : c.if-not-is_empty.live.items ≡ flags_in m (take first segments ++ shelf es) =
     elim c.if-not-is_empty.branch [
-      | then-not-is_empty+in_ok-merged+in_ok-clear_dead+in_ok-push w ↦
+      | then-not-is_empty+in_ok-died+in_ok-merged+in_ok-clear+in_ok-push w ↦
           let some : (length es == 0) ≡ false =
           ap (λ (rs : List Registered). length rs == 0) (sym value ∙ sym c.deref-2.ensures)
           ∙ sym c.is_empty.ensures ∙ w.if-not-is_empty.true in
-          let shared : map arc_value w.deref-then-not-is_empty-2.result.now ≡ of_merge =
-          ap (map arc_value) w.deref-then-not-is_empty-2.ensures.value in
-          let flags : w.clear_dead.new.live ≡ flags_of is es =
-          w.in_ok-clear_dead.ensures is was was (now ∙ ap (flags_by is) (sources ∙ sym shared))
-          (w.deref-then-not-is_empty-3.ensures.value ∙ c.self.invariant.flagged ∙ ap (flags_by was) (sym shared))
+          let shared : map arc_value w.deref-then-not-is_empty.result.now ≡ of_merge =
+          ap (map arc_value) w.deref-then-not-is_empty.ensures.value in
+          let gone : w.deref-then-not-is_empty-4.result.now ≡ seqs_of (died is was (all_entries of_merge)) =
+          w.deref-then-not-is_empty-4.ensures.value
+          ∙ w.in_ok-died.ensures is was (now ∙ ap (flags_by is) (sources ∙ sym shared))
+          (w.deref-then-not-is_empty-2.ensures.value ∙ c.self.invariant.flagged ∙ ap (flags_by was) (sym shared))
+          ∙ ap (λ ss. seqs_of (died is was (all_entries ss))) shared in
+          let flags : w.clear.new.flags ≡ flags_of is es =
+          w.in_ok-clear.ensures was
           (w.in_ok-merged.ensures.cases ∙ c.self.invariant.all
-          ∙ ap (flags_of was) (sym w.deref-then-not-is_empty.ensures))
-          ∙ (λ i. flags_of (without_all (died is was (all_entries (shared i))) was)
-          ((w.deref-then-not-is_empty.ensures ∙ c.self.invariant.picked) i))
+          ∙ ap (flags_of was) (sym w.deref-then-not-is_empty-3.ensures))
+          ∙ (λ i. flags_of (without_all (gone i) was)
+          ((w.deref-then-not-is_empty-3.ensures ∙ c.self.invariant.picked) i))
           ∙ left_flags is was (all_entries of_merge)
           ∙ ap (flags_of is) (sym c.self.invariant.picked ∙ value) in
           ap (λ (v : Vec (List Bool) Global). v.items) w.live-is ∙ w.in_ok-push.ensures.items
@@ -98,9 +102,9 @@ returns c =
     ∙ ap (λ (s : RegistryState). flags_in (replay s.history) (replaced s.segments first count es)) c.state.view_is
     ∙ ap (λ k. flags_in (replay c.args.state.now.history) (replaced c.args.state.now.segments first k es)) counted
 
-pub clear_dead-requires-clause-begun : goal.clear_dead-requires-clause-begun
-clear_dead-requires-clause-begun c =
+pub died_since-requires-clause-begun : goal.died_since-requires-clause-begun
+died_since-requires-clause-begun c =
     let sources = map arc_value c.self.inside.sources.items in
-    ap (map length) (c.deref-then-not-is_empty-3.ensures.value ∙ c.self.invariant.flagged)
+    ap (map length) (c.deref-then-not-is_empty-2.ensures.value ∙ c.self.invariant.flagged)
     ∙ shape_of c.self.invariant.is sources
-    ∙ ap (λ ss. map length (map arc_value ss)) (sym c.deref-then-not-is_empty-2.ensures.value)
+    ∙ ap (λ ss. map length (map arc_value ss)) (sym c.deref-then-not-is_empty.ensures.value)
