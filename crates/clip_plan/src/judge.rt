@@ -11,8 +11,8 @@
 //! | 5 | `d` | passed: the outermost is met | |
 //!
 //! In one without a the outermost group can't hold after step 0, and the rest is passed.
-ghost use Rattle.std.specs.Prelude.{◌≡◌, ℕ, ◌<◌, ◌≤◌, Bool, false, List, [], IfOk, map, length, reverse, unwrap_or};
-ghost use Rattle.std.specs.Prelude.{slice_get};
+ghost use Rattle.std.specs.Prelude.{◌≡◌, ℕ, ◌+◌, ◌<◌, ◌≤◌, Bool, false, List, [], IfOk, OnOk, map, length, reverse};
+ghost use Rattle.std.specs.Prelude.{unwrap_or, slice_get};
 ghost use Rattle.clip_grammar.specs.Tree.{Tree, tree_of};
 ghost use Rattle.clip_meaning.specs.Meaning.{holds};
 ghost use Rattle.clip_extract.specs.Keys.{KeyValue};
@@ -28,10 +28,12 @@ use clip_meaning::holds;
 use clip_pieces::PackedLists;
 use clip_terms::Reading;
 use clip_words::NoMemory;
+use std::alloc::Global;
+use std::marker::Model;
 
 /// What stands among a group's clauses so far, and where the group ends.
 #[derive(Clone, Copy, Debug, PartialEq, Eq)]
-pub struct Tally {
+struct Tally {
     /// None of them keeps the group from holding.
     may_hold: bool,
     /// One of them must hold, or may hold and does.
@@ -128,6 +130,52 @@ impl Tally {
         } else {
             place.max(self.end)
         }
+    }
+}
+
+/// Room to judge plans in, with which each is counted: the tallies of the groups that are open, and how many plans were
+/// judged in it. Nothing but `Plans::judge` counts. Contracts see the count.
+#[derive(Drop)]
+pub struct Tallies {
+    open: Vec<Tally>,
+    judged: u64,
+}
+
+impl Model for Tallies {
+    ghost use Rattle.std.specs.Prelude.{ℕ};
+
+    ghost Value = { ℕ };
+
+    ghost view = { λ t. t.judged };
+}
+
+impl Tallies {
+    /// Room in which no plan was judged. Takes no memory yet.
+    pub fn new(alloc: Global) -> Tallies
+        ensures { result ≡ 0 }
+    {
+        Tallies {
+            open: Vec::new(alloc),
+            judged: 0,
+        }
+    }
+
+    /// How many plans were judged in it. Constant time.
+    pub fn judged(&self) -> u64
+        ensures { result ≡ self.now }
+    {
+        self.judged
+    }
+
+    /// Counts one plan more.
+    fn count_one(&mut self) -> Result<(), NoMemory>
+        ensures { OnOk result (self.new ≡ self.old + 1) }
+    {
+        let Some(judged) = self.judged.checked_add(1) else {
+            return Err(NoMemory);
+        };
+        self.judged = judged;
+        Ok(())
     }
 }
 
@@ -258,21 +306,22 @@ impl Plans {
     }
 
     /// Whether the query of the plan at a place holds of the article that is read, where the plan's numbers are those
-    /// of the reading's terms. `stack` is room for the groups that are open.
+    /// of the reading's terms. The room in which it is judged counts it.
     ///
-    /// `NoMemory` where the room had to grow and an allocation failed. Cost: a step for each leaf and group that it
-    /// comes to, and for a phrase what `Reading::has_run` takes. What is left of a group is passed in one step once a
-    /// clause keeps it from holding, and a clause that may hold is passed in one, and not asked, once its group has a
-    /// clause that must hold or one that does.
+    /// `NoMemory` where the room had to grow and an allocation failed, or where its count is at its end. Cost: a step
+    /// for each leaf and group that it comes to, and for a phrase what `Reading::has_run` takes. What is left of a
+    /// group is passed in one step once a clause keeps it from holding, and a clause that may hold is passed in one,
+    /// and not asked, once its group has a clause that must hold or one that does.
     pub fn judge(
         &self,
         place: usize,
         reading: &Reading,
-        stack: &mut Vec<Tally>,
+        tallies: &mut Tallies,
     ) -> Result<bool, NoMemory>
-        ensures { IfOk result (λ held. (tree : Tree)
+        ensures held { IfOk result (λ held. (tree : Tree)
             → decoded reading.now.terms (unwrap_or (slice_get self.now place) []) ≡ plan_of tree
             → held ≡ holds tree reading.now.article.fields) }
+        ensures counted { OnOk result (tallies.new ≡ tallies.old + 1) }
     {
         let judging = Judging {
             steps: self.steps.get(place),
@@ -280,6 +329,7 @@ impl Plans {
             queries: &self.queries,
             reading,
         };
-        judging.holds(stack)
+        tallies.count_one()?;
+        judging.holds(&mut tallies.open)
     }
 }

@@ -13,6 +13,6 @@ mod renaming;
 mod step;
 mod word_keys;
 
-pub use judge::Tally;
+pub use judge::Tallies;
 pub use plans::Plans;
 pub use word_keys::add_word_keys;

@@ -87,7 +87,7 @@ flat_map_filter f t empty (k ∷ ks) = by_test (t k) refl (flat_map_filter f t e
     by_test false is later = later ∙ sym (ap (λ xs. xs ++ flat_map f ks) (empty k is))
 
 -- the lists of the numbers of those keys that are terms are the positions of all the keys
-lists_of_keys : (keys_of : Tree → List KeyValue) → AreAsked keys_of → (trees : List Tree) (terms : List KeyValue)
+pub lists_of_keys : (keys_of : Tree → List KeyValue) → AreAsked keys_of → (trees : List Tree) (terms : List KeyValue)
     → terms ≡ terms_of trees → (lists : List (List ℕ)) → lists ≡ positions_by keys_of terms trees
     → (keys : List KeyValue) (ns : List ℕ) → All (λ n. n < length terms) ns
     → map (term_at terms) ns ≡ filter (λ k. list_any (is_same k) terms) keys
@@ -101,7 +101,7 @@ lists_of_keys keys_of asked trees terms are lists placed keys ns within named =
     ∙ flat_map_filter with_positions (λ k. list_any (is_same k) terms) (no_term keys_of trees terms asked are) keys
 
 -- the numbers of the terms that an article has are those of its keys
-had_known : (terms : List KeyValue) → IsStrictlySortedBy key_cmp terms → (fields : Fields) (ns : List ℕ)
+pub had_known : (terms : List KeyValue) → IsStrictlySortedBy key_cmp terms → (fields : Fields) (ns : List ℕ)
     → All (λ n. n < length terms) ns
     → ((n : ℕ) → n < length terms → list_any (nat_eq n) ns ≡ article_has fields (term_at terms n))
     → (n : ℕ) → list_any (nat_eq n) ns ≡ list_any (nat_eq n) (known (map (number_of terms) (article_keys fields)))

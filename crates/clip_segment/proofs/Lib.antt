@@ -1,6 +1,7 @@
 pub mod Answering
 pub mod AnyOf
 pub mod Asked
+pub mod Counting
 pub mod EntryPositions
 pub mod Flagged
 pub mod Found

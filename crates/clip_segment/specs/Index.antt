@@ -1,6 +1,6 @@
 -- An index over queries: what it keeps of them.
 use Rattle.std.specs.Prelude.{◌≡◌, ◌≤◌, ℕ, Bool, true, List, ◌++◌, map, flat_map, filter, length}
-use Rattle.std.specs.List.{list_any, enumerate_from}
+use Rattle.std.specs.List.{list_any, enumerate_from, count_by, sum_by}
 use Rattle.clip_grammar.specs.Tree.{Tree}
 use Rattle.clip_extract.specs.Keys.{KeyValue, in_order, is_same, share}
 use Rattle.clip_extract.specs.Extraction.{query_keys, second_keys}
@@ -24,6 +24,10 @@ query_positions_with keys_of key trees = query_positions (has_key keys_of key) t
 -- the positions of the queries that have one of the keys among those of their keys
 abbrev pub query_positions_sharing : (Tree → List KeyValue) → List KeyValue → List Tree → List ℕ
 query_positions_sharing keys_of keys trees = query_positions (λ tree. share (keys_of tree) keys) trees
+
+-- of each of the keys the queries that have it among those of their keys, counted together
+abbrev pub positions_under : (Tree → List KeyValue) → List KeyValue → List Tree → ℕ
+positions_under keys_of keys trees = sum_by (λ key. count_by (has_key keys_of key) trees) keys
 
 -- ---- indexes
 

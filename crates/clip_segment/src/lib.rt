@@ -11,12 +11,14 @@ mod kept_terms;
 mod labels;
 mod marking;
 mod packed_texts;
+mod positions_read;
 mod reading;
 mod segment;
 mod selecting;
 mod spots;
 mod term_lists;
 
+pub use positions_read::PositionsRead;
 pub use reading::SegmentReading;
 pub use segment::{MOST_POSITIONS, Segment};
 pub use spots::SegmentSpots;

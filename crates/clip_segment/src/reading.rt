@@ -1,5 +1,5 @@
 //! Articles as a segment asks them.
-ghost use Rattle.std.specs.Prelude.{◌≡◌, ℕ, true, false, IfOk, OnOk, Some, length, map, option_map, slice_index_or};
+ghost use Rattle.std.specs.Prelude.{◌≡◌, ◌+◌, ℕ, true, false, IfOk, OnOk, Some, length, map, option_map, slice_index_or};
 ghost use Rattle.std.specs.Arc.{arc_value};
 ghost use Rattle.std.specs.List.{slice_get};
 ghost use Rattle.std.specs.Option.{option_copied};
@@ -8,14 +8,16 @@ ghost use Rattle.clip_extract.specs.Extraction.{query_keys};
 ghost use Rattle.clip_extract.specs.Keys.{share};
 ghost use Rattle.clip_meaning.specs.Meaning.{holds};
 ghost use Rattle.clip_model.specs.History.{Registered};
-ghost use Rattle.clip_segment.specs.Segment.{heard_of, ids_of, positions_sharing};
+ghost use Rattle.clip_segment.specs.Index.{positions_under};
+ghost use Rattle.clip_segment.specs.Segment.{heard_of, ids_of, positions_sharing, trees_of};
 
 use crate::marking::marks_under;
+use crate::positions_read::PositionsRead;
 use crate::segment::Segment;
 use crate::spots::SegmentSpots;
 use clip_extract::second_covering_law;
 use clip_pieces::{Marks, PackedLists};
-use clip_plan::{Plans, Tally};
+use clip_plan::{Plans, Tallies};
 use clip_standing::Entry;
 use clip_terms::Reading;
 use clip_words::NoMemory;
@@ -52,33 +54,42 @@ impl<'a> Model for SegmentReading<'a> {
 }
 
 impl<'a> SegmentReading<'a> {
-    /// The positions of just the entries whose queries share a key with the article, among those of all entries.
+    /// The positions of just the entries whose queries share a key with the article, among those of all entries. Those
+    /// that were read to find them are counted.
     ///
-    /// `NoMemory` where an allocation failed. Cost: a step for each position under a key of the article, and one for
-    /// each 64 entries of the segment; no entry is looked at.
-    pub fn sharer_marks(&self, alloc: Global) -> Result<Marks, NoMemory>
-        ensures { IfOk result (λ marks. marks
+    /// `NoMemory` where an allocation failed, or where the count is at its end. Cost: a step for each position under a
+    /// key of the article, which is what is counted, and one for each 64 entries of the segment; no entry is looked at.
+    pub fn sharer_marks(&self, alloc: Global, read: &mut PositionsRead) -> Result<Marks, NoMemory>
+        ensures marks { IfOk result (λ marks. marks
             ≡ map (λ e. share (query_keys e.standing.tree) (article_keys self.now.article.fields)) self.now.entries) }
+        ensures counted { OnOk result (read.new ≡ read.old
+            + positions_under query_keys (article_keys self.now.article.fields) (trees_of self.now.entries)) }
     {
         marks_under(
             alloc,
             self.positions,
             self.reading.numbers(),
             self.plans.len(),
+            read,
         )
     }
 
     /// The positions, from 0 and rising, of just the entries whose queries share a key with the article, in place of
-    /// those that were in the list.
+    /// those that were in the list. Those that were read to find them are counted.
     ///
-    /// `NoMemory` where an allocation failed. Cost: a step for each position under a key of the article, and one for
-    /// each 64 entries of the segment; no entry is looked at.
-    pub fn sharers(&self, positions: &mut Vec<u32>) -> Result<(), NoMemory>
-        ensures { OnOk result (positions.new.items
+    /// `NoMemory` where an allocation failed, or where the count is at its end. Cost: that of `sharer_marks`.
+    pub fn sharers(
+        &self,
+        positions: &mut Vec<u32>,
+        read: &mut PositionsRead,
+    ) -> Result<(), NoMemory>
+        ensures positions { OnOk result (positions.new.items
             ≡ positions_sharing (article_keys self.now.article.fields) self.now.entries) }
+        ensures counted { OnOk result (read.new ≡ read.old
+            + positions_under query_keys (article_keys self.now.article.fields) (trees_of self.now.entries)) }
     {
         let alloc = *positions.allocator();
-        let marks = self.sharer_marks(alloc)?;
+        let marks = self.sharer_marks(alloc, read)?;
         marks.numbers_into(positions)
     }
 
@@ -128,15 +139,16 @@ impl<'a> SegmentReading<'a> {
         self.plans.may_hold(position as usize, &self.reading)
     }
 
-    /// Whether the query of the entry at a position holds of the article. `stack` is room for the groups that are open.
+    /// Whether the query of the entry at a position holds of the article. The room in which it is judged counts it.
     ///
-    /// `NoMemory` where the room had to grow and an allocation failed. Cost: that of `Plans::judge`; the entry is not
-    /// looked at.
-    pub fn holds(&self, position: u32, stack: &mut Vec<Tally>) -> Result<bool, NoMemory>
-        ensures { IfOk result (λ held. (entry : Registered) → slice_get self.now.entries position ≡ Some entry
+    /// `NoMemory` where the room had to grow and an allocation failed, or where its count is at its end. Cost: that of
+    /// `Plans::judge`; the entry is not looked at.
+    pub fn holds(&self, position: u32, tallies: &mut Tallies) -> Result<bool, NoMemory>
+        ensures held { IfOk result (λ held. (entry : Registered) → slice_get self.now.entries position ≡ Some entry
             → held ≡ holds entry.standing.tree self.now.article.fields) }
+        ensures counted { OnOk result (tallies.new ≡ tallies.old + 1) }
     {
-        self.plans.judge(position as usize, &self.reading, stack)
+        self.plans.judge(position as usize, &self.reading, tallies)
     }
 
     /// Where the words of the article stand by the numbers of the terms of the segment's index, to find the hits of the

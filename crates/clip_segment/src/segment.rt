@@ -7,14 +7,16 @@
 //!
 //! `entry(1)` is q9, `position_of(9)` is 1, and `positions_with(text=milk)` is `[1]`: the weakest word of a query that
 //! asks for both is its key.
-ghost use Rattle.std.specs.Prelude.{◌≡◌, ℕ, ◌==◌, ◌<◌, ◌≤◌, IfOk, IfSome, None, Some, false, length, map};
-ghost use Rattle.std.specs.Prelude.{option_map, slice_index_or, vec_items};
+ghost use Rattle.std.specs.Prelude.{◌≡◌, ℕ, ◌+◌, ◌==◌, ◌<◌, ◌≤◌, IfOk, IfSome, OnOk, None, Some, false, length};
+ghost use Rattle.std.specs.Prelude.{map, option_map, slice_index_or, vec_items};
 ghost use Rattle.std.specs.Arc.{arc_value};
 ghost use Rattle.std.specs.List.{All, AllPairs, slice_get};
 ghost use Rattle.std.specs.Option.{option_copied};
+ghost use Rattle.clip_extract.specs.Covering.{article_keys};
+ghost use Rattle.clip_extract.specs.Extraction.{second_keys};
 ghost use Rattle.clip_extract.specs.Keys.{key_of};
 ghost use Rattle.clip_grammar.specs.Tree.{tree_of};
-ghost use Rattle.clip_segment.specs.Index.{IsIndexOf};
+ghost use Rattle.clip_segment.specs.Index.{IsIndexOf, positions_under};
 ghost use Rattle.clip_segment.specs.Selecting.{AreFlagsOf, count_set, kept_of};
 ghost use Rattle.clip_segment.specs.Segment.{IsRising, heard_of, ids_of, positions_with, seqs_of, trees_of};
 ghost use Rattle.clip_segment.specs.declared.segment.TheConstants.{MOST_POSITIONS};
@@ -22,6 +24,7 @@ ghost use Rattle.clip_segment.specs.declared.segment.TheConstants.{MOST_POSITION
 use crate::index::Index;
 use crate::labels::Labels;
 use crate::marking::marks_under;
+use crate::positions_read::PositionsRead;
 use crate::reading::SegmentReading;
 use crate::selecting::{kept_entries, kept_index};
 use clip_extract::Key;
@@ -181,20 +184,24 @@ impl Segment {
         self.index.with_key(key)
     }
 
-    /// An article as this segment asks it.
+    /// An article as this segment asks it. The positions that were read for it are counted.
     ///
-    /// `NoMemory` where an allocation failed. Cost: that of `Reading::of` over the terms of its index, a step for each
-    /// position under a second key that the article has, and one for each 64 entries of the segment.
+    /// `NoMemory` where an allocation failed, or where the count is at its end. Cost: that of `Reading::of` over the
+    /// terms of its index, a step for each position under a second key that the article has, which is what is counted,
+    /// and one for each 64 entries of the segment.
     pub fn read<'a>(
         &'a self,
         alloc: Global,
         asking: &Asking<'a>,
+        read: &mut PositionsRead,
     ) -> Result<SegmentReading<'a>, NoMemory>
-        ensures { IfOk result (λ reading. reading ≡ record { entries = self.now; article = asking.now }) }
+        ensures reading { IfOk result (λ reading. reading ≡ record { entries = self.now; article = asking.now }) }
+        ensures counted { OnOk result (read.new ≡ read.old
+            + positions_under second_keys (article_keys asking.now.fields) (trees_of self.now)) }
     {
         let index = self.index();
         let reading = Reading::of(alloc, &index.terms, asking)?;
-        let seconds = marks_under(alloc, &index.seconds, reading.numbers(), self.len())?;
+        let seconds = marks_under(alloc, &index.seconds, reading.numbers(), self.len(), read)?;
         Ok(SegmentReading {
             segment: self,
             positions: &index.positions,

@@ -1,4 +1,5 @@
 pub mod AskedFronts
+pub mod EachOnce
 pub mod FrontsOfTerms
 pub mod Headings
 pub mod KeysByField

@@ -1,14 +1,14 @@
 //! Articles as they are asked by the numbers of terms.
 ghost use Rattle.std.specs.Prelude.{◌≡◌, ℕ, ◌<◌, ◌++◌, [], IfOk, OnOk, nat_eq, length, map, get_or};
 ghost use Rattle.std.specs.FinMap as finite;
-ghost use Rattle.std.specs.List.{All, list_any, list_all};
+ghost use Rattle.std.specs.List.{All, IsDistinct, list_any, list_all};
 ghost use Rattle.clip_terms.specs.Spots.{spots_among};
 ghost use Rattle.clip_extract.specs.Covering.{field_keys, front_keys};
 ghost use Rattle.clip_terms.specs.Terms.{number_of, term_at};
 ghost use Rattle.clip_terms.specs.Reading.{has_key, has_run};
 ghost use Rattle.clip_terms.specs.Steps.Fronts.{AddsNumbersOf};
 ghost use Rattle.clip_terms.specs.Steps.KeysByField.{ordered_keys};
-ghost use Rattle.clip_terms.specs.Steps.Numbers.{number_at, AreFlags};
+ghost use Rattle.clip_terms.specs.Steps.Numbers.{number_at, AreFlags, IsEachOnce};
 ghost use Rattle.clip_terms.specs.Steps.Runs.{stands_among};
 
 use crate::asking::{AskedField, Asking};
@@ -47,15 +47,25 @@ impl<'a> Model for Reading<'a> {
     ghost invariant = { IsReading };
 }
 
-/// The numbers below a bound, of which these are marked.
-fn marks_of(alloc: Global, numbers: &[u32], bound: usize) -> Result<Marks, NoMemory>
+/// The numbers below a bound, of which these are marked. Of those that are the same the first is left.
+fn marks_of_each(alloc: Global, numbers: &mut Vec<u32>, bound: usize) -> Result<Marks, NoMemory>
+    requires { All (λ n. n < bound) numbers.old.items }
     ensures long { IfOk result (λ marks. length marks ≡ bound) }
-    ensures flags { IfOk result (λ marks. AreFlags marks bound numbers.now) }
+    ensures flags { IfOk result (λ marks. AreFlags marks bound numbers.old.items) }
+    ensures left { OnOk result (IsEachOnce numbers.old.items numbers.new.items) }
 {
     let mut marks = Marks::new(alloc, bound)?;
-    for number in numbers {
-        marks.mark(*number as usize);
+    let mut left = 0;
+    for place in 0..numbers.len() {
+        let number = numbers[place];
+        if marks.is_marked(number as usize) {
+            continue;
+        }
+        marks.mark(number as usize);
+        numbers[left] = number;
+        left += 1;
     }
+    numbers.truncate(left);
     Ok(marks)
 }
 
@@ -123,7 +133,7 @@ impl<'a> Reading<'a> {
         for asked in asking.fields() {
             fields.push(read_field(alloc, terms, asked, &mut numbers)?)?;
         }
-        let marks = marks_of(alloc, &numbers, terms.len())?;
+        let marks = marks_of_each(alloc, &mut numbers, terms.len())?;
         Ok(Reading {
             terms,
             article: asking.article(),
@@ -147,8 +157,9 @@ impl<'a> Reading<'a> {
         self.terms
     }
 
-    /// The numbers of the terms that the article has, in any order. Constant time.
+    /// The numbers of the terms that the article has, in any order, each once. Constant time.
     pub fn numbers(&self) -> &[u32]
+        ensures once { IsDistinct nat_eq result.now }
         ensures within { All (λ n. n < length self.now.terms) result.now }
         ensures had { (n : ℕ) → n < length self.now.terms
             → list_any (nat_eq n) result.now ≡ has_key self.now.article.fields (term_at self.now.terms n) }

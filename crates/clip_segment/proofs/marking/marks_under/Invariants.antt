@@ -1,5 +1,5 @@
-use Rattle.std.proofs.Common.{◌≡◌, ℕ, ◌<◌, false, nat_eq, length, get_or, flat_map, take}
-use Rattle.std.specs.List.{list_any}
+use Rattle.std.proofs.Common.{◌≡◌, ℕ, ◌+◌, ◌<◌, false, nat_eq, length, get_or, flat_map, take}
+use Rattle.std.specs.List.{list_any, sum_by}
 use Rattle.clip_segment.proofs.Answering.{list_at}
 use Rattle.clip_segment.proofs.marking.marks_under.Given as goal
 
@@ -8,4 +8,5 @@ invariant-loop-number l = record {
   long : length l.marks ≡ l.bound;
   marked : (n : ℕ) → n < l.bound
       → get_or l.marks n false ≡ list_any (nat_eq n) (flat_map (list_at l.lists) (take l.number-index l.numbers));
+  counted : l.read ≡ l.fn.read + sum_by (λ n. length (list_at l.lists n)) (take l.number-index l.numbers);
 }

@@ -8,8 +8,8 @@ use Rattle.clip_plan.specs.Steps.Judging.{meant}
 use Rattle.clip_plan.proofs.Judging.{judged_at}
 use Rattle.clip_plan.proofs.plans.Plans.judge.Goals as goal
 
-pub returns : goal.returns
-returns c =
+pub returns-clause-held : goal.returns-clause-held
+returns-clause-held c =
     let reading = c.args.reading.now in
     judged_at c.self.inside.runs (map tree_of c.self.inside.queries.items) reading.terms reading.article.fields
     c.args.self.now c.self.inside.steps c.args.place c.get.result.now c.holds.result c.self.view_is c.get.ensures

@@ -7,8 +7,8 @@ use Rattle.clip_segment.specs.Steps.ReadingView.{index_asked}
 use Rattle.clip_segment.proofs.EntryPositions.{plan_of_entry}
 use Rattle.clip_segment.proofs.reading.SegmentReading.holds.Goals as goal
 
-pub returns : goal.returns
-returns c =
+pub returns-clause-held : goal.returns-clause-held
+returns-clause-held c =
     let inside = c.self.inside in
     let at = c.args.position in
     subst (λ (asked : AskedValue). IfOk c.judge.result (λ held. (entry : Registered)
@@ -17,4 +17,4 @@ returns c =
     (IfOk-weaker c.judge.result _ _
     (λ held judged entry there.
     judged entry.standing.tree
-    (plan_of_entry inside.segment.now (index_asked inside) c.self.invariant.index at entry there)) c.judge.ensures)
+    (plan_of_entry inside.segment.now (index_asked inside) c.self.invariant.index at entry there)) c.judge.ensures.held)

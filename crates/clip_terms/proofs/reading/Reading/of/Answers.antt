@@ -1,9 +1,9 @@
 use Rattle.std.proofs.Common.{◌≡◌, ◌++◌, ◌∷◌, [], ℕ, List, Option, option_to_list, map, flat_map, take, length, sym, ap}
-use Rattle.std.proofs.Common.{◌∙◌, subst, append-nil}
+use Rattle.std.proofs.Common.{◌<◌, All, ◌∙◌, subst, append-nil}
 use Rattle.std.specs.FinMap as finite
 use Rattle.std.proofs.lemmas.List.{map_more, take_all}
 use Rattle.clip_meaning.specs.Article.{ArticleValue}
-use Rattle.clip_extract.specs.Keys.{Any}
+use Rattle.clip_extract.specs.Keys.{KeyValue, Any}
 use Rattle.clip_extract.specs.Covering.{field_keys}
 use Rattle.clip_terms.specs.Spots.{FieldValue}
 use Rattle.clip_terms.specs.Terms.{term_at, number_of}
@@ -11,6 +11,7 @@ use Rattle.clip_terms.specs.Reading.{has_key}
 use Rattle.clip_terms.specs.Steps.Fronts.{AddsNumbersOf}
 use Rattle.clip_terms.specs.Steps.Numbers.{AreFlags}
 use Rattle.clip_terms.proofs.AskedFronts.{keys_added, fields_added}
+use Rattle.clip_terms.proofs.EachOnce.{each_below}
 use Rattle.clip_terms.proofs.ReadingOf.{all_of_field, numbers_within, numbers_had}
 use Rattle.clip_terms.proofs.reading.Reading.of.Goals as goal
 
@@ -46,26 +47,45 @@ loop-asked-preserved c =
           ∙ sym (map_more read fields i field lt);
     }
 
+-- the numbers of all fields were added
+all_added : (terms : List KeyValue) (fields items : List FieldValue) (i : ℕ) (new : List ℕ) → take i items ≡ fields
+    → AddsNumbersOf terms (Any ∷ flat_map all_of_field (take i items)) [] new
+    → AddsNumbersOf terms (Any ∷ flat_map all_of_field fields) [] new
+all_added terms fields items i new all = subst (λ (fs : List FieldValue).
+    AddsNumbersOf terms (Any ∷ flat_map all_of_field fs) [] new) all
+
+pub marks_of_each-requires : goal.marks_of_each-requires
+marks_of_each-requires c =
+    let terms = c.args.terms.now in
+    let fields = c.args.asking.now.fields in
+    let new = c.loop-asked.numbers.items in
+    let items = c.fields-asked-items.result.now in
+    let i = c.loop-asked.asked-index in
+    let all = take_all i items c.loop-asked-test.false ∙ c.fields-asked-items.ensures in
+    subst (λ (bound : ℕ). All (λ n. n < bound) new) (sym c.len.ensures)
+    (numbers_within terms fields new
+    (all_added terms (finite.entries fields) items i new all c.loop-asked.invariant.added))
+
 pub invariant_of-result : goal.invariant_of-result
 invariant_of-result c =
     let terms = c.args.terms.now in
     let fields = c.args.asking.now.fields in
     let new = c.loop-asked.numbers.items in
+    let each = c.marks_of_each.new.numbers.items in
+    let left = c.in_ok-marks.ensures.left in
     let read = λ (field : FieldValue). map (number_of terms) (field_keys field) in
-    let all : take c.loop-asked.asked-index c.fields-asked-items.result.now ≡ finite.entries fields =
-    take_all c.loop-asked.asked-index c.fields-asked-items.result.now c.loop-asked-test.false
-    ∙ c.fields-asked-items.ensures in
-    let added = subst (λ (fs : List FieldValue). AddsNumbersOf terms (Any ∷ flat_map all_of_field fs) [] new) all
-    c.loop-asked.invariant.added in
+    let items = c.fields-asked-items.result.now in
+    let i = c.loop-asked.asked-index in
+    let all = take_all i items c.loop-asked-test.false ∙ c.fields-asked-items.ensures in
+    let added = all_added terms (finite.entries fields) items i new all c.loop-asked.invariant.added in
     let had = numbers_had terms fields new added in
     let flags : AreFlags c.in_ok-marks.marks (length terms) new =
-    subst (λ (m : ℕ). AreFlags c.in_ok-marks.marks m new) c.len.ensures
-    (subst (λ (ns : List ℕ). AreFlags c.in_ok-marks.marks c.len.result ns) c.deref.ensures.value
-    c.in_ok-marks.ensures.flags) in
+    subst (λ (m : ℕ). AreFlags c.in_ok-marks.marks m new) c.len.ensures c.in_ok-marks.ensures.flags in
     record {
       strict = c.order_law.ensures;
-      within = numbers_within terms fields new added;
-      numbers = λ n lt. had n lt
+      once = left.once;
+      within = each_below (length terms) new each (numbers_within terms fields new added) left.same;
+      numbers = λ n lt. left.same n ∙ had n lt
           ∙ ap (λ (a : ArticleValue). has_key a.fields (term_at terms n)) (sym c.article.ensures);
       long = c.in_ok-marks.ensures.long ∙ c.len.ensures;
       flags = λ n lt. flags n lt ∙ had n lt
