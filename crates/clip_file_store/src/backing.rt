@@ -1,5 +1,7 @@
 //! What a store of bytes is kept in, of which no contract says anything.
 
+use std::alloc::Global;
+
 /// A call of a backing failed.
 #[derive(Clone, Copy, Debug, PartialEq, Eq)]
 pub struct Failed;
@@ -13,6 +15,12 @@ pub trait Backing {
     /// From then on a stop leaves all that is there.
     fn sync(&mut self) -> Result<(), Failed>;
 
-    /// Puts other bytes in the place of those that are there, at once and synced.
-    fn put_in_place(&mut self, bytes: &[u8]) -> Result<(), Failed>;
+    /// All bytes that are there, by a read of their own.
+    fn read(&self, alloc: Global) -> Result<Vec<u8>, Failed>;
+
+    /// Writes other bytes beside those that are there, synced. After `Failed` those that are there are as they were.
+    fn put_beside(&mut self, bytes: &[u8]) -> Result<(), Failed>;
+
+    /// Puts the bytes that were last written beside in the place of those that are there, at once and synced.
+    fn put_in_place(&mut self) -> Result<(), Failed>;
 }

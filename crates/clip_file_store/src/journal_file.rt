@@ -24,6 +24,7 @@ pub struct JournalFile<'r, R: Files<File = File>> {
     path: String,
     beside: String,
     file: File,
+    written: Option<File>,
     lock: File,
 }
 
@@ -78,6 +79,7 @@ pub fn open_file<'r, R: Files<File = File>>(
         path,
         beside: path_in(alloc, folder, "changes.new")?,
         file,
+        written: None,
         lock,
     };
     Ok(Recorded::over(alloc, backing, bytes))
@@ -114,8 +116,15 @@ pub fn set_aside<R: Files<File = File>>(
 }
 
 impl<R: Files<File = File>> JournalFile<'_, R> {
-    /// Writes a file beside the journal's, and renames it into that one's place. All is synced.
-    fn replaced(&self, bytes: &[u8]) -> io::Result<File> {
+    /// Reads the file once more, from its beginning.
+    fn read_whole(&self, alloc: Global) -> io::Result<Vec<u8>> {
+        let mut bytes = Vec::new(alloc);
+        File::open(self.files, self.path.as_str())?.read_to_end(&mut bytes)?;
+        Ok(bytes)
+    }
+
+    /// Writes a file beside the journal's, synced.
+    fn written_beside(&self, bytes: &[u8]) -> io::Result<File> {
         let mut file = OpenOptions::new()
             .write(true)
             .create(true)
@@ -124,9 +133,13 @@ impl<R: Files<File = File>> JournalFile<'_, R> {
             .open(self.files, self.beside.as_str())?;
         file.write_all(bytes)?;
         file.sync_all()?;
-        fs::rename(self.files, self.beside.as_str(), self.path.as_str())?;
-        self.folder.sync_all()?;
         Ok(file)
+    }
+
+    /// Renames the file beside the journal's into that one's place, synced.
+    fn renamed(&self) -> io::Result<()> {
+        fs::rename(self.files, self.beside.as_str(), self.path.as_str())?;
+        self.folder.sync_all()
     }
 }
 
@@ -147,8 +160,22 @@ impl<R: Files<File = File>> Backing for JournalFile<'_, R> {
         failed(self.file.sync_data())
     }
 
-    fn put_in_place(&mut self, bytes: &[u8]) -> Result<(), Failed> {
-        self.file = failed(self.replaced(bytes))?;
+    fn read(&self, alloc: Global) -> Result<Vec<u8>, Failed> {
+        failed(self.read_whole(alloc))
+    }
+
+    fn put_beside(&mut self, bytes: &[u8]) -> Result<(), Failed> {
+        self.written = None;
+        self.written = Some(failed(self.written_beside(bytes))?);
+        Ok(())
+    }
+
+    fn put_in_place(&mut self) -> Result<(), Failed> {
+        let Some(file) = self.written.take() else {
+            return Err(Failed);
+        };
+        failed(self.renamed())?;
+        self.file = file;
         Ok(())
     }
 }
