@@ -3,6 +3,7 @@ ghost use Rattle.std.specs.Prelude.{◌≡◌, ◌≤◌, ◌<◌, List, ℕ, []
 ghost use Rattle.clip_stream.specs.Steps.Reading.{cut};
 ghost use Rattle.clip_ahead.specs.Ahead.{Begun, Appended, LeavesFronts};
 ghost use Rattle.clip_ahead.specs.Changes.{asks_change as asks};
+ghost use Rattle.clip_ahead.specs.Keeping.{TimeGoesOn};
 
 use clip_journal::{Journal, JournalFault, Store, StoreFault};
 use clip_protocol::Line;
@@ -40,6 +41,7 @@ pub(crate) fn append_change<S: Store>(
     ensures faults { S.faults journal.old.store ≤ S.faults journal.new.store }
     ensures cause { IsErrOf result (JournalFault.Store StoreFault.Failed)
         → S.faults journal.old.store < S.faults journal.new.store }
+    ensures time { TimeGoesOn S.Store journal.old.store journal.new.store }
 {
     let Ok(asks) = asks_change(alloc, line) else {
         return Err(JournalFault::NoMemory);
@@ -60,6 +62,7 @@ pub(crate) fn sync_changes<S: Store>(journal: &mut Journal<S>) -> Result<(), Jou
     ensures faults { S.faults journal.old.store ≤ S.faults journal.new.store }
     ensures cause { IsErrOf result (JournalFault.Store StoreFault.Failed)
         → S.faults journal.old.store < S.faults journal.new.store }
+    ensures time { TimeGoesOn S.Store journal.old.store journal.new.store }
 {
     journal.sync()
 }

@@ -2,7 +2,9 @@
 ghost use Rattle.std.specs.Prelude.{◌≡◌, List, ℕ, ◌++◌, OnOk, IsErrOf};
 ghost use Rattle.clip_stream.specs.Steps.Reading.{cut};
 
+use crate::anew::{Anew, Shortener, lines_anew, write_anew};
 use crate::changes::{append_change, sync_changes};
+use crate::kept_source::RunName;
 use clip_journal::{Journal, JournalFault, Store, StoreFault};
 use clip_stream::{extend_cut, feed_of};
 use std::alloc::Global;
@@ -12,6 +14,7 @@ pub(crate) struct Keeper<S: Store> {
     alloc: Global,
     journal: Journal<S>,
     piece: Vec<u8>,
+    gives_up: bool,
 }
 
 /// Adds bytes to the piece of a line.
@@ -34,8 +37,9 @@ impl<S: Store> Keeper<S> {
     ghost use Rattle.clip_stream.specs.Steps.Reading.{has_feed};
     ghost use Rattle.clip_ahead.specs.Ahead.{Begun, Appended, LeavesFronts};
     ghost use Rattle.clip_ahead.specs.Changes.{changes_of};
-    ghost use Rattle.clip_ahead.specs.Keeping.{Holds};
+    ghost use Rattle.clip_ahead.specs.Keeping.{Holds, TimeGoesOn};
     ghost use Rattle.clip_ahead.specs.Handing.{KeepsAhead};
+    ghost use Rattle.clip_ahead.specs.Stages.{IsAheadAnew};
 
     /// A keeper that has taken no bytes. Takes no memory.
     pub(crate) fn new(alloc: Global, journal: Journal<S>) -> Keeper<S>
@@ -47,6 +51,7 @@ impl<S: Store> Keeper<S> {
             alloc,
             journal,
             piece,
+            gives_up: false,
         }
     }
 
@@ -66,6 +71,7 @@ impl<S: Store> Keeper<S> {
         ensures faults { S.faults self.old.journal.store ≤ S.faults self.new.journal.store }
         ensures cause { IsErrOf result (JournalFault.Store StoreFault.Failed)
             → S.faults self.old.journal.store < S.faults self.new.journal.store }
+        ensures time { TimeGoesOn S.Store self.old.journal.store self.new.journal.store }
     {
         extend_piece(&mut self.piece, bytes)?;
         let asks = append_change(self.alloc, &mut self.journal, &self.piece)?;
@@ -86,6 +92,7 @@ impl<S: Store> Keeper<S> {
         ensures faults { S.faults self.old.journal.store ≤ S.faults self.new.journal.store }
         ensures cause { IsErrOf result (JournalFault.Store StoreFault.Failed)
             → S.faults self.old.journal.store < S.faults self.new.journal.store }
+        ensures time { TimeGoesOn S.Store self.old.journal.store self.new.journal.store }
     {
         let mut rest = bytes;
         let mut asks = false;
@@ -109,6 +116,7 @@ impl<S: Store> Keeper<S> {
         ensures faults { S.faults self.old.journal.store ≤ S.faults self.new.journal.store }
         ensures cause { IsErrOf result (JournalFault.Store StoreFault.Failed)
             → S.faults self.old.journal.store < S.faults self.new.journal.store }
+        ensures time { TimeGoesOn S.Store self.old.journal.store self.new.journal.store }
     {
         if self.append(bytes)? {
             sync_changes(&mut self.journal)?;
@@ -126,6 +134,7 @@ impl<S: Store> Keeper<S> {
         ensures faults { S.faults self.old.journal.store ≤ S.faults self.new.journal.store }
         ensures cause { IsErrOf result (JournalFault.Store StoreFault.Failed)
             → S.faults self.old.journal.store < S.faults self.new.journal.store }
+        ensures time { TimeGoesOn S.Store self.old.journal.store self.new.journal.store }
     {
         if self.piece.is_empty() {
             return Ok(());
@@ -146,11 +155,45 @@ impl<S: Store> Keeper<S> {
         ensures faults { S.faults self.old.journal.store ≤ S.faults self.new.journal.store }
         ensures cause { IsErrOf result (JournalFault.Store StoreFault.Failed)
             → S.faults self.old.journal.store < S.faults self.new.journal.store }
+        ensures time { TimeGoesOn S.Store self.old.journal.store self.new.journal.store }
     {
         if bytes.is_empty() {
             return self.keep_last();
         }
         self.keep(bytes)
+    }
+
+    /// Writes the journal anew where it is long, but for one that could not be: the lines that may stand for all that it
+    /// keeps in the place of that. What was asked is told of what is begun, and of what could not be done: the journal
+    /// goes on as it was then, but where its store failed.
+    pub(crate) fn shorten<N: RunName, L: Shortener>(
+        &mut self,
+        shortener: &L,
+    ) -> Result<(), JournalFault>
+        requires named { (old new : List (List ℕ)) → L.stand_for shortener.now old new → N.stand_for old new }
+        ensures anew { (begun : Begun) (left : Option (List ℕ)) (held : List ℕ)
+            → IsAheadAnew N.stand_for S.Store begun left held self.old false None → MatchResult result
+            (λ _. IsAheadAnew N.stand_for S.Store begun left held self.new false None)
+            (λ fault. IsAheadAnew N.stand_for S.Store begun left held self.new false (Some fault)) }
+    {
+        if self.gives_up || !self.journal.is_long() {
+            return Ok(());
+        }
+        shortener.tell_begun();
+        let Some(lines) = lines_anew(self.alloc, &self.journal, shortener) else {
+            self.gives_up = true;
+            shortener.tell_undone();
+            return Ok(());
+        };
+        match write_anew(self.alloc, &mut self.journal, &lines) {
+            Ok(Anew::Done) => Ok(()),
+            Ok(Anew::Undone) => {
+                self.gives_up = true;
+                shortener.tell_undone();
+                Ok(())
+            }
+            Err(fault) => Err(fault),
+        }
     }
 
     /// The journal, where the keeper is not needed any more. Constant time.
@@ -161,6 +204,7 @@ impl<S: Store> Keeper<S> {
             alloc: _,
             journal,
             piece: _,
+            gives_up: _,
         } = self;
         journal
     }
