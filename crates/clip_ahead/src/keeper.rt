@@ -3,6 +3,7 @@ ghost use Rattle.std.specs.Prelude.{◌≡◌, List, ℕ, ◌++◌, OnOk, IsErrO
 ghost use Rattle.clip_stream.specs.Steps.Reading.{cut};
 
 use crate::anew::{Anew, Shortener, lines_anew, write_anew};
+use crate::census::Census;
 use crate::changes::{append_change, sync_changes};
 use crate::kept_source::RunName;
 use clip_journal::{Journal, JournalFault, Store, StoreFault};
@@ -14,6 +15,7 @@ pub(crate) struct Keeper<S: Store> {
     alloc: Global,
     journal: Journal<S>,
     piece: Vec<u8>,
+    census: Census,
     gives_up: bool,
 }
 
@@ -51,6 +53,7 @@ impl<S: Store> Keeper<S> {
             alloc,
             journal,
             piece,
+            census: Census::new(alloc),
             gives_up: false,
         }
     }
@@ -74,7 +77,7 @@ impl<S: Store> Keeper<S> {
         ensures time { TimeGoesOn S.Store self.old.journal.store self.new.journal.store }
     {
         extend_piece(&mut self.piece, bytes)?;
-        let asks = append_change(self.alloc, &mut self.journal, &self.piece)?;
+        let asks = append_change(self.alloc, &mut self.journal, &mut self.census, &self.piece)?;
         self.piece.clear();
         Ok(asks)
     }
@@ -139,7 +142,7 @@ impl<S: Store> Keeper<S> {
         if self.piece.is_empty() {
             return Ok(());
         }
-        if append_change(self.alloc, &mut self.journal, &self.piece)? {
+        if append_change(self.alloc, &mut self.journal, &mut self.census, &self.piece)? {
             sync_changes(&mut self.journal)?;
         }
         Ok(())
@@ -163,6 +166,14 @@ impl<S: Store> Keeper<S> {
         self.keep(bytes)
     }
 
+    /// Whether the journal is long beside what is live, as far as that is known.
+    fn is_long(&self) -> bool {
+        match self.census.count() {
+            Some(more) => !self.gives_up && self.journal.is_long_with(more),
+            None => false,
+        }
+    }
+
     /// Writes the journal anew where it is long, but for one that could not be: the lines that may stand for all that it
     /// keeps in the place of that. What was asked is told of what is begun, and of what could not be done: the journal
     /// goes on as it was then, but where its store failed.
@@ -176,7 +187,7 @@ impl<S: Store> Keeper<S> {
             (λ _. IsAheadAnew N.stand_for S.Store begun left held self.new false None)
             (λ fault. IsAheadAnew N.stand_for S.Store begun left held self.new false (Some fault)) }
     {
-        if self.gives_up || !self.journal.is_long() {
+        if !self.is_long() {
             return Ok(());
         }
         shortener.tell_begun();
@@ -186,7 +197,10 @@ impl<S: Store> Keeper<S> {
             return Ok(());
         };
         match write_anew(self.alloc, &mut self.journal, &lines) {
-            Ok(Anew::Done) => Ok(()),
+            Ok(Anew::Done) => {
+                self.census.clear();
+                Ok(())
+            }
             Ok(Anew::Undone) => {
                 self.gives_up = true;
                 shortener.tell_undone();
@@ -204,6 +218,7 @@ impl<S: Store> Keeper<S> {
             alloc: _,
             journal,
             piece: _,
+            census: _,
             gives_up: _,
         } = self;
         journal

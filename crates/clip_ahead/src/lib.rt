@@ -3,6 +3,7 @@
 #![tactic(auto)]
 
 mod anew;
+mod census;
 mod changes;
 mod keeper;
 mod kept_source;

@@ -1,5 +1,5 @@
 //! A journal that takes commands.
-ghost use Rattle.std.specs.Prelude.{◌≡◌, ◌≢◌, ◌⊎◌, ◌<◌, ◌≤◌, ◌-◌, ◌^◌, ℕ, length, true, false, IfOk, IfErr, OnOk, IsErrOf};
+ghost use Rattle.std.specs.Prelude.{◌≡◌, ◌≢◌, ◌⊎◌, ◌<◌, ◌≤◌, ◌+◌, ◌-◌, ◌^◌, ℕ, length, true, false, IfOk, IfErr, OnOk, IsErrOf};
 ghost use Rattle.clip_journal.specs.Entries.{link_behind, first_link};
 ghost use Rattle.clip_journal.specs.Kept.{Kept, bytes_of, said_by, says, compacted};
 
@@ -71,7 +71,7 @@ fn are_same(a: &Link, b: &Link) -> bool
 
 impl<S: Store> Journal<S> {
     ghost use Rattle.clip_journal.specs.Kept.{with_command, AreReadAgain};
-    ghost use Rattle.clip_journal.specs.Length.{is_long};
+    ghost use Rattle.clip_journal.specs.Length.{are_long};
     ghost use Rattle.clip_journal.specs.Found.{kept_of};
     ghost use Rattle.clip_journal.specs.Stop.{Only, Elapses, LeavesOnly};
     ghost use Rattle.clip_journal.specs.Stands.{IsFront, Stands};
@@ -213,13 +213,14 @@ impl<S: Store> Journal<S> {
         Ok(())
     }
 
-    /// Whether it is long: it has over 1,000 commands since it was written anew, and more than twice as many as there were
-    /// queries then. Constant time.
-    pub fn is_long(&self) -> bool
-        ensures { (kept : Kept) (safe : ℕ) → Stands S.seen S.may_leave self.now kept safe → result ≡ is_long kept }
+    /// Whether it is long where so many queries more are live now than as it was written anew: it has over 1,000 commands
+    /// since, and more than twice as many as there are queries. Constant time.
+    pub fn is_long_with(&self, more: u64) -> bool
+        ensures { (kept : Kept) (safe : ℕ) → Stands S.seen S.may_leave self.now kept safe
+            → result ≡ are_long (length kept.live + more) (length kept.since) }
     {
         are_long(
-            self.live,
+            self.live.saturating_add(more),
             self.place.saturating_sub(1).saturating_sub(self.live),
         )
     }

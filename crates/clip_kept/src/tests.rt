@@ -3,7 +3,7 @@ ghost use Rattle.std.specs.Prelude.{◌≡◌, ◌<◌, Some, false};
 use super::*;
 use clip_ahead::{KeptParts, Shortener};
 use clip_file_store::{Backing, Failed as StoreFailed, Recorded};
-use clip_journal::begin;
+use clip_journal::{begin, read_back};
 use clip_listen::Listeners;
 use clip_match::OpenGate;
 use clip_run::{Form, Settings};
@@ -253,6 +253,7 @@ fn play<H: Threads + Wait + Sync + AllocGlobal>(
         },
         opened,
         gate: &OpenGate,
+        shortener: &Last { most: 1 },
     };
     let KeptRun { answer, parts } = run_kept(rt, alloc, source, &mut sink, &mut listeners, keeping);
     let KeptParts { journal, .. } = parts;
@@ -352,5 +353,27 @@ fn a_run_that_ends_well_keeps_its_last_line(rt: HostRuntime) -> Result<(), Fail>
     assert_eq!(rt; lines_in(&played.written, &REPLIES), Some(4));
     let again = play(&rt, played.synced, b"", 1000, 100, 0)?;
     assert_eq!(rt; again.found, 3);
+    Ok(())
+}
+
+/// How often a query is registered, one after the other, in a run whose journal is written anew.
+const OFTEN: usize = 1_200;
+
+#[test]
+fn a_journal_that_is_long_is_written_anew_while_it_is_taken(rt: HostRuntime) -> Result<(), Fail> {
+    let alloc = rt.alloc();
+    let mut input = Vec::new(alloc);
+    for _ in 0..OFTEN {
+        input.extend_from_slice(br#"{"op":"register","queries":[{"id":"q1","query":"tea"}]}"#)?;
+        input.push(b'\n')?;
+    }
+    let played = play(&rt, Vec::new(alloc), &input, 5000, 100_000, 0)?;
+    assert_eq!(rt; played.answer, Ok(OFTEN as u64));
+    let kept = read_back(alloc, &played.synced)?;
+    assert_eq!(rt; kept.changes() as usize + kept.since().len(), OFTEN);
+    assert_eq!(rt; kept.live().len(), 1);
+    assert!(rt; kept.since().len() < 300);
+    let again = play(&rt, played.synced, b"{\"op\":\"count\"}\n", 1000, 100, 0)?;
+    assert_eq!(rt; lines_in(&again.written, &[COUNTED[1]]), Some(1));
     Ok(())
 }
