@@ -205,8 +205,8 @@ impl<N: RunName, R: Source, S: Store, L: Shortener> Source for KeptSource<'_, N,
         if self.met_end || buffer.is_empty() {
             return Ok(0);
         }
-        if let Err(fault) = self.keeper.shorten::<N, L>(self.shortener) {
-            self.fault = Some(fault);
+        if let Err(why) = self.keeper.shorten::<N, L>(self.shortener) {
+            self.fault = Some(why);
             return Err(Failed);
         }
         let room = buffer.len().min(CHUNK);
