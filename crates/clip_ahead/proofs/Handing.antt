@@ -1,16 +1,16 @@
 -- What a reader that keeps ahead goes through at a read.
-use Rattle.std.proofs.Common.{◌≡◌, ℕ, ◌≤◌, ◌<◌, List, [], ◌++◌, Bool, true, false, refl, sym}
+use Rattle.std.proofs.Common.{◌≡◌, ℕ, ◌≤◌, ◌<◌, List, [], ◌++◌, Bool, false, refl, sym}
 use Rattle.std.proofs.Common.{ap, ◌∙◌, subst, arith, append-nil, true≢false}
 use Rattle.std.specs.Prelude.{Option, None, Some, is_some}
 use Rattle.std.specs.Io.KnownBytes.{Consumes, Keeps}
-use Rattle.clip_stream.specs.Lines.{lines_of, ended_lines}
+use Rattle.clip_stream.specs.Lines.{ended_lines}
 use Rattle.clip_stream.proofs.Bytes.{consumes_kept, consumes_more}
 use Rattle.clip_journal.specs.declared.journal_fault.JournalFault.{JournalFault}
 use Rattle.clip_journal.specs.declared.journal_fault.JournalFault.TheVariants as fault
 use Rattle.clip_journal.specs.declared.store.StoreFault.TheVariants as stored
 use Rattle.clip_journal.specs.declared.store.Store as store
-use Rattle.clip_ahead.specs.Ahead.{Begun, Appended, LeavesFronts}
-use Rattle.clip_ahead.specs.Handing.{put_back, KeepsAhead, IsAhead, WasAhead}
+use Rattle.clip_ahead.specs.Ahead.{Begun, LeavesFronts}
+use Rattle.clip_ahead.specs.Handing.{put_back, KeepsAhead, IsAhead}
 use Rattle.clip_ahead.specs.declared.keeper.Keeper.{Keeper}
 use Rattle.clip_ahead.proofs.Appending.{fronts_here}
 
@@ -112,45 +112,4 @@ module _ {S : Type 0} (calls : store.Ghosts S) (begun : Begun) where
     keeps = subst (λ xs. KeepsAhead calls begun new (a.handed ++ bytes) xs keeper met_end None) (sym none) keeps;
     faults = omega (arith, a.faults, faults);
     cause = λ e. cc;
-  }
-
-  -- ---- at the end of all
-
-  pub was_ahead : (left : Option (List ℕ)) (held : List ℕ) (keeper : Keeper S) (met_end : Bool)
-      (failed : Option JournalFault) → IsAhead calls begun left held keeper met_end failed
-      → WasAhead calls begun left held met_end failed keeper.journal
-  was_ahead left held keeper true None a =
-      let all : (held ≡ []) × Appended calls begun (lines_of a.handed) (lines_of a.handed) keeper.journal =
-      (a.keeps.0, a.keeps.2) in
-      record {
-        handed = a.handed;
-        given = a.given;
-        well = λ _. all;
-        ended = λ _. (a.keeps.0, a.keeps.1);
-        at_end = true;
-        fronts = subst (λ xs. LeavesFronts calls begun (lines_of a.handed) (lines_of xs) keeper.journal.store)
-            (sym (ap (λ xs. a.handed ++ xs) a.keeps.0 ∙ append-nil a.handed))
-            (fronts_here calls begun (lines_of a.handed) (lines_of a.handed) keeper.journal a.keeps.2);
-        cause = a.cause;
-      }
-  was_ahead left held keeper false None a = record {
-    handed = a.handed;
-    given = a.given;
-    well = λ _. (a.keeps.0, a.keeps.1.appended);
-    ended = λ e. cc;
-    at_end = false;
-    fronts = subst (λ xs. LeavesFronts calls begun (ended_lines a.handed) (ended_lines xs) keeper.journal.store)
-        (sym (ap (λ xs. a.handed ++ xs) a.keeps.0 ∙ append-nil a.handed))
-        (fronts_here calls begun (ended_lines a.handed) (ended_lines a.handed) keeper.journal a.keeps.1.appended);
-    cause = a.cause;
-  }
-  was_ahead left held keeper true (Some why) a = absurd a.keeps
-  was_ahead left held keeper false (Some why) a = record {
-    handed = a.handed;
-    given = a.given;
-    well = λ e. cc;
-    ended = λ e. cc;
-    at_end = a.keeps.0;
-    fronts = a.keeps.1;
-    cause = a.cause;
   }

@@ -12,11 +12,12 @@ use Rattle.clip_journal.specs.declared.journal_fault.JournalFault.{JournalFault}
 use Rattle.clip_ahead.specs.Changes.{changes_of}
 use Rattle.clip_ahead.specs.Pieces.{last_piece, line_of_piece}
 use Rattle.clip_ahead.specs.Ahead.{Begun, Appended, LeavesFronts}
-use Rattle.clip_ahead.specs.Keeping.{Holds, Takes}
+use Rattle.clip_ahead.specs.Keeping.{Holds, Takes, TimeGoesOn}
 use Rattle.clip_ahead.specs.Handing.{KeepsAhead}
 use Rattle.clip_ahead.specs.declared.keeper.Keeper.{Keeper}
 use Rattle.clip_ahead.proofs.Pieces.{ended_behind, piece_behind, ended_first, first_parts, first_has_none, all_lines}
 use Rattle.clip_ahead.proofs.Appending.{fronts_here, fronts_later}
+use Rattle.clip_ahead.proofs.Times.{time_none, time_on}
 
 -- ---- what stands up to a line feed
 
@@ -50,6 +51,7 @@ module _ {S : Type 0} (calls : store.Ghosts S) where
       unchanged = λ _. ap (λ xs. changes_of (ended_lines xs)) (append-nil before);
     };
     faults = omega arith;
+    time = time_none calls keeper.journal.store;
   }
 
   pub takes_line : (old now next : Keeper S) (bytes rest piece after : List ℕ) (at : ℕ) (asks asked later : Bool)
@@ -60,8 +62,8 @@ module _ {S : Type 0} (calls : store.Ghosts S) where
       → asked ≡ false
       → changes_of (ended_lines (before ++ (piece ++ 10 ∷ []))) ≡ changes_of (ended_lines before))
       → calls.faults now.journal.store ≤ calls.faults next.journal.store
-      → (later ≡ false → (asks ≡ false) × (asked ≡ false)) → Takes calls old next bytes after later
-  takes_line old now next bytes rest piece after at asks asked later t f p a holds unchanged faults neither =
+      → TimeGoesOn calls now.journal.store next.journal.store → (later ≡ false → (asks ≡ false) × (asked ≡ false)) → Takes calls old next bytes after later
+  takes_line old now next bytes rest piece after at asks asked later t f p a holds unchanged faults time neither =
       let none = feed_none rest piece at f p in
       record {
         on = λ begun before h.
@@ -80,6 +82,7 @@ module _ {S : Type 0} (calls : store.Ghosts S) where
                   ∙ unchanged begun before (before ++ o.taken) o.holds none both.1 ∙ o.unchanged both.0;
             };
         faults = omega (arith, t.faults, faults);
+        time = time_on calls old.journal.store now.journal.store next.journal.store t.time time;
       }
 
   -- ---- where it failed

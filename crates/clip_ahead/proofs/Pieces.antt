@@ -1,8 +1,9 @@
 -- Lines that end, and the piece behind them.
-use Rattle.std.proofs.Common.{◌≡◌, ℕ, ◌==◌, ◌||◌, List, [], ◌∷◌, ◌++◌, Bool, true, false, cond, refl, sym, ap, ◌∙◌}
+use Rattle.std.proofs.Common.{◌≡◌, ℕ, ◌==◌, ◌||◌, List, [], ◌∷◌, ◌++◌, Bool, true, false, cond, length, refl, sym, ap}
+use Rattle.std.proofs.Common.{◌∙◌}
 use Rattle.std.proofs.Common.{append_assoc, arith, true≢false}
 use Rattle.std.proofs.lemmas.Bool.Decides.{nat_tests}
-use Rattle.clip_stream.specs.Lines.{lines_of, onto_first, ended_lines, onto_ended}
+use Rattle.clip_stream.specs.Lines.{lines_of, onto_first, ended_lines, onto_ended, lines_read}
 use Rattle.clip_stream.specs.Steps.Reading.{has_feed, first_line, after_line}
 use Rattle.clip_ahead.specs.Pieces.{last_piece, line_of_piece}
 
@@ -187,3 +188,99 @@ all_lines [] = refl
 all_lines (b ∷ bytes) =
     ap (λ ls. cond (b == 10) ([] ∷ ls) (onto_first b ls)) (all_lines bytes)
     ∙ end_step (b == 10) (has_feed bytes) b bytes refl
+
+-- ---- bytes that end with a line, and bytes behind them
+
+whole_step : (t : Bool) (b : ℕ) (bytes : List ℕ) → cond t (last_piece bytes) (b ∷ bytes) ≡ []
+    → (t ≡ true) × (last_piece bytes ≡ [])
+whole_step true b bytes e = (refl, e)
+whole_step false b bytes e = absurd (omega (arith, ap length e))
+
+feed_first : (xs ys : List ℕ) → has_feed xs ≡ true → has_feed (xs ++ ys) ≡ true
+feed_first [] ys e = absurd (true≢false (sym e))
+feed_first (x ∷ xs) ys e = or_on (x == 10) (has_feed xs) (has_feed (xs ++ ys)) e (feed_first xs ys)
+  where
+    or_on : (t r s : Bool) → (t || r) ≡ true → (r ≡ true → s ≡ true) → (t || s) ≡ true
+    or_on true r s e f = refl
+    or_on false r s e f = f e
+
+join_step : (t r : Bool) (x : ℕ) (xs : List ℕ) (later : List (List ℕ)) → (t || r) ≡ true → has_feed xs ≡ r
+    → cond t ([] ∷ (ended_lines xs ++ later)) (onto_ended x (ended_lines xs ++ later))
+    ≡ cond t ([] ∷ ended_lines xs) (onto_ended x (ended_lines xs)) ++ later
+join_step true r x xs later o e = refl
+join_step false true x xs later o e =
+    let some = some_ended xs e in
+    onto_more x (ended_lines xs) some.0 some.1 later some.2
+join_step false false x xs later o e = absurd (true≢false (sym o))
+
+pub ended_join : (xs ys : List ℕ) → last_piece xs ≡ [] → ended_lines (xs ++ ys) ≡ ended_lines xs ++ ended_lines ys
+ended_join [] ys e = refl
+ended_join (x ∷ xs) ys e =
+    let whole = whole_step (has_feed (x ∷ xs)) x xs e in
+    ap (λ ls. cond (x == 10) ([] ∷ ls) (onto_ended x ls)) (ended_join xs ys whole.1)
+    ∙ join_step (x == 10) (has_feed xs) x xs (ended_lines ys) whole.0 refl
+
+pub piece_join : (xs ys : List ℕ) → last_piece xs ≡ [] → last_piece (xs ++ ys) ≡ last_piece ys
+piece_join [] ys e = refl
+piece_join (x ∷ xs) ys e =
+    let whole = whole_step (has_feed (x ∷ xs)) x xs e in
+    ap (λ t. cond t (last_piece (xs ++ ys)) (x ∷ (xs ++ ys))) (feed_first (x ∷ xs) ys whole.0)
+    ∙ piece_join xs ys whole.1
+
+pub lines_join : (xs ys : List ℕ) → last_piece xs ≡ [] → lines_of (xs ++ ys) ≡ ended_lines xs ++ lines_of ys
+lines_join xs ys e =
+    all_lines (xs ++ ys) ∙ ap (λ ls. ls ++ line_of_piece (last_piece (xs ++ ys))) (ended_join xs ys e)
+    ∙ ap (λ p. (ended_lines xs ++ ended_lines ys) ++ line_of_piece p) (piece_join xs ys e)
+    ∙ append_assoc (ended_lines xs) (ended_lines ys) (line_of_piece (last_piece ys))
+    ∙ ap (λ ls. ended_lines xs ++ ls) (sym (all_lines ys))
+
+pub read_join : (met_end : Bool) (xs ys : List ℕ) → last_piece xs ≡ []
+    → lines_read met_end (xs ++ ys) ≡ ended_lines xs ++ lines_read met_end ys
+read_join true xs ys e = lines_join xs ys e
+read_join false xs ys e = ended_join xs ys e
+
+-- ---- the piece, and what stands before it
+
+pub piece_none : (bytes : List ℕ) → has_feed (last_piece bytes) ≡ false
+piece_none [] = refl
+piece_none (b ∷ bytes) = none_step (has_feed (b ∷ bytes)) refl (piece_none bytes)
+  where
+    none_step : (q : Bool) → has_feed (b ∷ bytes) ≡ q → has_feed (last_piece bytes) ≡ false
+        → has_feed (last_piece (b ∷ bytes)) ≡ false
+    none_step true e more = ap (λ t. has_feed (cond t (last_piece bytes) (b ∷ bytes))) e ∙ more
+    none_step false e more = ap (λ t. has_feed (cond t (last_piece bytes) (b ∷ bytes))) e ∙ e
+
+pub piece_ends_none : (bytes : List ℕ) → ended_lines (last_piece bytes) ≡ []
+piece_ends_none bytes = none_ended (last_piece bytes) (piece_none bytes)
+
+pub piece_of_piece : (bytes : List ℕ) → last_piece (last_piece bytes) ≡ last_piece bytes
+piece_of_piece bytes = all_piece (last_piece bytes) (piece_none bytes)
+
+pub record PieceParts (bytes : List ℕ) : Type 0 where
+  pub front : List ℕ
+  pub parts : bytes ≡ front ++ last_piece bytes
+  pub feeds : has_feed front ≡ has_feed bytes
+  pub whole : last_piece front ≡ []
+  pub ended : ended_lines front ≡ ended_lines bytes
+
+parts_more : (b : ℕ) (bytes : List ℕ) (q : Bool) → has_feed (b ∷ bytes) ≡ q → PieceParts bytes
+    → PieceParts (b ∷ bytes)
+parts_more b bytes true e p = record {
+  front = b ∷ p.front;
+  parts = ap (λ xs. b ∷ xs) p.parts
+      ∙ ap (λ xs. (b ∷ p.front) ++ xs) (sym (ap (λ t. cond t (last_piece bytes) (b ∷ bytes)) e));
+  feeds = ap (λ r. (b == 10) || r) p.feeds;
+  whole = ap (λ t. cond t (last_piece p.front) (b ∷ p.front)) (ap (λ r. (b == 10) || r) p.feeds ∙ e) ∙ p.whole;
+  ended = ap (λ ls. cond (b == 10) ([] ∷ ls) (onto_ended b ls)) p.ended;
+}
+parts_more b bytes false e p = record {
+  front = [];
+  parts = sym (ap (λ t. cond t (last_piece bytes) (b ∷ bytes)) e);
+  feeds = sym e;
+  whole = refl;
+  ended = sym (none_ended (b ∷ bytes) e);
+}
+
+pub piece_parts : (bytes : List ℕ) → PieceParts bytes
+piece_parts [] = record { front = []; parts = refl; feeds = refl; whole = refl; ended = refl }
+piece_parts (b ∷ bytes) = parts_more b bytes (has_feed (b ∷ bytes)) refl (piece_parts bytes)

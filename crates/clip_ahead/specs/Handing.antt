@@ -8,6 +8,7 @@ use Rattle.clip_journal.specs.declared.journal_fault.JournalFault.TheVariants as
 use Rattle.clip_journal.specs.declared.store.StoreFault.TheVariants as stored
 use Rattle.clip_journal.specs.declared.store.Store as store
 use Rattle.clip_ahead.specs.Ahead.{Begun, Appended, LeavesFronts}
+use Rattle.clip_ahead.specs.Anew.{HasKept, LeavesKept}
 use Rattle.clip_ahead.specs.Keeping.{Holds}
 use Rattle.clip_ahead.specs.declared.keeper.Keeper.{Keeper}
 
@@ -42,15 +43,16 @@ pub record IsAhead {S : Type 0} (calls : store.Ghosts S) (begun : Begun) (left :
   pub faults : begun.faults ≤ calls.faults keeper.journal.store
   pub cause : failed ≡ Some (fault.Store stored.Failed) → begun.faults < calls.faults keeper.journal.store
 
--- All that was handed out is in the journal: what a stop leaves from now on is what was kept and a front of the changes
--- of these lines, with all that were handed out.
-pub record WasAhead {S : Type 0} (calls : store.Ghosts S) (begun : Begun) (left : Option (List ℕ)) (held : List ℕ)
-    (met_end : Bool) (failed : Option JournalFault) (journal : Journal S) : Type 0 where
+-- All that was handed out is in the journal: what a stop leaves from now on comes of what was kept and of a front of the
+-- changes of these lines, with all that were handed out.
+pub record WasAhead {S : Type 0} (StandFor : List (List ℕ) → List (List ℕ) → Type 0) (calls : store.Ghosts S)
+    (begun : Begun) (left : Option (List ℕ)) (held : List ℕ) (met_end : Bool) (failed : Option JournalFault)
+    (journal : Journal S) : Type 0 where
   pub handed : List ℕ
   pub given : Consumes begun.left (put_back held left) handed
-  pub well : failed ≡ None
-      → (held ≡ []) × Appended calls begun (lines_read met_end handed) (lines_read met_end handed) journal
+  pub well : failed ≡ None → (held ≡ []) × HasKept StandFor calls begun (lines_read met_end handed) journal
   pub ended : met_end ≡ true → (held ≡ []) × IsAtEnd left
   pub at_end : Bool
-  pub fronts : LeavesFronts calls begun (lines_read met_end handed) (lines_read at_end (handed ++ held)) journal.store
+  pub fronts : LeavesKept StandFor calls begun (lines_read met_end handed) (lines_read at_end (handed ++ held))
+      journal.store
   pub cause : failed ≡ Some (fault.Store stored.Failed) → begun.faults < calls.faults journal.store

@@ -1,5 +1,5 @@
 -- What a keeper holds: its journal, and the piece of a line.
-use Rattle.std.specs.Prelude.{◌≡◌, ℕ, ◌≤◌, List, ◌++◌, Bool, false}
+use Rattle.std.specs.Prelude.{◌≡◌, ◌⊎◌, ℕ, ◌≤◌, List, ◌++◌, Bool, false}
 use Rattle.clip_stream.specs.Lines.{ended_lines}
 use Rattle.clip_stream.specs.Steps.Reading.{cut}
 use Rattle.clip_journal.specs.declared.store.Store as store
@@ -15,6 +15,15 @@ pub record Holds {S : Type 0} (calls : store.Ghosts S) (begun : Begun) (synced b
   pub appended : Appended calls begun (ended_lines synced) (ended_lines bytes) keeper.journal
   pub piece : keeper.piece.items ≡ cut (last_piece bytes)
 
+-- Time goes on, over some calls of a store: what a stop since one moment might have left by then it might have left
+-- before, or a stop since any other might have left it by then.
+pub record TimeGoesOn {S : Type 0} (calls : store.Ghosts S) (old new : S) : Type 0 where
+  pub later : calls.moment old ≤ calls.moment new
+  pub nothing_else : (t u : ℕ) (left : List ℕ) → t ≤ calls.moment old → u ≤ calls.moment old
+      → calls.left_since new t left → calls.left_since old t left ⊎ calls.left_since new u left
+  pub keeps : (t : ℕ) (left : List ℕ) → t ≤ calls.moment old → calls.left_since old t left
+      → calls.left_since new t left
+
 -- Of the bytes all but the rest were taken since these, and whether a change was among them.
 pub record TakesOn {S : Type 0} (calls : store.Ghosts S) (begun : Begun) (before bytes rest : List ℕ) (asks : Bool)
     (keeper : Keeper S) : Type 0 where
@@ -29,3 +38,4 @@ pub record Takes {S : Type 0} (calls : store.Ghosts S) (old now : Keeper S) (byt
     pub on : (begun : Begun) (before : List ℕ) → Holds calls begun before before old
         → TakesOn calls begun before bytes rest asks now
     pub faults : calls.faults old.journal.store ≤ calls.faults now.journal.store
+    pub time : TimeGoesOn calls old.journal.store now.journal.store

@@ -3,18 +3,31 @@ ghost use Rattle.std.specs.Prelude.{◌≡◌, ◌≤◌, ◌<◌, List, ℕ, []
 ghost use Rattle.clip_stream.specs.Steps.Reading.{cut};
 ghost use Rattle.clip_ahead.specs.Ahead.{Begun, Appended, LeavesFronts};
 ghost use Rattle.clip_ahead.specs.Changes.{asks_change as asks};
+ghost use Rattle.clip_ahead.specs.Keeping.{TimeGoesOn};
 
+use crate::census::Census;
 use clip_journal::{Journal, JournalFault, Store, StoreFault};
 use clip_protocol::Line;
 use clip_words::NoMemory;
 use std::alloc::Global;
 
-/// Whether a line asks to register queries, to delete some, or to delete all.
-fn asks_change(alloc: Global, line: &[u8]) -> Result<bool, NoMemory>
+/// Whether a line asks to register queries, to delete some, or to delete all, which the census counts.
+fn asks_change(alloc: Global, census: &mut Census, line: &[u8]) -> Result<bool, NoMemory>
     ensures { IfOk result (λ found. found ≡ asks line.now) }
 {
     match Line::of_bytes(alloc, line)? {
-        Line::Register(_) | Line::Delete(_) | Line::Clear => Ok(true),
+        Line::Register(listings) => {
+            census.register(&listings);
+            Ok(true)
+        }
+        Line::Delete(ids) => {
+            census.delete(&ids);
+            Ok(true)
+        }
+        Line::Clear => {
+            census.clear();
+            Ok(true)
+        }
         Line::Blank
         | Line::Refused(_)
         | Line::Purge
@@ -28,6 +41,7 @@ fn asks_change(alloc: Global, line: &[u8]) -> Result<bool, NoMemory>
 pub(crate) fn append_change<S: Store>(
     alloc: Global,
     journal: &mut Journal<S>,
+    census: &mut Census,
     line: &[u8],
 ) -> Result<bool, JournalFault>
     ensures asks { (whole : List ℕ) → line.now ≡ cut whole → IfOk result (λ found. found ≡ asks whole) }
@@ -40,8 +54,9 @@ pub(crate) fn append_change<S: Store>(
     ensures faults { S.faults journal.old.store ≤ S.faults journal.new.store }
     ensures cause { IsErrOf result (JournalFault.Store StoreFault.Failed)
         → S.faults journal.old.store < S.faults journal.new.store }
+    ensures time { TimeGoesOn S.Store journal.old.store journal.new.store }
 {
-    let Ok(asks) = asks_change(alloc, line) else {
+    let Ok(asks) = asks_change(alloc, census, line) else {
         return Err(JournalFault::NoMemory);
     };
     if !asks {
@@ -60,6 +75,7 @@ pub(crate) fn sync_changes<S: Store>(journal: &mut Journal<S>) -> Result<(), Jou
     ensures faults { S.faults journal.old.store ≤ S.faults journal.new.store }
     ensures cause { IsErrOf result (JournalFault.Store StoreFault.Failed)
         → S.faults journal.old.store < S.faults journal.new.store }
+    ensures time { TimeGoesOn S.Store journal.old.store journal.new.store }
 {
     journal.sync()
 }

@@ -2,7 +2,10 @@
 ghost use Rattle.std.specs.Prelude.{◌≡◌, List, ℕ, ◌++◌, OnOk, IsErrOf};
 ghost use Rattle.clip_stream.specs.Steps.Reading.{cut};
 
+use crate::anew::{Anew, Shortener, lines_anew, write_anew};
+use crate::census::Census;
 use crate::changes::{append_change, sync_changes};
+use crate::kept_source::RunName;
 use clip_journal::{Journal, JournalFault, Store, StoreFault};
 use clip_stream::{extend_cut, feed_of};
 use std::alloc::Global;
@@ -12,6 +15,8 @@ pub(crate) struct Keeper<S: Store> {
     alloc: Global,
     journal: Journal<S>,
     piece: Vec<u8>,
+    census: Census,
+    gives_up: bool,
 }
 
 /// Adds bytes to the piece of a line.
@@ -34,8 +39,9 @@ impl<S: Store> Keeper<S> {
     ghost use Rattle.clip_stream.specs.Steps.Reading.{has_feed};
     ghost use Rattle.clip_ahead.specs.Ahead.{Begun, Appended, LeavesFronts};
     ghost use Rattle.clip_ahead.specs.Changes.{changes_of};
-    ghost use Rattle.clip_ahead.specs.Keeping.{Holds};
+    ghost use Rattle.clip_ahead.specs.Keeping.{Holds, TimeGoesOn};
     ghost use Rattle.clip_ahead.specs.Handing.{KeepsAhead};
+    ghost use Rattle.clip_ahead.specs.Stages.{IsAheadAnew};
 
     /// A keeper that has taken no bytes. Takes no memory.
     pub(crate) fn new(alloc: Global, journal: Journal<S>) -> Keeper<S>
@@ -47,6 +53,8 @@ impl<S: Store> Keeper<S> {
             alloc,
             journal,
             piece,
+            census: Census::new(alloc),
+            gives_up: false,
         }
     }
 
@@ -66,9 +74,10 @@ impl<S: Store> Keeper<S> {
         ensures faults { S.faults self.old.journal.store ≤ S.faults self.new.journal.store }
         ensures cause { IsErrOf result (JournalFault.Store StoreFault.Failed)
             → S.faults self.old.journal.store < S.faults self.new.journal.store }
+        ensures time { TimeGoesOn S.Store self.old.journal.store self.new.journal.store }
     {
         extend_piece(&mut self.piece, bytes)?;
-        let asks = append_change(self.alloc, &mut self.journal, &self.piece)?;
+        let asks = append_change(self.alloc, &mut self.journal, &mut self.census, &self.piece)?;
         self.piece.clear();
         Ok(asks)
     }
@@ -86,6 +95,7 @@ impl<S: Store> Keeper<S> {
         ensures faults { S.faults self.old.journal.store ≤ S.faults self.new.journal.store }
         ensures cause { IsErrOf result (JournalFault.Store StoreFault.Failed)
             → S.faults self.old.journal.store < S.faults self.new.journal.store }
+        ensures time { TimeGoesOn S.Store self.old.journal.store self.new.journal.store }
     {
         let mut rest = bytes;
         let mut asks = false;
@@ -109,6 +119,7 @@ impl<S: Store> Keeper<S> {
         ensures faults { S.faults self.old.journal.store ≤ S.faults self.new.journal.store }
         ensures cause { IsErrOf result (JournalFault.Store StoreFault.Failed)
             → S.faults self.old.journal.store < S.faults self.new.journal.store }
+        ensures time { TimeGoesOn S.Store self.old.journal.store self.new.journal.store }
     {
         if self.append(bytes)? {
             sync_changes(&mut self.journal)?;
@@ -126,11 +137,12 @@ impl<S: Store> Keeper<S> {
         ensures faults { S.faults self.old.journal.store ≤ S.faults self.new.journal.store }
         ensures cause { IsErrOf result (JournalFault.Store StoreFault.Failed)
             → S.faults self.old.journal.store < S.faults self.new.journal.store }
+        ensures time { TimeGoesOn S.Store self.old.journal.store self.new.journal.store }
     {
         if self.piece.is_empty() {
             return Ok(());
         }
-        if append_change(self.alloc, &mut self.journal, &self.piece)? {
+        if append_change(self.alloc, &mut self.journal, &mut self.census, &self.piece)? {
             sync_changes(&mut self.journal)?;
         }
         Ok(())
@@ -146,11 +158,56 @@ impl<S: Store> Keeper<S> {
         ensures faults { S.faults self.old.journal.store ≤ S.faults self.new.journal.store }
         ensures cause { IsErrOf result (JournalFault.Store StoreFault.Failed)
             → S.faults self.old.journal.store < S.faults self.new.journal.store }
+        ensures time { TimeGoesOn S.Store self.old.journal.store self.new.journal.store }
     {
         if bytes.is_empty() {
             return self.keep_last();
         }
         self.keep(bytes)
+    }
+
+    /// Whether the journal is long beside what is live, as far as that is known.
+    fn is_long(&self) -> bool {
+        match self.census.count() {
+            Some(more) => !self.gives_up && self.journal.is_long_with(more),
+            None => false,
+        }
+    }
+
+    /// Writes the journal anew where it is long, but for one that could not be: the lines that may stand for all that it
+    /// keeps in the place of that. What was asked is told of what is begun, and of what could not be done: the journal
+    /// goes on as it was then, but where its store failed.
+    pub(crate) fn shorten<N: RunName, L: Shortener>(
+        &mut self,
+        shortener: &L,
+    ) -> Result<(), JournalFault>
+        requires named { (old new : List (List ℕ)) → L.stand_for shortener.now old new → N.stand_for old new }
+        ensures anew { (begun : Begun) (left : Option (List ℕ)) (held : List ℕ)
+            → IsAheadAnew N.stand_for S.Store begun left held self.old false None → MatchResult result
+            (λ _. IsAheadAnew N.stand_for S.Store begun left held self.new false None)
+            (λ fault. IsAheadAnew N.stand_for S.Store begun left held self.new false (Some fault)) }
+    {
+        if !self.is_long() {
+            return Ok(());
+        }
+        shortener.tell_begun();
+        let Some(lines) = lines_anew(self.alloc, &self.journal, shortener) else {
+            self.gives_up = true;
+            shortener.tell_undone();
+            return Ok(());
+        };
+        match write_anew(self.alloc, &mut self.journal, &lines) {
+            Ok(Anew::Done) => {
+                self.census.clear();
+                Ok(())
+            }
+            Ok(Anew::Undone) => {
+                self.gives_up = true;
+                shortener.tell_undone();
+                Ok(())
+            }
+            Err(fault) => Err(fault),
+        }
     }
 
     /// The journal, where the keeper is not needed any more. Constant time.
@@ -161,6 +218,8 @@ impl<S: Store> Keeper<S> {
             alloc: _,
             journal,
             piece: _,
+            census: _,
+            gives_up: _,
         } = self;
         journal
     }

@@ -1,10 +1,11 @@
 //! A reader that hands out bytes once the changes are kept for which they ask.
-ghost use Rattle.std.specs.Prelude.{◌≡◌, ◌+◌, ◌<◌, ◌≤◌, ◌^◌, ◌||◌, [], length, true, false};
+ghost use Rattle.std.specs.Prelude.{◌≡◌, ◌+◌, ◌<◌, ◌≤◌, ◌^◌, ◌||◌, ℕ, List, [], length, true, false};
 ghost use Rattle.std.specs.Prelude.{OnOk, OnErr, IsErrOf, is_some};
 ghost use Rattle.std.specs.Io.KnownBytes.{Consumes, IsAtEnd, Keeps};
 ghost use Rattle.clip_ahead.specs.Ahead.{Begun, Appended};
 ghost use Rattle.clip_ahead.specs.Handing.{put_back, WasAhead};
 
+use crate::anew::Shortener;
 use crate::keeper::Keeper;
 use clip_journal::{Journal, JournalFault, Store};
 use clip_stream::{Failed, Source};
@@ -14,26 +15,36 @@ use std::marker::{Brand, Model, PhantomData};
 /// How many bytes are read at once.
 const CHUNK: usize = 65_536;
 
-/// Names one run, in contracts only: with what it began.
+/// Names one run, in contracts only: with what it began, and how its journal may be written anew.
 pub trait RunName {
+    ghost use Rattle.std.specs.Prelude.{ℕ, List};
     ghost use Rattle.clip_ahead.specs.Ahead.{Begun};
 
     ghost begun: { Begun };
+
+    /// Whether lines, the second, may stand for others in its journal.
+    ghost stand_for: { List (List ℕ) → List (List ℕ) → Type 0 };
 }
 
 impl RunName for Brand {
+    ghost use Rattle.std.specs.Prelude.{◌≡◌};
     ghost use Rattle.clip_ahead.specs.Ahead.{no_beginning};
 
     ghost begun = { no_beginning };
+
+    ghost stand_for = { λ old new. new ≡ old };
 }
 
 /// A reader over another, and a journal. What it hands out is kept: the changes for which the lines ask that end in it
 /// are in the journal, and synced.
 ///
+/// Before a read the journal is written anew where it is long, with the lines that a shortener gives.
+///
 /// Once the journal has failed, or an allocation has, each read fails.
-pub struct KeptSource<N: RunName, R: Source, S: Store> {
+pub struct KeptSource<'l, N: RunName, R: Source, S: Store, L: Shortener> {
     reader: R,
     keeper: Keeper<S>,
+    shortener: &'l L,
     held: Vec<u8>,
     reads: u64,
     met_end: bool,
@@ -41,9 +52,10 @@ pub struct KeptSource<N: RunName, R: Source, S: Store> {
     of: PhantomData<N>,
 }
 
-impl<N: RunName, R: Source, S: Store> Model for KeptSource<N, R, S> {
-    ghost use Rattle.std.specs.Prelude.{◌≤◌, ◌||◌, is_some};
-    ghost use Rattle.clip_ahead.specs.Handing.{Handing, put_back, IsAhead};
+impl<'l, N: RunName, R: Source, S: Store, L: Shortener> Model for KeptSource<'l, N, R, S, L> {
+    ghost use Rattle.std.specs.Prelude.{◌≤◌, ◌||◌, ℕ, List, is_some};
+    ghost use Rattle.clip_ahead.specs.Handing.{Handing, put_back};
+    ghost use Rattle.clip_ahead.specs.Stages.{IsAheadAnew};
 
     ghost Value = { Handing };
 
@@ -54,8 +66,10 @@ impl<N: RunName, R: Source, S: Store> Model for KeptSource<N, R, S> {
       met_end = s.met_end;
     } };
 
-    ghost invariant = { λ s. IsAhead S.Store N.begun (R.left s.reader) s.held.items s.keeper s.met_end s.fault
-        × (R.reads s.reader ≤ s.reads) };
+    ghost invariant = { λ s.
+        IsAheadAnew N.stand_for S.Store N.begun (R.left s.reader) s.held.items s.keeper s.met_end s.fault
+        × (R.reads s.reader ≤ s.reads)
+        × ((old new : List (List ℕ)) → L.stand_for s.shortener.now old new → N.stand_for old new) };
 }
 
 /// Why bytes were not read.
@@ -113,9 +127,15 @@ pub struct KeptParts<R: Source, S: Store> {
     pub fault: Option<JournalFault>,
 }
 
-impl<N: RunName, R: Source, S: Store> KeptSource<N, R, S> {
+impl<'l, N: RunName, R: Source, S: Store, L: Shortener> KeptSource<'l, N, R, S, L> {
     /// A reader over another, of which nothing was read yet. Takes no memory.
-    pub fn new(alloc: Global, reader: R, journal: Journal<S>) -> KeptSource<N, R, S>
+    pub fn new(
+        alloc: Global,
+        reader: R,
+        journal: Journal<S>,
+        shortener: &'l L,
+    ) -> KeptSource<'l, N, R, S, L>
+        requires named { (old new : List (List ℕ)) → L.stand_for shortener.now old new → N.stand_for old new }
         requires appended { Appended S.Store N.begun [] [] journal }
         requires left { N.begun.left ≡ R.left reader }
         requires faults { N.begun.faults ≤ S.faults journal.store }
@@ -127,6 +147,7 @@ impl<N: RunName, R: Source, S: Store> KeptSource<N, R, S> {
         KeptSource {
             reader,
             keeper: Keeper::new(alloc, journal),
+            shortener,
             held: Vec::new(alloc),
             reads: 0,
             met_end: false,
@@ -137,16 +158,17 @@ impl<N: RunName, R: Source, S: Store> KeptSource<N, R, S> {
 
     /// The reader and the journal, where no more is read. Constant time.
     pub fn into_parts(self) -> KeptParts<R, S>
-        ensures left { self.left ≡ put_back result.held.items (R.left result.reader) }
-        ensures ended { self.met_end ≡ result.met_end }
-        ensures reads { (self.reads ≡ result.reads) × (R.reads result.reader ≤ result.reads) }
-        ensures failed { self.has_failed ≡ (R.has_failed result.reader || is_some result.fault) }
-        ensures was_ahead { WasAhead S.Store N.begun (R.left result.reader) result.held.items result.met_end result.fault
-            result.journal }
+        ensures left { self.entry.left ≡ put_back result.held.items (R.left result.reader) }
+        ensures ended { self.entry.met_end ≡ result.met_end }
+        ensures reads { (self.entry.reads ≡ result.reads) × (R.reads result.reader ≤ result.reads) }
+        ensures failed { self.entry.has_failed ≡ (R.has_failed result.reader || is_some result.fault) }
+        ensures was_ahead { WasAhead N.stand_for S.Store N.begun (R.left result.reader) result.held.items result.met_end
+            result.fault result.journal }
     {
         let KeptSource {
             reader,
             keeper,
+            shortener: _,
             held,
             reads,
             met_end,
@@ -164,7 +186,7 @@ impl<N: RunName, R: Source, S: Store> KeptSource<N, R, S> {
     }
 }
 
-impl<N: RunName, R: Source, S: Store> Source for KeptSource<N, R, S> {
+impl<N: RunName, R: Source, S: Store, L: Shortener> Source for KeptSource<'_, N, R, S, L> {
     ghost left = { λ s. s.left };
 
     ghost has_failed = { λ s. s.has_failed };
@@ -182,6 +204,10 @@ impl<N: RunName, R: Source, S: Store> Source for KeptSource<N, R, S> {
         }
         if self.met_end || buffer.is_empty() {
             return Ok(0);
+        }
+        if let Err(why) = self.keeper.shorten::<N, L>(self.shortener) {
+            self.fault = Some(why);
+            return Err(Failed);
         }
         let room = buffer.len().min(CHUNK);
         match read_some(&mut self.reader, &mut self.held, room) {

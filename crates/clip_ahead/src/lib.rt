@@ -2,8 +2,11 @@
 //! journal and synced.
 #![tactic(auto)]
 
+mod anew;
+mod census;
 mod changes;
 mod keeper;
 mod kept_source;
 
+pub use anew::Shortener;
 pub use kept_source::{KeptParts, KeptSource, RunName};

@@ -17,6 +17,8 @@ const FOLDER_MODE: u32 = 0o700;
 const MOST_ASIDE: u32 = 1_000_000;
 
 /// The file `changes` of a folder, that is open for more. Nobody else has it open so while `lock` is held there.
+///
+/// What is added is gathered in memory, and written by the next sync, all of it at once.
 #[derive(Drop)]
 pub struct JournalFile<'r, R: Files<File = File>> {
     files: &'r R,
@@ -24,6 +26,8 @@ pub struct JournalFile<'r, R: Files<File = File>> {
     path: String,
     beside: String,
     file: File,
+    added: Vec<u8>,
+    written: Option<File>,
     lock: File,
 }
 
@@ -78,6 +82,8 @@ pub fn open_file<'r, R: Files<File = File>>(
         path,
         beside: path_in(alloc, folder, "changes.new")?,
         file,
+        added: Vec::new(alloc),
+        written: None,
         lock,
     };
     Ok(Recorded::over(alloc, backing, bytes))
@@ -114,8 +120,23 @@ pub fn set_aside<R: Files<File = File>>(
 }
 
 impl<R: Files<File = File>> JournalFile<'_, R> {
-    /// Writes a file beside the journal's, and renames it into that one's place. All is synced.
-    fn replaced(&self, bytes: &[u8]) -> io::Result<File> {
+    /// Reads the file once more, from its beginning, with what was added since behind it.
+    fn read_whole(&self, alloc: Global) -> io::Result<Vec<u8>> {
+        let mut bytes = Vec::new(alloc);
+        File::open(self.files, self.path.as_str())?.read_to_end(&mut bytes)?;
+        bytes.extend_from_slice(&self.added)?;
+        Ok(bytes)
+    }
+
+    /// Writes what was added, and syncs it.
+    fn write_added(&mut self) -> io::Result<()> {
+        self.file.write_all(&self.added)?;
+        self.added.clear();
+        self.file.sync_data()
+    }
+
+    /// Writes a file beside the journal's, synced.
+    fn written_beside(&self, bytes: &[u8]) -> io::Result<File> {
         let mut file = OpenOptions::new()
             .write(true)
             .create(true)
@@ -124,9 +145,13 @@ impl<R: Files<File = File>> JournalFile<'_, R> {
             .open(self.files, self.beside.as_str())?;
         file.write_all(bytes)?;
         file.sync_all()?;
-        fs::rename(self.files, self.beside.as_str(), self.path.as_str())?;
-        self.folder.sync_all()?;
         Ok(file)
+    }
+
+    /// Renames the file beside the journal's into that one's place, synced.
+    fn renamed(&self) -> io::Result<()> {
+        fs::rename(self.files, self.beside.as_str(), self.path.as_str())?;
+        self.folder.sync_all()
     }
 }
 
@@ -140,15 +165,33 @@ fn failed<T: Drop>(answer: io::Result<T>) -> Result<T, Failed> {
 
 impl<R: Files<File = File>> Backing for JournalFile<'_, R> {
     fn append(&mut self, bytes: &[u8]) -> Result<(), Failed> {
-        failed(self.file.write_all(bytes))
+        match self.added.extend_from_slice(bytes) {
+            Ok(()) => Ok(()),
+            Err(_) => Err(Failed),
+        }
     }
 
     fn sync(&mut self) -> Result<(), Failed> {
-        failed(self.file.sync_data())
+        failed(self.write_added())
     }
 
-    fn put_in_place(&mut self, bytes: &[u8]) -> Result<(), Failed> {
-        self.file = failed(self.replaced(bytes))?;
+    fn read(&self, alloc: Global) -> Result<Vec<u8>, Failed> {
+        failed(self.read_whole(alloc))
+    }
+
+    fn put_beside(&mut self, bytes: &[u8]) -> Result<(), Failed> {
+        self.written = None;
+        self.written = Some(failed(self.written_beside(bytes))?);
+        Ok(())
+    }
+
+    fn put_in_place(&mut self) -> Result<(), Failed> {
+        let Some(file) = self.written.take() else {
+            return Err(Failed);
+        };
+        failed(self.renamed())?;
+        self.added.clear();
+        self.file = file;
         Ok(())
     }
 }

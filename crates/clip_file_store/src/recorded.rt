@@ -99,6 +99,13 @@ impl<B: Backing> Store for Recorded<B> {
         }
     }
 
+    fn read_again(&self, alloc: Global) -> Result<Vec<u8>, StoreFault> {
+        match self.backing.read(alloc) {
+            Ok(bytes) => Ok(bytes),
+            Err(Failed) => Err(StoreFault::Failed),
+        }
+    }
+
     fn append(&mut self, bytes: &[u8]) -> Result<(), StoreFault> {
         if self.is_broken {
             return Err(self.fail());
@@ -133,7 +140,10 @@ impl<B: Backing> Store for Recorded<B> {
         let Ok(said) = Vec::from_slice(self.alloc, bytes) else {
             return Err(StoreFault::NoMemory);
         };
-        if let Err(Failed) = self.backing.put_in_place(bytes) {
+        if let Err(Failed) = self.backing.put_beside(bytes) {
+            return Err(StoreFault::Unwritten);
+        }
+        if let Err(Failed) = self.backing.put_in_place() {
             self.record(&said, Told::Tried);
             return Err(StoreFault::Failed);
         }

@@ -12,6 +12,7 @@ const CALLS: u64 = 12;
 struct Fake {
     synced: Vec<u8>,
     added: Vec<u8>,
+    beside: Vec<u8>,
     calls: u64,
     part: usize,
 }
@@ -52,12 +53,30 @@ impl Backing for Fake {
         if self.may() { self.keep() } else { Err(Failed) }
     }
 
-    fn put_in_place(&mut self, bytes: &[u8]) -> Result<(), Failed> {
+    fn read(&self, alloc: Global) -> Result<Vec<u8>, Failed> {
+        let Ok(mut bytes) = self.synced.clone() else {
+            return Err(Failed);
+        };
+        match bytes.extend_from_slice(&self.added) {
+            Ok(()) => Ok(bytes),
+            Err(_) => Err(Failed),
+        }
+    }
+
+    fn put_beside(&mut self, bytes: &[u8]) -> Result<(), Failed> {
+        self.beside.clear();
+        match self.beside.extend_from_slice(bytes) {
+            Ok(()) => Ok(()),
+            Err(_) => Err(Failed),
+        }
+    }
+
+    fn put_in_place(&mut self) -> Result<(), Failed> {
         let may = self.may();
         if may || self.part % 2 == 0 {
             self.synced.clear();
             self.added.clear();
-            if self.synced.extend_from_slice(bytes).is_err() {
+            if self.synced.extend_from_slice(&self.beside).is_err() {
                 return Err(Failed);
             }
         }
@@ -163,6 +182,7 @@ fn a_stop_at_any_call_leaves_a_front_with_all_that_were_synced(
         let fake = Fake {
             synced: Vec::new(alloc),
             added: Vec::new(alloc),
+            beside: Vec::new(alloc),
             calls: calls % 16,
             part,
         };

@@ -46,3 +46,11 @@ kept_in changes live said = record { changes = changes; live = take live (drop 1
 -- bytes that are no journal's, not even with less than an entry at their end
 abbrev pub IsNone : List ℕ → Type 0
 IsNone bytes = (kept : Kept) (torn : List ℕ) → Reads bytes kept torn → ⊥
+
+-- What was read once more ends with the digest of what is kept. That it is the same is trusted of the digest.
+abbrev pub HasDigestOf : Kept → Kept → Type 0
+HasDigestOf read kept = link_behind first_link 0 (said_by read) ≡ link_behind first_link 0 (said_by kept)
+
+-- the lines are all that something keeps which ends with the digest of what is kept
+abbrev pub AreReadAgain : Kept → List (List ℕ) → Type 0
+AreReadAgain kept lines = (read : Kept) × (lines ≡ read.live ++ read.since) × HasDigestOf read kept

@@ -19,6 +19,7 @@ pub record Stands {S : Type 0} (seen : S → List ℕ) (may_leave : S → List �
   pub bytes : seen journal.store ≡ bytes_of kept
   pub counted : kept.changes + length kept.since < 2 ^ 63
   pub accepted : journal.accepted ≡ kept.changes + length kept.since
+  pub live : journal.live ≡ length kept.live
   pub place : journal.place ≡ length (said_by kept)
   pub link : journal.link ≡ link_behind first_link 0 (said_by kept)
   pub is_open : journal.is_open ≡ true

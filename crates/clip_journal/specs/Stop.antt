@@ -11,6 +11,11 @@ IsLeft there appended left = (k : ℕ) × (left ≡ there ++ take k appended)
 abbrev pub Only : List ℕ → (List ℕ → Type 0) → Type 0
 Only bytes may_leave = (left : List ℕ) → may_leave left → left ≡ bytes
 
+-- A read gives what it gave before, and a stop leaves nothing that it might not have left before.
+pub record IsAsItWas (before now : List ℕ) (might_leave may_leave : List ℕ → Type 0) : Type 0 where
+  pub same : now ≡ before
+  pub nothing_else : (left : List ℕ) → may_leave left → might_leave left
+
 -- Time goes on: a stop since t might have left what it might have left before, or what it may leave now.
 pub record Elapses (before now : ℕ) (past since : ℕ → List ℕ → Type 0) (may_leave : List ℕ → Type 0) : Type 0 where
   pub later : before ≤ now

@@ -4,6 +4,7 @@ ghost use Rattle.clip_journal.specs.Entries.{link_behind, first_link};
 ghost use Rattle.clip_journal.specs.Kept.{kept_in, said_by, says};
 
 use crate::entry::Link;
+use crate::length::are_long;
 
 /// What a journal keeps, and what stands torn behind it.
 #[derive(Drop)]
@@ -21,6 +22,7 @@ pub struct Found {
 
 impl Found {
     ghost use Rattle.clip_journal.specs.Found.{kept_of, torn_of};
+    ghost use Rattle.clip_journal.specs.Length.{is_long};
 
     /// How many commands were accepted before the journal was written anew. Constant time.
     pub fn changes(&self) -> u64
@@ -51,6 +53,14 @@ impl Found {
         let Found { mut said, .. } = self;
         let _opening = said.remove(0);
         said
+    }
+
+    /// Whether it is long: it has over 1,000 commands since it was written anew, and more than twice as many as there were
+    /// queries then. Constant time.
+    pub fn is_long(&self) -> bool
+        ensures { result ≡ is_long (kept_of self.now) }
+    {
+        are_long(self.live().len() as u64, self.since().len() as u64)
     }
 
     /// What a stop tore at the end: less than an entry, and nothing where it tore none. Constant time.

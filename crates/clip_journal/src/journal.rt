@@ -1,12 +1,14 @@
 //! A journal that takes commands.
-ghost use Rattle.std.specs.Prelude.{◌≡◌, ◌⊎◌, ◌<◌, ◌≤◌, ◌-◌, ◌^◌, ℕ, length, true, false, IfOk, OnOk, IsErrOf};
+ghost use Rattle.std.specs.Prelude.{◌≡◌, ◌≢◌, ◌⊎◌, ◌<◌, ◌≤◌, ◌+◌, ◌-◌, ◌^◌, ℕ, length, true, false, IfOk, IfErr, OnOk, IsErrOf};
 ghost use Rattle.clip_journal.specs.Entries.{link_behind, first_link};
 ghost use Rattle.clip_journal.specs.Kept.{Kept, bytes_of, said_by, says, compacted};
 
 use crate::entry::{Link, put_entry};
+use crate::fault::ReadFault;
 use crate::found::Found;
-use crate::journal_fault::JournalFault;
-use crate::reading::{CHANGES_END, FIRST_LINK};
+use crate::journal_fault::{JournalFault, OpenFault};
+use crate::length::are_long;
+use crate::reading::{CHANGES_END, FIRST_LINK, read_back};
 use crate::store::{Store, StoreFault};
 use std::alloc::{AllocError, Global};
 
@@ -22,6 +24,7 @@ const MOST_CHANGES: u64 = CHANGES_END - 1;
 pub struct Journal<S: Store> {
     store: S,
     accepted: u64,
+    live: u64,
     place: u64,
     link: Link,
     is_open: bool,
@@ -59,8 +62,16 @@ fn are_many(a: u64, b: u64) -> bool
     a >= MOST_CHANGES || b >= MOST_CHANGES
 }
 
+/// Whether two digests are the same.
+fn are_same(a: &Link, b: &Link) -> bool
+    ensures { result ≡ true → a.now ≡ b.now }
+{
+    a.as_slice() == b.as_slice()
+}
+
 impl<S: Store> Journal<S> {
-    ghost use Rattle.clip_journal.specs.Kept.{with_command};
+    ghost use Rattle.clip_journal.specs.Kept.{with_command, AreReadAgain};
+    ghost use Rattle.clip_journal.specs.Length.{are_long};
     ghost use Rattle.clip_journal.specs.Found.{kept_of};
     ghost use Rattle.clip_journal.specs.Stop.{Only, Elapses, LeavesOnly};
     ghost use Rattle.clip_journal.specs.Stands.{IsFront, Stands};
@@ -74,6 +85,7 @@ impl<S: Store> Journal<S> {
         Journal {
             store,
             accepted: found.changes + found.since().len() as u64,
+            live: found.live as u64,
             place: found.said.len() as u64,
             link,
             is_open: true,
@@ -159,10 +171,14 @@ impl<S: Store> Journal<S> {
     /// # Errors
     ///
     /// `Ended` where the store failed before, `Full` where 2^63 - 1 commands were accepted, `NoMemory` where an
-    /// allocation failed: nothing is done then. `Store` where the store failed.
+    /// allocation failed: nothing is done then. `Store` where the store failed; unless it says `Failed`, the journal goes
+    /// on as it was.
     pub fn compact(&mut self, alloc: Global, live: &[Vec<u8>]) -> Result<(), JournalFault>
         ensures compacted { OnOk result (Stands S.seen S.may_leave self.new
             (compacted self.old.accepted (says live.now)) 0) }
+        ensures goes_on { (kept : Kept) (safe : ℕ) → Stands S.seen S.may_leave self.old kept safe
+            → IfErr result (λ why. why ≢ JournalFault.Store StoreFault.Failed
+            → Stands S.seen S.may_leave self.new kept safe) }
         ensures any_moment { (kept : Kept) (safe : ℕ) → Stands S.seen S.may_leave self.old kept safe
             → LeavesOnly S.moment S.left_since self.old.store self.new.store (λ left.
             IsFront kept safe left ⊎ IsFront (compacted self.old.accepted (says live.now)) 0 left) }
@@ -186,11 +202,48 @@ impl<S: Store> Journal<S> {
         }
         let (bytes, last) = spell(alloc, self.accepted, live)?;
         self.is_open = false;
-        self.store.put_in_place(&bytes)?;
+        if let Err(fault) = self.store.put_in_place(&bytes) {
+            self.is_open = fault != StoreFault::Failed;
+            return Err(JournalFault::Store(fault));
+        }
         self.is_open = true;
         self.link = last;
+        self.live = live.len() as u64;
         self.place = live.len() as u64 + 1;
         Ok(())
+    }
+
+    /// Whether it is long where so many queries more are live now than as it was written anew: it has over 1,000 commands
+    /// since, and more than twice as many as there are queries. Constant time.
+    pub fn is_long_with(&self, more: u64) -> bool
+        ensures { (kept : Kept) (safe : ℕ) → Stands S.seen S.may_leave self.now kept safe
+            → result ≡ are_long (length kept.live + more) (length kept.since) }
+    {
+        are_long(
+            self.live.saturating_add(more),
+            self.place.saturating_sub(1).saturating_sub(self.live),
+        )
+    }
+
+    /// The spellings of all that it keeps, in order, read back from the store once more, and borne out by the digest of
+    /// the last entry. Nothing is changed.
+    ///
+    /// Cost: that of `read_back`.
+    ///
+    /// # Errors
+    ///
+    /// `Store` where the store can't be read now; `Read` with `Broken` where what it gives is another journal or none, or
+    /// with `NoMemory`.
+    pub fn lines_again(&self, alloc: Global) -> Result<Vec<Vec<u8>>, OpenFault>
+        ensures { IfOk result (λ lines. (kept : Kept) (safe : ℕ) → Stands S.seen S.may_leave self.now kept safe
+            → AreReadAgain kept (says lines.items)) }
+    {
+        let bytes = self.store.read_again(alloc)?;
+        let found = read_back(alloc, &bytes)?;
+        if !are_same(&found.link, &self.link) || !found.torn().is_empty() {
+            return Err(OpenFault::Read(ReadFault::Broken(bytes.len())));
+        }
+        Ok(found.into_lines())
     }
 
     /// The store, where the journal is not needed any more. Constant time.

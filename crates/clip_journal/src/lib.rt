@@ -6,6 +6,7 @@ mod fault;
 mod found;
 mod journal;
 mod journal_fault;
+mod length;
 mod opening;
 mod reading;
 mod store;

@@ -1,6 +1,6 @@
 //! What a journal is kept in: what a read gives, and what a stop of the machine may leave.
-ghost use Rattle.std.specs.Prelude.{◌≡◌, ◌⊎◌, ◌≤◌, ◌++◌, ℕ, List, IfOk, OnOk};
-ghost use Rattle.clip_journal.specs.Stop.{IsLeft, Only, Elapses, HasCause};
+ghost use Rattle.std.specs.Prelude.{◌≡◌, ◌⊎◌, ◌≤◌, ◌++◌, ℕ, List, IfOk, OnOk, IsErrOf};
+ghost use Rattle.clip_journal.specs.Stop.{IsLeft, Only, Elapses, HasCause, IsAsItWas};
 
 use std::alloc::Global;
 use thiserror::Error;
@@ -14,6 +14,9 @@ pub enum StoreFault {
     /// An allocation failed.
     #[error("no memory")]
     NoMemory,
+    /// What was to be put in place could not be written beside what is there, and that is as it was.
+    #[error("the store could not be written anew")]
+    Unwritten,
 }
 
 /// A store of bytes, as a file is. Each call may fail, and the machine may stop between two calls or within one.
@@ -45,6 +48,10 @@ pub trait Store {
             (may_leave self.new) }
         ensures cause { HasCause (faults self.old) (faults self.new) result };
 
+    /// All of the bytes, by a read of their own, which changes nothing and ends nothing where it fails. No clause says
+    /// that they are what was written: whoever needs that tests it.
+    fn read_again(&self, alloc: Global) -> Result<Vec<u8>, StoreFault>;
+
     /// Adds bytes behind those that are there.
     fn append(&mut self, bytes: &[u8]) -> Result<(), StoreFault>
         ensures added { OnOk result (seen self.new ≡ seen self.old ++ bytes.now) }
@@ -64,11 +71,13 @@ pub trait Store {
         ensures cause { HasCause (faults self.old) (faults self.new) result };
 
     /// Puts other bytes in the place of those that are there, at once and synced, as by a rename. A stop leaves what it
-    /// might have left before, or the new bytes.
+    /// might have left before, or the new bytes. After `Unwritten` and `NoMemory` all is as it was.
     fn put_in_place(&mut self, bytes: &[u8]) -> Result<(), StoreFault>
         ensures put { OnOk result (seen self.new ≡ bytes.now) }
         ensures durable { OnOk result (Only bytes.now (may_leave self.new)) }
         ensures stop { (left : List ℕ) → may_leave self.new left → may_leave self.old left ⊎ (left ≡ bytes.now) }
+        ensures as_it_was { IsErrOf result StoreFault.Unwritten ⊎ IsErrOf result StoreFault.NoMemory
+            → IsAsItWas (seen self.old) (seen self.new) (may_leave self.old) (may_leave self.new) }
         ensures time { Elapses (moment self.old) (moment self.new) (left_since self.old) (left_since self.new)
             (may_leave self.new) }
         ensures cause { HasCause (faults self.old) (faults self.new) result };

@@ -20,6 +20,7 @@ use Rattle.clip_keeping.specs.declared.fault.Fault.TheVariants.{Unread, Locked, 
 abbrev pub fault_of_store : StoreFault → Fault
 fault_of_store store.Failed = Unopened
 fault_of_store store.NoMemory = NoMemory
+fault_of_store store.Unwritten = Unopened
 
 abbrev pub fault_of_bytes : ReadFault → Fault
 fault_of_bytes (read.Broken place) = Broken place
@@ -33,6 +34,7 @@ fault_at_opening (opening.Read why) = fault_of_bytes why
 abbrev pub fault_at_change : StoreFault → Fault
 fault_at_change store.Failed = Unwritten
 fault_at_change store.NoMemory = NoMemory
+fault_at_change store.Unwritten = Unwritten
 
 abbrev pub fault_in_journal : JournalFault → Fault
 fault_in_journal journal.Ended = Unwritten

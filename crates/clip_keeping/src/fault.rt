@@ -74,9 +74,9 @@ impl From<JournalFault> for Fault {
     fn from(error: JournalFault) -> Fault {
         match error {
             JournalFault::NoMemory | JournalFault::Store(StoreFault::NoMemory) => Fault::NoMemory,
-            JournalFault::Ended | JournalFault::Full | JournalFault::Store(StoreFault::Failed) => {
-                Fault::Unwritten
-            }
+            JournalFault::Ended
+            | JournalFault::Full
+            | JournalFault::Store(StoreFault::Failed | StoreFault::Unwritten) => Fault::Unwritten,
         }
     }
 }
@@ -112,7 +112,7 @@ impl From<StoreFault> for Fault {
 
     fn from(error: StoreFault) -> Fault {
         match error {
-            StoreFault::Failed => Fault::Unopened,
+            StoreFault::Failed | StoreFault::Unwritten => Fault::Unopened,
             StoreFault::NoMemory => Fault::NoMemory,
         }
     }

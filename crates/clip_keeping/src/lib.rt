@@ -14,6 +14,7 @@ mod opening;
 mod playing;
 mod printing;
 mod serving;
+mod shortening;
 mod streams;
 mod words;
 
@@ -23,5 +24,6 @@ pub use looking::print_live;
 pub use opening::open_short;
 pub use playing::play;
 pub use printing::print_lines;
-pub use serving::serve_store;
+pub use serving::{Serving, serve_store};
+pub use shortening::Shortening;
 pub use words::{Asked, Look, Task, read_words};

@@ -12,16 +12,6 @@ use clip_kept::{Opened, open_kept};
 use clip_listen::Audience;
 use std::alloc::Global;
 
-/// A journal of no more changes since it was written anew is left as it is.
-const FEW_CHANGES: usize = 1_000;
-
-/// Whether a journal has over 1,000 changes since it was written anew, and more than twice as many as it had queries
-/// then.
-fn is_long(found: &Found) -> bool {
-    let since = found.since().len();
-    since > FEW_CHANGES && since > found.live().len().saturating_mul(2)
-}
-
 /// How many changes a journal keeps: those before it was written anew, and those since.
 pub fn changes_in(found: &Found) -> u64
     ensures { result ≡ (kept_of found.now).changes + length (kept_of found.now).since }
@@ -45,7 +35,7 @@ pub fn open_short<S: Store + Drop, A: Audience>(
         GoesOnFrom (names_in (A.hearers audience.now)) (S.seen store) (kept_of opened.found)) }
 {
     let opened = open_kept(alloc, store)?;
-    if !is_long(&opened.found) {
+    if !opened.found.is_long() {
         return Ok(opened);
     }
     let Opened { mut journal, found } = opened;

@@ -11,12 +11,23 @@ use crate::words::{Asked, Task, read_words};
 use clip_command_line::{feed, mail, named, words_of};
 use clip_listen::Listeners;
 use clip_run::Settings;
+use std::alloc::Global;
 use std::fs::File;
 use std::io::ErrorKind;
 use std::process::ExitCode;
 use std::rt::{Env, Files};
 use std::sync::Wait;
 use std::thread::Threads;
+
+/// The listeners `mail` and `feed`.
+fn both_listeners(alloc: Global) -> Result<Listeners, Fault> {
+    let mail = Box::new(alloc, mail(alloc)?)?;
+    let feed = Box::new(alloc, feed(alloc)?)?;
+    let Ok(listeners) = Listeners::new(named(alloc, mail, feed)?) else {
+        unreachable!()
+    };
+    Ok(listeners)
+}
 
 /// Does what is asked for of the journal in a folder, with the listeners `mail` and `feed`. The faults and the cost are
 /// those of `keep` and of `print_looked`, and `NoMemory` where the listeners get none.
@@ -28,11 +39,7 @@ fn perform<R: Input + Print + Eprint + Files<File = File> + Threads + Wait + Syn
     requires { HasFewWorkers task }
 {
     let alloc = rt.alloc();
-    let mail = Box::new(alloc, mail(alloc)?)?;
-    let feed = Box::new(alloc, feed(alloc)?)?;
-    let Ok(mut listeners) = Listeners::new(named(alloc, mail, feed)?) else {
-        unreachable!()
-    };
+    let mut listeners = both_listeners(alloc)?;
     match task {
         Task::Run(workers, form) => {
             let settings = Settings {
@@ -40,7 +47,8 @@ fn perform<R: Input + Print + Eprint + Files<File = File> + Threads + Wait + Syn
                 keeps_rows: false,
                 workers,
             };
-            keep(rt, &mut listeners, folder, settings)
+            let namesakes = both_listeners(alloc)?;
+            keep(rt, &mut listeners, &namesakes, folder, settings)
         }
         Task::Look(how) => print_looked(rt, &listeners, folder, how),
     }

@@ -3,7 +3,7 @@ ghost use Rattle.std.specs.Prelude.{◌≤◌};
 
 use crate::fault::Fault;
 use crate::folder::open_folder;
-use crate::serving::serve_store;
+use crate::serving::{Serving, serve_store};
 use clip_command_line::keep_freed;
 use clip_listen::Audience;
 use clip_run::Settings;
@@ -27,13 +27,15 @@ fn hold_streams<R: Files<File = File>>(files: &R) -> io::Result<(File, File, Fil
     ))
 }
 
-/// Answers the requests of standard input on standard output for these listeners, over the journal in a folder.
+/// Answers the requests of standard input on standard output for these listeners, over the journal in a folder; of the
+/// names that the namesakes have the queries are kept where it is written anew.
 ///
 /// The faults and the cost are those of `open_folder` and of `serve_store`.
 pub fn keep<
     R: Input + Print + Eprint + Files<File = File> + Threads + Wait + Sync + AllocGlobal,
     A: Audience,
->(rt: &R, audience: &mut A, folder: &str, settings: Settings) -> Result<(), Fault>
+    B: Audience,
+>(rt: &R, audience: &mut A, namesakes: &B, folder: &str, settings: Settings) -> Result<(), Fault>
     requires { settings.workers ≤ MOST_WORKERS }
 {
     let _held = hold_streams(rt)?;
@@ -42,5 +44,10 @@ pub fn keep<
     let store = open_folder(rt, alloc, folder)?;
     let source = StdSource::new(rt.reader());
     let mut sink = StdSink::new(io::writer(rt));
-    serve_store(rt, source, &mut sink, audience, store, settings)
+    let serving = Serving {
+        store,
+        settings,
+        namesakes,
+    };
+    serve_store(rt, source, &mut sink, audience, serving)
 }

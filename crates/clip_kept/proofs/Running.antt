@@ -18,6 +18,7 @@ use Rattle.clip_journal.specs.declared.store.Store as store
 use Rattle.clip_front.specs.Devices.{Devices, IsHonest}
 use Rattle.clip_front.specs.Outcome.{OfKept}
 use Rattle.clip_ahead.specs.Ahead.{Begun, Appended}
+use Rattle.clip_ahead.specs.Anew.{HasKept}
 use Rattle.clip_ahead.specs.Changes.{with_changes}
 use Rattle.clip_ahead.specs.Handing.{put_back, WasAhead}
 use Rattle.clip_ahead.proofs.Handing.{put_none, no_fault}
@@ -193,14 +194,14 @@ honest_kept (Err run.Read) inside outside (Some fault) reads met_end h s = recor
 at_end_put : (left : Option (List ℕ)) (held : List ℕ) → held ≡ [] → IsAtEnd left → IsAtEnd (put_back held left)
 at_end_put left held none end = subst IsAtEnd (sym (ap (λ xs. put_back xs left) none ∙ put_none left)) end
 
-pub all_kept : {T S : Type 0} (answer : Result T KeptFault) (calls : store.Ghosts S) (begun : Begun)
-    (left : Option (List ℕ)) (held : List ℕ) (met_end : Bool) (failed : Option JournalFault) (journal : Journal S)
-    (devices : Devices) (reads : ℕ) → IsHonestKept answer failed devices reads met_end
-    → WasAhead calls begun left held met_end failed journal
-    → OnOk answer (OfInput begun.left (λ input. Appended calls begun (lines_of input) (lines_of input) journal))
-all_kept (Err fault) calls begun left held met_end failed journal devices reads h w = tt
-all_kept (Ok x) calls begun left held met_end failed journal devices reads h w =
+pub all_kept : {T S : Type 0} (StandFor : List (List ℕ) → List (List ℕ) → Type 0) (answer : Result T KeptFault)
+    (calls : store.Ghosts S) (begun : Begun) (left : Option (List ℕ)) (held : List ℕ) (met_end : Bool)
+    (failed : Option JournalFault) (journal : Journal S) (devices : Devices) (reads : ℕ)
+    → IsHonestKept answer failed devices reads met_end
+    → WasAhead StandFor calls begun left held met_end failed journal
+    → OnOk answer (OfInput begun.left (λ input. HasKept StandFor calls begun (lines_of input) journal))
+all_kept StandFor (Err fault) calls begun left held met_end failed journal devices reads h w = tt
+all_kept StandFor (Ok x) calls begun left held met_end failed journal devices reads h w =
     let none = w.ended h.ended in
     of_input begun.left (put_back held left) w.handed _ w.given (at_end_put left held none.0 none.1)
-    (subst (λ met. Appended calls begun (lines_read met w.handed) (lines_read met w.handed) journal) h.ended
-    (w.well h.ok.2).1)
+    (subst (λ met. HasKept StandFor calls begun (lines_read met w.handed) journal) h.ended (w.well h.ok.2).1)

@@ -1,13 +1,14 @@
 ghost use Rattle.std.specs.Prelude.{◌≡◌, ◌<◌, Some, false};
 
 use super::*;
-use clip_ahead::KeptParts;
+use clip_ahead::{KeptParts, Shortener};
 use clip_file_store::{Backing, Failed as StoreFailed, Recorded};
-use clip_journal::begin;
+use clip_journal::{begin, read_back};
 use clip_listen::Listeners;
 use clip_match::OpenGate;
 use clip_run::{Form, Settings};
 use clip_stream::{Failed, Sink, Source};
+use clip_words::NoMemory;
 use std::sync::Wait;
 use std::test::Fail;
 use std::thread::Threads;
@@ -104,6 +105,7 @@ impl Sink for Tape {
 struct Fake {
     synced: Vec<u8>,
     added: Vec<u8>,
+    beside: Vec<u8>,
     calls: u64,
     part: usize,
 }
@@ -135,14 +137,56 @@ impl Backing for Fake {
         Ok(())
     }
 
-    fn put_in_place(&mut self, bytes: &[u8]) -> Result<(), StoreFailed> {
-        self.added.clear();
-        self.synced.clear();
-        match self.synced.extend_from_slice(bytes) {
+    fn read(&self, alloc: Global) -> Result<Vec<u8>, StoreFailed> {
+        let Ok(mut bytes) = Vec::from_slice(alloc, &self.synced) else {
+            return Err(StoreFailed);
+        };
+        match bytes.extend_from_slice(&self.added) {
+            Ok(()) => Ok(bytes),
+            Err(_) => Err(StoreFailed),
+        }
+    }
+
+    fn put_beside(&mut self, bytes: &[u8]) -> Result<(), StoreFailed> {
+        self.beside.clear();
+        match self.beside.extend_from_slice(bytes) {
             Ok(()) => Ok(()),
             Err(_) => Err(StoreFailed),
         }
     }
+
+    fn put_in_place(&mut self) -> Result<(), StoreFailed> {
+        self.added.clear();
+        self.synced.clear();
+        match self.synced.extend_from_slice(&self.beside) {
+            Ok(()) => Ok(()),
+            Err(_) => Err(StoreFailed),
+        }
+    }
+}
+
+/// Who lets a journal's last lines stand for all of them.
+struct Last {
+    most: usize,
+}
+
+impl Shortener for Last {
+    ghost use Rattle.std.specs.Prelude.{⊤};
+
+    ghost stand_for = { λ _ _ _. ⊤ };
+
+    fn shorten(&self, alloc: Global, kept: Vec<Vec<u8>>) -> Result<Vec<Vec<u8>>, NoMemory> {
+        let mut lines = Vec::new(alloc);
+        let first = kept.len().saturating_sub(self.most);
+        for line in &kept[first..] {
+            lines.push(line.clone()?)?;
+        }
+        Ok(lines)
+    }
+
+    fn tell_begun(&self) {}
+
+    fn tell_undone(&self) {}
 }
 
 /// What a run over some bytes left.
@@ -179,6 +223,7 @@ fn play<H: Threads + Wait + Sync + AllocGlobal>(
     let fake = Fake {
         synced: left.clone()?,
         added: Vec::new(alloc),
+        beside: Vec::new(alloc),
         calls,
         part,
     };
@@ -208,6 +253,7 @@ fn play<H: Threads + Wait + Sync + AllocGlobal>(
         },
         opened,
         gate: &OpenGate,
+        shortener: &Last { most: 1 },
     };
     let KeptRun { answer, parts } = run_kept(rt, alloc, source, &mut sink, &mut listeners, keeping);
     let KeptParts { journal, .. } = parts;
@@ -307,5 +353,27 @@ fn a_run_that_ends_well_keeps_its_last_line(rt: HostRuntime) -> Result<(), Fail>
     assert_eq!(rt; lines_in(&played.written, &REPLIES), Some(4));
     let again = play(&rt, played.synced, b"", 1000, 100, 0)?;
     assert_eq!(rt; again.found, 3);
+    Ok(())
+}
+
+/// How often a query is registered, one after the other, in a run whose journal is written anew.
+const OFTEN: usize = 1_200;
+
+#[test]
+fn a_journal_that_is_long_is_written_anew_while_it_is_taken(rt: HostRuntime) -> Result<(), Fail> {
+    let alloc = rt.alloc();
+    let mut input = Vec::new(alloc);
+    for _ in 0..OFTEN {
+        input.extend_from_slice(br#"{"op":"register","queries":[{"id":"q1","query":"tea"}]}"#)?;
+        input.push(b'\n')?;
+    }
+    let played = play(&rt, Vec::new(alloc), &input, 5000, 100_000, 0)?;
+    assert_eq!(rt; played.answer, Ok(OFTEN as u64));
+    let kept = read_back(alloc, &played.synced)?;
+    assert_eq!(rt; kept.changes() as usize + kept.since().len(), OFTEN);
+    assert_eq!(rt; kept.live().len(), 1);
+    assert!(rt; kept.since().len() < 300);
+    let again = play(&rt, played.synced, b"{\"op\":\"count\"}\n", 1000, 100, 0)?;
+    assert_eq!(rt; lines_in(&again.written, &[COUNTED[1]]), Some(1));
     Ok(())
 }

@@ -21,7 +21,8 @@ lines-preserved g c =
     c.split_at.result.0.now _ at c.lines.asks c.in_ok-asked.asked c.if-asks.asks c.lines.invariant c.in-Some.ensures
     c.split_at.ensures.front
     (take_rest c.split_at.result.1.now 1 ∙ ap (λ xs. drop 1 xs) c.split_at.ensures.back ∙ drop-drop 1 at rest)
-    c.in_ok-asked.ensures.holds c.in_ok-asked.ensures.unchanged c.in_ok-asked.ensures.faults neither
+    c.in_ok-asked.ensures.holds c.in_ok-asked.ensures.unchanged c.in_ok-asked.ensures.faults
+    c.end_line.ensures.time neither
 
 pub returns-in_err-asked-clause-fronts : goal.returns-in_err-asked-clause-fronts
 returns-in_err-asked-clause-fronts g c =

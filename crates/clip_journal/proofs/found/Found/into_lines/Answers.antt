@@ -1,4 +1,4 @@
-use Rattle.std.proofs.Common.{◌≡◌, ◌++◌, drop, take, sym, ap, ◌∙◌}
+use Rattle.std.proofs.Common.{◌++◌, drop, take, sym, ap, ◌∙◌}
 use Rattle.std.proofs.lemmas.List.{drop-map, drop-drop, take-append-drop}
 use Rattle.clip_journal.specs.Kept.{says}
 use Rattle.clip_journal.proofs.found.Found.into_lines.Goals as goal

@@ -71,6 +71,7 @@ returns-clause-appended g c =
           c.in_ok-append.ensures.added;
       counted = omega (arith, s.accepted, few.0, one_more);
       accepted = omega (arith, s.accepted, one_more);
+      live = s.live;
       place = omega (arith, s.place, ap length (said_more kept said), length-append (said_by kept) (said ∷ []));
       link = c.in_ok-next.ensures.link ∙ ap₂ (λ (l : List ℕ) (n : ℕ). link_after l n said) s.link s.place
           ∙ sym (link_more kept said);

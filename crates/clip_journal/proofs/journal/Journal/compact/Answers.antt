@@ -1,4 +1,4 @@
-use Rattle.std.proofs.Common.{inl, inr, ⊎_elim, ◌+◌, ◌<◌, ◌^◌, [], length, refl, ◌∙◌, arith}
+use Rattle.std.proofs.Common.{inl, inr, ⊎_elim, ◌+◌, ◌<◌, ◌^◌, [], length, refl, sym, ◌∙◌, arith}
 use Rattle.std.proofs.Common.{length-append}
 use Rattle.clip_journal.specs.Kept.{compacted, says}
 use Rattle.clip_journal.proofs.Moments.{unmoved, moved}
@@ -21,8 +21,8 @@ returns-in_err-bytes-clause-any_moment g c =
     λ kept safe s. unmoved g.S.Store.moment g.S.Store.left_since g.S.Store.may_leave c.args.self.now.store _
     (g.met.S.Store.only_now c.args.self.now.store) (λ left l. inl (s.stop left l))
 
-pub returns-in_err-put_in_place-clause-any_moment : goal.returns-in_err-put_in_place-clause-any_moment
-returns-in_err-put_in_place-clause-any_moment g c =
+pub returns-in-Err-clause-any_moment : goal.returns-in-Err-clause-any_moment
+returns-in-Err-clause-any_moment g c =
     let self = c.args.self.now in
     let few = c.are_many.ensures.few c.if-are_many.false in
     let new = compacted self.accepted (says c.args.live.now) in
@@ -57,12 +57,13 @@ returns-clause-compacted g c =
     let small : new.changes + length new.since < 2 ^ 63 = omega (arith, few.0) in
     let one = c.deref.ensures.value ∙ c.in_ok-bytes.ensures.bytes in
     record {
-      bytes = c.in_ok-put_in_place.ensures.put ∙ one;
+      bytes = c.in_default.ensures.put ∙ one;
       counted = small;
       accepted = omega arith;
+      live = sym (length-says c.args.live.now);
       place = omega (arith, length-append (says c.args.live.now) [], length-says c.args.live.now);
       link = c.in_ok-bytes.ensures.link;
       is_open = refl;
       enough = omega arith;
-      stop = λ left l. whole_front new left small (c.in_ok-put_in_place.ensures.durable left l ∙ one);
+      stop = λ left l. whole_front new left small (c.in_default.ensures.durable left l ∙ one);
     }

@@ -1,5 +1,7 @@
-use Rattle.std.proofs.Common.{length, refl, sym, ap, ◌∙◌, arith}
+use Rattle.std.proofs.Common.{length, drop, refl, sym, ap, ◌∙◌, arith}
+use Rattle.std.proofs.lemmas.List.{length-take-le, length-drop}
 use Rattle.clip_journal.specs.Entries.{link_behind, first_link}
+use Rattle.clip_journal.specs.Kept.{says}
 use Rattle.clip_journal.proofs.Whole.{length-says}
 use Rattle.clip_journal.proofs.Fronts.{whole_front}
 use Rattle.clip_journal.proofs.journal.Journal.over.Goals as goal
@@ -17,6 +19,8 @@ returns g c =
       bytes = bytes;
       counted = found.counted;
       accepted = omega (arith, len);
+      live = sym (length-take-le found.live (drop 1 (says found.said.items))
+          (omega (arith, found.within, length-says found.said.items, length-drop 1 (says found.said.items))));
       place = omega (arith, ap length found.whole, length-says found.said.items);
       link = found.linked ∙ ap (link_behind first_link 0) found.whole;
       is_open = refl;

@@ -8,6 +8,7 @@ returns-clause-synced g c =
       bytes = c.sync.ensures.seen ∙ s.bytes;
       counted = s.counted;
       accepted = s.accepted;
+      live = s.live;
       place = s.place;
       link = s.link;
       is_open = refl;
