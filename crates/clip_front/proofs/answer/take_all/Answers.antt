@@ -1,7 +1,5 @@
-use Rattle.std.proofs.Common.{◌≡◌, ◌+◌, suc, [], ◌∷◌, ◌++◌, length, map, sym, ap, ◌∙◌, subst, arith, true, append_assoc}
+use Rattle.std.proofs.Common.{◌≡◌, ◌+◌, suc, [], ◌∷◌, ◌++◌, length, map, sym, ap, subst, arith, true}
 use Rattle.std.proofs.Common.{append-nil}
-use Rattle.std.proofs.Common.{length-append}
-use Rattle.std.proofs.lemmas.List.{map-append}
 use Rattle.std.specs.Arc.{arc_value}
 use Rattle.std.specs.List.{list_all}
 use Rattle.std.specs.Vec.Iter.{into_iter_items}
@@ -9,7 +7,7 @@ use Rattle.clip_words.specs.Ids.{is_id}
 use Rattle.clip_protocol.specs.LineMeaning.{AreTakenAs, FirstRefused}
 use Rattle.clip_front.specs.Outcome.{names_in}
 use Rattle.clip_protocol.specs.Steps.Views.{listing_view}
-use Rattle.clip_front.proofs.Readings.{second_of, none_left}
+use Rattle.clip_front.proofs.Readings.{second_of, none_left, mapped_more, counted_more}
 use Rattle.clip_front.proofs.answer.take_all.Goals as goal
 
 pub loop-listing-init : goal.loop-listing-init
@@ -37,23 +35,17 @@ loop-listing-preserved g c =
     let here = ap (map listing_view) c.in-Some.ensures.steps.0 in
     let s = arc_value c.in-Ok.standing in
     let taken = c.in-Ok.ensures in
-    let pushed : map arc_value c.push.new.self.items ≡ map arc_value c.loop-listing.all.items ++ s ∷ [] =
-    ap (map arc_value) {y = c.loop-listing.all.items ++ c.in-Ok.standing ∷ []} c.in_ok-push-in-Ok.ensures.items
-    ∙ map-append arc_value c.loop-listing.all.items (c.in-Ok.standing ∷ []) in
-    let count : length c.push.new.self.items ≡ length c.loop-listing.all.items + 1 =
-    ap length {y = c.loop-listing.all.items ++ c.in-Ok.standing ∷ []} c.in_ok-push-in-Ok.ensures.items
-    ∙ length-append c.loop-listing.all.items (c.in-Ok.standing ∷ []) in
+    let more = c.in_ok-push-in-Ok.ensures.items in
     record {
       ids = second_of _ _ (subst (λ ls. list_all (λ l. is_id l.id) ls ≡ true) here c.loop-listing.invariant.ids);
-      takes = λ more rest.
-          subst (AreTakenAs names all) (sym (ap (λ xs. xs ++ more) pushed
-          ∙ append_assoc (map arc_value c.loop-listing.all.items) (s ∷ []) more))
-          (c.loop-listing.invariant.takes (s ∷ more)
-          (subst (λ ls. AreTakenAs names ls (s ∷ more)) (sym here) (taken, rest)));
+      takes = λ later rest.
+          subst (AreTakenAs names all)
+          (sym (mapped_more arc_value c.loop-listing.all.items c.push.new.self.items c.in-Ok.standing more later))
+          (c.loop-listing.invariant.takes (s ∷ later)
+          (subst (λ ls. AreTakenAs names ls (s ∷ later)) (sym here) (taken, rest)));
       first = λ r j refused.
-          let shifted : length c.loop-listing.all.items + suc j ≡ length c.push.new.self.items + j =
-          omega (arith, count) in
-          subst (FirstRefused names all r) shifted
+          subst (FirstRefused names all r)
+          (counted_more arc_value c.loop-listing.all.items c.push.new.self.items c.in-Ok.standing more j)
           (c.loop-listing.invariant.first r (suc j)
           (subst (λ ls. FirstRefused names ls r (suc j)) (sym here) (
             (s.tree, taken.read.query),
