@@ -1,4 +1,4 @@
-use Rattle.std.proofs.Common.{◌≡◌, ◌+◌, suc, [], ◌∷◌, ◌++◌, length, map, sym, ap, subst, arith, true}
+use Rattle.std.proofs.Common.{◌≡◌, ◌+◌, suc, [], ◌∷◌, length, map, sym, ap, subst, arith, true}
 use Rattle.std.proofs.Common.{append-nil}
 use Rattle.std.specs.Arc.{arc_value}
 use Rattle.std.specs.List.{list_all}
@@ -7,25 +7,20 @@ use Rattle.clip_words.specs.Ids.{is_id}
 use Rattle.clip_protocol.specs.LineMeaning.{AreTakenAs, FirstRefused}
 use Rattle.clip_front.specs.Outcome.{names_in}
 use Rattle.clip_protocol.specs.Steps.Views.{listing_view}
-use Rattle.clip_front.proofs.Readings.{second_of, none_left, mapped_more, counted_more}
+use Rattle.clip_front.proofs.Readings.{second_of, none_left, mapped_more, counted_more, mapped_none, counted_none}
 use Rattle.clip_front.proofs.answer.take_all.Goals as goal
 
 pub loop-listing-init : goal.loop-listing-init
 loop-listing-init g c =
     let names = names_in (g.A.Audience.hearers c.args.audience.now) in
     let all = map listing_view c.args.listings.items in
-    let gives : into_iter_items c.into_iter-listing-iterator.result ≡ c.args.listings.items =
-    c.into_iter-listing-iterator.ensures.into_iter_gives.0 in
-    let whole : map listing_view (into_iter_items c.into_iter-listing-iterator.result) ≡ all =
-    ap (map listing_view) gives in
+    let left = map listing_view (into_iter_items c.into_iter-listing-iterator.result) in
+    let whole : left ≡ all = ap (map listing_view) c.into_iter-listing-iterator.ensures.into_iter_gives.0 in
     let none = c.in_ok-all.ensures.items in
     record {
       ids = subst (λ ls. list_all (λ l. is_id l.id) ls ≡ true) (sym whole) c.requires;
-      takes = λ more taken. subst (λ xs. AreTakenAs names all (map arc_value xs ++ more)) (sym none)
-          (subst (λ ls. AreTakenAs names ls more) whole taken);
-      first = λ r j refused. let start : j ≡ 0 + j = omega arith in
-          subst (λ xs. FirstRefused names all r (length xs + j)) (sym none)
-          (subst (FirstRefused names all r) start (subst (λ ls. FirstRefused names ls r j) whole refused));
+      takes = mapped_none _ all left none whole arc_value (AreTakenAs names);
+      first = λ r. counted_none _ all left none whole (λ ls. FirstRefused names ls r);
     }
 
 pub loop-listing-preserved : goal.loop-listing-preserved
