@@ -1,6 +1,7 @@
 -- Lists of texts that were read as queries.
-use Rattle.std.proofs.Common.{◌≡◌, ◌≢◌, ℕ, suc, List, [], ◌∷◌, length, Bool, true, false, ◌&&◌, refl, sym, ap}
-use Rattle.std.proofs.Common.{true≢false, arith}
+use Rattle.std.proofs.Common.{◌≡◌, ◌≢◌, ℕ, suc, ◌+◌, List, [], ◌∷◌, ◌++◌, map, length, Bool, true, false, ◌&&◌}
+use Rattle.std.proofs.Common.{true≢false, refl, sym, ap, ◌∙◌, subst, arith, append_assoc, length-append}
+use Rattle.std.proofs.lemmas.List.{map-append}
 use Rattle.clip_grammar.specs.Reading.{IsFault}
 use Rattle.clip_grammar.specs.Tree.{Tree}
 use Rattle.clip_grammar.specs.declared.fault.QueryFault.{QueryFault}
@@ -35,3 +36,25 @@ second_of false b e = absurd (true≢false (sym e))
 pub none_left : {X : Type 0} (xs : List X) → length xs ≡ 0 → xs ≡ []
 none_left [] e = refl
 none_left (x ∷ xs) e = absurd (omega (arith, e))
+
+-- an item was put behind the others
+module _ {X Y : Type 0} (f : X → Y) (xs ys : List X) (x : X) (is : ys ≡ xs ++ x ∷ []) where
+  pub mapped_more : (later : List Y) → map f ys ++ later ≡ map f xs ++ f x ∷ later
+  mapped_more later =
+      ap (λ zs. map f zs ++ later) is ∙ ap (λ zs. zs ++ later) (map-append f xs (x ∷ []))
+      ∙ append_assoc (map f xs) (f x ∷ []) later
+
+  pub counted_more : (k : ℕ) → length xs + suc k ≡ length ys + k
+  counted_more k = omega (arith, ap length is, length-append xs (x ∷ []))
+
+-- all items are still to come
+module _ {X L : Type 0} (xs : List X) (all ls : List L) (none : xs ≡ []) (whole : ls ≡ all) where
+  pub mapped_none : {Y : Type 0} (f : X → Y) (Takes : List L → List Y → Type 0) (later : List Y) → Takes ls later
+      → Takes all (map f xs ++ later)
+  mapped_none f Takes later taken =
+      subst (λ ys. Takes all (map f ys ++ later)) (sym none) (subst (λ ks. Takes ks later) whole taken)
+
+  pub counted_none : (First : List L → ℕ → Type 0) (k : ℕ) → First ls k → First all (length xs + k)
+  counted_none First k first =
+      let start : k ≡ length xs + k = omega (arith, ap length none) in
+      subst (First all) start (subst (λ ks. First ks k) whole first)

@@ -1,7 +1,7 @@
 -- What a run gives, by the answers to its lines.
-use Rattle.std.proofs.Common.{◌≡◌, ℕ, zero, suc, ◌+◌, ◌≤◌, List, [], ◌∷◌, ◌++◌, length, take, Bool, true, false}
-use Rattle.std.proofs.Common.{cond, Option, refl, sym, ap, ap₂, ◌∙◌, subst, arith, append_assoc, append-nil, true≢false}
-use Rattle.std.proofs.Common.{if◌then◌else◌, inl, inr}
+use Rattle.std.proofs.Common.{◌≡◌, ℕ, zero, suc, ◌≤◌, List, [], ◌∷◌, ◌++◌, length, take, Bool, true, false}
+use Rattle.std.proofs.Common.{cond, Option, refl, sym, ap, ap₂, ◌∙◌, subst, arith, append_assoc, true≢false}
+use Rattle.std.proofs.Common.{if◌then◌else◌}
 use Rattle.std.specs.Prelude.{nat_lt}
 use Rattle.std.specs.Io.KnownBytes.{Appends}
 use Rattle.std.proofs.lemmas.Bool.Decides.{nat_tests}
@@ -15,14 +15,15 @@ use Rattle.clip_stream.specs.declared.limits.TheConstants.{MOST_LINE_BYTES}
 use Rattle.clip_model.specs.Alerts.{Alert}
 use Rattle.clip_model.specs.History.{History}
 use Rattle.clip_listen.specs.Heard.{Hearer, told_all, HearsFront}
-use Rattle.clip_listen.proofs.Hearing.{told_none, told_more, names_told, front_after, front_of_more}
+use Rattle.clip_listen.proofs.Hearing.{no_front, told_none, told_more, names_told, front_after, front_of_more}
 use Rattle.clip_protocol.specs.LineMeaning.{Meaning, is_long, is_blank, json_of, Means, after}
 use Rattle.clip_front.specs.Outcome.{Outcome, nothing_given, followed_by, given, names_in, kept_rows, Gives}
 use Rattle.clip_front.specs.Outcome.{GivesAllFrom, GivesFrontFrom, GivesLinesFrom}
 use Rattle.clip_front.specs.declared.settings.Settings.{Settings}
 use Rattle.clip_front.specs.Steps.Answers.{Held, Answers, AnswersIn, Breaks, BreaksIn}
 use Rattle.clip_protocol.specs.Steps.Outline.{outline, blank, outline_of_value, MeansOutline}
-use Rattle.clip_front.specs.Steps.Serving.{Serves, StopsAt, ServesAll, ServesFront, ServesLines}
+use Rattle.clip_front.specs.Steps.Serving.{Serves, ServesAll, ServesFront, ServesLines}
+use Rattle.clip_front.proofs.Begun.{begun_of}
 use Rattle.clip_front.proofs.Delivering.{none_posted}
 use Rattle.clip_protocol.proofs.Meanings.{means_from, means_to}
 use Rattle.clip_front.proofs.OneOutcome.{gives_on}
@@ -72,7 +73,6 @@ means_cut names h line m means =
     means_from names h line m
     (subst (λ o. MeansOutline names h o m) (outline-cut line) (means_to names h (cut line) m means))
 
--- ---- the path of a server
 -- what was heard before changes nothing that is given
 gives_kept : (front : List Alert) (hearers : List Hearer) (n : ℕ) (h : History) (lines : List (List ℕ)) (o : Outcome)
     → Gives (told_all front hearers) n h lines o → Gives hearers n h lines o
@@ -84,6 +84,30 @@ gives_kept front hearers n h (line ∷ lines) o g = (
   g.3
       ∙ ap (λ x. followed_by x g.1) (given_kept front hearers n h g.0),
   gives_kept front hearers (suc n) (after h g.0) lines g.1 g.4,
+)
+
+-- a line that means this, and those after it, whatever was heard meanwhile
+pub gives_first : (hearers : List Hearer) (n : ℕ) (h : History) (line : List ℕ) (lines : List (List ℕ)) (m : Meaning)
+    (front : List Alert) (rest : Outcome) → Means (names_in hearers) h (cut line) m
+    → Gives (told_all front hearers) (suc n) (after h m) lines rest
+    → Gives hearers n h (line ∷ lines) (followed_by (given hearers n h m) rest)
+gives_first hearers n h line lines m front rest means gives = (
+  m,
+  rest,
+  means_cut (names_in hearers) h line m means,
+  refl,
+  gives_kept front hearers (suc n) (after h m) lines rest gives,
+)
+
+-- such a line alone
+pub gives_one : (hearers : List Hearer) (n : ℕ) (h : History) (line : List ℕ) (m : Meaning)
+    → Means (names_in hearers) h (cut line) m → Gives hearers n h (line ∷ []) (given hearers n h m)
+gives_one hearers n h line m means = (
+  m,
+  nothing_given,
+  means_cut (names_in hearers) h line m means,
+  sym (followed_nothing (given hearers n h m)),
+  refl,
 )
 
 -- ---- one line and those after it
@@ -100,19 +124,12 @@ text_now : (s t : Held) (n : ℕ) (line text : List ℕ) (a : Answers s t n line
     → (given_now s t n line text a).text s.settings.form ≡ text
 text_now s t n line text a = sym a.goes_on.replies
 
-gives_first : (s t : Held) (n : ℕ) (line text : List ℕ) (lines : List (List ℕ)) (rest : Outcome)
+gives_now : (s t : Held) (n : ℕ) (line text : List ℕ) (lines : List (List ℕ)) (rest : Outcome)
     (a : Answers s t n (cut line) text) → Gives t.hearers (suc n) t.history lines rest
     → Gives s.hearers n s.history (line ∷ lines) (followed_by (given_now s t n (cut line) text a) rest)
-gives_first s t n line text lines rest a gives =
-    let m = a.meaning in
-    let now = given_now s t n (cut line) text a in (
-      m,
-      rest,
-      means_cut (names_in s.hearers) s.history line m a.means,
-      refl,
-      gives_kept now.alerts s.hearers (suc n) (after s.history m) lines rest
-          (subst (λ x. Gives x.hearers (suc n) x.history lines rest) a.goes_on.leaves gives),
-    )
+gives_now s t n line text lines rest a gives =
+    gives_first s.hearers n s.history line lines a.meaning (given_now s t n (cut line) text a).alerts rest a.means
+    (subst (λ x. Gives x.hearers (suc n) x.history lines rest) a.goes_on.leaves gives)
 
 -- ---- all lines were answered
 
@@ -130,7 +147,7 @@ given_first s t u n line first rest text lines a e more =
     let now = given_now s t n (cut line) first a in
     record {
       outcome = followed_by now more.outcome;
-      gives = gives_first s t n line first lines more.outcome a more.gives;
+      gives = gives_now s t n line first lines more.outcome a more.gives;
       printed = ap₂ (λ x y. x ++ y) (text_now s t n (cut line) first a)
           (ap (λ x. more.outcome.text x.settings.form) (sym a.goes_on.leaves) ∙ more.printed) ∙ sym e;
       heard = more.heard ∙ ap (told_all more.outcome.alerts) (heard_now s t n (cut line) first a)
@@ -214,22 +231,18 @@ record BegunBy (s t : Held) (n : ℕ) (lines : List (List ℕ)) (text : List ℕ
   printed : outcome.text s.settings.form ≡ text ++ more
   heard : HearsFront outcome.alerts s.hearers t.hearers
 
+begun_none : (s : Held) (n : ℕ) → BegunBy s s n [] []
+begun_none s n =
+    record { outcome = nothing_given; gives = refl; more = []; printed = refl; heard = no_front [] s.hearers }
+
 begun_here : (s t : Held) (n : ℕ) (line text : List ℕ) → Breaks s t n (cut line) text → BegunBy s t n (line ∷ []) text
-begun_here s t n line text b =
-    let now = given s.hearers n s.history b.meaning in
-    record {
-      outcome = now;
-      gives = (
-        b.meaning,
-        nothing_given,
-        means_cut (names_in s.hearers) s.history line b.meaning b.means,
-        sym (followed_nothing now),
-        refl,
-      );
-      more = b.more;
-      printed = b.replies;
-      heard = b.heard;
-    }
+begun_here s t n line text b = record {
+  outcome = given s.hearers n s.history b.meaning;
+  gives = gives_one s.hearers n s.history line b.meaning b.means;
+  more = b.more;
+  printed = b.replies;
+  heard = b.heard;
+}
 
 begun_first : (s t u : Held) (n : ℕ) (line first rest text : List ℕ) (lines : List (List ℕ))
     → Answers s t n (cut line) first → text ≡ first ++ rest → BegunBy t u (suc n) lines rest
@@ -238,42 +251,13 @@ begun_first s t u n line first rest text lines a e later =
     let now = given_now s t n (cut line) first a in
     record {
       outcome = followed_by now later.outcome;
-      gives = gives_first s t n line first lines later.outcome a later.gives;
+      gives = gives_now s t n line first lines later.outcome a later.gives;
       more = later.more;
       printed = ap₂ (λ x y. x ++ y) (text_now s t n (cut line) first a)
           (ap (λ x. later.outcome.text x.settings.form) (sym a.goes_on.leaves) ∙ later.printed)
           ∙ sym (append_assoc first rest later.more) ∙ ap (λ x. x ++ later.more) (sym e);
       heard = front_after now.alerts later.outcome.alerts s.hearers t.hearers u.hearers
           (heard_now s t n (cut line) first a) later.heard;
-    }
-
-begun_by : {S : Type 0} (view : S → Held) (s t u : S) (n k : ℕ) (lines : List (List ℕ)) (line text begun : List ℕ)
-    → Serves (AnswersIn view) s t n lines text → k ≡ n + length lines → BreaksIn view t u k (cut line) begun
-    → BegunBy (view s) (view u) n (lines ++ line ∷ []) (text ++ begun)
-begun_by view s t u n k [] line text begun p e broken =
-    let here : k ≡ n = omega (arith, e) in
-    let whole : text ++ begun ≡ begun = ap (λ x. x ++ begun) p.1 in
-    subst (BegunBy (view s) (view u) n (line ∷ [])) (sym whole)
-    (begun_here (view s) (view u) n line begun
-    (subst (λ x. BreaksIn view x u n (cut line) begun) p.0
-    (subst (λ j. BreaksIn view t u j (cut line) begun) here broken)))
-begun_by view s t u n k (l ∷ lines) line text begun p e broken =
-    begun_first (view s) (view p.0) (view u) n l p.1 (p.2 ++ begun) (text ++ begun) (lines ++ line ∷ []) p.3
-    (ap (λ x. x ++ begun) p.4
-    ∙ append_assoc p.1 p.2 begun)
-    (begun_by view p.0 t u (suc n) k lines line p.2 begun p.5 (omega (arith, e)) broken)
-
-ended_by : {S : Type 0} (view : S → Held) (s t : S) (n : ℕ) (lines : List (List ℕ)) (text : List ℕ)
-    → Serves (AnswersIn view) s t n lines text → BegunBy (view s) (view t) n lines text
-ended_by view s t n lines text p =
-    let g = given_by view s t n lines text p in
-    record {
-      outcome = g.outcome;
-      gives = g.gives;
-      more = [];
-      printed = g.printed ∙ sym (append-nil text);
-      heard =
-          record { front = g.outcome.alerts; rest = []; cut = sym (append-nil g.outcome.alerts); heard = g.heard };
     }
 
 -- lines that were not begun
@@ -300,32 +284,14 @@ front_given s t begins taken_first taken text lines start b written = record {
   told = b.heard;
 }
 
-begun_none : {S : Type 0} (view : S → Held) (s t u : S) (text begun : List ℕ) (lines later : List (List ℕ))
-    → Serves (AnswersIn view) s t 1 lines text → u ≡ t → begun ≡ []
-    → BegunBy (view s) (view u) 1 (lines ++ later) (text ++ begun)
-begun_none view s t u text begun lines later p same none =
-    subst (BegunBy (view s) (view u) 1 (lines ++ later)) (sym (ap (λ x. text ++ x) none ∙ append-nil text))
-    (begun_more (view s) (view u) 1 lines later text
-    (ended_by view s u 1 lines text (subst (λ x. Serves (AnswersIn view) s x 1 lines text) (sym same) p)))
-
-begun_at : {S : Type 0} (view : S → Held) (s t u : S) (text begun : List ℕ) (lines later : List (List ℕ))
-    → Serves (AnswersIn view) s t 1 lines text → StopsAt (BreaksIn view) t u (suc (length lines)) later begun
-    → BegunBy (view s) (view u) 1 (lines ++ later) (text ++ begun)
-begun_at view s t u text begun lines [] p stopped = begun_none view s t u text begun lines [] p stopped.0 stopped.1
-begun_at view s t u text begun lines (line ∷ later) p (inl stopped) =
-    begun_none view s t u text begun lines (line ∷ later) p stopped.0 stopped.1
-begun_at view s t u text begun lines (line ∷ later) p (inr broken) =
-    subst (λ ls. BegunBy (view s) (view u) 1 ls (text ++ begun)) (append_assoc lines (line ∷ []) later)
-    (begun_more (view s) (view u) 1 (lines ++ line ∷ []) later (text ++ begun)
-    (begun_by view s t u 1 (suc (length lines)) lines line text begun p (omega arith) broken))
-
 gives_front : {S : Type 0} (view : S → Held) (s t : S) (begins : History) (settings : Settings)
     (taken_first taken : Option (List ℕ)) (lines : List (List ℕ)) → (view s).history ≡ begins
     → (view s).settings ≡ settings → ServesFront (AnswersIn view) (BreaksIn view) s t taken_first taken lines
     → GivesFrontFrom begins (view s).hearers (view t).hearers settings.form taken_first taken lines
 gives_front view s t begins settings taken_first taken lines start same p =
-    let begun = subst (λ ls. BegunBy (view s) (view t) 1 ls (p.text ++ p.begun)) (sym p.parts)
-    (begun_at view s p.between t p.text p.begun p.front p.later p.served p.stops) in
+    let begun = begun_of (AnswersIn view) (BreaksIn view) (λ a b. BegunBy (view a) (view b)) (λ a. begun_none (view a))
+    (λ a b. begun_here (view a) (view b)) (λ a b c. begun_first (view a) (view b) (view c))
+    (λ a b. begun_more (view a) (view b)) s t taken_first taken lines p in
     subst (λ k. GivesFrontFrom begins (view s).hearers (view t).hearers k.form taken_first taken lines) same
     (front_given (view s) (view t) begins taken_first taken (p.text ++ p.begun) lines start begun p.written)
 

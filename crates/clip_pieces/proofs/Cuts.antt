@@ -3,7 +3,7 @@ use Rattle.std.proofs.Common.{◌≡◌, ℕ, zero, suc, ◌+◌, ◌-◌, ◌<�
 use Rattle.std.proofs.Common.{take, drop, Some, unwrap_or, Fits, w32, refl, sym, ap, ◌∙◌, arith, length-append}
 use Rattle.std.proofs.Common.{length-drop}
 use Rattle.std.proofs.Math.Seq.{drop-append_seam}
-use Rattle.std.proofs.lemmas.List.{take_all, take-append-le, drop-append-le}
+use Rattle.std.proofs.lemmas.List.{take_all, take_at, take-append-le, drop-append-le}
 use Rattle.std.proofs.lemmas.Option.{slice_get_past}
 use Rattle.clip_pieces.specs.Packed.{cut, AreEnds}
 use Rattle.clip_pieces.specs.declared.packed.TheConstants.{MOST_ITEMS}
@@ -16,7 +16,7 @@ all_fit list items all few room is = omega arith
 pub list_within : (list items all : ℕ) → all ≡ items + list → list ≤ all
 list_within list items all is = omega arith
 
-pub items_left : (list items all : ℕ) → all ≡ items + list → all - list ≡ items
+items_left : (list items all : ℕ) → all ≡ items + list → all - list ≡ items
 items_left list items all is = omega arith
 
 -- ---- cuts
@@ -57,6 +57,14 @@ module _ {A : Type 0} where
   ends_within start [] items place e h = absurd (omega arith)
   ends_within start (end ∷ ends) items zero e h = (e.0, starts_within end ends items e.1)
   ends_within start (end ∷ ends) items (suc place) e h = ends_within end ends items place e.1 (omega arith)
+
+  -- the items where a list behind them is cut off again
+  pub cut_off : (items list all left : List A) (few many : ℕ) → few ≡ length items → many ≡ few + length list
+      → all ≡ items ++ list → left ≡ take (many - length list) all
+      → left ≡ items
+  cut_off items list all left few many fits more is off =
+      off ∙ ap (λ n. take n all) (items_left (length list) few many more ∙ fits) ∙ ap (take (length items)) is
+      ∙ take_at items list (length items) refl
 
   -- one list more
   pub pushed_ends : (start : ℕ) (ends : List ℕ) (items list : List A) (end : ℕ) → end ≡ length (items ++ list)

@@ -222,15 +222,19 @@ module _ {P A : Type 0} (items : P → List A) (n : ℕ) (ps : List P) (len : �
         ap (λ l. l % n) none_left ∙ zero-mod n))
   ]
 
-  pub last_part : (k : ℕ) (p q : P) (v : A) → (len % n ≡ 0 → ⊥) → k + 1 ≡ length ps → p ≡ get_or ps k p
+  -- another item behind those of the last of so many parts
+  pub last_part : (count : ℕ) (p q : P) (v : A) → (len % n ≡ 0 → ⊥) → count ≡ length ps → p ≡ get_or ps (count - 1) p
       → items q ≡ items p ++ v ∷ []
-      → IsInside items n (set ps k q) (len + 1) × (joined (map items (set ps k q)) ≡ joined (map items ps) ++ v ∷ [])
-  last_part k p q v some last is e =
-      let at = part_at items n ps k p (omega arith) is in
+      → IsInside items n (set ps (count - 1) q) (len + 1)
+      × (joined (map items (set ps (count - 1) q)) ≡ joined (map items ps) ++ v ∷ [])
+  last_part count p q v some counted is e =
+      let k = count - 1 in
+      let last : k + 1 ≡ length ps = omega (arith, some_parts some, counted) in
+      let at = part_at items n ps k p (omega (arith, last)) is in
       let parts : map items (set ps k q) ≡ set (map items ps) k (get_or (map items ps) k [] ++ v ∷ []) =
       map-set items ps k q ∙ ap (set (map items ps) k) (e ∙ ap (λ xs. xs ++ v ∷ []) at) in
       let more = last_more n (map items ps) k v inside.0 (λ z. some (ap (λ l. l % n) inside.1 ∙ z))
-      (omega (arith, length-map ps items)) in
+      (omega (arith, last, length-map ps items)) in
       let all = ap joined parts ∙ more.1 in
       ((subst (AreFilled n) (sym parts) more.0, one_more (set ps k q) v all), all)
 

@@ -30,6 +30,10 @@ use Rattle.clip_protocol.specs.Steps.Views.{alerts_by_id}
 regroup : (a b c d : List ℕ) → ((a ++ b) ++ c) ++ d ≡ a ++ (b ++ (c ++ d))
 regroup a b c d = simp append_assoc
 
+-- what is printed of a value is its text as an item on its own
+pub print-item : (d : Data) → print (data_tokens d) ≡ item_text false d
+print-item d = print-outline d
+
 -- an article is written after a comma if another stands before it, and those that are left come after it
 pub print-next : (form : Form) (all : List Found) (place : ℕ) (found : Found) (before after : List ℕ)
     → place < length all → found ≡ get_or all place found

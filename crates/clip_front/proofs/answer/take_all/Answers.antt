@@ -1,7 +1,5 @@
-use Rattle.std.proofs.Common.{◌≡◌, ◌+◌, suc, [], ◌∷◌, ◌++◌, length, map, sym, ap, ◌∙◌, subst, arith, true, append_assoc}
+use Rattle.std.proofs.Common.{◌≡◌, ◌+◌, suc, [], ◌∷◌, length, map, sym, ap, subst, arith, true}
 use Rattle.std.proofs.Common.{append-nil}
-use Rattle.std.proofs.Common.{length-append}
-use Rattle.std.proofs.lemmas.List.{map-append}
 use Rattle.std.specs.Arc.{arc_value}
 use Rattle.std.specs.List.{list_all}
 use Rattle.std.specs.Vec.Iter.{into_iter_items}
@@ -9,25 +7,20 @@ use Rattle.clip_words.specs.Ids.{is_id}
 use Rattle.clip_protocol.specs.LineMeaning.{AreTakenAs, FirstRefused}
 use Rattle.clip_front.specs.Outcome.{names_in}
 use Rattle.clip_protocol.specs.Steps.Views.{listing_view}
-use Rattle.clip_front.proofs.Readings.{second_of, none_left}
+use Rattle.clip_front.proofs.Readings.{second_of, none_left, mapped_more, counted_more, mapped_none, counted_none}
 use Rattle.clip_front.proofs.answer.take_all.Goals as goal
 
 pub loop-listing-init : goal.loop-listing-init
 loop-listing-init g c =
     let names = names_in (g.A.Audience.hearers c.args.audience.now) in
     let all = map listing_view c.args.listings.items in
-    let gives : into_iter_items c.into_iter-listing-iterator.result ≡ c.args.listings.items =
-    c.into_iter-listing-iterator.ensures.into_iter_gives.0 in
-    let whole : map listing_view (into_iter_items c.into_iter-listing-iterator.result) ≡ all =
-    ap (map listing_view) gives in
+    let left = map listing_view (into_iter_items c.into_iter-listing-iterator.result) in
+    let whole : left ≡ all = ap (map listing_view) c.into_iter-listing-iterator.ensures.into_iter_gives.0 in
     let none = c.in_ok-all.ensures.items in
     record {
       ids = subst (λ ls. list_all (λ l. is_id l.id) ls ≡ true) (sym whole) c.requires;
-      takes = λ more taken. subst (λ xs. AreTakenAs names all (map arc_value xs ++ more)) (sym none)
-          (subst (λ ls. AreTakenAs names ls more) whole taken);
-      first = λ r j refused. let start : j ≡ 0 + j = omega arith in
-          subst (λ xs. FirstRefused names all r (length xs + j)) (sym none)
-          (subst (FirstRefused names all r) start (subst (λ ls. FirstRefused names ls r j) whole refused));
+      takes = mapped_none _ all left none whole arc_value (AreTakenAs names);
+      first = λ r. counted_none _ all left none whole (λ ls. FirstRefused names ls r);
     }
 
 pub loop-listing-preserved : goal.loop-listing-preserved
@@ -37,23 +30,17 @@ loop-listing-preserved g c =
     let here = ap (map listing_view) c.in-Some.ensures.steps.0 in
     let s = arc_value c.in-Ok.standing in
     let taken = c.in-Ok.ensures in
-    let pushed : map arc_value c.push.new.self.items ≡ map arc_value c.loop-listing.all.items ++ s ∷ [] =
-    ap (map arc_value) {y = c.loop-listing.all.items ++ c.in-Ok.standing ∷ []} c.in_ok-push-in-Ok.ensures.items
-    ∙ map-append arc_value c.loop-listing.all.items (c.in-Ok.standing ∷ []) in
-    let count : length c.push.new.self.items ≡ length c.loop-listing.all.items + 1 =
-    ap length {y = c.loop-listing.all.items ++ c.in-Ok.standing ∷ []} c.in_ok-push-in-Ok.ensures.items
-    ∙ length-append c.loop-listing.all.items (c.in-Ok.standing ∷ []) in
+    let more = c.in_ok-push-in-Ok.ensures.items in
     record {
       ids = second_of _ _ (subst (λ ls. list_all (λ l. is_id l.id) ls ≡ true) here c.loop-listing.invariant.ids);
-      takes = λ more rest.
-          subst (AreTakenAs names all) (sym (ap (λ xs. xs ++ more) pushed
-          ∙ append_assoc (map arc_value c.loop-listing.all.items) (s ∷ []) more))
-          (c.loop-listing.invariant.takes (s ∷ more)
-          (subst (λ ls. AreTakenAs names ls (s ∷ more)) (sym here) (taken, rest)));
+      takes = λ later rest.
+          subst (AreTakenAs names all)
+          (sym (mapped_more arc_value c.loop-listing.all.items c.push.new.self.items c.in-Ok.standing more later))
+          (c.loop-listing.invariant.takes (s ∷ later)
+          (subst (λ ls. AreTakenAs names ls (s ∷ later)) (sym here) (taken, rest)));
       first = λ r j refused.
-          let shifted : length c.loop-listing.all.items + suc j ≡ length c.push.new.self.items + j =
-          omega (arith, count) in
-          subst (FirstRefused names all r) shifted
+          subst (FirstRefused names all r)
+          (counted_more arc_value c.loop-listing.all.items c.push.new.self.items c.in-Ok.standing more j)
           (c.loop-listing.invariant.first r (suc j)
           (subst (λ ls. FirstRefused names ls r (suc j)) (sym here) (
             (s.tree, taken.read.query),

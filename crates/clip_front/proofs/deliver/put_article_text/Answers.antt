@@ -1,25 +1,22 @@
-use Rattle.std.proofs.Common.{◌≡◌, ◌++◌, ◌∷◌, [], List, ℕ, false, true, refl, sym, subst, arith, OnErr, OnOk}
-use Rattle.std.proofs.lemmas.List.{append_cancel_right}
+use Rattle.std.proofs.Common.{◌≡◌, ◌++◌, List, ℕ, false, true, sym, ◌∙◌, subst, arith, OnErr, OnOk}
 use Rattle.std.proofs.lemmas.Result.{on_err_weaker, on_ok_weaker}
 use Rattle.clip_stream.specs.Device.{AppendsFront, HandsOver}
 use Rattle.clip_stream.proofs.Faults.{on_err}
-use Rattle.clip_standing.specs.Alerts.{alerts_value}
 use Rattle.clip_protocol.specs.Reply.{alerts_data}
-use Rattle.clip_protocol.specs.Steps.Flowing.{item_text}
+use Rattle.clip_protocol.specs.Steps.Flowing.{Data, item_text}
 use Rattle.clip_protocol.specs.Steps.Views.{alerts_by_id}
-use Rattle.clip_protocol.specs.declared.found.Found.TheVariants.{Shown}
-use Rattle.clip_protocol.proofs.Printed.{print-next}
+use Rattle.clip_protocol.specs.declared.shown.Shown.{Shown}
+use Rattle.clip_protocol.proofs.Printed.{print-item}
 use Rattle.clip_front.proofs.Shown.{front_behind_comma, front_of_comma, put_behind}
 use Rattle.clip_front.proofs.deliver.put_article_text.Goals as goal
 
+abbrev item_of : Shown → Data
+item_of shown = alerts_data shown.form (alerts_by_id shown.alerts.value)
+
 pub returns-then-not-later-clause-moved : goal.returns-then-not-later-clause-moved
 returns-then-not-later-clause-moved g c =
-    let shown = c.args.shown.now in
-    let d = alerts_data shown.form (alerts_by_id shown.alerts.value) in
-    let text = c.as_slice.result.now in
-    let same : text ≡ item_text false d =
-    append_cancel_right text (item_text false d) (93 ∷ [])
-    (print-next shown.form (Shown shown ∷ []) 0 (Shown shown) [] text (omega arith) refl c.as_slice.ensures) in
+    let d = item_of c.args.shown.now in
+    let same = c.as_slice.ensures ∙ print-item d in
     let first : c.args.later ≡ false = grind (arith, c.if-not-later.true) in
     let P : List ℕ → Type 0 =
     λ t. OnOk c.put.result (HandsOver (g.W.Sink.taken c.args.flow.now.writer.now) (c.args.flow.now.outbox.now ++ t)
@@ -28,12 +25,8 @@ returns-then-not-later-clause-moved g c =
 
 pub returns-then-not-later-clause-front : goal.returns-then-not-later-clause-front
 returns-then-not-later-clause-front g c =
-    let shown = c.args.shown.now in
-    let d = alerts_data shown.form (alerts_by_id shown.alerts.value) in
-    let text = c.as_slice.result.now in
-    let same : text ≡ item_text false d =
-    append_cancel_right text (item_text false d) (93 ∷ [])
-    (print-next shown.form (Shown shown ∷ []) 0 (Shown shown) [] text (omega arith) refl c.as_slice.ensures) in
+    let d = item_of c.args.shown.now in
+    let same = c.as_slice.ensures ∙ print-item d in
     let first : c.args.later ≡ false = grind (arith, c.if-not-later.true) in
     let P : List ℕ → Type 0 =
     λ t. OnErr c.put.result (AppendsFront (g.W.Sink.taken c.args.flow.now.writer.now)
@@ -42,8 +35,7 @@ returns-then-not-later-clause-front g c =
 
 pub returns-in_err-put-clause-front : goal.returns-in_err-put-clause-front
 returns-in_err-put-clause-front g c =
-    let shown = c.args.shown.now in
-    let d = alerts_data shown.form (alerts_by_id shown.alerts.value) in
+    let d = item_of c.args.shown.now in
     let taken = g.W.Sink.taken in
     let behind : c.args.later ≡ true = grind (arith, c.if-not-later.false) in
     let put = front_of_comma (taken c.args.flow.now.writer.now) (taken c.put-2.new.self.writer.now)
@@ -53,13 +45,9 @@ returns-in_err-put-clause-front g c =
 
 pub returns-clause-moved : goal.returns-clause-moved
 returns-clause-moved g c =
-    let shown = c.args.shown.now in
-    let d = alerts_data shown.form (alerts_by_id shown.alerts.value) in
+    let d = item_of c.args.shown.now in
     let taken = g.W.Sink.taken in
-    let text = c.as_slice-2.result.now in
-    let same : text ≡ item_text false d =
-    append_cancel_right text (item_text false d) (93 ∷ [])
-    (print-next shown.form (Shown shown ∷ []) 0 (Shown shown) [] text (omega arith) refl c.as_slice-2.ensures) in
+    let same = c.as_slice-2.ensures ∙ print-item d in
     let behind : c.args.later ≡ true = grind (arith, c.if-not-later.false) in
     let P : List ℕ → Type 0 =
     λ t. HandsOver (taken c.args.flow.now.writer.now) (c.args.flow.now.outbox.now ++ t)
@@ -68,18 +56,14 @@ returns-clause-moved g c =
     (λ put. subst (λ later. P (item_text later d)) (sym behind)
     (put_behind (taken c.args.flow.now.writer.now) (taken c.put-2.new.self.writer.now)
     (taken c.put-3.new.self.writer.now) c.args.flow.now.outbox.now c.put-2.new.self.outbox.now
-    c.put-3.new.self.outbox.now text d same c.in_ok-put.ensures.moved put))
+    c.put-3.new.self.outbox.now c.as_slice-2.result.now d same c.in_ok-put.ensures.moved put))
     c.put-3.ensures.moved
 
 pub returns-clause-front : goal.returns-clause-front
 returns-clause-front g c =
-    let shown = c.args.shown.now in
-    let d = alerts_data shown.form (alerts_by_id shown.alerts.value) in
+    let d = item_of c.args.shown.now in
     let taken = g.W.Sink.taken in
-    let text = c.as_slice-2.result.now in
-    let same : text ≡ item_text false d =
-    append_cancel_right text (item_text false d) (93 ∷ [])
-    (print-next shown.form (Shown shown ∷ []) 0 (Shown shown) [] text (omega arith) refl c.as_slice-2.ensures) in
+    let same = c.as_slice-2.ensures ∙ print-item d in
     let behind : c.args.later ≡ true = grind (arith, c.if-not-later.false) in
     let P : List ℕ → Type 0 =
     λ t. AppendsFront (taken c.args.flow.now.writer.now) (taken c.put-3.new.self.writer.now)
@@ -87,6 +71,6 @@ returns-clause-front g c =
     on_err_weaker c.put-3.result
     (λ put. subst (λ later. P (item_text later d)) (sym behind)
     (front_behind_comma (taken c.args.flow.now.writer.now) (taken c.put-2.new.self.writer.now)
-    (taken c.put-3.new.self.writer.now) c.args.flow.now.outbox.now c.put-2.new.self.outbox.now text d same
-    c.in_ok-put.ensures.moved put))
+    (taken c.put-3.new.self.writer.now) c.args.flow.now.outbox.now c.put-2.new.self.outbox.now
+    c.as_slice-2.result.now d same c.in_ok-put.ensures.moved put))
     c.put-3.ensures.front

@@ -1,6 +1,5 @@
 use Rattle.std.proofs.Common.{◌++◌, OnErr, sym, subst}
 use Rattle.clip_stream.specs.Device.{AppendsFront}
-use Rattle.clip_standing.specs.Alerts.{alerts_value}
 use Rattle.clip_protocol.specs.Found.{found_value}
 use Rattle.clip_protocol.specs.Reply.{alerts_data}
 use Rattle.clip_protocol.specs.Steps.Flowing.{item_text}

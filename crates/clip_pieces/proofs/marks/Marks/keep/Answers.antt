@@ -1,4 +1,3 @@
-use Rattle.clip_pieces.specs.Marked.{both}
 use Rattle.clip_pieces.proofs.Both.{kept_flags}
 use Rattle.clip_pieces.proofs.marks.Marks.keep.Goals as goal
 

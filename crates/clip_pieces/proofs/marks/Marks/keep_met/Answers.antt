@@ -1,4 +1,4 @@
-use Rattle.std.proofs.Common.{◌≡◌, ℕ, ◌-◌, ◌*◌, false, ◌&&◌, ◌||◌, not, length, get_or, take, ap, ap₂, sym, ◌∙◌, arith}
+use Rattle.std.proofs.Common.{◌-◌, ◌*◌, false, ◌&&◌, ◌||◌, not, length, get_or, ap, ap₂, sym, ◌∙◌, arith}
 use Rattle.std.proofs.Common.{length-take-le}
 use Rattle.clip_pieces.specs.Steps.Bits.{flags_of}
 use Rattle.clip_pieces.proofs.Words.{length-flags_of}

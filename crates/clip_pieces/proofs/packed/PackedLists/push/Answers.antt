@@ -1,9 +1,7 @@
 -- The list stands behind the items, and its end behind the ends.
-use Rattle.std.proofs.Common.{◌≡◌, ℕ, List, ◌-◌, ◌+◌, ◌++◌, length, take, refl, ap, sym, ◌∙◌, subst, arith}
-use Rattle.std.proofs.Common.{length-append}
-use Rattle.std.proofs.lemmas.List.{take_at}
+use Rattle.std.proofs.Common.{◌≡◌, ℕ, List, ◌+◌, ◌++◌, length, length-append, ap, sym, ◌∙◌, subst, arith}
 use Rattle.clip_pieces.specs.Packed.{cut, AreEnds}
-use Rattle.clip_pieces.proofs.Cuts.{all_fit, list_within, items_left, pushed_ends, pushed_cut}
+use Rattle.clip_pieces.proofs.Cuts.{all_fit, list_within, cut_off, pushed_ends, pushed_cut}
 use Rattle.clip_pieces.proofs.packed.PackedLists.push.Goals as goal
 
 pub overflow_cast-len : goal.overflow_cast-len
@@ -19,27 +17,19 @@ overflow_sub-len g c = list_within (length c.args.list.now) c.self.inside.items.
 -- where there is no room for the end, the items are as they were
 pub invariant_of-self-in-Err : goal.invariant_of-self-in-Err
 invariant_of-self-in-Err g c =
-    let items = c.self.inside.items.items in
-    let list = c.args.list.now in
-    let count : c.len-in-Err.result - length list ≡ length items =
-    items_left (length list) c.self.inside.items.len c.len-in-Err.result (c.len-in-Err.ensures
-    ∙ c.in_ok-extend_from_slice.ensures.len) ∙ c.self.inside.items.ok.0 in
-    let back : c.truncate.new.self.items ≡ items =
-    c.truncate.ensures.items ∙ ap (λ n. take n c.extend_from_slice.new.self.items) count
-    ∙ ap (take (length items)) c.in_ok-extend_from_slice.ensures.items ∙ take_at items list (length items) refl in
+    let back = cut_off c.self.inside.items.items c.args.list.now c.extend_from_slice.new.self.items
+    c.truncate.new.self.items c.self.inside.items.len c.len-in-Err.result c.self.inside.items.ok.0
+    (c.len-in-Err.ensures ∙ c.in_ok-extend_from_slice.ensures.len) c.in_ok-extend_from_slice.ensures.items
+    c.truncate.ensures.items in
     subst (λ (ends : List ℕ). AreEnds 0 ends c.truncate.new.self.items) (sym c.in-Err.ensures.items)
     (subst (λ (xs : List g.row.T.Denot). AreEnds 0 c.self.inside.ends.items xs) (sym back) c.self.invariant)
 
 pub returns-in-Err-clause-err : goal.returns-in-Err-clause-err
 returns-in-Err-clause-err g c =
-    let items = c.self.inside.items.items in
-    let list = c.args.list.now in
-    let count : c.len-in-Err.result - length list ≡ length items =
-    items_left (length list) c.self.inside.items.len c.len-in-Err.result (c.len-in-Err.ensures
-    ∙ c.in_ok-extend_from_slice.ensures.len) ∙ c.self.inside.items.ok.0 in
-    let back : c.truncate.new.self.items ≡ items =
-    c.truncate.ensures.items ∙ ap (λ n. take n c.extend_from_slice.new.self.items) count
-    ∙ ap (take (length items)) c.in_ok-extend_from_slice.ensures.items ∙ take_at items list (length items) refl in
+    let back = cut_off c.self.inside.items.items c.args.list.now c.extend_from_slice.new.self.items
+    c.truncate.new.self.items c.self.inside.items.len c.len-in-Err.result c.self.inside.items.ok.0
+    (c.len-in-Err.ensures ∙ c.in_ok-extend_from_slice.ensures.len) c.in_ok-extend_from_slice.ensures.items
+    c.truncate.ensures.items in
     (λ i. cut 0 (c.in-Err.ensures.items i) (back i)) ∙ c.self.view_is
 
 pub invariant_of-self-in-Ok : goal.invariant_of-self-in-Ok

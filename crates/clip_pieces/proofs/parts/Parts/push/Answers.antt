@@ -62,14 +62,9 @@ invariant_of-self-2 g c =
           rw (w.self-inside-is, w.in_ok-push.ensures.items, more) all.0
       | else-self-FULL-eq0+in_ok-push_to w ↦
           let some : c.self.inside.len % g.P.Part.FULL ≡ 0 → ⊥ = rw c.FULL.ensures at w.if-self-FULL-eq0.false in
-          let parts = some_parts g.P.Part.items g.P.Part.FULL c.self.inside.parts.items c.self.inside.len
-          c.self.invariant some in
-          let long = c.self.inside.parts.ok.0 in
-          let last : w.len-last.result - 1 + 1 ≡ length c.self.inside.parts.items =
-          omega (arith, parts, long, w.len-last.ensures) in
           let all = last_part g.P.Part.items g.P.Part.FULL c.self.inside.parts.items c.self.inside.len c.self.invariant
-          (w.len-last.result - 1) w.index_mut.result.now w.push_to.new.part c.args.item some last
-          w.index_mut.ensures.value w.in_ok-push_to.ensures.ok in
+          w.len-last.result w.index_mut.result.now w.push_to.new.part c.args.item some
+          (w.len-last.ensures ∙ c.self.inside.parts.ok.0) w.index_mut.ensures.value w.in_ok-push_to.ensures.ok in
           rw (w.self-inside-is, more) all.0
     ]
 
@@ -85,13 +80,8 @@ returns-clause-ok g c =
           rw (w.self-inside-is, w.in_ok-push.ensures.items, ← c.self.view_is) all.1
       | else-self-FULL-eq0+in_ok-push_to w ↦
           let some : c.self.inside.len % g.P.Part.FULL ≡ 0 → ⊥ = rw c.FULL.ensures at w.if-self-FULL-eq0.false in
-          let parts = some_parts g.P.Part.items g.P.Part.FULL c.self.inside.parts.items c.self.inside.len
-          c.self.invariant some in
-          let long = c.self.inside.parts.ok.0 in
-          let last : w.len-last.result - 1 + 1 ≡ length c.self.inside.parts.items =
-          omega (arith, parts, long, w.len-last.ensures) in
           let all = last_part g.P.Part.items g.P.Part.FULL c.self.inside.parts.items c.self.inside.len c.self.invariant
-          (w.len-last.result - 1) w.index_mut.result.now w.push_to.new.part c.args.item some last
-          w.index_mut.ensures.value w.in_ok-push_to.ensures.ok in
+          w.len-last.result w.index_mut.result.now w.push_to.new.part c.args.item some
+          (w.len-last.ensures ∙ c.self.inside.parts.ok.0) w.index_mut.ensures.value w.in_ok-push_to.ensures.ok in
           rw (w.self-inside-is, ← c.self.view_is) all.1
     ]
