@@ -3,7 +3,9 @@ pub mod ById
 pub mod Due
 pub mod Places
 pub mod Positions
+pub mod Readings
 pub mod Marks
 pub mod Few
+pub mod Judgings
 pub mod Sorted
 pub mod Whole

@@ -3,6 +3,7 @@ use Rattle.std.specs.Prelude.{◌≡◌, ◌≤◌, ◌-◌, true, List, length,
 use Rattle.std.specs.List.{All}
 use Rattle.clip_meaning.specs.Article.{ArticleValue}
 use Rattle.clip_meaning.specs.Hits.{HitValue, hit_value, hits}
+use Rattle.clip_model.specs.History.{Registered}
 use Rattle.clip_standing.specs.Alerts.{AlertsValue}
 use Rattle.clip_match.specs.Alerts.{alert_due}
 use Rattle.clip_match.specs.declared.held.Held.{Held}
@@ -36,3 +37,8 @@ AreTheirHits due =
 -- the hits of each query were found
 abbrev pub HaveTheirHits : DueEntries → Type 0
 HaveTheirHits due = All (λ h. is_some h.hits ≡ true) due.held.items
+
+-- at most one plan was judged for each candidate, and one was for each query that is due
+pub record AreJudged (candidates : List Registered) (due : DueEntries) : Type 0 where
+  pub most : due.judged ≤ length candidates
+  pub least : length due.held.items ≤ due.judged

@@ -19,6 +19,8 @@ pub struct DueEntries<'a> {
     pub(crate) article: &'a Article,
     pub(crate) place: u64,
     pub(crate) asked: u64,
+    pub(crate) judged: u64,
+    pub(crate) read: u64,
     pub(crate) held: Vec<Held<'a>>,
     pub(crate) all_hits: Arc<Vec<Hit>>,
     pub(crate) is_heard: bool,
@@ -43,6 +45,22 @@ impl<'a> DueEntries<'a> {
         ensures { result ≡ (due_value self.now).asked }
     {
         self.asked
+    }
+
+    /// How many plans of queries were judged: at most one for each query that was tried, and one for each that is due.
+    /// Constant time.
+    pub fn judged(&self) -> u64
+        ensures { result ≡ self.now.judged }
+    {
+        self.judged
+    }
+
+    /// How many positions were read to find the queries that were tried: of each segment those under each key of the
+    /// article, of queries that have it as a key and of those that have it as a second key. Constant time.
+    pub fn positions_read(&self) -> u64
+        ensures { result ≡ self.now.read }
+    {
+        self.read
     }
 
     /// Whether one of the queries has a listener. Constant time.

@@ -6,7 +6,8 @@ ghost use Rattle.clip_words.specs.Order.{bytes_cmp};
 ghost use Rattle.clip_meaning.specs.Hits.{hit_value};
 ghost use Rattle.clip_standing.specs.Alerts.{alert_value, alerts_value, has_hits};
 ghost use Rattle.clip_match.specs.Alerts.{alert_due, alerts_due};
-ghost use Rattle.clip_match.specs.Due.{due_value, AreItsHits, AreTheirHits, HaveTheirHits};
+ghost use Rattle.clip_match.specs.Candidates.{candidates_of, positions_of};
+ghost use Rattle.clip_match.specs.Due.{due_value, AreItsHits, AreJudged, AreTheirHits, HaveTheirHits};
 
 use crate::entries::DueEntries;
 use crate::held::{Held, HitPlaces, HitsFound};
@@ -110,13 +111,15 @@ pub(crate) fn alerts(
 
 /// What is due to an article at a view: of each registered query that holds of it one entry, in the byte order of their
 /// ids, and of no other; with the view's place, and how many queries were tried. Just the article's candidates are
-/// tried. Where hits are found at once, they are kept until the alerts are made, which carry them then.
+/// tried: at most one plan is judged for each, and one is for each query that holds. Just those positions are read that
+/// stand under the article's keys, once under each, as keys and as second keys. Where hits are found at once, they are
+/// kept until the alerts are made, which carry them then.
 ///
 /// `NoMemory` where an allocation failed, or, where hits are found at once, where the count of a field's name is at its
-/// end. Cost: a step for each word of the article, a look-up in each segment for each of its keys and the judging of
-/// each candidate's plan; and a sort of those that hold. No text is copied, and a query without a key of the article
-/// costs nothing. Where hits are found at once, in each segment of which a query holds that of
-/// `SegmentReading::spots`, and for each query that holds that of `SegmentSpots::add_hits`.
+/// end. Cost: a step for each word of the article, a look-up in each segment for each of its keys, a step for each
+/// position that is read and the judging of the plans; and a sort of those that hold. No text is copied, and a query
+/// without a key of the article costs nothing. Where hits are found at once, in each segment of which a query holds that
+/// of `SegmentReading::spots`, and for each query that holds that of `SegmentSpots::add_hits`.
 pub fn entries_due<'a>(
     alloc: Global,
     view: &'a View,
@@ -126,9 +129,13 @@ pub fn entries_due<'a>(
     ensures due { IfOk result (λ due. due_value due ≡ alerts_due view.now article.now) }
     ensures hits { IfOk result (λ due. AreTheirHits due) }
     ensures there { hits ≡ HitsFound.AtOnce → IfOk result (λ due. HaveTheirHits due) }
+    ensures judged { IfOk result (λ due. AreJudged (candidates_of view.now article.now) due) }
+    ensures read { IfOk result (λ due. due.read ≡ positions_of view.now article.now) }
 {
     let Judged {
         asked,
+        plans: judged,
+        read,
         entries,
         is_heard,
     } = judge_candidates(alloc, view, article, hits)?;
@@ -139,6 +146,8 @@ pub fn entries_due<'a>(
         article,
         place: view.place(),
         asked,
+        judged,
+        read,
         held,
         all_hits,
         is_heard,

@@ -1,21 +1,23 @@
 //! The candidates of an article whose queries hold of it.
-ghost use Rattle.std.specs.Prelude.{◌≡◌, ◌+◌, ◌<◌, ◌^◌, ◌++◌, ◌||◌, List, None, Some, map, filter, length, option_map};
-ghost use Rattle.std.specs.Prelude.{IfOk, IfSome, OnOk, false, slice_index_or};
+ghost use Rattle.std.specs.Prelude.{◌≡◌, ◌+◌, ◌<◌, ◌≤◌, ◌^◌, ◌++◌, ◌||◌, List, None, Some, map, filter, length};
+ghost use Rattle.std.specs.Prelude.{option_map, IfOk, IfSome, OnOk, false, slice_index_or};
 ghost use Rattle.std.specs.List.{All, list_any, slice_get};
 ghost use Rattle.clip_extract.specs.Covering.{article_keys};
+ghost use Rattle.clip_extract.specs.Extraction.{query_keys};
 ghost use Rattle.clip_meaning.specs.Hits.{HitValue, hit_value};
 ghost use Rattle.clip_meaning.specs.Meaning.{holds};
-ghost use Rattle.clip_segment.specs.Segment.{IsRising, heard_of};
-ghost use Rattle.clip_match.specs.Candidates.{candidates_of, MissesNone, AreRegistered};
+ghost use Rattle.clip_segment.specs.Index.{positions_under};
+ghost use Rattle.clip_segment.specs.Segment.{IsRising, heard_of, trees_of};
+ghost use Rattle.clip_match.specs.Candidates.{candidates_of, positions_of, MissesNone, AreRegistered};
 ghost use Rattle.clip_match.specs.Steps.Held.{HasItsHits};
 ghost use Rattle.clip_match.specs.Steps.Positions.{entries_at, has_listener, live_with};
 
 use crate::held::{Held, HitPlaces, HitsFound};
 use clip_extract::covering_law;
 use clip_meaning::{Article, Hit};
-use clip_plan::Tally;
+use clip_plan::Tallies;
 use clip_registry::View;
-use clip_segment::{SegmentReading, SegmentSpots};
+use clip_segment::{PositionsRead, SegmentReading, SegmentSpots};
 use clip_standing::Entry;
 use clip_terms::{Asking, FieldFlags};
 use clip_words::NoMemory;
@@ -23,13 +25,15 @@ use std::alloc::Global;
 
 /// The positions of those candidates of a segment that no second key rules out, in place of those that were in the
 /// list, and how many candidates it has: the live entries whose query has a key in common with the article. They are
-/// counted and ruled out by words of 64 positions, and no entry is looked at.
+/// counted and ruled out by words of 64 positions, and no entry is looked at. The positions that are read to find them
+/// are counted.
 fn candidates_in(
     alloc: Global,
     view: &View,
     place: usize,
     reading: &SegmentReading<'_>,
     positions: &mut Vec<u32>,
+    read: &mut PositionsRead,
 ) -> Result<u64, NoMemory>
     requires { slice_get view.now.segments place ≡ Some reading.now.entries }
     ensures asked { IfOk result (λ asked. asked ≡ length
@@ -39,11 +43,15 @@ fn candidates_in(
         (entries_at reading.now.entries positions.new.items)
         ≡ filter (λ r. holds r.standing.tree reading.now.article.fields)
         (live_with view.now.history (article_keys reading.now.article.fields) reading.now.entries)) }
+    ensures few { OnOk result (length positions.new.items ≤ length
+        (live_with view.now.history (article_keys reading.now.article.fields) reading.now.entries)) }
+    ensures read { OnOk result (read.new ≡ read.old
+        + positions_under query_keys (article_keys reading.now.article.fields) (trees_of reading.now.entries)) }
 {
     let Some(live) = view.live_at(place) else {
         unreachable!()
     };
-    let mut marks = reading.sharer_marks(alloc)?;
+    let mut marks = reading.sharer_marks(alloc, read)?;
     marks.keep(live);
     let asked = marks.count() as u64;
     reading.keep_met(&mut marks);
@@ -59,11 +67,12 @@ fn keep_possible(
     positions: &[u32],
     possible: &mut Vec<u32>,
 ) -> Result<(), NoMemory>
-    ensures { OnOk result (
+    ensures holding { OnOk result (
         filter (λ r. holds r.standing.tree reading.now.article.fields)
         (entries_at reading.now.entries possible.new.items)
         ≡ filter (λ r. holds r.standing.tree reading.now.article.fields)
         (entries_at reading.now.entries positions.now)) }
+    ensures few { OnOk result (length possible.new.items ≤ length positions.now) }
 {
     possible.clear();
     for position in positions {
@@ -76,20 +85,21 @@ fn keep_possible(
 }
 
 /// Those of the positions at which the query of the segment's entry holds of the article, in place of those that were
-/// in `holding`. `stack` is room for the groups that are open. No entry is looked at.
+/// in `holding`. One plan is judged for each of the positions. No entry is looked at.
 fn keep_holding(
     reading: &SegmentReading<'_>,
     positions: &[u32],
-    stack: &mut Vec<Tally>,
+    tallies: &mut Tallies,
     holding: &mut Vec<u32>,
 ) -> Result<(), NoMemory>
-    ensures { OnOk result (entries_at reading.now.entries holding.new.items
+    ensures holding { OnOk result (entries_at reading.now.entries holding.new.items
         ≡ filter (λ r. holds r.standing.tree reading.now.article.fields)
         (entries_at reading.now.entries positions.now)) }
+    ensures judged { OnOk result (tallies.new ≡ tallies.old + length positions.now) }
 {
     holding.clear();
     for position in positions {
-        if !reading.holds(*position, stack)? {
+        if !reading.holds(*position, tallies)? {
             continue;
         }
         holding.push(*position)?;
@@ -221,6 +231,10 @@ fn add_held<'a>(
 #[derive(Drop)]
 pub(crate) struct Judged<'a> {
     pub(crate) asked: u64,
+    /// How many plans were judged.
+    pub(crate) plans: u64,
+    /// How many positions were read.
+    pub(crate) read: u64,
     pub(crate) entries: HeldEntries<'a>,
     /// Whether the query of one of the entries has a listener.
     pub(crate) is_heard: bool,
@@ -233,19 +247,24 @@ struct Room {
     positions: Vec<u32>,
     possible: Vec<u32>,
     holding: Vec<u32>,
-    stack: Vec<Tally>,
+    tallies: Tallies,
+    read: PositionsRead,
     flags: FieldFlags,
 }
 
 impl Room {
-    /// Room that takes no memory yet.
-    fn new(alloc: Global) -> Room {
+    /// Room that takes no memory yet, in which no plan was judged and no position read.
+    fn new(alloc: Global) -> Room
+        ensures tallies { result.tallies ≡ 0 }
+        ensures read { result.read ≡ 0 }
+    {
         Room {
             alloc,
             positions: Vec::new(alloc),
             possible: Vec::new(alloc),
             holding: Vec::new(alloc),
-            stack: Vec::new(alloc),
+            tallies: Tallies::new(alloc),
+            read: PositionsRead::none(),
             flags: FieldFlags::new(alloc),
         }
     }
@@ -264,10 +283,28 @@ impl Room {
         ensures holding { OnOk result (entries_at reading.now.entries self.new.holding.items
             ≡ filter (λ r. holds r.standing.tree reading.now.article.fields)
             (live_with view.now.history (article_keys reading.now.article.fields) reading.now.entries)) }
+        ensures most { OnOk result (self.new.tallies ≤ self.old.tallies + length
+            (live_with view.now.history (article_keys reading.now.article.fields) reading.now.entries)) }
+        ensures least { OnOk result (self.old.tallies
+            + length (entries_at reading.now.entries self.new.holding.items) ≤ self.new.tallies) }
+        ensures read { OnOk result (self.new.read ≡ self.old.read
+            + positions_under query_keys (article_keys reading.now.article.fields) (trees_of reading.now.entries)) }
     {
-        let asked = candidates_in(self.alloc, view, place, reading, &mut self.positions)?;
+        let asked = candidates_in(
+            self.alloc,
+            view,
+            place,
+            reading,
+            &mut self.positions,
+            &mut self.read,
+        )?;
         keep_possible(reading, &self.positions, &mut self.possible)?;
-        keep_holding(reading, &self.possible, &mut self.stack, &mut self.holding)?;
+        keep_holding(
+            reading,
+            &self.possible,
+            &mut self.tallies,
+            &mut self.holding,
+        )?;
         Ok(asked)
     }
 
@@ -299,6 +336,11 @@ impl Room {
             ≡ (judged.old.is_heard || list_any has_listener
             (filter (λ r. holds r.standing.tree reading.now.article.fields)
             (live_with view.now.history (article_keys reading.now.article.fields) reading.now.entries)))) }
+        ensures most { OnOk result (self.new.tallies + judged.old.asked ≤ self.old.tallies + judged.new.asked) }
+        ensures least { OnOk result (self.old.tallies + length judged.new.entries.held.items
+            ≤ self.new.tallies + length judged.old.entries.held.items) }
+        ensures read { OnOk result (self.new.read ≡ self.old.read
+            + positions_under query_keys (article_keys reading.now.article.fields) (trees_of reading.now.entries)) }
     {
         judged.asked += self.judge_segment(view, place, reading)?;
         judged.is_heard = judged.is_heard || is_one_heard(reading, &self.holding);
@@ -337,12 +379,17 @@ pub(crate) fn judge_candidates<'a>(
     ensures misses_none { IfOk result (λ _. MissesNone view.now article.now (candidates_of view.now article.now)) }
     ensures registered { IfOk result (λ _. AreRegistered view.now (candidates_of view.now article.now)) }
     ensures rising { IfOk result (λ _. IsRising (candidates_of view.now article.now)) }
+    ensures most { IfOk result (λ found. found.plans ≤ length (candidates_of view.now article.now)) }
+    ensures least { IfOk result (λ found. length found.entries.held.items ≤ found.plans) }
+    ensures read { IfOk result (λ found. found.read ≡ positions_of view.now article.now) }
 {
     covering_law();
     let asking = Asking::of(alloc, article)?;
     let mut room = Room::new(alloc);
     let mut judged = Judged {
         asked: 0,
+        plans: 0,
+        read: 0,
         entries: HeldEntries {
             held: Vec::new(alloc),
             all_hits: Vec::new(alloc),
@@ -351,8 +398,10 @@ pub(crate) fn judge_candidates<'a>(
     };
     let segments = view.segments();
     for (place, segment) in segments.iter().enumerate() {
-        let reading = segment.read(alloc, &asking)?;
+        let reading = segment.read(alloc, &asking, &mut room.read)?;
         room.try_segment(view, place, &reading, hits, &mut judged)?;
     }
+    judged.plans = room.tallies.judged();
+    judged.read = room.read.count();
     Ok(judged)
 }

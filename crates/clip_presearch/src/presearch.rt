@@ -8,7 +8,7 @@ ghost use Rattle.clip_match.specs.Steps.Positions.{live_with};
 use clip_extract::covering_law;
 use clip_meaning::Article;
 use clip_registry::View;
-use clip_segment::Segment;
+use clip_segment::{PositionsRead, Segment};
 use clip_standing::Entry;
 use clip_terms::Asking;
 use clip_words::NoMemory;
@@ -23,8 +23,9 @@ fn find_positions<'a>(
 ) -> Result<(), NoMemory>
     ensures { OnOk result (positions.new.items ≡ positions_sharing (article_keys asking.now.fields) segment.now) }
 {
-    let reading = segment.read(alloc, asking)?;
-    reading.sharers(positions)
+    let mut read = PositionsRead::none();
+    let reading = segment.read(alloc, asking, &mut read)?;
+    reading.sharers(positions, &mut read)
 }
 
 /// Adds the live ones of a segment's entries that share a key with an article, in order. They are at these positions.

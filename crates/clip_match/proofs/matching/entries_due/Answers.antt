@@ -1,6 +1,7 @@
 use Rattle.std.proofs.Common.{◌≡◌, All, List, Vec, Global, true, is_some, map, filter, IsPermutation, sym, subst, ◌∙◌}
-use Rattle.std.proofs.Common.{rules}
-use Rattle.std.proofs.lemmas.List.Sorted.{All-permutation, IsPermutation-map, list_any-IsPermutation}
+use Rattle.std.proofs.Common.{arith, rules}
+use Rattle.std.proofs.lemmas.List.Sorted.{All-permutation, IsPermutation-map, length_permutation}
+use Rattle.std.proofs.lemmas.List.Sorted.{list_any-IsPermutation}
 use Rattle.clip_meaning.specs.Hits.{hit_value}
 use Rattle.clip_meaning.specs.Meaning.{holds}
 use Rattle.clip_meaning.specs.declared.hit.Hit.{Hit}
@@ -59,3 +60,16 @@ returns-clause-there c = λ at_once.
     All-permutation (λ (h : Held). is_some h.hits ≡ true) c.in_ok-asked.field-0.entries.held.items
     c.sort_by_id.new.held.items c.sort_by_id.ensures.moved
     (λ k d lt. (c.in_ok-asked.ensures.hits k d lt).there at_once)
+
+pub returns-clause-judged : goal.returns-clause-judged
+returns-clause-judged c =
+    let found = c.in_ok-asked.field-0.entries.held.items in
+    let sorted = c.sort_by_id.new.held.items in
+    record {
+      most = c.in_ok-asked.ensures.most;
+      least = omega (
+        arith,
+        c.in_ok-asked.ensures.least,
+        length_permutation found sorted c.sort_by_id.ensures.moved,
+      );
+    }

@@ -1,4 +1,5 @@
 use Rattle.std.proofs.Common.{◌≡◌, false, filter, get_or, length, map, option_map, ap, ap₂, ◌∙◌}
+use Rattle.std.proofs.Common.{arith}
 use Rattle.std.specs.List.{count_by}
 use Rattle.std.proofs.lemmas.Option.{same_Some}
 use Rattle.clip_pieces.specs.Marked.{both}
@@ -6,6 +7,7 @@ use Rattle.clip_extract.specs.Covering.{article_keys}
 use Rattle.clip_meaning.specs.Meaning.{holds}
 use Rattle.clip_model.specs.History.{Registered, is_live}
 use Rattle.clip_match.specs.Steps.Positions.{entries_at}
+use Rattle.clip_match.proofs.Judgings.{fewer_marked}
 use Rattle.clip_match.proofs.Marks.{candidate, counted, held_among, live_sharers}
 use Rattle.clip_match.proofs.trying.candidates_in.Goals as goal
 use Rattle.clip_match.proofs.trying.candidates_in.Goals.{After-keep}
@@ -19,7 +21,7 @@ kept c =
     let es = c.args.reading.now.entries in
     let live : c.in-Some.live.now ≡ map (λ (r : Registered). is_live h r.seq) es =
     same_Some _ _ (c.in-Some.ensures ∙ ap (option_map (map (λ (r : Registered). is_live h r.seq))) c.requires) in
-    c.keep.ensures ∙ ap₂ both c.in_ok-marks.ensures live
+    c.keep.ensures ∙ ap₂ both c.in_ok-marks.ensures.marks live
     ∙ live_sharers h (article_keys c.args.reading.now.article.fields) es
 
 pub returns-clause-asked : goal.returns-clause-asked
@@ -37,3 +39,12 @@ returns-clause-positions c =
     held c.keep_met.new.marks
     (c.keep_met.ensures.length ∙ ap length (kept here))
     (λ k e there passes. c.keep_met.ensures.none_lost k e there passes ∙ ap (λ fs. get_or fs k false) (kept here))
+
+pub returns-clause-few : goal.returns-clause-few
+returns-clause-few c =
+    let here = (goal.at.returns-clause-few c).After-keep in
+    let among = fewer_marked 0 c.keep_met.new.marks c.keep.new.self c.keep_met.ensures.length
+    c.keep_met.ensures.fewer in
+    let live = counted c.args.view.now.history (article_keys c.args.reading.now.article.fields)
+    c.args.reading.now.entries in
+    omega (arith, ap length c.in_ok-numbers_into.ensures, among, ap (count_by (λ flag. flag)) (kept here), live)

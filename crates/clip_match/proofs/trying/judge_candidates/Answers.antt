@@ -6,17 +6,20 @@ use Rattle.std.proofs.lemmas.List.{append_assoc, append-nil, drop_all, drop_more
 use Rattle.std.proofs.lemmas.List.Folds.{list_any-append}
 use Rattle.std.proofs.lemmas.Option.{slice_get-map, slice_get_read}
 use Rattle.clip_extract.specs.Covering.{article_keys}
+use Rattle.clip_extract.specs.Extraction.{query_keys, second_keys}
 use Rattle.clip_meaning.specs.Article.{ArticleValue}
 use Rattle.clip_meaning.specs.Hits.{hit_value}
 use Rattle.clip_meaning.specs.Meaning.{holds}
 use Rattle.clip_model.specs.History.{Registered}
-use Rattle.clip_segment.specs.Segment.{AskedValue, all_entries}
-use Rattle.clip_match.specs.Candidates.{candidates_of}
+use Rattle.clip_segment.specs.Index.{positions_under}
+use Rattle.clip_segment.specs.Segment.{AskedValue, all_entries, trees_of}
+use Rattle.clip_match.specs.Candidates.{candidates_of, under_keys}
 use Rattle.clip_match.specs.declared.held.Held.{Held}
 use Rattle.clip_match.specs.Steps.Held.{HasItsHits}
 use Rattle.clip_match.specs.Steps.Positions.{has_listener, live_with}
 use Rattle.clip_match.proofs.Few.{counted_next, few_candidates}
 use Rattle.clip_match.proofs.Positions.{held_split}
+use Rattle.clip_match.proofs.Readings.{keys_split, nothing_under}
 use Rattle.clip_match.proofs.Whole.{misses_none, candidates_registered, candidates_rise}
 use Rattle.clip_match.proofs.trying.judge_candidates.Goals as goal
 use Rattle.clip_match.proofs.trying.judge_candidates.Goals.{In_ok-reading}
@@ -27,7 +30,7 @@ try_segment-requires-clause-place c =
     let i = c.loop-place.place in
     let within : i < length segments = let l = c.loop-place-test.true in omega arith in
     let entries : c.in_ok-reading.reading.entries ≡ arc_value c.index-segments-place.result =
-    ap (λ (r : AskedValue). r.entries) c.in_ok-reading.ensures ∙ c.deref.ensures in
+    ap (λ (r : AskedValue). r.entries) c.in_ok-reading.ensures.reading ∙ c.deref.ensures in
     ap (λ (ss : List (List Registered)). slice_get ss i) (sym c.segments-segments.ensures.segments)
     ∙ slice_get-map arc_value segments i
     ∙ ap (option_map arc_value)
@@ -42,7 +45,7 @@ value : (c : In_ok-reading)
           c.args.article.now;
     }
 value c =
-    c.in_ok-reading.ensures
+    c.in_ok-reading.ensures.reading
     ∙ ap (λ (es : List Registered). record { entries = es; article = c.in_ok-asking.asking }) c.deref.ensures
     ∙ ap (λ (article : ArticleValue).
     record { entries = arc_value c.index-segments-place.result; article = article }) c.in_ok-asking.ensures
@@ -123,6 +126,28 @@ loop-place-preserved c =
           → All (HasItsHits c.args.hits r.article (map hit_value c.try_segment.new.judged.entries.all_hits.items))
           c.try_segment.new.judged.entries.held.items)
           (value at) c.in_ok-try_segment.ensures.hits c.loop-place.invariant.hits;
+      most = let more = c.in_ok-try_segment.ensures.most in
+          let before = c.loop-place.invariant.most in omega (arith, more, before);
+      least = let more = c.in_ok-try_segment.ensures.least in
+          let before = c.loop-place.invariant.least in omega (arith, more, before);
+      read =
+          let by_keys = subst (λ (r : AskedValue). c.try_segment.new.self.read
+          ≡ c.read.new.read + positions_under query_keys (article_keys r.article.fields) (trees_of r.entries)) (value at)
+          c.in_ok-try_segment.ensures.read in
+          let by_second : c.read.new.read ≡ c.loop-place.room.read + positions_under second_keys ks (trees_of segment) =
+          c.in_ok-reading.ensures.counted
+          ∙ ap (λ (es : List Registered). c.loop-place.room.read
+          + positions_under second_keys (article_keys c.in_ok-asking.asking.fields) (trees_of es)) c.deref.ensures
+          ∙ ap (λ (article : ArticleValue). c.loop-place.room.read
+          + positions_under second_keys (article_keys article.fields) (trees_of segment)) c.in_ok-asking.ensures in
+          omega (
+            arith,
+            by_keys,
+            by_second,
+            keys_split ks segment others,
+            ap (under_keys ks) (parts at),
+            c.loop-place.invariant.read,
+          );
       heard =
           subst (λ (r : AskedValue). c.try_segment.new.judged.is_heard
           ≡ (c.loop-place.judged.is_heard || list_any has_listener (filter (λ x. holds x.standing.tree r.article.fields)
@@ -160,6 +185,27 @@ returns c =
           ∙ c.loop-place.invariant.held ∙ ap (filter held) all;
       hits = c.loop-place.invariant.hits;
       heard = c.loop-place.invariant.heard;
+      most =
+          let rest : length (live_with state.history ks (all_entries (map arc_value (drop i segments)))) ≡ 0 =
+          ap (λ es. length (live_with state.history ks es)) none in
+          omega (
+            arith,
+            rest,
+            ap length all,
+            c.loop-place.invariant.asked,
+            c.loop-place.invariant.most,
+            c.judged.ensures,
+          );
+      least = omega (arith, c.loop-place.invariant.least, c.judged.ensures);
+      read =
+          omega (
+            arith,
+            ap (under_keys ks) none,
+            nothing_under ks,
+            ap (λ ss. under_keys ks (all_entries ss)) c.segments-segments.ensures.segments,
+            c.loop-place.invariant.read,
+            c.count.ensures,
+          );
       misses_none = misses_none c.covering_law.ensures state c.args.article.now whole;
       registered = candidates_registered state c.args.article.now whole;
       rising = candidates_rise state c.args.article.now whole;

@@ -1,10 +1,12 @@
-use Rattle.std.proofs.Common.{◌≡◌, filter, take}
+use Rattle.std.proofs.Common.{◌≡◌, ◌+◌, filter, take}
 use Rattle.clip_meaning.specs.Meaning.{holds}
 use Rattle.clip_match.specs.Steps.Positions.{entries_at}
 use Rattle.clip_match.proofs.trying.keep_holding.Given as goal
 
 abbrev pub invariant-loop-position : goal.invariant-loop-position
-invariant-loop-position l =
-    entries_at l.reading.entries l.holding.items
-    ≡ filter (λ r. holds r.standing.tree l.reading.article.fields)
-    (entries_at l.reading.entries (take l.position-index l.positions))
+invariant-loop-position l = record {
+  holding : entries_at l.reading.entries l.holding.items
+      ≡ filter (λ r. holds r.standing.tree l.reading.article.fields)
+      (entries_at l.reading.entries (take l.position-index l.positions));
+  judged : l.tallies ≡ l.fn.tallies + l.position-index;
+}
