@@ -53,7 +53,10 @@ seat_send = view_send seat_inside.the_row _ _ _ _
       search (global, reader_sent.the_send) depth 20,
       (
         seen_history_sent.the_send,
-        (search sendable, (search sendable, (right_sent.the_send, (search sendable, tt)))),
+        (
+          search sendable,
+          (search sendable, (right_sent.the_send, (search sendable, (search sendable, tt)))),
+        ),
       ),
     ))
 
@@ -71,7 +74,13 @@ module _ (N L : RattleType) (g : Ghosts N.Denot) (h : heard.Ghosts L.Denot) (sen
         registrar_send,
         (
           search (global, writer_sent.the_send) depth 20,
-          (head_sent.the_send, (seen_history_sent.the_send, (updates_send, (search global, (search sendable, tt))))),
+          (
+            head_sent.the_send,
+            (
+              seen_history_sent.the_send,
+              (updates_send, (search sendable, (search global, (search sendable, tt)))),
+            ),
+          ),
         ),
       ))
 

@@ -10,18 +10,20 @@ use Rattle.clip_desk.specs.Chronicle.{head_of}
 use Rattle.clip_desk.specs.Seats.{SeatIs}
 use Rattle.clip_desk.specs.Updates.{Heard, heard_code}
 
--- what contracts see under the lock: the registry, how long its history was at the last purge, and what each update
--- listener has heard
+-- what contracts see under the lock: the registry, how long its history was at the last purge, how many purges were
+-- told, and what each update listener has heard
 pub record LockedIs : Type 0 where
   pub registry : RegistryState
   pub purged_at : ℕ
+  pub purges : ℕ
   pub updates : List Heard
 
 abbrev pub locked_code : Coded LockedIs
 locked_code =
-    code_by (RegistryState × (ℕ × List Heard)) (coded× state_code (coded× coded_ℕ (coded_list heard_code)))
-    (λ s. (s.registry, (s.purged_at, s.updates)))
-    (λ p. record { registry = p.0; purged_at = p.1.0; updates = p.1.1 }) (λ _. refl)
+    code_by (RegistryState × (ℕ × (ℕ × List Heard)))
+    (coded× state_code (coded× coded_ℕ (coded× coded_ℕ (coded_list heard_code))))
+    (λ s. (s.registry, (s.purged_at, (s.purges, s.updates))))
+    (λ p. record { registry = p.0; purged_at = p.1.0; purges = p.1.1.0; updates = p.1.1.1 }) (λ _. refl)
 
 -- the registrar, the chronicle and the published value agree, and are this desk's, which keeps its history or not
 pub record IsSettled (book : Book) (callers : ℕ) (keeps : Bool) (registrar : RegistryState) (head : Named)

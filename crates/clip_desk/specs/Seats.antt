@@ -1,5 +1,5 @@
 -- What contracts see of a seat, of a receipt and of a desk.
-use Rattle.std.specs.Prelude.{◌≡◌, ℕ, Bool, ◌+◌, ◌<◌, ◌≤◌, ◌⊎◌, List, [], length, take, slice_get, Some, nat_lt}
+use Rattle.std.specs.Prelude.{◌≡◌, ℕ, Bool, ◌+◌, ◌<◌, ◌≤◌, ◌⊎◌, List, [], length, take, slice_get, Some, nat_lt, sum_by}
 use Rattle.std.specs.Prelude.{if◌then◌else◌, refl}
 use Rattle.std.specs.Coded.{Coded, code_by, coded×, coded⊎, coded_ℕ, coded_bool, coded_list}
 use Rattle.std.proofs.Common.{inl, inr}
@@ -11,7 +11,8 @@ use Rattle.clip_desk.specs.Updates.{Heard}
 use Rattle.clip_standing.specs.declared.command.Applied.TheVariants as answer
 
 -- keeps: whether the history of the views that it looks at is kept to be read; seen: the longest history that the seat
--- got; mine: the commands committed with it, in order; purged_at: how long the history was at the last purge with it
+-- got; mine: the commands committed with it, in order; purged_at: how long the history was at the last purge with it;
+-- purges: how many purges with it were answered Ok
 pub record SeatIs : Type 0 where
   pub tag : ℕ
   pub caller : ℕ
@@ -21,6 +22,7 @@ pub record SeatIs : Type 0 where
   pub seen : History
   pub mine : List Command
   pub purged_at : ℕ
+  pub purges : ℕ
 
 -- what is known of a receipt: the history that ends with its command, and the answer
 pub record ReceiptIs : Type 0 where
@@ -61,6 +63,7 @@ new_seat tag callers keeps book caller = record {
   seen = [];
   mine = [];
   purged_at = 0;
+  purges = 0;
 }
 
 -- the seats of callers 1, 2, ..
@@ -77,14 +80,18 @@ pub record AreAll (tag callers : ℕ) (history : History) (seats : List SeatIs) 
   pub none_missing : (caller : ℕ) → 0 < caller → caller ≤ callers
       → (k : ℕ) × (s : SeatIs) × (slice_get seats k ≡ Some s) × (s.caller ≡ caller)
 
+-- how many purges with these seats were answered Ok
+abbrev pub purges_with : List SeatIs → ℕ
+purges_with seats = sum_by (λ s. s.purges) seats
+
 -- ---- codes
 
 abbrev pub seat_code : Coded SeatIs
 seat_code =
-    code_by (ℕ × (ℕ × (ℕ × (Bool × (Book × (History × (List Command × ℕ)))))))
-    (coded× coded_ℕ (coded× coded_ℕ (coded× coded_ℕ
-    (coded× coded_bool (coded× book_coded (coded× history_code (coded× (coded_list command_code) coded_ℕ)))))))
-    (λ s. (s.tag, (s.caller, (s.callers, (s.keeps, (s.book, (s.seen, (s.mine, s.purged_at))))))))
+    code_by (ℕ × (ℕ × (ℕ × (Bool × (Book × (History × (List Command × (ℕ × ℕ))))))))
+    (coded× coded_ℕ (coded× coded_ℕ (coded× coded_ℕ (coded× coded_bool (coded× book_coded
+    (coded× history_code (coded× (coded_list command_code) (coded× coded_ℕ coded_ℕ))))))))
+    (λ s. (s.tag, (s.caller, (s.callers, (s.keeps, (s.book, (s.seen, (s.mine, (s.purged_at, s.purges)))))))))
     (λ p. record {
       tag = p.0;
       caller = p.1.0;
@@ -93,7 +100,8 @@ seat_code =
       book = p.1.1.1.1.0;
       seen = p.1.1.1.1.1.0;
       mine = p.1.1.1.1.1.1.0;
-      purged_at = p.1.1.1.1.1.1.1;
+      purged_at = p.1.1.1.1.1.1.1.0;
+      purges = p.1.1.1.1.1.1.1.1;
     }) (λ _. refl)
 
 abbrev answer_parts : Applied → ℕ ⊎ (ℕ ⊎ ℕ)

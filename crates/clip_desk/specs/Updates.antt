@@ -1,5 +1,5 @@
 -- What update listeners are told of the registry, and what they have heard.
-use Rattle.std.specs.Prelude.{◌≡◌, ℕ, List, [], ◌∷◌, ◌++◌, length, map, filter, slice_get, Some, Bool, true, false, ◌⊎◌}
+use Rattle.std.specs.Prelude.{◌≡◌, ℕ, ◌+◌, ◌≤◌, List, [], ◌∷◌, ◌++◌, length, map, filter, slice_get, Some, Bool, true, false, ◌⊎◌}
 use Rattle.std.specs.Prelude.{refl}
 use Rattle.std.specs.Coded.{Coded, code_by, coded×, coded⊎, coded_ℕ, coded_bool, coded_list}
 use Rattle.std.proofs.Common.{inl, inr}
@@ -37,6 +37,17 @@ is_of_command Purged = false
 abbrev pub without_purges : List Event → List Event
 without_purges events = filter is_of_command events
 
+-- a purge tells it
+abbrev pub is_of_purge : Event → Bool
+is_of_purge (Updated ids) = false
+is_of_purge (Deleted ids) = false
+is_of_purge Cleared = false
+is_of_purge Purged = true
+
+-- how many of the events a purge told
+abbrev pub purges_in : List Event → ℕ
+purges_in events = length (filter is_of_purge events)
+
 -- ---- listeners
 
 -- what a listener has heard, and whether it missed an event
@@ -55,21 +66,23 @@ pub record AreTold (event : Event) (before after : List Heard) : Type 0 where
   pub same : length after ≡ length before
   pub each : (k : ℕ) (h w : Heard) → slice_get before k ≡ Some h → slice_get after k ≡ Some w → IsTold event h w
 
--- The listener had heard these before, and has then heard, purges left out, one event for each entry of the history;
--- one that missed an event has heard some first ones of them.
-pub record Follows (before : List Event) (history : History) (h : Heard) : Type 0 where
-  pub whole : h.missed ≡ false → without_purges h.events ≡ before ++ events_of history
-  pub front : IsPrefix (without_purges h.events) (before ++ events_of history)
+-- The listener had heard these before. It has then heard, purges left out, one event for each entry of the history, and
+-- just so many of purges; one that missed an event has heard some first ones of the former, and no more of the latter.
+pub record Follows (before : List Event) (history : History) (purges : ℕ) (h : Heard) : Type 0 where
+  pub whole : h.missed ≡ false → without_purges h.events ≡ without_purges before ++ events_of history
+  pub front : IsPrefix (without_purges h.events) (without_purges before ++ events_of history)
+  pub purged : h.missed ≡ false → purges_in h.events ≡ purges_in before + purges
+  pub no_more : purges_in h.events ≤ purges_in before + purges
 
 -- There are as many listeners as before, and each follows, where before has what the one in each place had heard.
-pub record AllFollow (before : List (List Event)) (history : History) (all : List Heard) : Type 0 where
+pub record AllFollow (before : List (List Event)) (history : History) (purges : ℕ) (all : List Heard) : Type 0 where
   pub same : length all ≡ length before
   pub each : (k : ℕ) (b : List Event) (h : Heard) → slice_get before k ≡ Some b → slice_get all k ≡ Some h
-      → Follows b history h
+      → Follows b history purges h
 
--- what each listener has heard, purges left out
+-- what each listener has heard
 abbrev pub all_heard : List Heard → List (List Event)
-all_heard all = map (λ h. without_purges h.events) all
+all_heard all = map (λ h. h.events) all
 
 -- ---- what the values of the code say
 

@@ -7,7 +7,7 @@ ghost use Rattle.clip_model.specs.History as model;
 ghost use Rattle.clip_standing.specs.Command.{command_of, answer_of};
 ghost use Rattle.clip_desk.specs.Callers.{IsBy};
 ghost use Rattle.clip_desk.specs.Updates.{AllFollow, all_heard, heard_by};
-ghost use Rattle.clip_desk.specs.Seats.{SeatIs, AreSeated, IsAccounted, AreAll};
+ghost use Rattle.clip_desk.specs.Seats.{SeatIs, AreSeated, IsAccounted, AreAll, purges_with};
 ghost use Rattle.clip_desk.specs.Locked.{IsSeatOf, AreSeatsOf};
 
 use crate::locked::{DeskName, Locked};
@@ -137,16 +137,18 @@ impl<N: DeskName, L: UpdateListener> Desk<N, L> {
 
     /// Ends the desk with all its seats, and gives the registry and as many listeners as it was opened with. Each
     /// unmarked one has heard, purges left out, what the one in its place had heard before and then one event for each
-    /// entry of the history, in order; a marked one some first ones of these. `SeatMissing` where a caller's seat isn't
-    /// there or one is of another tag, and then desk and seats come back. It may wait for readers that look. It costs a
-    /// search among the seats for each caller, and that of `Registrar::number_of` for each seat.
+    /// entry of the history, in order; and just as many purges more as these seats' that were answered `Ok`. A marked
+    /// one has heard some first ones of the former, and no more of the latter. `SeatMissing` where a caller's seat isn't
+    /// there, one is of another tag, or a purge was with none of these, and then desk and seats come back. It may wait
+    /// for readers that look. It costs a search among the seats for each caller, and that of `Registrar::number_of` for
+    /// each seat.
     pub fn close<R: Wait>(self, rt: &R, seats: Vec<Seat>) -> Result<Closed<L>, SeatMissing<N, L>>
         requires { (k : ℕ) (s : SeatIs) → slice_get seats.items k ≡ Some s → s.tag ≡ self.tag
             → IsSeatOf N.book N.callers s }
         ensures legal { IfOk result (λ c. IsLegal c.registrar.history × IsBy self.callers c.registrar.history) }
         ensures keeps { IfOk result (λ c. c.registrar.keeps ≡ N.keeps) }
         ensures seats { IfOk result (λ c. AreAll self.tag self.callers c.registrar.history seats.items) }
-        ensures told { IfOk result (λ c. AllFollow N.heard_before c.registrar.history
+        ensures told { IfOk result (λ c. AllFollow N.heard_before c.registrar.history (purges_with seats.items)
             (map (heard_by L.heard) c.updates.items)) }
         ensures back { IfErr result (λ e. (e.desk ≡ self) × (e.seats.items ≡ seats.items)) }
     {
@@ -156,7 +158,10 @@ impl<N: DeskName, L: UpdateListener> Desk<N, L> {
             callers,
         } = self;
         let locked = locked.into_inner();
-        if !all_agree(&locked, seats.as_slice(), tag) || !has_all(seats.as_slice(), callers) {
+        if !all_agree(&locked, seats.as_slice(), tag)
+            || !has_all(seats.as_slice(), callers)
+            || !are_of_all_purges(seats.as_slice(), locked.purges())
+        {
             let desk = Desk {
                 locked: Mutex::new(locked),
                 tag,
@@ -195,6 +200,20 @@ fn all_agree<N: DeskName, L: UpdateListener>(
         }
     }
     true
+}
+
+/// Whether these seats' purges are as many as were told. A step for each seat.
+fn are_of_all_purges(seats: &[Seat], told: u64) -> bool
+    ensures { IsTrue result → purges_with seats.now ≡ told }
+{
+    let mut left = told;
+    for seat in seats {
+        if left < seat.purges() {
+            return false;
+        }
+        left -= seat.purges();
+    }
+    left == 0
 }
 
 /// Whether each caller has a seat among these.

@@ -1,5 +1,5 @@
 //! Merges and purges of a shared desk. What is registered and the history stay.
-ghost use Rattle.std.specs.Prelude.{◌≡◌, ◌≢◌, ◌≤◌, ◌↔◌, length, OnOk, OnErr};
+ghost use Rattle.std.specs.Prelude.{◌≡◌, ◌≢◌, ◌+◌, ◌≤◌, ◌↔◌, length, OnOk, OnErr};
 
 use crate::desk::Desk;
 use crate::locked::DeskName;
@@ -40,11 +40,12 @@ impl<N: DeskName, L: UpdateListener> Desk<N, L> {
     pub fn purge<R: Wait>(&self, rt: &R, seat: &mut Seat) -> Result<(), Refused>
         ensures purged { OnOk result ((length seat.old.seen ≤ seat.new.purged_at)
             × (length seat.old.mine ≤ seat.new.purged_at)) }
+        ensures counted { OnOk result (seat.new.purges ≡ seat.old.purges + 1) }
         ensures later { seat.old.purged_at ≤ seat.new.purged_at }
         ensures stays { OnErr result (seat.new ≡ seat.old) }
         ensures foreign { (result ≡ Err Refused.Foreign) ↔ (seat.old.tag ≢ self.now.tag) }
         ensures never_full { result ≢ Err Refused.Full }
-        ensures seat { seat.new ≡ record seat.old { purged_at = seat.new.purged_at } }
+        ensures seat { seat.new ≡ record seat.old { purged_at = seat.new.purged_at; purges = seat.new.purges } }
     {
         if seat.tag() != self.tag {
             return Err(Refused::Foreign);

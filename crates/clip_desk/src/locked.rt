@@ -1,11 +1,12 @@
-//! What the lock keeps: the registrar, the writer's end and the word of the chronicle.
-ghost use Rattle.std.specs.Prelude.{◌≡◌, ◌≢◌, ◌<◌, ◌≤◌, [], ◌∷◌, ◌++◌, IfOk, IfErr, OnOk, OnErr, IsTrue, IsFalse, map};
+//! What the lock keeps: the registrar, the writer's end, the word of the chronicle, and the update listeners with how
+//! many purges they were told.
+ghost use Rattle.std.specs.Prelude.{◌≡◌, ◌≢◌, ◌+◌, ◌^◌, ◌<◌, ◌≤◌, [], ◌∷◌, ◌++◌, IfOk, IfErr, OnOk, OnErr, IsTrue, IsFalse, map};
 ghost use mathlib.Core.List.{IsPrefix};
 ghost use Rattle.clip_model.specs.History.{History, HistoryEntry, own, fits, has_room, applied, with_command, IsLegal};
 ghost use Rattle.clip_standing.specs.Command.{command_of, answer_of};
 ghost use Rattle.clip_registry.specs.RegistryState.{state_after};
 ghost use Rattle.clip_desk.specs.Callers.{IsBy};
-ghost use Rattle.clip_desk.specs.Updates.{AllFollow, AreTold, event_of, heard_by};
+ghost use Rattle.clip_desk.specs.Updates.{AllFollow, AreTold, Purged, event_of, heard_by};
 ghost use Rattle.clip_desk.specs.Locked.{IsSettled, IsSeatOf};
 
 use crate::chronicle::{Head, SeenHistory};
@@ -52,14 +53,16 @@ impl DeskName for Brand {
     ghost heard_before = { [] };
 }
 
-/// What a desk's lock keeps, seen as the registry, how long its history was at the last purge, and what each listener
-/// has heard. What was published last is that registry too, and the listeners have heard of its history.
+/// What a desk's lock keeps, seen as the registry, how long its history was at the last purge, how many purges were
+/// told, and what each listener has heard. What was published last is that registry too, and the listeners have heard
+/// of its history, and of just so many purges.
 pub struct Locked<N: DeskName, L: UpdateListener> {
     pub(crate) registrar: Registrar,
     pub(crate) writer: WriterEnd,
     pub(crate) head: Head,
     pub(crate) seen_history: SeenHistory,
     pub(crate) updates: UpdateListeners<L>,
+    purges: u64,
     pub(crate) alloc: Global,
     of: PhantomData<N>,
 }
@@ -75,11 +78,12 @@ impl<N: DeskName, L: UpdateListener> Model for Locked<N, L> {
     ghost view = { λ s. record {
       registry = s.registrar;
       purged_at = s.writer.desk.shown.value.purged_at;
+      purges = s.purges;
       updates = s.updates;
     } };
 
     ghost invariant = { λ s. IsSettled N.book N.callers N.keeps s.registrar s.head s.seen_history
-        s.writer.desk.shown.value × AllFollow N.heard_before s.registrar.history s.updates };
+        s.writer.desk.shown.value × AllFollow N.heard_before s.registrar.history s.purges s.updates };
 }
 
 /// Tells the listeners of the last entry of a registry, where there is one.
@@ -107,10 +111,11 @@ impl<N: DeskName, L: UpdateListener> Locked<N, L> {
         alloc: Global,
     ) -> Locked<N, L>
         requires settled { IsSettled N.book N.callers N.keeps registrar head seen_history writer.desk.shown.value }
-        requires follow { AllFollow N.heard_before registrar.history updates }
+        requires follow { AllFollow N.heard_before registrar.history 0 updates }
         ensures { result ≡ record {
           registry = registrar;
           purged_at = writer.desk.shown.value.purged_at;
+          purges = 0;
           updates = updates;
         } }
     {
@@ -120,6 +125,7 @@ impl<N: DeskName, L: UpdateListener> Locked<N, L> {
             head,
             seen_history,
             updates,
+            purges: 0,
             alloc,
             of: PhantomData,
         }
@@ -143,7 +149,7 @@ impl<N: DeskName, L: UpdateListener> Locked<N, L> {
         ensures locked { OnOk result (self.new.registry
             ≡ state_after self.old.registry seat.old.caller (command_of command)) }
         ensures told { OnOk result (AreTold (event_of (command_of command)) self.old.updates self.new.updates) }
-        ensures unpurged { self.new.purged_at ≡ self.old.purged_at }
+        ensures unpurged { (self.new.purged_at ≡ self.old.purged_at) × (self.new.purges ≡ self.old.purges) }
         ensures applied { IfOk result (λ r. r.applied
             ≡ answer_of (command_of command) (applied self.old.registry.history (command_of command))) }
         ensures legal { IfOk result (λ r. IsLegal r.history × IsBy N.callers r.history) }
@@ -190,6 +196,26 @@ impl<N: DeskName, L: UpdateListener> Locked<N, L> {
         Ok(Receipt::new(seat.tag(), self.seen_history.again(), applied))
     }
 
+    /// How many purges were told. Constant time.
+    pub(crate) fn purges(&self) -> u64
+        ensures { result ≡ self.now.purges }
+    {
+        self.purges
+    }
+
+    /// Tells the listeners of a purge with a seat, and counts it here and there; the seat keeps how long the history
+    /// was. Cost: what each listener takes.
+    pub(crate) fn tell_purge(&mut self, seat: &mut Seat, count: usize)
+        requires room { (self.old.purges + 1 < 2 ^ 64) × (seat.old.purges + 1 < 2 ^ 64) }
+        ensures told { AreTold Purged self.old.updates self.new.updates }
+        ensures locked { self.new ≡ record self.old { purges = self.old.purges + 1; updates = self.new.updates } }
+        ensures seat { seat.new ≡ record seat.old { purged_at = count; purges = seat.old.purges + 1 } }
+    {
+        self.updates.tell(self.alloc, Update::Purged);
+        self.purges += 1;
+        seat.count_purge(count);
+    }
+
     /// Whether two numbers agree at a seat, and it is of this tag. It costs that of `Registrar::number_of`.
     pub(crate) fn agrees(&self, seat: &Seat, tag: u64) -> bool
         requires { seat.now.tag ≡ tag → IsSeatOf N.book N.callers seat.now }
@@ -208,7 +234,8 @@ impl<N: DeskName, L: UpdateListener> Locked<N, L> {
         ensures legal { IsLegal result.0.history × IsBy N.callers result.0.history }
         ensures keeps { result.0.keeps ≡ N.keeps }
         ensures heard { map (heard_by L.heard) result.1.items ≡ self.updates }
-        ensures follow { AllFollow N.heard_before result.0.history (map (heard_by L.heard) result.1.items) }
+        ensures follow { AllFollow N.heard_before result.0.history self.purges
+            (map (heard_by L.heard) result.1.items) }
     {
         let Self {
             registrar,
@@ -216,6 +243,7 @@ impl<N: DeskName, L: UpdateListener> Locked<N, L> {
             head: _,
             seen_history: _,
             updates,
+            purges: _,
             alloc: _,
             of: _,
         } = self;

@@ -1,12 +1,11 @@
 //! Merges and purges of what the lock keeps: other segments, and the same history.
-ghost use Rattle.std.specs.Prelude.{◌≡◌, ◌≤◌, ℕ, length, Ok, None, IfOk, IfSome, OnOk, OnErr};
+ghost use Rattle.std.specs.Prelude.{◌≡◌, ◌+◌, ◌≤◌, ℕ, length, Ok, None, IfOk, IfSome, OnOk, OnErr};
 ghost use Rattle.clip_registry.specs.Plan.{AreFew, IsRun};
 ghost use Rattle.clip_registry.specs.Merging.{IsInstalled, IsStale, IsTurnBegun, purged};
 ghost use Rattle.clip_desk.specs.Purges.{IsPurgedAt};
 ghost use Rattle.clip_desk.specs.Updates.{AreTold, Purged};
 
 use crate::ends::show;
-use crate::events::Update;
 use crate::locked::{DeskName, Locked};
 use crate::seat::Seat;
 use crate::update_listener::UpdateListener;
@@ -37,30 +36,31 @@ impl<N: DeskName, L: UpdateListener> Locked<N, L> {
     }
 
     /// Leaves each segment with just its live entries, takes the empty ones away, publishes that, and tells the
-    /// listeners; the seat keeps how long the history was. The history is kept, and so is what is registered.
-    /// `NoMemory` where an allocation failed, with nothing changed and nothing told. It may wait for readers that look,
-    /// and costs that of `Registrar::purge` and what each listener takes.
+    /// listeners; the purge is counted here and at the seat, which keeps how long the history was. The history is kept,
+    /// and so is what is registered. `NoMemory` where an allocation failed, with nothing changed and nothing told. It
+    /// may wait for readers that look, and costs that of `Registrar::purge` and what each listener takes.
     pub fn purge<R: Wait>(&mut self, rt: &R, seat: &mut Seat) -> Result<(), NoMemory>
         ensures purged { OnOk result (self.new.registry ≡ purged self.old.registry) }
         ensures purged_at { OnOk result ((self.new.purged_at ≡ length self.old.registry.history)
             × (seat.new.purged_at ≡ length self.old.registry.history)) }
         ensures told { OnOk result (AreTold Purged self.old.updates self.new.updates) }
+        ensures counted { OnOk result ((self.new.purges ≡ self.old.purges + 1)
+            × (seat.new.purges ≡ seat.old.purges + 1)) }
         ensures within { OnOk result ((length seat.old.seen ≤ seat.new.purged_at)
             × (length seat.old.mine ≤ seat.new.purged_at)) }
         ensures later { seat.old.purged_at ≤ seat.new.purged_at }
         ensures unchanged { OnErr result (self.new ≡ self.old) }
         ensures stays { OnErr result (seat.new ≡ seat.old) }
-        ensures seat { seat.new ≡ record seat.old { purged_at = seat.new.purged_at } }
+        ensures seat { seat.new ≡ record seat.old { purged_at = seat.new.purged_at; purges = seat.new.purges } }
     {
         let count = self.seen_history.count;
-        if !seat.is_within(count) {
+        if !seat.is_within(count) || self.purges() == u64::MAX || seat.purges() == u64::MAX {
             return Err(NoMemory);
         }
         let mut next = self.registrar.copy()?;
         next.purge()?;
         self.put(rt, next, count)?;
-        self.updates.tell(self.alloc, Update::Purged);
-        seat.keep_purge(count);
+        self.tell_purge(seat, count);
         Ok(())
     }
 
@@ -83,7 +83,7 @@ impl<N: DeskName, L: UpdateListener> Locked<N, L> {
         ensures done { result ≡ Ok Installed.Done → IsInstalled self.old.registry self.new.registry merged }
         ensures stale { result ≡ Ok Installed.Stale → IsStale self.old.registry merged }
         ensures quiet { self.new.updates ≡ self.old.updates }
-        ensures unpurged { self.new.purged_at ≡ self.old.purged_at }
+        ensures unpurged { (self.new.purged_at ≡ self.old.purged_at) × (self.new.purges ≡ self.old.purges) }
         ensures unchanged { (result ≡ Ok Installed.Done → ⊥) → self.new ≡ self.old }
     {
         let mut next = self.registrar.copy()?;

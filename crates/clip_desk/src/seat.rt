@@ -1,5 +1,5 @@
 //! A caller's seat, and the receipt of a commit.
-ghost use Rattle.std.specs.Prelude.{◌≡◌, ◌+◌, ◌<◌, ◌≤◌, ◌⊎◌, [], ◌∷◌, ◌++◌, length, take, IsTrue, IfOk, MatchBool};
+ghost use Rattle.std.specs.Prelude.{◌≡◌, ◌+◌, ◌^◌, ◌<◌, ◌≤◌, ◌⊎◌, [], ◌∷◌, ◌++◌, length, take, IsTrue, IfOk, MatchBool};
 ghost use mathlib.Core.List.{IsPrefix};
 ghost use Rattle.left_right.specs.Sides.{view};
 ghost use Rattle.clip_model.specs.History as model;
@@ -20,9 +20,9 @@ use clip_standing::Applied;
 use clip_words::NoMemory;
 use std::marker::Model;
 
-/// One caller's place at a desk, seen as the longest history that it got, the commands that were committed with it, and
-/// how long the history was at the last purge with it. It has the right to add entries of its caller to the desk's
-/// history, which nothing else has.
+/// One caller's place at a desk, seen as the longest history that it got, the commands that were committed with it, how
+/// long the history was at the last purge with it, and how many purges with it were answered `Ok`. It has the right to
+/// add entries of its caller to the desk's history, which nothing else has.
 pub struct Seat {
     end: ReaderEnd,
     seen_history: SeenHistory,
@@ -30,6 +30,7 @@ pub struct Seat {
     callers: u32,
     right: Right,
     purged_at: usize,
+    purges: u64,
 }
 
 impl Drop for Seat {
@@ -41,6 +42,7 @@ impl Drop for Seat {
             callers: _,
             right: _,
             purged_at: _,
+            purges: _,
         } = self;
     }
 }
@@ -68,6 +70,7 @@ impl Model for Seat {
       mine = mine_of s.seen_history.seen.log s.right.caller
           s.right.made;
       purged_at = s.purged_at;
+      purges = s.purges;
     } };
 
     ghost invariant = { λ s. IsOf s.seen_history.seen.book s.callers (known_at s.end.place)
@@ -154,6 +157,7 @@ impl Seat {
           seen = [];
           mine = [];
           purged_at = 0;
+          purges = 0;
         } }
     {
         Seat {
@@ -163,6 +167,7 @@ impl Seat {
             callers,
             right,
             purged_at: 0,
+            purges: 0,
         }
     }
 
@@ -263,11 +268,20 @@ impl Seat {
         self.seen_history.count <= count && self.purged_at <= count
     }
 
-    /// Keeps how long the history was at a purge with the seat. Constant time.
-    pub(crate) fn keep_purge(&mut self, count: usize)
-        ensures { self.new ≡ record self.old { purged_at = count } }
+    /// How many purges with the seat were answered `Ok`. Constant time.
+    pub(crate) fn purges(&self) -> u64
+        ensures { result ≡ self.now.purges }
+    {
+        self.purges
+    }
+
+    /// Counts a purge with the seat, and keeps how long the history was. Constant time.
+    pub(crate) fn count_purge(&mut self, count: usize)
+        requires { self.old.purges + 1 < 2 ^ 64 }
+        ensures { self.new ≡ record self.old { purged_at = count; purges = self.old.purges + 1 } }
     {
         self.purged_at = count;
+        self.purges += 1;
     }
 
     /// Sees a history that goes on from what was seen. Constant time.

@@ -1,7 +1,8 @@
-use Rattle.std.proofs.Common.{◌∙◌, ◌≤◌, ℕ, slice_get, refl, sym, ap, subst}
+use Rattle.std.proofs.Common.{◌∙◌, ◌≤◌, ℕ, map, slice_get, refl, sym, ap, subst}
 use Rattle.clip_model.specs.History.{History}
 use Rattle.clip_desk.specs.Callers.{IsBy}
-use Rattle.clip_desk.specs.Seats.{IsAccounted}
+use Rattle.clip_desk.specs.Seats.{IsAccounted, purges_with}
+use Rattle.clip_desk.specs.Updates.{AllFollow, heard_by}
 use Rattle.clip_desk.proofs.desk.Desk.close.Goals as goal
 
 pub all_agree-requires : goal.all_agree-requires
@@ -28,3 +29,11 @@ returns-clause-seats g c =
           let one = c.if-not-has_all.ensures refl caller low (subst (λ (n : ℕ). caller ≤ n) (sym callers) high) in
           (one.0, one.1, ap (λ l. slice_get l one.0) (sym c.as_slice-else-not-all_agree.ensures.value) ∙ one.2, one.3);
     }
+
+pub returns-clause-told : goal.returns-clause-told
+returns-clause-told g c =
+    let closed = c.end-registrar.result in
+    subst (λ (n : ℕ). AllFollow g.N.DeskName.heard_before closed.0.history n
+    (map (heard_by g.L.UpdateListener.heard) closed.1.items))
+    (sym c.purges.ensures ∙ sym (c.if-not-are_of_all_purges.ensures refl)
+    ∙ ap purges_with c.as_slice-else-not-has_all.ensures.value) c.end-registrar.ensures.follow

@@ -20,6 +20,6 @@ pub new-requires-clause-follow : goal.new-requires-clause-follow
 new-requires-clause-follow g c =
     let p = c.parts.inside in
     let heard = ap all_heard (ap (λ x. x.updates) c.parts.view_is) ∙ sym c.requires.2 in
-    subst (λ (before : List (List Event)). AllFollow before p.registrar.history p.updates) heard
-    (subst (λ (h : History). AllFollow (all_heard p.updates) h p.updates) (sym c.parts.invariant.1)
+    subst (λ (before : List (List Event)). AllFollow before p.registrar.history 0 p.updates) heard
+    (subst (λ (h : History). AllFollow (all_heard p.updates) h 0 p.updates) (sym c.parts.invariant.1)
     (all_follow_first p.updates))

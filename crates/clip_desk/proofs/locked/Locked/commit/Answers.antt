@@ -22,9 +22,9 @@ invariant_of-self g c =
     let history : next.history ≡ before ++ e ∷ [] = ap (λ s. s.history) c.in-Ok.ensures.registrar in
     let told = c.tell_last.new.updates in (
       search rules,
-      subst (λ (h : History). AllFollow g.N.DeskName.heard_before h told) (sym history)
-          (all_follow_entry g.N.DeskName.heard_before before c.self.inside.updates told c.self.invariant.1 e
-          (c.tell_last.ensures before e history)),
+      subst (λ (h : History). AllFollow g.N.DeskName.heard_before h c.self.inside.purges told) (sym history)
+          (all_follow_entry g.N.DeskName.heard_before before c.self.inside.purges c.self.inside.updates told
+          c.self.invariant.1 e (c.tell_last.ensures before e history)),
     )
 
 pub show_surely-requires-clause-callers : goal.show_surely-requires-clause-callers

@@ -23,6 +23,7 @@ returns-in_default-clause-same c =
       seen = s.seen_history.seen.log;
       mine = (c.self.view_is i).mine;
       purged_at = (c.self.view_is i).purged_at;
+      purges = (c.self.view_is i).purges;
     }
 
 pub returns-clause-purged : goal.returns-clause-purged
