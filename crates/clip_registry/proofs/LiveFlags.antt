@@ -1,6 +1,7 @@
 -- Live flags beside segments.
 use Rattle.std.proofs.Common.{◌≡◌, ℕ, zero, suc, ◌<◌, Bool, true, false, cond, ◌==◌, List, [], ◌∷◌, ◌++◌, length}
-use Rattle.std.proofs.Common.{map, get_or, set, take, replicate, ◌+◌, Some, slice_get, refl, sym, ap, ap₂, subst, ◌∙◌, inl}
+use Rattle.std.proofs.Common.{map, get_or, set, take, replicate, ◌+◌, Some, slice_get, refl, sym, ap, ap₂, subst, ◌∙◌}
+use Rattle.std.proofs.Common.{inl}
 use Rattle.std.proofs.Common.{inr, arith}
 use Rattle.std.proofs.lemmas.Bool.{cases_order}
 use Rattle.std.proofs.lemmas.List.{ext_get_or, length-map, get_or-map, get_or_default, map-append, map_more}
@@ -170,7 +171,9 @@ segment_at segments k segment low is = get_or-map arc_value segments k segment [
 
 pub flag_there : (is : ℕ → Bool) (es : List Registered) (seq position : ℕ) → slice_get (seqs_of es) position ≡ Some seq
     → get_or (flags_of is es) position false ≡ is seq
-flag_there is [] seq position there = let none = slice_get_within (seqs_of []) position seq there in absurd (omega arith)
+flag_there is [] seq position there =
+    let none = slice_get_within (seqs_of []) position seq there in
+    absurd (omega arith)
 flag_there is (e ∷ es) seq zero there = let same : e.seq ≡ seq = cc in ap is same
 flag_there is (e ∷ es) seq (suc position) there = flag_there is es seq position there
 

@@ -4,6 +4,7 @@ ghost use Rattle.std.specs.Arc.{arc_value};
 ghost use Rattle.std.specs.List.{Contains, list_all};
 ghost use Rattle.clip_model.specs.History.{Registered};
 ghost use Rattle.clip_segment.specs.Segment.{all_entries, seqs_of};
+ghost use Rattle.clip_registry.specs.Merging.{shelf};
 ghost use Rattle.clip_registry.specs.Steps.LiveFlags.{died, flags_by, flags_of, stays, without, without_all};
 
 use clip_pieces::{Shared, SharedFlags};
@@ -57,6 +58,28 @@ pub fn clear_each(
     for (place, segment) in segments.iter().enumerate() {
         clear(&mut live[place], segment, seqs)?;
     }
+    Ok(())
+}
+
+/// Puts a segment behind others, and its live flags behind theirs, but for one that has no entries. `NoMemory` where an
+/// allocation failed.
+pub fn shelve(
+    segments: &mut Vec<Arc<Segment>>,
+    live: &mut Vec<Shared<SharedFlags>>,
+    segment: Arc<Segment>,
+    flags: Shared<SharedFlags>,
+) -> Result<(), NoMemory>
+    ensures segments { OnOk result (map arc_value segments.new.items
+        ≡ map arc_value segments.old.items ++ shelf segment.value) }
+    ensures live { (is : ℕ → Bool) → live.old.items ≡ flags_by is (map arc_value segments.old.items)
+        → flags ≡ flags_of is segment.value
+        → OnOk result (live.new.items ≡ flags_by is (map arc_value segments.new.items)) }
+{
+    if segment.is_empty() {
+        return Ok(());
+    }
+    segments.push(segment)?;
+    live.push(flags)?;
     Ok(())
 }
 

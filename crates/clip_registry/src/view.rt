@@ -147,8 +147,8 @@ impl View {
         self.is_live_seq(entry.seq())
     }
 
-    /// Whether a registered query has the seq. Takes no memory. Cost: a step for each segment up to the one that has the
-    /// seq, and a binary search in each of these that has a seq that is not below it, so mostly in one.
+    /// Whether a registered query has the seq. Takes no memory. Cost: a step for each segment up to the one that has it,
+    /// and a binary search in each of these that has a seq that is not below it: for the seq of an entry just one.
     pub fn is_live_seq(&self, seq: u64) -> bool
         ensures { result ≡ is_live self.now.history seq }
     {
