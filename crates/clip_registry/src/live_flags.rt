@@ -1,5 +1,6 @@
 //! The live flags of segments: for each segment a flag for each of its entries, by position.
-ghost use Rattle.std.specs.Prelude.{◌≡◌, ◌++◌, ℕ, Bool, true, List, map, length, replicate, vec_items, IfOk, OnOk};
+ghost use Rattle.std.specs.Prelude.{◌≡◌, ◌++◌, ℕ, Bool, true, List, map, filter, length, replicate, vec_items};
+ghost use Rattle.std.specs.Prelude.{IfOk, OnOk};
 ghost use Rattle.std.specs.Arc.{arc_value};
 ghost use Rattle.std.specs.List.{Contains, list_all};
 ghost use Rattle.clip_model.specs.History.{Registered};
@@ -9,6 +10,7 @@ ghost use Rattle.clip_registry.specs.Steps.LiveFlags.{died, flags_by, flags_of, 
 
 use clip_pieces::{Shared, SharedFlags};
 use clip_segment::Segment;
+use clip_standing::Entry;
 use clip_words::NoMemory;
 use std::alloc::Global;
 use std::sync::Arc;
@@ -97,6 +99,24 @@ pub fn has_live(live: &[Shared<SharedFlags>], segments: &[Arc<Segment>], seq: u6
         }
     }
     false
+}
+
+/// Adds those entries of a segment whose flags are set. `NoMemory` where an allocation failed.
+pub fn add_live<'a>(
+    segment: &'a Segment,
+    live: &SharedFlags,
+    found: &mut Vec<&'a Entry>,
+) -> Result<(), NoMemory>
+    ensures { (is : ℕ → Bool) → live.now ≡ flags_of is segment.now
+        → OnOk result (map (λ e. e.now) found.new.items
+        ≡ map (λ e. e.now) found.old.items ++ filter (λ r. is r.seq) segment.now) }
+{
+    for (place, entry) in segment.entries().iter().enumerate() {
+        if live.get(place).unwrap_or(false) {
+            found.push(entry)?;
+        }
+    }
+    Ok(())
 }
 
 /// The flags one by one. `NoMemory` where an allocation failed.

@@ -12,7 +12,7 @@ use Rattle.clip_registry.specs.Steps.LiveFlags.{flags_in, flags_of}
 use Rattle.clip_registry.specs.Steps.Merging.{AreKept}
 use Rattle.clip_registry.proofs.Clearing.{all_picked}
 use Rattle.clip_registry.proofs.Kept.{kept_purged}
-use Rattle.clip_registry.proofs.LiveFlags.{as_long, flags_here, length-flags_of, segment_at}
+use Rattle.clip_registry.proofs.LiveFlags.{beside, length-flags_of, segment_at}
 use Rattle.clip_registry.proofs.Picked.{flagged_by}
 use Rattle.clip_registry.proofs.purging.live_segments.Goals as goal
 use Rattle.clip_registry.proofs.purging.live_segments.Goals.{After-index}
@@ -50,16 +50,13 @@ within c =
 flags : (c : After-index) → c.index.result.now
     ≡ flags_of (is_live_in (replay c.args.state.now.history)) c.segment-item.result.value
 flags c =
-    let live = c.state.inside.live.items in
-    let m = replay c.args.state.now.history in
-    let all = c.args.state.now.segments in
-    let are : live ≡ flags_in m all =
-    c.state.invariant.1
-    ∙ ap (λ k. flags_in k (map arc_value c.state.inside.segments.items)) c.state.invariant.0.registry
+    let items = c.state.inside.segments.items in
+    let are = c.state.invariant.1
+    ∙ ap (λ m. flags_in m (map arc_value items)) c.state.invariant.0.registry
     ∙ ap (λ (s : RegistryState). flags_in (replay s.history) s.segments) c.state.view_is in
-    flags_here (is_live_in m) all live c.loop-place.place c.index.result.now are c.index.ensures
-    (omega (arith, within c, as_long (is_live_in m) all live are))
-    ∙ ap (flags_of (is_live_in m)) (item c)
+    beside (is_live_in (replay c.args.state.now.history)) c.args.state.now.segments c.state.inside.live.items
+    c.deref-segment-items.result.now c.loop-place.place c.segment-item.result c.index.result.now are (segments c)
+    c.loop-place-test.true c.segment-item.is c.index.ensures
 
 pub live_segment-requires : goal.live_segment-requires
 live_segment-requires c =

@@ -98,7 +98,8 @@ returns-clause-flags c =
     let last = c.in_ok-extend_with_clones-4.ensures.items in
     let before = c.shelve.new.segments.items in
     let those = c.deref-8.result.now in
-    let front : c.extend_with_clones-2.new.self.items ≡ flags_by is (map arc_value c.extend_with_clones.new.self.items) =
+    let front : c.extend_with_clones-2.new.self.items
+    ≡ flags_by is (map arc_value c.extend_with_clones.new.self.items) =
     more.1 ∙ ap (λ l. l ++ more.0) c.in_ok-live.ensures.items
     ∙ same_from_all_zip (λ (x y : List Bool). y ≡ x) _ _ more.2 (λ x y e. e)
     ∙ ap (take first) (c.deref-7.ensures.value ∙ c.state.invariant.1) ∙ take-map (flags_of is) first all
@@ -108,7 +109,8 @@ returns-clause-flags c =
     ∙ map_shared (take first c.deref-6.result.now) added.0 added.2)) in
     let back : last.0 ≡ flags_by is (map arc_value rest.0) =
     same_from_all_zip (λ (x y : List Bool). y ≡ x) _ _ last.2 (λ x y e. e)
-    ∙ tail c.deref-9.result.now past ∙ ap (drop past) (c.deref-9.ensures.value ∙ c.state.invariant.1) ∙ drop-map (flags_of is) past all
+    ∙ tail c.deref-9.result.now past ∙ ap (drop past) (c.deref-9.ensures.value ∙ c.state.invariant.1)
+    ∙ drop-map (flags_of is) past all
     ∙ ap (flags_by is) (drop-map arc_value past c.state.inside.segments.items
     ∙ ap (λ ss. map arc_value (drop past ss)) (sym c.deref-8.ensures.value)
     ∙ ap (map arc_value) (sym (tail those past))
