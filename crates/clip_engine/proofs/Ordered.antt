@@ -1,15 +1,14 @@
 -- The live entries, sorted by id, are the registered queries.
-use Rattle.std.proofs.Common.{◌≡◌, ℕ, ◌+◌, ◌++◌, ◌<◌, Bool, List, [], ◌∷◌, map, length, get_or, filter, take}
-use Rattle.std.proofs.Common.{append-nil, Contains, IsPermutation, sym, ap, ◌∙◌, Some}
+use Rattle.std.proofs.Common.{◌≡◌, ℕ, ◌<◌, Bool, List, map, get_or, filter}
+use Rattle.std.proofs.Common.{Contains, IsPermutation, sym, ap, ◌∙◌, Some}
 use Rattle.std.specs.List.Sorted.{IsSortedByKey}
 use Rattle.std.specs.Cmp.Lexicographic.{nat_list_cmp_total}
 use Rattle.std.specs.FinMap as finite
 use Rattle.std.specs.FinMap.{get-entries, slice_cmp-IsAntisymmetric, nat_cmp-IsAntisymmetric}
 use Rattle.std.specs.FinMap.Entries.{find, same_entries}
 use Rattle.std.proofs.lemmas.Float.{T_from_true}
-use Rattle.std.proofs.lemmas.List.{map_more}
 use Rattle.std.proofs.lemmas.Simd.{map-map}
-use Rattle.std.proofs.lemmas.List.Elements.{All-contains, All-contains_itself, All-filter, filter-append, filter_passes}
+use Rattle.std.proofs.lemmas.List.Elements.{All-contains, All-contains_itself, All-filter, filter_passes}
 use Rattle.std.proofs.lemmas.List.Kept.{AllPairs-filter}
 use Rattle.std.proofs.lemmas.List.Sorted.{Contains-permutation, IsPermutation-sym}
 use Rattle.clip_words.specs.Order.{bytes_cmp}
@@ -17,23 +16,12 @@ use Rattle.clip_model.specs.History.{Registered, is_live, replay}
 use Rattle.clip_model.proofs.Numbering.{replay_numbered}
 use Rattle.clip_segment.specs.Segment.{IsRising, all_entries}
 use Rattle.clip_registry.specs.RegistryState.{RegistryState, IsWhole}
-use Rattle.clip_registry.proofs.Entries.{all_entries-append}
 use Rattle.clip_registry.proofs.Rising.{contains_filter}
 use Rattle.clip_terms.proofs.Strict.{entries_in_order}
 use Rattle.clip_match.specs.Candidates.{AreRegistered}
 use Rattle.clip_match.proofs.ById.{by_id, with_id, same_option, distinct_ids, sorted_under_ids, found_is, is_found}
 
 -- ---- the live entries
-
--- those of one segment more
-pub live_more : {X : Type 0} (f : X → List Registered) (p : Registered → Bool) (xs : List X) (i : ℕ) (x : X)
-    → i < length xs → x ≡ get_or xs i x
-    → filter p (all_entries (map f (take i xs))) ++ filter p (f x) ≡ filter p (all_entries (map f (take (i + 1) xs)))
-live_more f p xs i x lt at =
-    let front = map f (take i xs) in
-    sym (ap (λ ss. filter p (all_entries ss)) (map_more f xs i x lt ∙ ap (λ z. front ++ f z ∷ []) (sym at))
-    ∙ ap (filter p) (all_entries-append front (f x ∷ []) ∙ ap (λ es. all_entries front ++ es) (append-nil (f x)))
-    ∙ filter-append p (all_entries front) (f x))
 
 abbrev pub live : RegistryState → List Registered
 live state = filter (λ r. is_live state.history r.seq) (all_entries state.segments)

@@ -1,55 +1,17 @@
 //! The ids of what is registered, in order.
-ghost use Rattle.std.specs.Prelude.{◌≡◌, ◌++◌, IfOk, OnOk, IsPermutation, filter, map};
-ghost use Rattle.std.specs.Arc.{arc_value};
+ghost use Rattle.std.specs.Prelude.{◌≡◌, IfOk, IsPermutation, map};
 ghost use Rattle.std.specs.FinMap as finite;
 ghost use Rattle.std.specs.List.Sorted.{IsSortedByKey};
 ghost use Rattle.clip_words.specs.Order.{bytes_cmp};
-ghost use Rattle.clip_model.specs.History.{is_live, replay};
-ghost use Rattle.clip_segment.specs.Segment.{all_entries};
-ghost use Rattle.clip_registry.specs.RegistryState.{IsWhole};
+ghost use Rattle.clip_model.specs.History.{replay};
 ghost use Rattle.clip_engine.specs.Found.{ids_bytes};
 
 use crate::found::{add_number, add_text};
 use clip_registry::View;
-use clip_segment::Segment;
 use clip_standing::Entry;
 use clip_words::NoMemory;
 use std::alloc::Global;
 use std::cmp::Ordering;
-use std::sync::Arc;
-
-/// Adds those entries of a segment that are live at a view.
-fn add_live<'a>(
-    view: &View,
-    segment: &'a Segment,
-    found: &mut Vec<&'a Entry>,
-) -> Result<(), NoMemory>
-    ensures { OnOk result (map (λ e. e.now) found.new.items
-        ≡ map (λ e. e.now) found.old.items ++ filter (λ r. is_live view.now.history r.seq) segment.now) }
-{
-    let entries = segment.entries();
-    for entry in entries {
-        if !view.is_live(entry) {
-            continue;
-        }
-        found.push(entry)?;
-    }
-    Ok(())
-}
-
-/// The entries of the registered queries, segment after segment.
-fn live_entries(alloc: Global, view: &View) -> Result<Vec<&Entry>, NoMemory>
-    ensures live { IfOk result (λ found. map (λ e. e.now) found.items
-        ≡ filter (λ r. is_live view.now.history r.seq) (all_entries view.now.segments)) }
-    ensures whole { IsWhole view.now }
-{
-    let mut found = Vec::new(alloc);
-    let segments = view.segments();
-    for segment in segments {
-        add_live(view, segment, &mut found)?;
-    }
-    Ok(found)
-}
 
 /// Sorts entries by the ids of their queries.
 fn sort_by_id(entries: &mut Vec<&Entry>)
@@ -79,7 +41,7 @@ fn ids_of(alloc: Global, entries: &[&Entry]) -> Result<Vec<u8>, NoMemory>
 pub(crate) fn bytes_of_ids(alloc: Global, view: &View) -> Result<Vec<u8>, NoMemory>
     ensures { IfOk result (λ bytes. bytes.items ≡ ids_bytes (finite.keys (replay view.now.history))) }
 {
-    let mut entries = live_entries(alloc, view)?;
+    let mut entries = view.live_entries(alloc)?;
     sort_by_id(&mut entries);
     ids_of(alloc, &entries)
 }

@@ -1,9 +1,5 @@
 //! The queries that kept lines leave live, each as the line that registers it.
-ghost use Rattle.std.specs.Prelude.{◌≡◌, ◌++◌, [], ◌∷◌, codes, IfOk, OnOk, filter, map};
-ghost use Rattle.std.specs.Arc.{arc_value};
-ghost use Rattle.clip_model.specs.History.{is_live};
-ghost use Rattle.clip_segment.specs.Segment.{all_entries};
-ghost use Rattle.clip_registry.specs.RegistryState.{IsWhole};
+ghost use Rattle.std.specs.Prelude.{◌≡◌, [], ◌∷◌, codes, IfOk, map};
 ghost use Rattle.clip_front.specs.Outcome.{OfKept, names_in};
 ghost use Rattle.clip_protocol.specs.Request.{listing_value};
 ghost use Rattle.clip_protocol.specs.Steps.Printing.{Appends, data_tokens};
@@ -12,9 +8,7 @@ ghost use Rattle.clip_keeping.specs.Live.{AreLive, line_of, listener_tokens, lis
 
 use clip_front::take_kept;
 use clip_listen::Audience;
-use clip_registry::View;
 use clip_run::OwnRegistrar;
-use clip_segment::Segment;
 use clip_standing::{Entry, Standing};
 use clip_words::NoMemory;
 use json::Writer;
@@ -64,39 +58,6 @@ fn register_line(alloc: Global, standing: &Standing) -> Result<Vec<u8>, NoMemory
     Ok(out.into_inner())
 }
 
-/// Adds those entries of a segment that are live at a view.
-fn add_live<'a>(
-    view: &View,
-    segment: &'a Segment,
-    found: &mut Vec<&'a Entry>,
-) -> Result<(), NoMemory>
-    ensures { OnOk result (map (λ e. e.now) found.new.items
-        ≡ map (λ e. e.now) found.old.items ++ filter (λ r. is_live view.now.history r.seq) segment.now) }
-{
-    let entries = segment.entries();
-    for entry in entries {
-        if !view.is_live(entry) {
-            continue;
-        }
-        found.push(entry)?;
-    }
-    Ok(())
-}
-
-/// The entries of the registered queries, segment after segment.
-fn live_entries(alloc: Global, view: &View) -> Result<Vec<&Entry>, NoMemory>
-    ensures live { IfOk result (λ found. map (λ e. e.now) found.items
-        ≡ filter (λ r. is_live view.now.history r.seq) (all_entries view.now.segments)) }
-    ensures whole { IsWhole view.now }
-{
-    let mut found = Vec::new(alloc);
-    let segments = view.segments();
-    for segment in segments {
-        add_live(view, segment, &mut found)?;
-    }
-    Ok(found)
-}
-
 /// The lines that register these.
 fn lines_of(alloc: Global, entries: &[&Entry]) -> Result<Vec<Vec<u8>>, NoMemory>
     ensures { IfOk result (λ lines. says lines.items ≡ map (λ r. line_of r.standing) (map (λ e. e.now) entries.now)) }
@@ -123,6 +84,6 @@ pub fn live_lines<A: Audience>(
     let mut registry = OwnRegistrar::new(alloc);
     take_kept(alloc, &mut registry, audience, kept)?;
     let view = registry.registrar.view()?;
-    let entries = live_entries(alloc, &view)?;
+    let entries = view.live_entries(alloc)?;
     lines_of(alloc, &entries)
 }

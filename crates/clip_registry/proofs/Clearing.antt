@@ -4,7 +4,7 @@ use Rattle.std.proofs.Common.{List, [], ◌∷◌, ◌++◌, length, map, take, 
 use Rattle.std.proofs.Common.{arith, append-nil}
 use Rattle.std.proofs.Math.Seq.{take-length}
 use Rattle.std.proofs.lemmas.Bool.{false≢true}
-use Rattle.std.proofs.lemmas.List.{get_or-map, get_or_default, map-append, map_more, take_more}
+use Rattle.std.proofs.lemmas.List.{get_or-map, get_or_default, map-append, take_more}
 use Rattle.std.proofs.lemmas.List.Elements.{filter-append}
 use Rattle.std.specs.List.{Contains}
 use Rattle.clip_pieces.specs.Marked.{is_lost}
@@ -16,7 +16,7 @@ use Rattle.clip_registry.proofs.Kept.{contains_of_filter}
 use Rattle.clip_registry.proofs.LiveFlags.{alike_of, all_flagged}
 use Rattle.clip_registry.proofs.Naming.{name_picked}
 use Rattle.clip_registry.proofs.Picked.{picked}
-use Rattle.clip_registry.proofs.Whole.{all_entries-push}
+use Rattle.clip_registry.proofs.Whole.{entries_more}
 
 -- ---- entries that died
 
@@ -91,9 +91,7 @@ pub died_more : {X : Type 0} (is was : ℕ → Bool) (f : X → List Registered)
     → seqs_of (died is was (all_entries (map f (take (i + 1) xs))))
     ≡ seqs_of (died is was (all_entries (map f (take i xs)))) ++ seqs_of (died is was (f x))
 died_more is was f xs i x lt at =
-    ap (λ ss. seqs_of (died is was (all_entries ss)))
-    (map_more f xs i x lt ∙ ap (λ z. map f (take i xs) ++ f z ∷ []) (sym at))
-    ∙ ap (λ es. seqs_of (died is was es)) (all_entries-push (map f (take i xs)) (f x))
+    ap (λ es. seqs_of (died is was es)) (entries_more f xs i x lt at)
     ∙ ap seqs_of (died-append is was (all_entries (map f (take i xs))) (f x))
     ∙ map-append (λ (r : Registered). r.seq) (died is was (all_entries (map f (take i xs)))) (died is was (f x))
 

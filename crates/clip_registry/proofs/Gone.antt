@@ -127,7 +127,8 @@ pub those_left : (before after : Roster) (gone : List ℕ) (ss : List Standing) 
 those_left before after gone ss have count =
     let rs = numbered before.listed ss in
     filter_same (λ r. without_all gone (λ _. true) r.seq) (λ r. is_live_in after.registry r.seq) rs
-    (λ r h. let above = All-contains (λ (q : Registered). before.listed < q.seq) rs r (numbered_high before.listed ss) h in
+    (λ r h. let above = All-contains (λ (q : Registered). before.listed < q.seq) rs r
+    (numbered_high before.listed ss) h in
     let below = All-contains (λ (q : Registered). q.seq ≤ before.listed + length ss) rs r
     (numbered_low before.listed ss) h in
     without_alike gone (λ _. true) (has_or_awaits before) r.seq

@@ -1,9 +1,10 @@
 -- Live flags beside segments.
 use Rattle.std.proofs.Common.{◌≡◌, ℕ, zero, suc, ◌<◌, Bool, true, false, cond, ◌==◌, List, [], ◌∷◌, ◌++◌, length}
-use Rattle.std.proofs.Common.{map, get_or, set, take, replicate, ◌+◌, Some, slice_get, refl, sym, ap, ap₂, subst, ◌∙◌, inl}
+use Rattle.std.proofs.Common.{map, get_or, set, take, replicate, ◌+◌, Some, slice_get, refl, sym, ap, ap₂, subst, ◌∙◌}
+use Rattle.std.proofs.Common.{inl}
 use Rattle.std.proofs.Common.{inr, arith}
 use Rattle.std.proofs.lemmas.Bool.{cases_order}
-use Rattle.std.proofs.lemmas.List.{ext_get_or, length-map, get_or-map, get_or_default, map-append, map_more}
+use Rattle.std.proofs.lemmas.List.{ext_get_or, length-map, get_or-map, get_or_default, map-append}
 use Rattle.std.proofs.lemmas.List.Elements.{All-head, All-tail, Contains-append_left, Contains-append_right}
 use Rattle.std.proofs.lemmas.Option.{slice_get_within, get_or_from_slice_get}
 use Rattle.std.specs.Arc.{arc_value}
@@ -19,7 +20,7 @@ use Rattle.clip_registry.specs.RegistryState.{RegistryState, IsWhole}
 use Rattle.clip_registry.specs.Steps.LiveFlags.{flags_of, flags_by, without, without_all}
 use Rattle.clip_registry.proofs.Kept.{all_of_some}
 use Rattle.clip_registry.proofs.Rising.{rising_head, rising_tail}
-use Rattle.clip_registry.proofs.Whole.{all_entries-push, shelved}
+use Rattle.clip_registry.proofs.Whole.{entries_more, shelved}
 
 -- ---- tests that agree
 
@@ -166,25 +167,34 @@ pub segment_at : (segments : List (Arc (List Registered) Global)) (k : ℕ) (seg
     ≡ arc_value segment
 segment_at segments k segment low is = get_or-map arc_value segments k segment [] low ∙ ap arc_value (sym is)
 
+-- the flags beside a segment are those of its entries
+pub beside : (is : ℕ → Bool) (segments : List (List Registered)) (live : List (List Bool))
+    (items : List (Arc (List Registered) Global)) (k : ℕ) (segment : Arc (List Registered) Global) (flags : List Bool)
+    → live ≡ flags_by is segments → map arc_value items ≡ segments → k < length items → segment ≡ get_or items k segment
+    → flags ≡ get_or live k flags → flags ≡ flags_of is (arc_value segment)
+beside is segments live items k segment flags are same low at here =
+    flags_here is segments live k flags are here
+    (omega (arith, low, as_long is segments live are, ap length same, length-map items arc_value))
+    ∙ ap (flags_of is) (ap (λ ss. get_or ss k []) (sym same) ∙ segment_at items k segment low at)
+
 -- ---- whether a seq is live
 
 pub flag_there : (is : ℕ → Bool) (es : List Registered) (seq position : ℕ) → slice_get (seqs_of es) position ≡ Some seq
     → get_or (flags_of is es) position false ≡ is seq
-flag_there is [] seq position there = let none = slice_get_within (seqs_of []) position seq there in absurd (omega arith)
+flag_there is [] seq position there =
+    let none = slice_get_within (seqs_of []) position seq there in
+    absurd (omega arith)
 flag_there is (e ∷ es) seq zero there = let same : e.seq ≡ seq = cc in ap is same
 flag_there is (e ∷ es) seq (suc position) there = flag_there is es seq position there
 
--- of one segment more
+-- those of one segment more
 pub seqs_more : (segments : List (Arc (List Registered) Global)) (k : ℕ) (segment : Arc (List Registered) Global)
     → k < length segments → segment ≡ get_or segments k segment
     → seqs_of (all_entries (map arc_value (take (k + 1) segments)))
     ≡ seqs_of (all_entries (map arc_value (take k segments))) ++ seqs_of (arc_value segment)
 seqs_more segments k segment low is =
-    let before = map arc_value (take k segments) in
-    ap (λ ss. seqs_of (all_entries ss))
-    (map_more arc_value segments k segment low ∙ ap (λ s. before ++ arc_value s ∷ []) (sym is))
-    ∙ ap seqs_of (all_entries-push before (arc_value segment))
-    ∙ map-append (λ (r : Registered). r.seq) (all_entries before) (arc_value segment)
+    ap seqs_of (entries_more arc_value segments k segment low is)
+    ∙ map-append (λ (r : Registered). r.seq) (all_entries (map arc_value (take k segments))) (arc_value segment)
 
 -- an entry's seq is among the seqs
 pub seq_among : (es : List Registered) (r : Registered) → Contains es r → Contains (seqs_of es) r.seq

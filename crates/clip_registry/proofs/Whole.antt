@@ -1,6 +1,7 @@
 -- The registry stays whole.
 use Rattle.std.proofs.Common.{◌≡◌, ◌↔◌, ℕ, Bool, suc, ◌+◌, ◌<◌, ◌≤◌, List, [], ◌∷◌, ◌++◌, length, refl, sym, ap, subst}
-use Rattle.std.proofs.Common.{◌∙◌, inl, inr, arith, Some, IsTrue, append-nil, append_assoc, add-zero}
+use Rattle.std.proofs.Common.{◌∙◌, map, take, get_or, inl, inr, arith, Some, IsTrue, append-nil, append_assoc, add-zero}
+use Rattle.std.proofs.lemmas.List.{map_more}
 use Rattle.std.proofs.lemmas.Option.{none-some}
 use Rattle.std.proofs.lemmas.List.Elements.{All-nil, All-append, All-weaker, All-filter, Contains-append_left}
 use Rattle.std.proofs.lemmas.List.Elements.{Contains-append_right}
@@ -27,6 +28,14 @@ pub all_entries-push : (segments : List (List Registered)) (segment : List Regis
 all_entries-push [] segment = append-nil segment
 all_entries-push (s ∷ segments) segment = ap (λ x. s ++ x) (all_entries-push segments segment)
     ∙ sym (append_assoc s (all_entries segments) segment)
+
+-- of one segment more
+pub entries_more : {X : Type 0} (f : X → List Registered) (xs : List X) (i : ℕ) (x : X)
+    → i < length xs → x ≡ get_or xs i x
+    → all_entries (map f (take (i + 1) xs)) ≡ all_entries (map f (take i xs)) ++ f x
+entries_more f xs i x lt at =
+    ap all_entries (map_more f xs i x lt ∙ ap (λ z. map f (take i xs) ++ f z ∷ []) (sym at))
+    ∙ all_entries-push (map f (take i xs)) (f x)
 
 -- The entries rise, and those that the registry gives are among them.
 pub record IsShelved (n : ℕ) (entries : List Registered) (m : Registry) : Type 0 where

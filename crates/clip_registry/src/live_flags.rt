@@ -1,13 +1,16 @@
 //! The live flags of segments: for each segment a flag for each of its entries, by position.
-ghost use Rattle.std.specs.Prelude.{◌≡◌, ◌++◌, ℕ, Bool, true, List, map, length, replicate, vec_items, IfOk, OnOk};
+ghost use Rattle.std.specs.Prelude.{◌≡◌, ◌++◌, ℕ, Bool, true, List, map, filter, length, replicate, vec_items};
+ghost use Rattle.std.specs.Prelude.{IfOk, OnOk};
 ghost use Rattle.std.specs.Arc.{arc_value};
 ghost use Rattle.std.specs.List.{Contains, list_all};
 ghost use Rattle.clip_model.specs.History.{Registered};
 ghost use Rattle.clip_segment.specs.Segment.{all_entries, seqs_of};
+ghost use Rattle.clip_registry.specs.Merging.{shelf};
 ghost use Rattle.clip_registry.specs.Steps.LiveFlags.{died, flags_by, flags_of, stays, without, without_all};
 
 use clip_pieces::{Shared, SharedFlags};
 use clip_segment::Segment;
+use clip_standing::Entry;
 use clip_words::NoMemory;
 use std::alloc::Global;
 use std::sync::Arc;
@@ -60,6 +63,28 @@ pub fn clear_each(
     Ok(())
 }
 
+/// Puts a segment behind others, and its live flags behind theirs, but for one that has no entries. `NoMemory` where an
+/// allocation failed.
+pub fn shelve(
+    segments: &mut Vec<Arc<Segment>>,
+    live: &mut Vec<Shared<SharedFlags>>,
+    segment: Arc<Segment>,
+    flags: Shared<SharedFlags>,
+) -> Result<(), NoMemory>
+    ensures segments { OnOk result (map arc_value segments.new.items
+        ≡ map arc_value segments.old.items ++ shelf segment.value) }
+    ensures live { (is : ℕ → Bool) → live.old.items ≡ flags_by is (map arc_value segments.old.items)
+        → flags ≡ flags_of is segment.value
+        → OnOk result (live.new.items ≡ flags_by is (map arc_value segments.new.items)) }
+{
+    if segment.is_empty() {
+        return Ok(());
+    }
+    segments.push(segment)?;
+    live.push(flags)?;
+    Ok(())
+}
+
 /// Whether an entry of the segments has the seq, and its flag is set. It costs a step for each segment up to the one
 /// that has the seq, and a binary search in each of these that has a seq that is not below it.
 pub fn has_live(live: &[Shared<SharedFlags>], segments: &[Arc<Segment>], seq: u64) -> bool
@@ -74,6 +99,24 @@ pub fn has_live(live: &[Shared<SharedFlags>], segments: &[Arc<Segment>], seq: u6
         }
     }
     false
+}
+
+/// Adds those entries of a segment whose flags are set. `NoMemory` where an allocation failed.
+pub fn add_live<'a>(
+    segment: &'a Segment,
+    live: &SharedFlags,
+    found: &mut Vec<&'a Entry>,
+) -> Result<(), NoMemory>
+    ensures { (is : ℕ → Bool) → live.now ≡ flags_of is segment.now
+        → OnOk result (map (λ e. e.now) found.new.items
+        ≡ map (λ e. e.now) found.old.items ++ filter (λ r. is r.seq) segment.now) }
+{
+    for (place, entry) in segment.entries().iter().enumerate() {
+        if live.get(place).unwrap_or(false) {
+            found.push(entry)?;
+        }
+    }
+    Ok(())
 }
 
 /// The flags one by one. `NoMemory` where an allocation failed.

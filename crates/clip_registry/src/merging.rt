@@ -6,7 +6,7 @@ ghost use Rattle.clip_registry.specs.Merging.{IsOver, IsStale, LateMergesMissNot
 ghost use Rattle.clip_registry.specs.Steps.LiveFlags.{flags_in};
 ghost use Rattle.clip_registry.specs.Steps.Merging.{AreKept, replaced};
 
-use crate::live_flags::{clear, died_since, misses_none};
+use crate::live_flags::{clear, died_since, misses_none, shelve};
 use crate::purging::select_live;
 use crate::same::place_of;
 use crate::state::State;
@@ -148,55 +148,34 @@ impl Merged {
         }
     }
 
-    /// The live flags of the segments of a state, with those of the merge in the place of those of its sources from
-    /// `first` on, or with none there where it has no entries. `NoMemory` where an allocation failed. It costs a step
-    /// for each segment, whose flags it shares, what `died_since` does, and a binary search for each that died.
-    pub(crate) fn put_flags(
-        &self,
-        alloc: Global,
-        state: &State,
-        first: usize,
-    ) -> Result<Vec<Shared<SharedFlags>>, NoMemory>
-        requires there { first + length self.now.sources ≤ length state.now.segments }
-        requires stands { StandsAt state.now.segments self.now.sources first }
-        ensures { IfOk result (λ live. live.items ≡ flags_in (replay state.now.history)
-            (replaced state.now.segments first (length self.now.sources) self.now.entries)) }
-    {
-        let (before, rest) = state.live.split_at(first);
-        let (now, after) = rest.split_at(self.sources.len());
-        let mut live = Vec::with_capacity(alloc, state.live.len())?;
-        live.extend_with_clones(before)?;
-        if !self.segment.is_empty() {
-            let died = died_since(alloc, &self.sources, now, &self.flags)?;
-            let mut merged = self.live.clone()?;
-            clear(&mut merged, &self.segment, &died)?;
-            live.push(merged)?;
-        }
-        live.extend_with_clones(after)?;
-        Ok(live)
-    }
-
-    /// The segments, with that of the merge in the place of its sources from `first` on, or with none there where it
-    /// has no entries. `NoMemory` where an allocation failed.
+    /// The segments of a state, with that of the merge in the place of its sources from `first` on, or with none there
+    /// where it has no entries, and their live flags. `NoMemory` where an allocation failed. It costs a step for each
+    /// segment, what `died_since` does, and a binary search for each entry that died.
     pub(crate) fn put_in(
         self,
         alloc: Global,
-        segments: &[Arc<Segment>],
+        state: &State,
         first: usize,
-    ) -> Result<Vec<Arc<Segment>>, NoMemory>
-        requires { first + length self.sources ≤ length segments.now }
-        ensures { IfOk result (λ list. map arc_value list.items
-            ≡ replaced (map arc_value segments.now) first (length self.sources) self.entries) }
+    ) -> Result<(Vec<Arc<Segment>>, Vec<Shared<SharedFlags>>), NoMemory>
+        requires there { first + length self.sources ≤ length state.now.segments }
+        requires stands { StandsAt state.now.segments self.sources first }
+        ensures segments { IfOk result (λ put. map arc_value put.0.items
+            ≡ replaced state.now.segments first (length self.sources) self.entries) }
+        ensures flags { IfOk result (λ put.
+            put.1.items ≡ flags_in (replay state.now.history) (map arc_value put.0.items)) }
     {
-        let (before, rest) = segments.split_at(first);
-        let (_, after) = rest.split_at(self.sources.len());
-        let mut list = Vec::with_capacity(alloc, segments.len())?;
-        list.extend_with_clones(before)?;
-        if !self.segment.is_empty() {
-            list.push(self.segment)?;
-        }
-        list.extend_with_clones(after)?;
-        Ok(list)
+        let mut segments = Vec::with_capacity(alloc, state.segments.len())?;
+        let mut live = Vec::with_capacity(alloc, state.live.len())?;
+        let past = first + self.sources.len();
+        let died = died_since(alloc, &self.sources, &state.live[first..past], &self.flags)?;
+        let mut merged = self.live;
+        clear(&mut merged, &self.segment, &died)?;
+        segments.extend_with_clones(&state.segments[..first])?;
+        live.extend_with_clones(&state.live[..first])?;
+        shelve(&mut segments, &mut live, self.segment, merged)?;
+        segments.extend_with_clones(&state.segments[past..])?;
+        live.extend_with_clones(&state.live[past..])?;
+        Ok((segments, live))
     }
 }
 

@@ -9,7 +9,7 @@ ghost use Rattle.clip_registry.specs.Merging.{purged};
 ghost use Rattle.clip_registry.specs.Steps.LiveFlags.{flags_in};
 ghost use Rattle.clip_registry.specs.Steps.Merging.{AreKept};
 
-use crate::live_flags::{all_set, are_all_set, flags_listed};
+use crate::live_flags::{all_set, are_all_set, flags_listed, shelve};
 use crate::state::State;
 use clip_pieces::{Shared, SharedFlags};
 use clip_segment::Segment;
@@ -71,10 +71,7 @@ pub fn live_segments(
     let mut live = Vec::with_capacity(alloc, state.segments.len())?;
     for (place, segment) in state.segments.iter().enumerate() {
         let (kept, flags) = live_segment(alloc, segment, &state.live[place])?;
-        if !kept.is_empty() {
-            segments.push(kept)?;
-            live.push(flags)?;
-        }
+        shelve(&mut segments, &mut live, kept, flags)?;
     }
     Ok((segments, live))
 }

@@ -193,8 +193,7 @@ impl Registrar {
         let Some(first) = merged.place_in(shared) else {
             return Ok(Installed::Stale);
         };
-        let live = merged.put_flags(self.alloc, shared, first)?;
-        let segments = merged.put_in(self.alloc, &shared.segments, first)?;
+        let (segments, live) = merged.put_in(self.alloc, shared, first)?;
         self.state = Some(shared.with_segments(self.alloc, segments, live)?);
         Ok(Installed::Done)
     }

@@ -1,12 +1,14 @@
 //! Views: the registry as it was at one place of its history.
-ghost use Rattle.std.specs.Prelude.{◌≡◌, IfOk, map, length, option_map, option_copied, slice_get, string_bytes};
+ghost use Rattle.std.specs.Prelude.{◌≡◌, IfOk, filter, map, length, option_map, option_copied, slice_get, string_bytes};
 ghost use Rattle.std.specs.Arc.{arc_value};
 ghost use Rattle.std.specs.FinMap as finite;
 ghost use Rattle.clip_model.specs.History.{IsLegal, own, replay, is_live};
+ghost use Rattle.clip_segment.specs.Segment.{IsRising, all_entries};
 ghost use Rattle.clip_registry.specs.RegistryState.{IsWhole, kept_history};
 
 use crate::held::{copy_of, history_of, number_of};
 use crate::history::History;
+use crate::live_flags::add_live;
 use crate::state::State;
 use clip_pieces::SharedFlags;
 use clip_segment::Segment;
@@ -140,6 +142,25 @@ impl View {
         }
     }
 
+    /// The entries of the registered queries, in the order of their seqs.
+    ///
+    /// `NoMemory` where an allocation failed. Cost: a step for each entry of the segments.
+    pub fn live_entries(&self, alloc: Global) -> Result<Vec<&Entry>, NoMemory>
+        ensures live { IfOk result (λ found. map (λ e. e.now) found.items
+            ≡ filter (λ r. is_live self.now.history r.seq) (all_entries self.now.segments)) }
+        ensures rising { IfOk result (λ found. IsRising (map (λ e. e.now) found.items)) }
+        ensures whole { IsWhole self.now }
+    {
+        let mut found = Vec::new(alloc);
+        for (place, segment) in self.segments().iter().enumerate() {
+            let Some(live) = self.live_at(place) else {
+                unreachable!();
+            };
+            add_live(segment, live, &mut found)?;
+        }
+        Ok(found)
+    }
+
     /// Whether a registered query has the entry's seq. Cost: that of `is_live_seq`; no text is read.
     pub fn is_live(&self, entry: &Entry) -> bool
         ensures { result ≡ is_live self.now.history entry.now.seq }
@@ -147,8 +168,8 @@ impl View {
         self.is_live_seq(entry.seq())
     }
 
-    /// Whether a registered query has the seq. Takes no memory. Cost: a step for each segment up to the one that has the
-    /// seq, and a binary search in each of these that has a seq that is not below it, so mostly in one.
+    /// Whether a registered query has the seq. Takes no memory. Cost: a step for each segment up to the one that has
+    /// it, and a binary search in each of these that has a seq that is not below it: for the seq of an entry just one.
     pub fn is_live_seq(&self, seq: u64) -> bool
         ensures { result ≡ is_live self.now.history seq }
     {

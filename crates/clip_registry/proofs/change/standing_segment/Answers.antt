@@ -12,7 +12,8 @@ cleared : (c : In_ok-clear) → c.clear.new.flags
     ≡ flags_of (without_all c.args.gone.now (λ _. true)) c.in_ok-segment.segment.value
 cleared c =
     c.in_ok-clear.ensures (λ _. true)
-    (c.in_ok-flags.ensures ∙ ap (λ n. replicate n true) (c.len.ensures ∙ ap length (c.deref.ensures ∙ sym c.deref-2.ensures))
+    (c.in_ok-flags.ensures
+    ∙ ap (λ n. replicate n true) (c.len.ensures ∙ ap length (c.deref.ensures ∙ sym c.deref-2.ensures))
     ∙ all_flagged (λ _. true) c.deref-2.result.now (λ k d lt. refl))
     ∙ ap (flags_of (without_all c.args.gone.now (λ _. true))) c.deref-2.ensures
 

@@ -1,4 +1,5 @@
-use Rattle.std.proofs.Common.{◌≡◌, ◌<◌, ◌++◌, Some, true, false, unwrap_or, length, map, take, get_or, refl, sym, ap, subst}
+use Rattle.std.proofs.Common.{◌≡◌, ◌<◌, ◌++◌, Some, true, false, unwrap_or, length, map, take, get_or, refl, sym, ap}
+use Rattle.std.proofs.Common.{subst}
 use Rattle.std.proofs.Common.{◌∙◌, arith, inl, inr}
 use Rattle.std.proofs.Math.Seq.{take-length}
 use Rattle.std.proofs.lemmas.List.Elements.{Contains-append_cases}
@@ -17,7 +18,8 @@ returns-in-Some c = λ is are holds.
     let position = c.in-Some.position in
     let low : place < length c.args.live.now = omega (arith, c.loop-place-test.true, c.requires) in
     let flags = c.value.ensures
-    ∙ flags_here is (map arc_value segments) c.args.live.now place c.index-live-place.result are c.index-live-place.is low
+    ∙ flags_here is (map arc_value segments) c.args.live.now place c.index-live-place.result are c.index-live-place.is
+    low
     ∙ ap (flags_of is)
     (segment_at segments place c.index-segments-place.result c.loop-place-test.true c.index-segments-place.is
     ∙ sym c.deref.ensures) in

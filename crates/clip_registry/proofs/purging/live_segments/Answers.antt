@@ -1,41 +1,34 @@
-use Rattle.std.proofs.Common.{◌≡◌, ◌<◌, ◌≤◌, ◌+◌, ◌++◌, ◌∷◌, [], ◌==◌, Bool, true, false, List, length, get_or, map, take}
-use Rattle.std.proofs.Common.{filter, replicate, refl, sym, ap, ap₂, subst, ◌∙◌, arith, ℕ, append-nil}
-use Rattle.std.proofs.lemmas.Bool.Decides.{nat_tests}
+use Rattle.std.proofs.Common.{◌≡◌, ◌<◌, ◌≤◌, ◌+◌, ◌++◌, ◌∷◌, [], true, List, length, get_or, map}
+use Rattle.std.proofs.Common.{take}
+use Rattle.std.proofs.Common.{filter, replicate, refl, sym, ap, subst, ◌∙◌, arith, ℕ}
 use Rattle.std.proofs.lemmas.List.{length-map, map-append, take_all, take_more}
 use Rattle.std.proofs.lemmas.List.Elements.{filter-append}
 use Rattle.std.specs.Arc.{arc_value}
-use Rattle.std.specs.declared.vec.Vec.{Vec}
-use Rattle.std.specs.declared.alloc.Global.{Global}
-use Rattle.std.specs.declared.sync.Arc.{Arc}
 use Rattle.clip_segment.specs.Selecting.{flagged}
 use Rattle.clip_model.specs.History.{Registered, is_live_in, replay}
-use Rattle.clip_registry.specs.Merging.{has_entries, live_of}
+use Rattle.clip_registry.specs.Merging.{has_entries, live_of, shelf}
 use Rattle.clip_registry.specs.RegistryState.{RegistryState, IsWhole}
 use Rattle.clip_registry.specs.Steps.LiveFlags.{flags_in, flags_of}
 use Rattle.clip_registry.specs.Steps.Merging.{AreKept}
 use Rattle.clip_registry.proofs.Clearing.{all_picked}
 use Rattle.clip_registry.proofs.Kept.{kept_purged}
-use Rattle.clip_registry.proofs.LiveFlags.{as_long, flags_here, length-flags_of, segment_at}
+use Rattle.clip_registry.proofs.LiveFlags.{beside, length-flags_of, segment_at}
 use Rattle.clip_registry.proofs.Picked.{flagged_by}
 use Rattle.clip_registry.proofs.purging.live_segments.Goals as goal
-use Rattle.clip_registry.proofs.purging.live_segments.Goals.{After-index, then-not-is_empty+in_ok-push+in_ok-push-2}
-use Rattle.clip_registry.proofs.purging.live_segments.Goals.{else-not-is_empty}
+use Rattle.clip_registry.proofs.purging.live_segments.Goals.{After-index}
 
-kept_some : (es : List Registered) → (length es == 0) ≡ false → filter has_entries (es ∷ []) ≡ es ∷ []
-kept_some [] h = grind (arith, nat_tests)
-kept_some (e ∷ es) h = refl
-
-kept_none : (es : List Registered) → (length es == 0) ≡ true → filter has_entries (es ∷ []) ≡ []
-kept_none [] h = refl
-kept_none (e ∷ es) h = grind (arith, nat_tests)
+shown : (es : List Registered) → shelf es ≡ filter has_entries (es ∷ [])
+shown [] = refl
+shown (e ∷ es) = refl
 
 -- what is kept of one segment more
 kept_more : (g : List Registered → List Registered) (segments : List (List Registered)) (i : ℕ) (es : List Registered)
     → i < length segments → get_or segments i [] ≡ es
-    → filter has_entries (map g (take i segments)) ++ filter has_entries (g es ∷ [])
+    → filter has_entries (map g (take i segments)) ++ shelf (g es)
     ≡ filter has_entries (map g (take (i + 1) segments))
 kept_more g segments i es lt at =
-    sym (ap (λ ss. filter has_entries (map g ss))
+    ap (λ s. filter has_entries (map g (take i segments)) ++ s) (shown (g es))
+    ∙ sym (ap (λ ss. filter has_entries (map g ss))
     (take_more segments i [] lt ∙ ap (λ s. take i segments ++ s ∷ []) at)
     ∙ ap (filter has_entries) (map-append g (take i segments) (es ∷ []))
     ∙ filter-append has_entries (map g (take i segments)) (g es ∷ []))
@@ -57,16 +50,13 @@ within c =
 flags : (c : After-index) → c.index.result.now
     ≡ flags_of (is_live_in (replay c.args.state.now.history)) c.segment-item.result.value
 flags c =
-    let live = c.state.inside.live.items in
-    let m = replay c.args.state.now.history in
-    let all = c.args.state.now.segments in
-    let are : live ≡ flags_in m all =
-    c.state.invariant.1
-    ∙ ap (λ k. flags_in k (map arc_value c.state.inside.segments.items)) c.state.invariant.0.registry
+    let items = c.state.inside.segments.items in
+    let are = c.state.invariant.1
+    ∙ ap (λ m. flags_in m (map arc_value items)) c.state.invariant.0.registry
     ∙ ap (λ (s : RegistryState). flags_in (replay s.history) s.segments) c.state.view_is in
-    flags_here (is_live_in m) all live c.loop-place.place c.index.result.now are c.index.ensures
-    (omega (arith, within c, as_long (is_live_in m) all live are))
-    ∙ ap (flags_of (is_live_in m)) (item c)
+    beside (is_live_in (replay c.args.state.now.history)) c.args.state.now.segments c.state.inside.live.items
+    c.deref-segment-items.result.now c.loop-place.place c.segment-item.result c.index.result.now are (segments c)
+    c.loop-place-test.true c.segment-item.is c.index.ensures
 
 pub live_segment-requires : goal.live_segment-requires
 live_segment-requires c =
@@ -77,46 +67,19 @@ pub loop-place-preserved : goal.loop-place-preserved
 loop-place-preserved c =
     let here = (goal.at.loop-place-preserved c).After-index in
     let state = c.args.state.now in
-    let m = replay state.history in
-    let is = is_live_in m in
+    let is = is_live_in (replay state.history) in
     let es = c.segment-item.result.value in
-    let kept = c.in_ok-kept.kept in
-    let before = c.loop-place.segments.items in
-    let live : kept.value ≡ live_of state es =
+    let kept = c.in_ok-kept.kept.value in
+    let live : kept ≡ live_of state es =
     c.in_ok-kept.ensures.entries ∙ ap (λ fs. flagged fs es) (flags here) ∙ flagged_by is es in
-    let set : c.in_ok-kept.flags ≡ flags_of is kept.value =
-    c.in_ok-kept.ensures.set ∙ ap (λ (rs : List Registered). replicate (length rs) true) live ∙ all_picked is es
-    ∙ ap (flags_of is) (sym live) in
-    let more = kept_more (live_of state) state.segments c.loop-place.place es (within here) (item here) in
-    let empty : (length kept.value == 0) ≡ c.is_empty.result =
-    ap (λ (rs : List Registered). length rs == 0) (sym c.deref.ensures) ∙ sym c.is_empty.ensures in
-    elim c.if-not-is_empty.branch [
-      | then-not-is_empty+in_ok-push+in_ok-push-2 w ↦
-          let segments : map arc_value c.if-not-is_empty.segments.items ≡ map arc_value before ++ kept.value ∷ [] =
-          ap (λ (v : Vec (Arc (List Registered) Global) Global). map arc_value v.items) w.segments-is
-          ∙ ap (map arc_value) w.in_ok-push.ensures.items ∙ map-append arc_value before (kept ∷ []) in
-          record {
-            kept = segments ∙ ap (λ l. l ++ kept.value ∷ []) c.loop-place.invariant.kept
-                ∙ ap (λ l. filter has_entries (map (live_of state) (take c.loop-place.place state.segments)) ++ l)
-                (sym (kept_some kept.value (empty ∙ w.if-not-is_empty.true))
-                ∙ ap (λ rs. filter has_entries (rs ∷ [])) live) ∙ more;
-            flags = ap (λ (v : Vec (List Bool) Global). v.items) w.live-is ∙ w.in_ok-push-2.ensures.items
-                ∙ ap₂ (λ fs f. fs ++ f ∷ []) c.loop-place.invariant.flags set
-                ∙ sym (map-append (flags_of is) (map arc_value before) (kept.value ∷ []))
-                ∙ ap (flags_in m) (sym segments);
-          }
-      | else-not-is_empty w ↦
-          let segments : map arc_value c.if-not-is_empty.segments.items ≡ map arc_value before =
-          ap (λ (v : Vec (Arc (List Registered) Global) Global). map arc_value v.items) w.segments-is in
-          record {
-            kept = segments ∙ c.loop-place.invariant.kept ∙ sym (append-nil _)
-                ∙ ap (λ l. filter has_entries (map (live_of state) (take c.loop-place.place state.segments)) ++ l)
-                (sym (kept_none kept.value (empty ∙ w.if-not-is_empty.false))
-                ∙ ap (λ rs. filter has_entries (rs ∷ [])) live) ∙ more;
-            flags = ap (λ (v : Vec (List Bool) Global). v.items) w.live-is ∙ c.loop-place.invariant.flags
-                ∙ ap (flags_in m) (sym segments);
-          }
-    ]
+    record {
+      kept = c.in_ok-shelve.ensures.segments
+          ∙ (λ i. c.loop-place.invariant.kept i ++ shelf (live i))
+          ∙ kept_more (live_of state) state.segments c.loop-place.place es (within here) (item here);
+      flags = c.in_ok-shelve.ensures.live is c.loop-place.invariant.flags
+          (c.in_ok-kept.ensures.set ∙ ap (λ (rs : List Registered). replicate (length rs) true) live ∙ all_picked is es
+          ∙ ap (flags_of is) (sym live));
+    }
 
 pub returns-clause-kept : goal.returns-clause-kept
 returns-clause-kept c =

@@ -18,5 +18,6 @@ returns c =
     (c.deref.ensures.value ∙ c.self.invariant.1
     ∙ ap (λ ss. flags_by is (map arc_value ss)) (sym c.deref-2.ensures.value))
     (λ live. subst (λ ss. Contains (seqs_of (all_entries (map arc_value ss))) seq) (sym c.deref-2.ensures.value)
-    (live_among (state_of c.self.inside) seq c.self.invariant.0.whole (ap (λ m. is_live_in m seq) (sym registry) ∙ live)))
+    (live_among (state_of c.self.inside) seq c.self.invariant.0.whole
+    (ap (λ m. is_live_in m seq) (sym registry) ∙ live)))
     ∙ ap (λ m. is_live_in m seq) (registry ∙ ap (λ (s : RegistryState). replay s.history) c.self.view_is)
