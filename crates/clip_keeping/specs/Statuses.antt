@@ -1,5 +1,5 @@
 -- Why the program does not do what it was asked, and with which status it ends.
-use Rattle.std.specs.Prelude.{ℕ, Result, Ok, Err}
+use Rattle.std.specs.Prelude.{⊤, ℕ, Result, Ok, Err}
 use Rattle.std.specs.declared.io.ErrorKind.{ErrorKind}
 use Rattle.std.specs.declared.io.ErrorKind.TheVariants as kind
 use Rattle.clip_journal.specs.declared.fault.ReadFault.{ReadFault}
@@ -47,6 +47,11 @@ fault_in_run kept.NoMemory = NoMemory
 fault_in_run kept.Read = Unread
 fault_in_run kept.Write = Unheard
 fault_in_run (kept.Journal why) = fault_in_journal why
+
+-- where it ended well nothing more is told
+abbrev pub outcome_of : {T : Type 0} → Result T KeptFault → Result ⊤ Fault
+outcome_of (Ok ended) = Ok tt
+outcome_of (Err why) = Err (fault_in_run why)
 
 -- of a file: it is locked, or there is no memory, or it can't be used
 abbrev pub fault_of_file : ErrorKind → Fault

@@ -24,6 +24,6 @@ pub use looking::print_live;
 pub use opening::open_short;
 pub use playing::play;
 pub use printing::print_lines;
-pub use serving::{Serving, serve_store};
+pub use serving::{Served, Serving, serve_store};
 pub use shortening::Shortening;
 pub use words::{Asked, Look, Task, read_words};

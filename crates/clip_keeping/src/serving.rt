@@ -1,15 +1,19 @@
 //! The run over a store.
-ghost use Rattle.std.specs.Prelude.{◌≤◌, OnOk};
+ghost use Rattle.std.specs.Prelude.{◌≡◌, ◌≤◌, OnOk, IfSome};
 ghost use Rattle.clip_front.specs.Devices.{AreFresh, devices_at};
-ghost use Rattle.clip_keeping.specs.Serving.{GivesAllOver};
+ghost use Rattle.clip_front.specs.Outcome.{OfKept, names_in};
+ghost use Rattle.clip_keeping.specs.Live.{AreLive};
+ghost use Rattle.clip_keeping.specs.Serving.{GivesAllOver, IsKept};
+ghost use Rattle.clip_keeping.specs.Statuses.{outcome_of};
 
 use crate::fault::{Fault, fault_of_run};
 use crate::opening::{changes_in, open_short};
 use crate::shortening::Shortening;
 use clip_journal::Store;
-use clip_kept::{Keeping, KeptRun, run_kept};
+use clip_ahead::KeptParts;
+use clip_kept::{KeptFault, Keeping, KeptRun, run_kept};
 use clip_listen::Audience;
-use clip_run::{OpenGate, Settings};
+use clip_run::{Ended, OpenGate, Settings};
 use clip_stream::{MOST_WORKERS, Sink, Source};
 use std::sync::Wait;
 use std::thread::Threads;
@@ -23,6 +27,25 @@ pub struct Serving<'b, S: Store, B: Audience> {
     /// Listeners of the names that the run's have, which hear nothing: by them is told what is live where the journal is
     /// written anew.
     pub namesakes: &'b B,
+}
+
+/// What a run over a store leaves.
+#[derive(Drop)]
+pub struct Served<R: Source, S: Store> {
+    /// Why it did not do what it was asked, where it did not.
+    pub outcome: Result<(), Fault>,
+    /// Its reader and its journal; nothing where the journal was not opened.
+    pub parts: Option<KeptParts<R, S>>,
+}
+
+/// Whether a run ended well, and why it did not.
+fn outcome_of(answer: Result<Ended, KeptFault>) -> Result<(), Fault>
+    ensures { result ≡ outcome_of answer }
+{
+    match answer {
+        Ok(_) => Ok(()),
+        Err(fault) => Err(fault_of_run(fault)),
+    }
 }
 
 /// Runs over the journal that a store has, by `run_kept`. Standard error is told how many changes are kept, and where the
@@ -43,11 +66,18 @@ pub fn serve_store<
     writer: &mut W,
     audience: &mut A,
     serving: Serving<'_, S, B>,
-) -> Result<(), Fault>
+) -> Served<R, S>
     requires fresh { AreFresh (devices_at R.Source W.Sink reader writer.old) }
     requires workers { serving.settings.workers ≤ MOST_WORKERS }
-    ensures { OnOk result (GivesAllOver (S.seen serving.entry.store) (A.hearers audience.old) (A.hearers audience.new)
-        serving.entry.settings (R.left reader) (W.taken writer.old) (W.taken writer.new)) }
+    ensures given { OnOk result.outcome (GivesAllOver (S.seen serving.entry.store) (A.hearers audience.old)
+        (A.hearers audience.new) serving.entry.settings (R.left reader) (W.taken writer.old) (W.taken writer.new)) }
+
+    // However it ended, what `run_kept` promises of its journal and its answer is so: it went on from what the store had,
+    // and what a stop leaves is read back as that and a front of the changes that were read, with all that were answered.
+    ensures kept { IfSome result.parts (λ parts. IsKept R.Source S.Store
+        (λ old new. OfKept (names_in (B.hearers serving.entry.namesakes.now)) old (λ begins. AreLive begins new))
+        (names_in (A.hearers audience.old)) reader (S.seen serving.entry.store) result.outcome parts
+        (devices_at R.Source W.Sink parts.reader writer.new)) }
 {
     let alloc = rt.alloc();
     let Serving {
@@ -55,7 +85,15 @@ pub fn serve_store<
         settings,
         namesakes,
     } = serving;
-    let opened = open_short(alloc, audience, store)?;
+    let opened = match open_short(alloc, audience, store) {
+        Ok(opened) => opened,
+        Err(fault) => {
+            return Served {
+                outcome: Err(fault),
+                parts: None,
+            };
+        }
+    };
     let changes = changes_in(&opened.found);
     let _ = eprintln!(rt; "pressclip-keep: {changes} changes are kept");
     let keeping = Keeping {
@@ -67,9 +105,9 @@ pub fn serve_store<
             audience: namesakes,
         },
     };
-    let KeptRun { answer, .. } = run_kept(rt, alloc, reader, writer, audience, keeping);
-    match answer {
-        Ok(_) => Ok(()),
-        Err(fault) => Err(fault_of_run(fault)),
+    let KeptRun { answer, parts } = run_kept(rt, alloc, reader, writer, audience, keeping);
+    Served {
+        outcome: outcome_of(answer),
+        parts: Some(parts),
     }
 }

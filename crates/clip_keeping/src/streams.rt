@@ -3,7 +3,7 @@ ghost use Rattle.std.specs.Prelude.{◌≤◌};
 
 use crate::fault::Fault;
 use crate::folder::open_folder;
-use crate::serving::{Serving, serve_store};
+use crate::serving::{Served, Serving, serve_store};
 use clip_command_line::keep_freed;
 use clip_listen::Audience;
 use clip_run::Settings;
@@ -49,5 +49,6 @@ pub fn keep<
         settings,
         namesakes,
     };
-    serve_store(rt, source, &mut sink, audience, serving)
+    let Served { outcome, parts: _ } = serve_store(rt, source, &mut sink, audience, serving);
+    outcome
 }
