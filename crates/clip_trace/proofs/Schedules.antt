@@ -1,5 +1,5 @@
 -- Schedules with one step more.
-use Rattle.std.proofs.Common.{◌≡◌, Ok, Err, IfOk, Result, map, List, [], ◌∷◌, ◌++◌, length, refl, sym, ap, subst, ◌∙◌}
+use Rattle.std.proofs.Common.{◌≡◌, ℕ, Ok, Err, IfOk, Result, map, List, [], ◌∷◌, ◌++◌, length, refl, sym, ap, subst, ◌∙◌}
 use Rattle.std.proofs.Common.{inl, inr, arith}
 use Rattle.std.specs.List.{zip}
 use Rattle.clip_model.proofs.Splits.{entry_split}
@@ -7,7 +7,7 @@ use Rattle.std.proofs.lemmas.List.{length-map, map-append}
 use Rattle.clip_trace.specs.declared.event.Event as code
 use Rattle.clip_trace.specs.declared.event.TraceAnswer.{TraceAnswer}
 use Rattle.clip_trace.specs.Event.{Event, Answer, event_of, answer_of}
-use Rattle.clip_trace.specs.Schedule.{Stand, Step, after, stand_from, stand, IsDueTo, IsDue}
+use Rattle.clip_trace.specs.Schedule.{Batch, Stand, Step, after, stand_from, stand, IsDueTo, IsDue}
 
 stand_push : (s : Stand) (steps : List Step) (step : Step) → stand_from s (steps ++ step ∷ [])
     ≡ after (stand_from s steps) step.0 step.1
@@ -23,6 +23,15 @@ due_push steps step due is = record {
     | inr (rest, same) ↦ due.each before rest last same
   ];
 }
+
+-- with other batches
+pub with_batches : (f : List (ℕ × Batch) → List (ℕ × Batch)) (now : List (ℕ × Batch)) (here there : Stand)
+    → now ≡ f here.batches → here ≡ there
+    → ◌≡◌ {A = Stand} (record { history = here.history; merges = here.merges; batches = now })
+    (record { history = there.history; merges = there.merges; batches = f there.batches })
+with_batches f now here there changed same =
+    ap (λ (bs : List (ℕ × Batch)). record { history = here.history; merges = here.merges; batches = bs }) changed
+    ∙ ap (λ (s : Stand). record { history = s.history; merges = s.merges; batches = f s.batches }) same
 
 -- The schedule goes on by a step that is due as things stand, and things stand then as they do after that step.
 pub goes_on : (s t : Stand) (e : Event) (a : Answer) → IsDueTo s e a → t ≡ after s e a

@@ -5,11 +5,12 @@ use Rattle.std.proofs.lemmas.List.{take_all}
 use Rattle.clip_standing.specs.Alerts.{alerts_value}
 use Rattle.clip_trace.specs.Event as event
 use Rattle.clip_trace.specs.Event.{found_of, found_after}
-use Rattle.clip_trace.specs.Schedule.{Batch, Stand, IsDueTo, with_matched}
+use Rattle.clip_trace.specs.Schedule.{Batch, IsDueTo, with_matched}
 use Rattle.clip_trace.specs.Steps.Tracer.{tracer_inside}
 use Rattle.clip_trace.proofs.Numbered.{lookup_is, Stands, stands, looked_up, removed, removed_distinct, changed_removed}
 use Rattle.clip_trace.proofs.Numbered.{changed_there}
 use Rattle.clip_trace.proofs.Refusals.{due_unknown, due_done}
+use Rattle.clip_trace.proofs.Schedules.{with_batches}
 use Rattle.clip_trace.proofs.tracer.Tracer.finish.Goals as goal
 
 pub returns-in_default-clause-due : goal.returns-in_default-clause-due
@@ -61,18 +62,5 @@ returns-clause-due c =
 
 pub returns-clause-stand : goal.returns-clause-stand
 returns-clause-stand c =
-    let batches : c.remove-finished.new.self.items
-    ≡ filter (λ b. not (b.0 == c.args.batch)) c.self.inside.batches.items =
-    without c ∙ removed c.self.invariant.batches (there c) in
-    (λ i. record {
-      history = c.self.inside.registrar.history;
-      merges =
-          map (λ m. m.0) c.self.inside.merges.items;
-      batches = batches i;
-    })
-    ∙ ap (λ (s : Stand). record {
-      history = s.history;
-      merges = s.merges;
-      batches =
-          filter (λ b. not (b.0 == c.args.batch)) s.batches;
-    }) c.self.view_is
+    with_batches (filter (λ b. not (b.0 == c.args.batch))) c.remove-finished.new.self.items
+    (tracer_inside c.self.inside) _ (without c ∙ removed c.self.invariant.batches (there c)) c.self.view_is

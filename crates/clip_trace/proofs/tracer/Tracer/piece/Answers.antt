@@ -1,9 +1,10 @@
 use Rattle.std.proofs.Common.{◌≡◌, ◌+◌, false, not, Option, Some, None, is_some, refl, sym, ap, subst, ◌∙◌, map, set}
 use Rattle.clip_trace.specs.Event as event
-use Rattle.clip_trace.specs.Schedule.{Batch, Stand, IsDueTo, is_unmatched, with_matched, matched_more}
+use Rattle.clip_trace.specs.Schedule.{Batch, IsDueTo, is_unmatched, with_matched, matched_more}
 use Rattle.clip_trace.specs.Steps.Tracer.{tracer_inside}
 use Rattle.clip_trace.proofs.Numbered.{lookup_is, Stands, stands, looked_up, changed, changed_distinct}
 use Rattle.clip_trace.proofs.Refusals.{due_unknown, due_done}
+use Rattle.clip_trace.proofs.Schedules.{with_batches}
 use Rattle.clip_trace.proofs.tracer.Tracer.piece.Goals as goal
 
 none_unmatched : (b : Option Batch) → is_some b ≡ false → is_unmatched b ≡ false
@@ -54,15 +55,4 @@ returns-clause-stand c =
     ≡ map (matched_more c.args.batch) c.self.inside.batches.items =
     ap (λ b. set c.self.inside.batches.items c.in-Some.place (x.0, b)) c.in_ok-match_next.ensures.matched
     ∙ changed c.self.invariant.batches (there c) (λ b. with_matched b (b.matched + 1)) in
-    (λ i. record {
-      history = c.self.inside.registrar.history;
-      merges =
-          map (λ m. m.0) c.self.inside.merges.items;
-      batches = batches i;
-    })
-    ∙ ap (λ (s : Stand). record {
-      history = s.history;
-      merges = s.merges;
-      batches =
-          map (matched_more c.args.batch) s.batches;
-    }) c.self.view_is
+    with_batches (map (matched_more c.args.batch)) _ (tracer_inside c.self.inside) _ batches c.self.view_is
