@@ -1,5 +1,5 @@
 //! The candidates of an article whose queries hold of it.
-ghost use Rattle.std.specs.Prelude.{◌≡◌, ◌+◌, ◌<◌, ◌≤◌, ◌^◌, ◌++◌, ◌||◌, List, None, Some, map, filter, length};
+ghost use Rattle.std.specs.Prelude.{◌≡◌, ◌+◌, ◌<◌, ◌≤◌, ◌^◌, ◌++◌, ◌||◌, List, [], None, Some, map, filter, length};
 ghost use Rattle.std.specs.Prelude.{option_map, IfOk, IfSome, OnOk, false, slice_index_or};
 ghost use Rattle.std.specs.List.{All, list_any, slice_get};
 ghost use Rattle.clip_extract.specs.Covering.{article_keys};
@@ -10,7 +10,7 @@ ghost use Rattle.clip_segment.specs.Index.{positions_under};
 ghost use Rattle.clip_segment.specs.Segment.{IsRising, heard_of, trees_of};
 ghost use Rattle.clip_match.specs.Candidates.{candidates_of, positions_of, MissesNone, AreRegistered};
 ghost use Rattle.clip_match.specs.Steps.Held.{HasItsHits};
-ghost use Rattle.clip_match.specs.Steps.Positions.{entries_at, has_listener, live_with};
+ghost use Rattle.clip_match.specs.Steps.Positions.{entries_at, has_listener, holding_of, live_sharing};
 
 use crate::held::{Held, HitPlaces, HitsFound};
 use clip_extract::covering_law;
@@ -36,15 +36,13 @@ fn candidates_in(
     read: &mut PositionsRead,
 ) -> Result<u64, NoMemory>
     requires { slice_get view.now.segments place ≡ Some reading.now.entries }
-    ensures asked { IfOk result (λ asked. asked ≡ length
-        (live_with view.now.history (article_keys reading.now.article.fields) reading.now.entries)) }
+    ensures asked { IfOk result (λ asked. asked ≡ length (live_sharing view.now.history reading.now)) }
     ensures positions { OnOk result (
         filter (λ r. holds r.standing.tree reading.now.article.fields)
         (entries_at reading.now.entries positions.new.items)
-        ≡ filter (λ r. holds r.standing.tree reading.now.article.fields)
-        (live_with view.now.history (article_keys reading.now.article.fields) reading.now.entries)) }
-    ensures few { OnOk result (length positions.new.items ≤ length
-        (live_with view.now.history (article_keys reading.now.article.fields) reading.now.entries)) }
+        ≡ holding_of view.now.history reading.now) }
+    ensures few { OnOk result (length positions.new.items
+        ≤ length (live_sharing view.now.history reading.now)) }
     ensures read { OnOk result (read.new ≡ read.old
         + positions_under query_keys (article_keys reading.now.article.fields) (trees_of reading.now.entries)) }
 {
@@ -240,6 +238,27 @@ pub(crate) struct Judged<'a> {
     pub(crate) is_heard: bool,
 }
 
+impl<'a> Judged<'a> {
+    /// Nothing yet. Takes no memory.
+    fn none(alloc: Global) -> Judged<'a>
+        ensures asked { result.asked ≡ 0 }
+        ensures held { result.entries.held.items ≡ [] }
+        ensures all_hits { result.entries.all_hits.items ≡ [] }
+        ensures heard { result.is_heard ≡ false }
+    {
+        Judged {
+            asked: 0,
+            plans: 0,
+            read: 0,
+            entries: HeldEntries {
+                held: Vec::new(alloc),
+                all_hits: Vec::new(alloc),
+            },
+            is_heard: false,
+        }
+    }
+}
+
 /// Room that the judging of one segment leaves for the next.
 #[derive(Drop)]
 struct Room {
@@ -278,13 +297,11 @@ impl Room {
         reading: &SegmentReading<'_>,
     ) -> Result<u64, NoMemory>
         requires { slice_get view.now.segments place ≡ Some reading.now.entries }
-        ensures asked { IfOk result (λ asked. asked ≡ length
-            (live_with view.now.history (article_keys reading.now.article.fields) reading.now.entries)) }
+        ensures asked { IfOk result (λ asked. asked ≡ length (live_sharing view.now.history reading.now)) }
         ensures holding { OnOk result (entries_at reading.now.entries self.new.holding.items
-            ≡ filter (λ r. holds r.standing.tree reading.now.article.fields)
-            (live_with view.now.history (article_keys reading.now.article.fields) reading.now.entries)) }
-        ensures most { OnOk result (self.new.tallies ≤ self.old.tallies + length
-            (live_with view.now.history (article_keys reading.now.article.fields) reading.now.entries)) }
+            ≡ holding_of view.now.history reading.now) }
+        ensures most { OnOk result (self.new.tallies
+            ≤ self.old.tallies + length (live_sharing view.now.history reading.now)) }
         ensures least { OnOk result (self.old.tallies
             + length (entries_at reading.now.entries self.new.holding.items) ≤ self.new.tallies) }
         ensures read { OnOk result (self.new.read ≡ self.old.read
@@ -319,23 +336,18 @@ impl Room {
         judged: &mut Judged<'a>,
     ) -> Result<(), NoMemory>
         requires place { slice_get view.now.segments place ≡ Some reading.now.entries }
-        requires few { judged.old.asked + length
-            (live_with view.now.history (article_keys reading.now.article.fields) reading.now.entries) < 2 ^ 64 }
-        ensures asked { OnOk result (judged.new.asked ≡ judged.old.asked + length
-            (live_with view.now.history (article_keys reading.now.article.fields) reading.now.entries)) }
+        requires few { judged.old.asked + length (live_sharing view.now.history reading.now) < 2 ^ 64 }
+        ensures asked { OnOk result (judged.new.asked ≡ judged.old.asked
+            + length (live_sharing view.now.history reading.now)) }
         ensures held { OnOk result (map (λ h. h.registered.now) judged.new.entries.held.items
-            ≡ map (λ h. h.registered.now) judged.old.entries.held.items
-            ++ filter (λ r. holds r.standing.tree reading.now.article.fields)
-            (live_with view.now.history (article_keys reading.now.article.fields) reading.now.entries)) }
+            ≡ map (λ h. h.registered.now) judged.old.entries.held.items ++ holding_of view.now.history reading.now) }
         ensures hits { OnOk result (
             All (HasItsHits hits reading.now.article (map hit_value judged.old.entries.all_hits.items))
             judged.old.entries.held.items
             → All (HasItsHits hits reading.now.article (map hit_value judged.new.entries.all_hits.items))
             judged.new.entries.held.items) }
         ensures heard { OnOk result (judged.new.is_heard
-            ≡ (judged.old.is_heard || list_any has_listener
-            (filter (λ r. holds r.standing.tree reading.now.article.fields)
-            (live_with view.now.history (article_keys reading.now.article.fields) reading.now.entries)))) }
+            ≡ (judged.old.is_heard || list_any has_listener (holding_of view.now.history reading.now))) }
         ensures most { OnOk result (self.new.tallies + judged.old.asked ≤ self.old.tallies + judged.new.asked) }
         ensures least { OnOk result (self.old.tallies + length judged.new.entries.held.items
             ≤ self.new.tallies + length judged.old.entries.held.items) }
@@ -357,7 +369,8 @@ impl Room {
 
 /// What comes of judging the candidates of an article, which are the live entries whose query has a key in common with
 /// it: how many there are, those whose queries hold of the article, in rising seq, and, where hits are found at once,
-/// the hits of these. Each registered query that holds of the article is among them.
+/// the hits of these; with how many plans were judged and how many positions read. Each registered query that holds of
+/// the article is among them.
 ///
 /// `NoMemory` where an allocation failed. Cost: a step for each word of the article; in each segment that of
 /// `SegmentReading::sharer_marks`, a step for each 64 entries, one for each candidate that its second keys do not rule
@@ -386,16 +399,7 @@ pub(crate) fn judge_candidates<'a>(
     covering_law();
     let asking = Asking::of(alloc, article)?;
     let mut room = Room::new(alloc);
-    let mut judged = Judged {
-        asked: 0,
-        plans: 0,
-        read: 0,
-        entries: HeldEntries {
-            held: Vec::new(alloc),
-            all_hits: Vec::new(alloc),
-        },
-        is_heard: false,
-    };
+    let mut judged = Judged::none(alloc);
     let segments = view.segments();
     for (place, segment) in segments.iter().enumerate() {
         let reading = segment.read(alloc, &asking, &mut room.read)?;

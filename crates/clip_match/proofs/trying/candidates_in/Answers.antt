@@ -1,5 +1,5 @@
 use Rattle.std.proofs.Common.{◌≡◌, false, filter, get_or, length, map, option_map, ap, ap₂, ◌∙◌}
-use Rattle.std.proofs.Common.{arith}
+use Rattle.std.proofs.Common.{arith, rules}
 use Rattle.std.specs.List.{count_by}
 use Rattle.std.proofs.lemmas.Option.{same_Some}
 use Rattle.clip_pieces.specs.Marked.{both}
@@ -48,3 +48,6 @@ returns-clause-few c =
     let live = counted c.args.view.now.history (article_keys c.args.reading.now.article.fields)
     c.args.reading.now.entries in
     omega (arith, ap length c.in_ok-numbers_into.ensures, among, ap (count_by (λ flag. flag)) (kept here), live)
+
+pub returns-clause-read : goal.returns-clause-read
+returns-clause-read c = search rules

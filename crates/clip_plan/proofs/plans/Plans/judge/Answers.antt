@@ -1,4 +1,4 @@
-use Rattle.std.proofs.Common.{◌≡◌, List, map, subst}
+use Rattle.std.proofs.Common.{◌≡◌, List, map, rules, subst}
 use Rattle.std.specs.Prelude.{IfOk}
 use Rattle.clip_grammar.specs.Tree.{Tree, tree_of}
 use Rattle.clip_grammar.specs.declared.query.Query.{Query}
@@ -16,3 +16,6 @@ returns-clause-held c =
     (subst (λ (queries : List Query). IfOk c.holds.result
     (λ held. (tree : Tree) → map (meant c.self.inside.runs (map tree_of queries) reading.terms) c.get.result.now
     ≡ plan_of tree → held ≡ holds tree reading.article.fields)) c.deref.ensures.value c.holds.ensures)
+
+pub returns-clause-counted : goal.returns-clause-counted
+returns-clause-counted c = search rules
