@@ -34,9 +34,9 @@ fn take_standing<R: Wait>(rt: &R, nudges: &Receiver<Nudge>) -> bool {
 impl<N: DeskName, L: UpdateListener> Desk<N, L> {
     /// Leaves each segment with just its live entries, takes the empty ones away, publishes that, and tells the
     /// listeners: `Foreign` for a seat of another tag, and `NoMemory` where an allocation failed, with nothing changed
-    /// and nothing told. The seat keeps how long the history was then, which is no shorter than what it has seen: a
-    /// look with it shows no entry that was dead at that place. It may wait for other callers' commits, and for readers
-    /// that look. It costs that of `Registrar::purge`, and what each listener takes.
+    /// and nothing told. The seat counts the purge, and keeps how long the history was then, which is no shorter than
+    /// what it has seen: a look with it shows no entry that was dead at that place. It may wait for other callers'
+    /// commits, and for readers that look. It costs that of `Registrar::purge`, and what each listener takes.
     pub fn purge<R: Wait>(&self, rt: &R, seat: &mut Seat) -> Result<(), Refused>
         ensures purged { OnOk result ((length seat.old.seen ≤ seat.new.purged_at)
             × (length seat.old.mine ≤ seat.new.purged_at)) }

@@ -1,4 +1,4 @@
-use Rattle.std.proofs.Common.{rules, ◌≡◌, ◌∙◌, ℕ, length, ap, sym, subst}
+use Rattle.std.proofs.Common.{rules, ◌≡◌, ◌∙◌, length, ap, sym, subst}
 use Rattle.clip_registry.specs.Merging.{purged}
 use Rattle.clip_registry.specs.RegistryState.{RegistryState}
 use Rattle.clip_desk.specs.Purges.{IsPurgedAt}
