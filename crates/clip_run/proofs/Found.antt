@@ -8,19 +8,20 @@ use Rattle.clip_model.specs.Alerts.{alerts}
 use Rattle.clip_match.specs.Alerts.{alerts_due}
 use Rattle.clip_standing.specs.Alerts.{AlertsValue}
 use Rattle.clip_listen.specs.Heard.{Hearer, note_value, notes_of, told_all}
-use Rattle.clip_listen.specs.declared.note.Note.{Note}
 use Rattle.clip_registry.specs.RegistryState.{RegistryState}
 use Rattle.clip_protocol.specs.LineMeaning.{matching}
 use Rattle.clip_protocol.specs.declared.form.Form.{Form}
-use Rattle.clip_protocol.specs.Reply.{alerts_data, alerts_shown, alerts_of_all, matched, reply, reply_text, texts_said}
+use Rattle.clip_protocol.specs.Reply.{alerts_data, alerts_shown, alerts_of_all, matched, reply_text, texts_said}
 use Rattle.clip_protocol.specs.Steps.Flowing.{closing, items_begun, opening}
 use Rattle.clip_protocol.specs.Steps.Views.{alerts_by_id}
 use Rattle.clip_front.specs.declared.books.Books.{Books}
+use Rattle.clip_front.specs.declared.deliver.MatchReply.{MatchReply}
 use Rattle.clip_front.specs.Outcome.{given, kept_rows, rows_of_article}
 use Rattle.clip_front.specs.Steps.Answers.{GoesOn, held}
 use Rattle.clip_front.specs.Steps.Found.{told_in, rows_in, found_text, found_outcome}
 use Rattle.clip_front.proofs.Flowing.{begun_text, data_of, text_whole}
 use Rattle.clip_front.proofs.Responses.{held_by}
+use Rattle.clip_run.specs.Due.{due_to}
 use Rattle.clip_run.specs.Pending.{owed_to}
 use Rattle.clip_run.specs.declared.batch.Batch.{Batch}
 
@@ -88,26 +89,28 @@ pub all_matched : (view : RegistryState) (articles : List ArticleValue) (i : ℕ
 all_matched view articles i all =
     take_all i (map (alerts_due view) articles) (omega (arith, all, length-map articles (alerts_due view)))
 
--- what is put after all articles is the reply
-pub whole_reply : (view : RegistryState) (articles : List ArticleValue) (form : Form) (hearers : List Hearer)
-    (n k i : ℕ) (notes : List Note) → length articles ≤ i → k ≡ n
-    → map note_value notes ≡ notes_of hearers (told_in (take i (map (alerts_due view) articles)))
-    → begun_text (data_of form (map (alerts_due view) articles)) i ++ closing k (map (λ x. arc_str_bytes x.text) notes)
-    ≡ reply form hearers n view.history (matching articles)
-whole_reply view articles form hearers n k i notes all number said =
-    let vs = map (alerts_due view) articles in
+-- what is put after all articles of a batch is the reply
+pub whole_reply : (batch : Batch) (form : Form) (hearers : List Hearer) (shown : MatchReply) (i : ℕ)
+    → length batch.drafts.items ≤ i → shown.number ≡ batch.number
+    → map note_value shown.notes.items ≡ notes_of hearers (told_in (take i (due_to batch)))
+    → begun_text (data_of form (due_to batch)) i
+    ++ closing shown.number (map (λ x. arc_str_bytes x.text) shown.notes.items)
+    ≡ (owed_to hearers batch).text form
+whole_reply batch form hearers shown i all number said =
+    let articles = batch.drafts.items in
+    let vs = due_to batch in
     let ds = data_of form vs in
-    let texts = map (λ x. arc_str_bytes x.text) notes in
+    let texts = map (λ x. arc_str_bytes x.text) shown.notes.items in
     let within : length ds ≤ i =
     omega (
       arith,
       all,
-      length-map articles (alerts_due view),
+      length-map articles (alerts_due batch.view),
       length-map vs alerts_by_id,
       length-map (map alerts_by_id vs) (alerts_data form),
     ) in
-    ap (λ xs. (opening ++ items_begun false xs) ++ closing k texts) (take_all i ds within)
+    ap (λ xs. (opening ++ items_begun false xs) ++ closing shown.number texts) (take_all i ds within)
     ∙ ap (λ j. (opening ++ items_begun false ds) ++ closing j texts) number
-    ∙ text_whole form hearers n vs notes (said
-    ∙ ap (λ ws. notes_of hearers (told_in ws)) (all_matched view articles i all))
-    ∙ text-alerts_due form hearers n view articles
+    ∙ text_whole form hearers batch.number vs shown.notes.items (said
+    ∙ ap (λ ws. notes_of hearers (told_in ws)) (all_matched batch.view articles i all))
+    ∙ text-alerts_due form hearers batch.number batch.view articles

@@ -1,71 +1,34 @@
 -- What a run gives that may owe answers meanwhile: just what its lines give.
-use Rattle.std.proofs.Common.{◌≡◌, ℕ, suc, ◌+◌, arith, List, [], ◌∷◌, ◌++◌, length, Bool, Option, refl, sym, ap, ap₂}
-use Rattle.std.proofs.Common.{◌∙◌, subst, append_assoc, append-nil, inl, inr, if◌then◌else◌}
+use Rattle.std.proofs.Common.{◌≡◌, ℕ, suc, List, [], ◌∷◌, ◌++◌, Bool, Option, refl, sym, ap, ap₂, ◌∙◌, subst}
+use Rattle.std.proofs.Common.{append_assoc}
 use Rattle.std.specs.Io.KnownBytes.{Appends}
 use Rattle.clip_stream.specs.Device.{AppendsFront}
 use Rattle.clip_stream.specs.Lines.{lines_of, OfInput, OfLinesRead}
 use Rattle.clip_stream.proofs.Flows.{front_longer}
 use Rattle.clip_stream.proofs.LinesRead.{of_input_weaker, of_lines_read_weaker}
 use Rattle.clip_stream.specs.Steps.Reading.{cut}
-use Rattle.clip_model.specs.Alerts.{Alert}
-use Rattle.clip_model.specs.History.{History}
-use Rattle.clip_listen.specs.Heard.{Hearer, told_all, HearsFront}
-use Rattle.clip_listen.proofs.Hearing.{no_front, front_after, front_of_more, names_told}
-use Rattle.clip_protocol.specs.LineMeaning.{Meaning, Means, after, is_blank, json_of}
-use Rattle.clip_front.specs.Outcome.{Outcome, nothing_given, followed_by, given, names_in, kept_rows, Gives}
+use Rattle.clip_listen.specs.Heard.{told_all, HearsFront}
+use Rattle.clip_listen.proofs.Hearing.{no_front, front_after, front_of_more}
+use Rattle.clip_front.specs.Outcome.{Outcome, nothing_given, followed_by, given, kept_rows, Gives}
 use Rattle.clip_front.specs.Outcome.{GivesAllFrom, GivesFrontFrom, GivesLinesFrom}
-use Rattle.clip_protocol.specs.Steps.Outline.{outline, blank, outline_of_value, MeansOutline}
-use Rattle.clip_front.specs.Steps.Serving.{Serves, StopsAt, ServesAll, ServesFront, ServesLines}
-use Rattle.clip_protocol.proofs.Meanings.{means_from, means_to}
-use Rattle.clip_front.proofs.Outcomes.{followed_assoc, followed_nothing, given_kept}
+use Rattle.clip_front.specs.Steps.Serving.{Serves, ServesAll, ServesFront, ServesLines}
+use Rattle.clip_front.proofs.Begun.{begun_of}
+use Rattle.clip_front.proofs.Outcomes.{followed_assoc, followed_nothing}
 use Rattle.clip_front.proofs.OneOutcome.{gives_on}
-use Rattle.clip_front.proofs.Served.{choose, cut_is_long, cut_is_whole}
+use Rattle.clip_front.proofs.Served.{gives_first, gives_one}
 use Rattle.clip_front.specs.declared.settings.Settings.{Settings}
 use Rattle.clip_run.specs.Owed.{owes, Course, Gave, Turns, BreaksOff, TurnsIn, BreaksIn}
 use Rattle.clip_run.proofs.Owing.{owes_told, gave_nothing, gave_more}
 
--- ---- a line that is cut means no other thing
-
-outline_cut : (line : List ℕ) → outline (cut line) ≡ outline line
-unfolding outline
-outline_cut line = choose _ _ _ _ _ (cut_is_long line)
-    (λ e. ap (λ l. if is_blank l then blank else outline_of_value (json_of l)) (cut_is_whole line e))
-
-means_whole : (names : List (List ℕ)) (h : History) (line : List ℕ) (m : Meaning) → Means names h (cut line) m
-    → Means names h line m
-means_whole names h line m means =
-    means_from names h line m
-    (subst (λ o. MeansOutline names h o m) (outline_cut line) (means_to names h (cut line) m means))
-
--- what was heard before changes nothing that is given
-gives_kept : (front : List Alert) (hearers : List Hearer) (n : ℕ) (h : History) (lines : List (List ℕ)) (o : Outcome)
-    → Gives (told_all front hearers) n h lines o → Gives hearers n h lines o
-gives_kept front hearers n h [] o g = g
-gives_kept front hearers n h (line ∷ lines) o g = (
-  g.0,
-  g.1,
-  subst (λ ns. Means ns h line g.0) (names_told front hearers) g.2,
-  g.3
-      ∙ ap (λ x. followed_by x g.1) (given_kept front hearers n h g.0),
-  gives_kept front hearers (suc n) (after h g.0) lines g.1 g.4,
-)
-
 -- ---- one line and those after it
 
-gives_first : (s t : Course) (n : ℕ) (line text : List ℕ) (lines : List (List ℕ)) (rest : Outcome)
+gives_now : (s t : Course) (n : ℕ) (line text : List ℕ) (lines : List (List ℕ)) (rest : Outcome)
     (a : Turns s t n (cut line) text) → Gives t.hearers (suc n) t.history lines rest
     → Gives s.hearers n s.history (line ∷ lines) (followed_by (given s.hearers n s.history a.meaning) rest)
-gives_first s t n line text lines rest a gives =
-    let m = a.meaning in
-    let later : Gives (told_all a.out.alerts s.hearers) (suc n) (after s.history m) lines rest =
-    subst (λ h. Gives (told_all a.out.alerts s.hearers) (suc n) h lines rest) a.history
-    (subst (λ hs. Gives hs (suc n) t.history lines rest) a.gave.heard gives) in (
-      m,
-      rest,
-      means_whole (names_in s.hearers) s.history line m a.means,
-      refl,
-      gives_kept a.out.alerts s.hearers (suc n) (after s.history m) lines rest later,
-    )
+gives_now s t n line text lines rest a gives =
+    gives_first s.hearers n s.history line lines a.meaning a.out.alerts rest a.means
+    (subst (λ h. Gives (told_all a.out.alerts s.hearers) (suc n) h lines rest) a.history
+    (subst (λ hs. Gives hs (suc n) t.history lines rest) a.gave.heard gives))
 
 -- what was owed and what all lines give, by what the line gave and what is owed then
 rest_first : (s t : Course) (n : ℕ) (line text : List ℕ) (a : Turns s t n line text) (rest : Outcome)
@@ -94,7 +57,7 @@ taken_first : (s t u : Course) (n : ℕ) (line first more text : List ℕ) (line
     → TakenBy s u n (line ∷ lines) text
 taken_first s t u n line first more text lines a e later = record {
   outcome = followed_by (given s.hearers n s.history a.meaning) later.outcome;
-  gives = gives_first s t n line first lines later.outcome a later.gives;
+  gives = gives_now s t n line first lines later.outcome a later.gives;
   out = followed_by a.out later.out;
   gave = gave_more s t u a.out later.out a.gave later.gave;
   printed = ap₂ (λ x y. x ++ y) a.printed (ap (λ k. later.out.text k.form) (sym a.gave.settings) ∙ later.printed)
@@ -201,21 +164,13 @@ begun_none s n = record {
 
 begun_here : (s t : Course) (n : ℕ) (line text : List ℕ) → BreaksOff s t n (cut line) text
     → BegunBy s t n (line ∷ []) text
-begun_here s t n line text b =
-    let now = given s.hearers n s.history b.meaning in
-    record {
-      outcome = now;
-      gives = (
-        b.meaning,
-        nothing_given,
-        means_whole (names_in s.hearers) s.history line b.meaning b.means,
-        sym (followed_nothing now),
-        refl,
-      );
-      more = b.more;
-      printed = b.printed;
-      heard = b.heard;
-    }
+begun_here s t n line text b = record {
+  outcome = given s.hearers n s.history b.meaning;
+  gives = gives_one s.hearers n s.history line b.meaning b.means;
+  more = b.more;
+  printed = b.printed;
+  heard = b.heard;
+}
 
 begun_first : (s t u : Course) (n : ℕ) (line first rest text : List ℕ) (lines : List (List ℕ))
     → Turns s t n (cut line) first → text ≡ first ++ rest → BegunBy t u (suc n) lines rest
@@ -225,7 +180,7 @@ begun_first s t u n line first rest text lines a e later =
     let all = rest_first s t n (cut line) first a later.outcome in
     record {
       outcome = followed_by now later.outcome;
-      gives = gives_first s t n line first lines later.outcome a later.gives;
+      gives = gives_now s t n line first lines later.outcome a later.gives;
       more = later.more;
       printed = ap (λ o. o.text s.settings.form) all
           ∙ ap₂ (λ x y. x ++ y) a.printed
@@ -235,31 +190,6 @@ begun_first s t u n line first rest text lines a e later =
           (front_after a.out.alerts (followed_by (owes t.hearers t.owed) later.outcome).alerts s.hearers t.hearers
           u.hearers a.gave.heard later.heard);
     }
-
-begun_by : {S : Type 0} (view : S → Course) (s t u : S) (n k : ℕ) (lines : List (List ℕ)) (line text begun : List ℕ)
-    → Serves (TurnsIn view) s t n lines text → k ≡ n + length lines → BreaksIn view t u k (cut line) begun
-    → BegunBy (view s) (view u) n (lines ++ line ∷ []) (text ++ begun)
-begun_by view s t u n k [] line text begun p e broken =
-    let here : k ≡ n = omega (arith, e) in
-    let whole : text ++ begun ≡ begun = ap (λ x. x ++ begun) p.1 in
-    subst (BegunBy (view s) (view u) n (line ∷ [])) (sym whole)
-    (begun_here (view s) (view u) n line begun
-    (subst (λ x. BreaksIn view x u n (cut line) begun) p.0
-    (subst (λ j. BreaksIn view t u j (cut line) begun) here broken)))
-begun_by view s t u n k (l ∷ lines) line text begun p e broken =
-    begun_first (view s) (view p.0) (view u) n l p.1 (p.2 ++ begun) (text ++ begun) (lines ++ line ∷ []) p.3
-    (ap (λ x. x ++ begun) p.4
-    ∙ append_assoc p.1 p.2 begun)
-    (begun_by view p.0 t u (suc n) k lines line p.2 begun p.5 (omega (arith, e)) broken)
-
-ended_by : {S : Type 0} (view : S → Course) (s t : S) (n : ℕ) (lines : List (List ℕ)) (text : List ℕ)
-    → Serves (TurnsIn view) s t n lines text → BegunBy (view s) (view t) n lines text
-ended_by view s t n [] text p =
-    subst (BegunBy (view s) (view t) n []) (sym p.1)
-    (subst (λ x. BegunBy (view s) (view x) n [] []) (sym p.0) (begun_none (view s) n))
-ended_by view s t n (line ∷ lines) text p =
-    begun_first (view s) (view p.0) (view t) n line p.1 p.2 text lines p.3 p.4
-    (ended_by view p.0 t (suc n) lines p.2 p.5)
 
 -- lines that were not begun
 begun_more : (s t : Course) (n : ℕ) (lines later : List (List ℕ)) (text : List ℕ) → BegunBy s t n lines text
@@ -293,33 +223,14 @@ front_given s t taken_old taken text lines none b written =
       told = subst (λ o. HearsFront o.alerts s.hearers t.hearers) whole b.heard;
     }
 
--- nothing more was begun
-stopped : {S : Type 0} (view : S → Course) (s t u : S) (text begun : List ℕ) (lines later : List (List ℕ))
-    → Serves (TurnsIn view) s t 1 lines text → u ≡ t → begun ≡ []
-    → BegunBy (view s) (view u) 1 (lines ++ later) (text ++ begun)
-stopped view s t u text begun lines later p same none =
-    subst (BegunBy (view s) (view u) 1 (lines ++ later)) (sym (ap (λ x. text ++ x) none ∙ append-nil text))
-    (begun_more (view s) (view u) 1 lines later text
-    (ended_by view s u 1 lines text (subst (λ x. Serves (TurnsIn view) s x 1 lines text) (sym same) p)))
-
-begun_at : {S : Type 0} (view : S → Course) (s t u : S) (text begun : List ℕ) (lines later : List (List ℕ))
-    → Serves (TurnsIn view) s t 1 lines text → StopsAt (BreaksIn view) t u (suc (length lines)) later begun
-    → BegunBy (view s) (view u) 1 (lines ++ later) (text ++ begun)
-begun_at view s t u text begun lines [] p same = stopped view s t u text begun lines [] p same.0 same.1
-begun_at view s t u text begun lines (line ∷ later) p (inl same) =
-    stopped view s t u text begun lines (line ∷ later) p same.0 same.1
-begun_at view s t u text begun lines (line ∷ later) p (inr broken) =
-    subst (λ ls. BegunBy (view s) (view u) 1 ls (text ++ begun)) (append_assoc lines (line ∷ []) later)
-    (begun_more (view s) (view u) 1 (lines ++ line ∷ []) later (text ++ begun)
-    (begun_by view s t u 1 (suc (length lines)) lines line text begun p (omega arith) broken))
-
 gives_front : {S : Type 0} (view : S → Course) (s t : S) (settings : Settings) (taken_old taken : Option (List ℕ))
     (lines : List (List ℕ)) → (view s).settings ≡ settings → (view s).owed ≡ []
     → ServesFront (TurnsIn view) (BreaksIn view) s t taken_old taken lines
     → GivesFrontFrom (view s).history (view s).hearers (view t).hearers settings.form taken_old taken lines
 gives_front view s t settings taken_old taken lines same none p =
-    let begun = subst (λ ls. BegunBy (view s) (view t) 1 ls (p.text ++ p.begun)) (sym p.parts)
-    (begun_at view s p.between t p.text p.begun p.front p.later p.served p.stops) in
+    let begun = begun_of (TurnsIn view) (BreaksIn view) (λ a b. BegunBy (view a) (view b)) (λ a. begun_none (view a))
+    (λ a b. begun_here (view a) (view b)) (λ a b c. begun_first (view a) (view b) (view c))
+    (λ a b. begun_more (view a) (view b)) s t taken_old taken lines p in
     subst (λ k. GivesFrontFrom (view s).history (view s).hearers (view t).hearers k.form taken_old taken lines) same
     (front_given (view s) (view t) taken_old taken (p.text ++ p.begun) lines none begun p.written)
 

@@ -13,7 +13,8 @@ use Rattle.clip_listen.proofs.Hearing.{no_front}
 use Rattle.clip_ledger.specs.Rows.{RowValue}
 use Rattle.clip_model.specs.History.{History}
 use Rattle.clip_front.specs.Devices.{IsHonest}
-use Rattle.clip_front.specs.Outcome.{nothing_given, GivesAllFrom, GivesFrontFrom, GivesLinesFrom, OfKept, names_in}
+use Rattle.clip_front.specs.Outcome.{Follows, nothing_given, OfKept, names_in}
+use Rattle.clip_front.specs.Outcome.{GivesAllFrom, GivesFrontFrom, GivesLinesFrom}
 use Rattle.clip_front.proofs.Following.{follows_some}
 use Rattle.clip_front.specs.declared.settings.Settings.{Settings}
 use Rattle.clip_protocol.specs.declared.form.Form.{Form}
@@ -100,6 +101,12 @@ pub kept_refused : (kept : List (List ℕ)) (form : Form) (hearers : List Hearer
 kept_refused kept form hearers left met_end taken =
     let begins = follows_some (names_in hearers) [] kept in
     (begins.0, begins.1, gives_none begins.0 form hearers left met_end taken)
+
+pub ran_again : (kept : List (List ℕ)) (settings : Settings) (old new : Told) (result : Result Ended RunFault)
+    (start begins : History) → start ≡ [] → Follows (names_in old.hearers) start kept begins
+    → RanToEnd begins settings old new result → RanAgain kept settings old new result
+ran_again kept settings old new result start begins none follows ran =
+    (begins, subst (λ h. Follows (names_in old.hearers) h kept begins) none follows, ran)
 
 pub ran_again_none : (kept : List (List ℕ)) (settings : Settings) (told : Told) (result : Result Ended RunFault)
     → result ≡ Err fault.NoMemory → told.devices.reads ≡ 0 → RanAgain kept settings told told result

@@ -1,20 +1,34 @@
-use Rattle.std.proofs.Common.{◌≡◌, ◌++◌, [], map, sym, ap, subst, ◌∙◌}
+use Rattle.std.proofs.Common.{◌≡◌, ℕ, ◌<◌, List, ◌++◌, [], length, get_or, map, sym, ap, subst, ◌∙◌}
 use Rattle.std.specs.Prelude.{OnOk, OnErr, Some}
 use Rattle.std.proofs.lemmas.Result.{on_err_weaker, on_ok_weaker}
 use Rattle.clip_stream.specs.Device.{AppendsFront, HandsOver}
 use Rattle.clip_stream.proofs.Faults.{on_err, on_ok}
 use Rattle.clip_stream.proofs.Flows.{handed_none}
-use Rattle.clip_listen.specs.Heard.{told_all, HearsFront}
+use Rattle.clip_listen.specs.Heard.{Hearer, told_all, HearsFront}
 use Rattle.clip_listen.proofs.Hearing.{no_front}
 use Rattle.clip_front.specs.Outcome.{kept_rows}
-use Rattle.clip_run.specs.Owed.{owed_of, ready}
+use Rattle.clip_run.specs.Owed.{owed_of}
 use Rattle.clip_run.specs.Pending.{owed_at, owed_by, owed_from, owed_to}
+use Rattle.clip_run.specs.declared.batch.Batch.{Batch}
+use Rattle.clip_run.specs.declared.batch.Pending.{Pending}
 use Rattle.clip_run.specs.declared.batch.Pending.TheVariants as pending
 use Rattle.clip_run.proofs.Owing.{owed_past, handed_ready, front_ready, heard_none, kept_none}
 use Rattle.clip_run.proofs.AnsweredAlone.{both_ok}
 use Rattle.clip_run.proofs.Settled.{crew_then}
 use Rattle.clip_run.proofs.Sharing.{got}
 use Rattle.clip_run.proofs.crew.Crew.settle.Goals as goal
+
+-- what is owed to a line whose item was read
+owed_here : (items : List Pending) (line : ℕ) (item now : Pending) → line < length items → item ≡ get_or items line item
+    → item ≡ now → owed_at items line ≡ owed_by now
+owed_here items line item now within at is = ap owed_from (got items line item within at ∙ ap Some is)
+
+-- and to one whose batch waits
+waits_for : (hearers : List Hearer) (items : List Pending) (line : ℕ) (item : Pending) (batch : Batch)
+    → line < length items → item ≡ get_or items line item → item ≡ pending.Waiting batch
+    → owed_to hearers batch ≡ owed_of hearers (owed_at items line)
+waits_for hearers items line item batch within at is =
+    ap (owed_of hearers) (sym (owed_here items line item (pending.Waiting batch) within at is))
 
 pub settle_batch-requires-clause-waits : goal.settle_batch-requires-clause-waits
 settle_batch-requires-clause-waits g c κs within = record {
@@ -49,18 +63,18 @@ returns-in-Ready-clause-heard g c =
     let hearers = g.A.Audience.hearers c.args.audience.now in
     let items = c.args.items.now in
     let line = c.args.line in
-    let read = got items line c.in-Some.item.now c.in-Some.ensures.lookup.3.0 c.in-Some.ensures.lookup.1 in
-    on_ok _ (heard_none hearers (owed_at items line) c.in-Ready.text.items
-    (ap owed_from (read ∙ ap Some c.in-Ready.is)))
+    let owed = owed_here items line c.in-Some.item.now (pending.Ready c.in-Ready.text) c.in-Some.ensures.lookup.3.0
+    c.in-Some.ensures.lookup.1 c.in-Ready.is in
+    on_ok _ (heard_none hearers (owed_at items line) c.in-Ready.text.items owed)
 
 pub returns-in-Ready-clause-crew : goal.returns-in-Ready-clause-crew
 returns-in-Ready-clause-crew g c =
     let hearers = g.A.Audience.hearers c.args.audience.now in
     let items = c.args.items.now in
     let line = c.args.line in
-    let read = got items line c.in-Some.item.now c.in-Some.ensures.lookup.3.0 c.in-Some.ensures.lookup.1 in
-    on_ok _ (kept_none c.args.self.now hearers (owed_at items line) c.in-Ready.text.items
-    (ap owed_from (read ∙ ap Some c.in-Ready.is)))
+    let owed = owed_here items line c.in-Some.item.now (pending.Ready c.in-Ready.text) c.in-Some.ensures.lookup.3.0
+    c.in-Some.ensures.lookup.1 c.in-Ready.is in
+    on_ok _ (kept_none c.args.self.now hearers (owed_at items line) c.in-Ready.text.items owed)
 
 pub returns-in-Ready-clause-moved : goal.returns-in-Ready-clause-moved
 returns-in-Ready-clause-moved g c =
@@ -68,11 +82,12 @@ returns-in-Ready-clause-moved g c =
     let taken = g.W.Sink.taken in
     let items = c.args.items.now in
     let line = c.args.line in
-    let read = got items line c.in-Some.item.now c.in-Some.ensures.lookup.3.0 c.in-Some.ensures.lookup.1 in
+    let owed = owed_here items line c.in-Some.item.now (pending.Ready c.in-Ready.text) c.in-Some.ensures.lookup.3.0
+    c.in-Some.ensures.lookup.1 c.in-Ready.is in
     on_ok_weaker c.put.result
     (handed_ready hearers (owed_at items line) c.in-Ready.text.items c.args.self.now.settings.form
     (taken c.args.flow.now.writer.now) (taken c.put.new.self.writer.now) c.args.flow.now.outbox.now
-    c.put.new.self.outbox.now (ap owed_from (read ∙ ap Some c.in-Ready.is)))
+    c.put.new.self.outbox.now owed)
     (rw c.deref.ensures.value at c.put.ensures.moved)
 
 pub returns-in-Ready-clause-err : goal.returns-in-Ready-clause-err
@@ -86,22 +101,19 @@ returns-in-Ready-clause-front g c =
     let taken = g.W.Sink.taken in
     let items = c.args.items.now in
     let line = c.args.line in
-    let read = got items line c.in-Some.item.now c.in-Some.ensures.lookup.3.0 c.in-Some.ensures.lookup.1 in
+    let owed = owed_here items line c.in-Some.item.now (pending.Ready c.in-Ready.text) c.in-Some.ensures.lookup.3.0
+    c.in-Some.ensures.lookup.1 c.in-Ready.is in
     on_err_weaker c.put.result
     (front_ready hearers (owed_at items line) c.in-Ready.text.items c.args.self.now.settings.form
-    (taken c.args.flow.now.writer.now) (taken c.put.new.self.writer.now) c.args.flow.now.outbox.now
-    (ap owed_from (read ∙ ap Some c.in-Ready.is)))
+    (taken c.args.flow.now.writer.now) (taken c.put.new.self.writer.now) c.args.flow.now.outbox.now owed)
     (rw c.deref.ensures.value at c.put.ensures.front)
 
 pub returns-in-Waiting-clause-heard : goal.returns-in-Waiting-clause-heard
 returns-in-Waiting-clause-heard g c =
     let hearers = g.A.Audience.hearers in
     let old = hearers c.args.audience.now in
-    let items = c.args.items.now in
-    let line = c.args.line in
-    let read = got items line c.in-Some.item.now c.in-Some.ensures.lookup.3.0 c.in-Some.ensures.lookup.1 in
-    let same : owed_to old c.in-Waiting.batch ≡ owed_of old (owed_at items line) =
-    ap (λ item. owed_of old (owed_from item)) (sym (read ∙ ap Some c.in-Waiting.is)) in
+    let same = waits_for old c.args.items.now c.args.line c.in-Some.item.now c.in-Waiting.batch
+    c.in-Some.ensures.lookup.3.0 c.in-Some.ensures.lookup.1 c.in-Waiting.is in
     subst (λ o. OnOk c.settle_batch.result (hearers c.settle_batch.new.audience ≡ told_all o.alerts old)) same
     c.settle_batch.ensures.heard
 
@@ -109,11 +121,8 @@ pub returns-in-Waiting-clause-crew : goal.returns-in-Waiting-clause-crew
 returns-in-Waiting-clause-crew g c =
     let i = c.self.inside in
     let old = g.A.Audience.hearers c.args.audience.now in
-    let items = c.args.items.now in
-    let line = c.args.line in
-    let read = got items line c.in-Some.item.now c.in-Some.ensures.lookup.3.0 c.in-Some.ensures.lookup.1 in
-    let same : owed_to old c.in-Waiting.batch ≡ owed_of old (owed_at items line) =
-    ap (λ item. owed_of old (owed_from item)) (sym (read ∙ ap Some c.in-Waiting.is)) in
+    let same = waits_for old c.args.items.now c.args.line c.in-Some.item.now c.in-Waiting.batch
+    c.in-Some.ensures.lookup.3.0 c.in-Some.ensures.lookup.1 c.in-Waiting.is in
     let books = i.giver.books in
     rw (← c.self.view_is)
     (both_ok c.settle_batch.result
@@ -134,11 +143,8 @@ pub returns-in-Waiting-clause-moved : goal.returns-in-Waiting-clause-moved
 returns-in-Waiting-clause-moved g c =
     let taken = g.W.Sink.taken in
     let old = g.A.Audience.hearers c.args.audience.now in
-    let items = c.args.items.now in
-    let line = c.args.line in
-    let read = got items line c.in-Some.item.now c.in-Some.ensures.lookup.3.0 c.in-Some.ensures.lookup.1 in
-    let same : owed_to old c.in-Waiting.batch ≡ owed_of old (owed_at items line) =
-    ap (λ item. owed_of old (owed_from item)) (sym (read ∙ ap Some c.in-Waiting.is)) in
+    let same = waits_for old c.args.items.now c.args.line c.in-Some.item.now c.in-Waiting.batch
+    c.in-Some.ensures.lookup.3.0 c.in-Some.ensures.lookup.1 c.in-Waiting.is in
     rw (← c.self.view_is)
     (subst (λ o. OnOk c.settle_batch.result
     (HandsOver (taken c.args.flow.now.writer.now) (c.args.flow.now.outbox.now
@@ -149,11 +155,8 @@ pub returns-in-Waiting-clause-err : goal.returns-in-Waiting-clause-err
 returns-in-Waiting-clause-err g c =
     let hearers = g.A.Audience.hearers in
     let old = hearers c.args.audience.now in
-    let items = c.args.items.now in
-    let line = c.args.line in
-    let read = got items line c.in-Some.item.now c.in-Some.ensures.lookup.3.0 c.in-Some.ensures.lookup.1 in
-    let same : owed_to old c.in-Waiting.batch ≡ owed_of old (owed_at items line) =
-    ap (λ item. owed_of old (owed_from item)) (sym (read ∙ ap Some c.in-Waiting.is)) in
+    let same = waits_for old c.args.items.now c.args.line c.in-Some.item.now c.in-Waiting.batch
+    c.in-Some.ensures.lookup.3.0 c.in-Some.ensures.lookup.1 c.in-Waiting.is in
     subst (λ o. OnErr c.settle_batch.result (HearsFront o.alerts old (hearers c.settle_batch.new.audience))) same
     c.settle_batch.ensures.err
 
@@ -161,11 +164,8 @@ pub returns-in-Waiting-clause-front : goal.returns-in-Waiting-clause-front
 returns-in-Waiting-clause-front g c =
     let taken = g.W.Sink.taken in
     let old = g.A.Audience.hearers c.args.audience.now in
-    let items = c.args.items.now in
-    let line = c.args.line in
-    let read = got items line c.in-Some.item.now c.in-Some.ensures.lookup.3.0 c.in-Some.ensures.lookup.1 in
-    let same : owed_to old c.in-Waiting.batch ≡ owed_of old (owed_at items line) =
-    ap (λ item. owed_of old (owed_from item)) (sym (read ∙ ap Some c.in-Waiting.is)) in
+    let same = waits_for old c.args.items.now c.args.line c.in-Some.item.now c.in-Waiting.batch
+    c.in-Some.ensures.lookup.3.0 c.in-Some.ensures.lookup.1 c.in-Waiting.is in
     rw (← c.self.view_is)
     (subst (λ o. OnErr c.settle_batch.result
     (AppendsFront (taken c.args.flow.now.writer.now) (taken c.settle_batch.new.flow.writer.now)

@@ -9,7 +9,7 @@ use Rattle.clip_protocol.specs.Steps.Flowing.{opening}
 use Rattle.clip_front.specs.Outcome.{kept_rows}
 use Rattle.clip_front.specs.Steps.Found.{told_in, rows_in}
 use Rattle.clip_front.proofs.Delivering.{heard_front, none_posted}
-use Rattle.clip_front.proofs.Flowing.{begun_text, data_of, text_front, front_of_whole, front_of_first}
+use Rattle.clip_front.proofs.Flowing.{text_front, front_of_whole, front_of_first}
 use Rattle.clip_run.specs.Due.{due_to}
 use Rattle.clip_run.proofs.Found.{all_matched, found_given, told-alerts_due, text-alerts_due, whole_reply}
 use Rattle.clip_front.proofs.Giving.{broken_off, given_next}
@@ -123,21 +123,17 @@ returns-clause-due g c = on_ok _ c.loop-article.invariant.due
 
 pub returns-clause-moved : goal.returns-clause-moved
 returns-clause-moved g c =
-    let old = g.A.Audience.hearers c.args.audience.now in
-    let form = c.args.self.now.books.settings.form in
-    let batch = c.args.batch.now in
     let l = c.loop-article in
-    let before = l.invariant in
-    let first = begun_text (data_of form (due_to batch)) l.article in
-    let whole = whole_reply batch.view batch.drafts.items form old batch.number l.reply.number l.article
-    l.reply.notes.items (omega (arith, c.len-article-end.ensures, c.loop-article-test.false)) before.given.number
-    before.given.notes in
+    let given = l.invariant.given in
+    let whole = whole_reply c.args.batch.now c.args.self.now.books.settings.form
+    (g.A.Audience.hearers c.args.audience.now) l.reply l.article
+    (omega (arith, c.len-article-end.ensures, c.loop-article-test.false)) given.number given.notes in
     let P : List ℕ → Type 0 =
     λ t. HandsOver (g.W.Sink.taken c.args.flow.now.writer.now) (c.args.flow.now.outbox.now ++ t)
     (g.W.Sink.taken c.end.new.flow.writer.now) c.end.new.flow.outbox.now in
     on_ok_weaker c.end.result
     (λ p. subst P whole (handed_more _ _ _ c.args.flow.now.outbox.now l.flow.outbox.now c.end.new.flow.outbox.now
-    first _ before.given.handed p)) c.end.ensures.moved
+    _ _ given.handed p)) c.end.ensures.moved
 
 pub returns-clause-err : goal.returns-clause-err
 returns-clause-err g c =
@@ -149,15 +145,11 @@ returns-clause-err g c =
 
 pub returns-clause-front : goal.returns-clause-front
 returns-clause-front g c =
-    let old = g.A.Audience.hearers c.args.audience.now in
-    let form = c.args.self.now.books.settings.form in
-    let batch = c.args.batch.now in
     let l = c.loop-article in
-    let before = l.invariant in
-    let first = begun_text (data_of form (due_to batch)) l.article in
-    let whole = whole_reply batch.view batch.drafts.items form old batch.number l.reply.number l.article
-    l.reply.notes.items (omega (arith, c.len-article-end.ensures, c.loop-article-test.false)) before.given.number
-    before.given.notes in
+    let given = l.invariant.given in
+    let whole = whole_reply c.args.batch.now c.args.self.now.books.settings.form
+    (g.A.Audience.hearers c.args.audience.now) l.reply l.article
+    (omega (arith, c.len-article-end.ensures, c.loop-article-test.false)) given.number given.notes in
     on_err_weaker c.end.result
-    (λ some. front_of_whole _ _ _ c.args.flow.now.outbox.now l.flow.outbox.now first _ [] _ (sym whole
-    ∙ sym (append-nil _)) before.given.handed some) c.end.ensures.front
+    (λ some. front_of_whole _ _ _ c.args.flow.now.outbox.now l.flow.outbox.now _ _ [] _ (sym whole
+    ∙ sym (append-nil _)) given.handed some) c.end.ensures.front
