@@ -57,7 +57,8 @@ fn add_candidates<'a>(
 /// is among them, by the covering law.
 ///
 /// `NoMemory` where an allocation failed. Cost: a step for each word of the article; in each segment that of
-/// `SegmentReading::sharers` and a step for each position found; an entry without such a key is not looked at.
+/// `SegmentReading::sharers` and for each position found that of `View::is_live`; an entry without such a key is not
+/// looked at.
 pub fn candidates<'a>(
     alloc: Global,
     view: &'a View,
