@@ -28,7 +28,8 @@ pub keys_split : (keys : List KeyValue) (segment others : List Registered)
     → under_keys keys (segment ++ others) ≡ under_keys keys segment + under_keys keys others
 keys_split keys segment others =
     let trees = map-append (λ (r : Registered). r.standing.tree) segment others in
-    let first = ap (positions_under query_keys keys) trees ∙ tests_split (has_key query_keys) keys (trees_of segment) (trees_of others) in
+    let first = ap (positions_under query_keys keys) trees
+    ∙ tests_split (has_key query_keys) keys (trees_of segment) (trees_of others) in
     let second = ap (positions_under second_keys keys) trees
     ∙ tests_split (has_key second_keys) keys (trees_of segment) (trees_of others) in
     omega (arith, first, second)

@@ -118,8 +118,8 @@ pub(crate) fn alerts(
 /// `NoMemory` where an allocation failed, or, where hits are found at once, where the count of a field's name is at its
 /// end. Cost: a step for each word of the article, a look-up in each segment for each of its keys, a step for each
 /// position that is read and the judging of the plans; and a sort of those that hold. No text is copied, and a query
-/// without a key of the article costs nothing. Where hits are found at once, in each segment of which a query holds that
-/// of `SegmentReading::spots`, and for each query that holds that of `SegmentSpots::add_hits`.
+/// without a key of the article costs nothing. Where hits are found at once, in each segment of which a query holds
+/// that of `SegmentReading::spots`, and for each query that holds that of `SegmentSpots::add_hits`.
 pub fn entries_due<'a>(
     alloc: Global,
     view: &'a View,

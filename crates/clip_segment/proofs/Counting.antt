@@ -1,6 +1,7 @@
 -- How many positions stand under an article's keys, as the lists of their numbers have them.
-use Rattle.std.proofs.Common.{◌≡◌, ℕ, ◌+◌, ◌<◌, ◌≤◌, Bool, true, false, cond, ◌||◌, nat_eq, List, [], ◌∷◌, ◌++◌, All, map}
-use Rattle.std.proofs.Common.{filter, flat_map, length, refl, sym, ap, ◌∙◌, subst, arith, eq-eqb, ne_eqb, inl, inr}
+use Rattle.std.proofs.Common.{◌≡◌, ℕ, ◌+◌, ◌<◌, ◌≤◌, Bool, true, false, cond, ◌||◌, nat_eq, List, [], ◌∷◌, ◌++◌}
+use Rattle.std.proofs.Common.{All, map, filter, flat_map, length, refl, sym, ap, ◌∙◌, subst, arith}
+use Rattle.std.proofs.Common.{eq-eqb, ne_eqb, inl, inr}
 use Rattle.std.specs.FinMap as finite
 use Rattle.std.specs.List.{AllByRecursion, IsDistinct, count_by, enumerate_from, list_any, sum_by}
 use Rattle.std.specs.List.Sorted.{IsStrictlySortedBy}
@@ -87,7 +88,8 @@ sum_within f (x ∷ xs) ys once among =
     let apart : (n : ℕ) → list_any (nat_eq n) xs ≡ true → n ≡ x → ⊥ =
     λ n there e. false≢true (sym (none_among x xs once.0) ∙ ap (λ k. list_any (nat_eq k) xs) (sym e) ∙ there) in
     let later = sum_within f xs (without x ys) once.1
-    (λ n there. among_without x n ys (apart n there) (among n (or_right (nat_eq n x) (list_any (nat_eq n) xs) there))) in
+    (λ n there. among_without x n ys (apart n there)
+    (among n (or_right (nat_eq n x) (list_any (nat_eq n) xs) there))) in
     omega (arith, sum_by-cons f x xs, later, sum_without f x ys (among x (among_first x x xs refl)))
 
 sum_same : (f : ℕ → ℕ) (xs ys : List ℕ) → IsDistinct nat_eq xs → IsDistinct nat_eq ys

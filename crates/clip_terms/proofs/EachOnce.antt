@@ -1,6 +1,7 @@
 -- Numbers of which each is left once, as they are marked.
-use Rattle.std.proofs.Common.{◌≡◌, ℕ, suc, ◌+◌, ◌<◌, ◌≤◌, All, Bool, true, false, ◌||◌, nat_eq, List, [], ◌∷◌, ◌++◌, length, take, replicate}
-use Rattle.std.proofs.Common.{drop, set, get_or, refl, sym, ap, ap₂, ◌∙◌, subst, arith, eq-eqb, ne_eqb, inl, inr}
+use Rattle.std.proofs.Common.{◌≡◌, ℕ, suc, ◌+◌, ◌<◌, ◌≤◌, All, Bool, true, false, ◌||◌, nat_eq, List, [], ◌∷◌, ◌++◌}
+use Rattle.std.proofs.Common.{length, take, replicate, drop, set, get_or, refl, sym, ap, ap₂, ◌∙◌, subst, arith}
+use Rattle.std.proofs.Common.{eq-eqb, ne_eqb, inl, inr}
 use Rattle.std.specs.List.{list_any, IsDistinct}
 use Rattle.std.proofs.lemmas.Bool.{cases_eq, false≢true}
 use Rattle.std.proofs.lemmas.Cmp.{nat_eq_equiv}
@@ -24,7 +25,8 @@ pub record IsUpTo (all now : List ℕ) (place left : ℕ) (marks : List Bool) (b
   pub each : IsEachOnce (take place all) (take left now)
 
 module _ (all now : List ℕ) (place left : ℕ) (marks : List Bool) (bound number : ℕ)
-    (before : IsUpTo all now place left marks bound) (inside : place < length now) (is : get_or now place number ≡ number)
+    (before : IsUpTo all now place left marks bound) (inside : place < length now)
+    (is : get_or now place number ≡ number)
     (low : All (λ n. n < bound) all) where
   within : place < length all
   within = let whole = before.whole in omega (arith, whole, inside)
@@ -32,7 +34,8 @@ module _ (all now : List ℕ) (place left : ℕ) (marks : List Bool) (bound numb
   -- it is the number at the place of all
   next : get_or all place 0 ≡ number
   next =
-      ap (λ ns. get_or ns 0 0) (sym (drop_more all place 0 within) ∙ sym before.rest ∙ drop_more now place number inside)
+      ap (λ ns. get_or ns 0 0)
+      (sym (drop_more all place 0 within) ∙ sym before.rest ∙ drop_more now place number inside)
       ∙ is
 
   small : number < bound

@@ -132,7 +132,8 @@ loop-place-preserved c =
           let before = c.loop-place.invariant.least in omega (arith, more, before);
       read =
           let by_keys = subst (λ (r : AskedValue). c.try_segment.new.self.read
-          ≡ c.read.new.read + positions_under query_keys (article_keys r.article.fields) (trees_of r.entries)) (value at)
+          ≡ c.read.new.read + positions_under query_keys (article_keys r.article.fields) (trees_of r.entries))
+          (value at)
           c.in_ok-try_segment.ensures.read in
           let by_second : c.read.new.read ≡ c.loop-place.room.read + positions_under second_keys ks (trees_of segment) =
           c.in_ok-reading.ensures.counted

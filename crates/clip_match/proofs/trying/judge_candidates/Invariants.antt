@@ -23,7 +23,8 @@ invariant-loop-place l = record {
   hits : All (HasItsHits l.hits l.article (map hit_value l.judged.entries.all_hits.items)) l.judged.entries.held.items;
   most : l.room.tallies ≤ l.judged.asked;
   least : length l.judged.entries.held.items ≤ l.room.tallies;
-  read : l.room.read + under_keys (article_keys l.article.fields) (all_entries (map arc_value (drop l.place l.segments)))
+  read : l.room.read + under_keys (article_keys l.article.fields)
+      (all_entries (map arc_value (drop l.place l.segments)))
       ≡ under_keys (article_keys l.article.fields) (all_entries (map arc_value l.segments));
   heard : l.judged.is_heard ≡ list_any has_listener (map (λ h. h.registered.now) l.judged.entries.held.items);
 }

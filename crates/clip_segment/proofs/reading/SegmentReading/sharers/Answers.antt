@@ -18,4 +18,5 @@ returns-clause-positions c =
     c.numbers_into.ensures
 
 pub returns-clause-counted : goal.returns-clause-counted
-returns-clause-counted c = on_ok_weaker c.numbers_into.result (λ _. c.in_ok-marks.ensures.counted) c.numbers_into.ensures
+returns-clause-counted c =
+    on_ok_weaker c.numbers_into.result (λ _. c.in_ok-marks.ensures.counted) c.numbers_into.ensures
