@@ -138,10 +138,10 @@ impl<N: DeskName, L: UpdateListener> Desk<N, L> {
     /// Ends the desk with all its seats, and gives the registry and as many listeners as it was opened with. Each
     /// unmarked one has heard, purges left out, what the one in its place had heard before and then one event for each
     /// entry of the history, in order; and just as many purges more as these seats' that were answered `Ok`. A marked
-    /// one has heard some first ones of the former, and no more of the latter. `SeatMissing` where a caller's seat isn't
-    /// there, one is of another tag, or a purge was with none of these, and then desk and seats come back. It may wait
-    /// for readers that look. It costs a search among the seats for each caller, and that of `Registrar::number_of` for
-    /// each seat.
+    /// one has heard some first ones of the former, and no more of the latter. `SeatMissing` where a caller's seat is
+    /// missing, one is of another tag, or a purge was with none of these, and then desk and seats come back. It may
+    /// wait for readers that look. It costs a search among the seats for each caller, and that of
+    /// `Registrar::number_of` for each seat.
     pub fn close<R: Wait>(self, rt: &R, seats: Vec<Seat>) -> Result<Closed<L>, SeatMissing<N, L>>
         requires { (k : ℕ) (s : SeatIs) → slice_get seats.items k ≡ Some s → s.tag ≡ self.tag
             → IsSeatOf N.book N.callers s }

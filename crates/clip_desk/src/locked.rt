@@ -1,6 +1,7 @@
 //! What the lock keeps: the registrar, the writer's end, the word of the chronicle, and the update listeners with how
 //! many purges they were told.
-ghost use Rattle.std.specs.Prelude.{◌≡◌, ◌≢◌, ◌+◌, ◌^◌, ◌<◌, ◌≤◌, [], ◌∷◌, ◌++◌, IfOk, IfErr, OnOk, OnErr, IsTrue, IsFalse, map};
+ghost use Rattle.std.specs.Prelude.{◌≡◌, ◌≢◌, ◌+◌, ◌^◌, ◌<◌, ◌≤◌, [], ◌∷◌, ◌++◌, IfOk, IfErr, OnOk, OnErr};
+ghost use Rattle.std.specs.Prelude.{IsTrue, IsFalse, map};
 ghost use mathlib.Core.List.{IsPrefix};
 ghost use Rattle.clip_model.specs.History.{History, HistoryEntry, own, fits, has_room, applied, with_command, IsLegal};
 ghost use Rattle.clip_standing.specs.Command.{command_of, answer_of};
