@@ -3,6 +3,8 @@
 #![tactic(auto)]
 
 #[cfg(test)]
+mod cost;
+#[cfg(test)]
 mod desk;
 #[cfg(test)]
 mod explain;
