@@ -20,7 +20,7 @@ from .processes import ENDED, Spoken
 
 COUNT = b'{"op":"count"}\n'
 QUERIES = 5_000
-TAKEN_OVER = 20
+TAKEN_OVER = 12
 MUTATED = 3_000
 SHOWN = b"".join(b'{"op":"show","id":"q%d"}\n' % number for number in (0, 1_023, 1_024, 2_500, QUERIES - 1))
 
