@@ -9,7 +9,7 @@ from hashlib import sha1, sha256
 from pathlib import Path
 from typing import Any
 
-from .source import STATIC_PROGRAMS, TOP, NotMade, Source, output_of, toolchain
+from .source import ALL_PROGRAMS, TOP, NotMade, Source, output_of, toolchain
 
 Json = dict[str, Any]
 ROOT = "SPDXRef-pressclip"
@@ -125,7 +125,7 @@ def crates_used() -> dict[str, list[str]]:
         if colon:
             uses[name.split()[0]] = used.split()
     found: dict[str, list[str]] = {}
-    left = [*STATIC_PROGRAMS.values(), "clip_c"]
+    left = [*ALL_PROGRAMS.values(), "clip_c"]
     while left:
         name = left.pop()
         if name in uses and name not in found:

@@ -12,7 +12,8 @@ from pathlib import Path
 
 from .files import PROGRAM
 from .manual import SERVICES, Command, completion, page, written_page
-from .source import LIBRARY, MACHINE, PROGRAMS, TOP, Source, glibc_of, output_of, program, shared_library, stripped
+from .source import (ALL_PROGRAMS, KEEPER, LIBRARY, MACHINE, PROGRAMS, TOP, Source, glibc_of, output_of, program,
+                     shared_library, stripped)
 
 HERE = TOP / "release" / "debian"
 HOME = "usr/lib/pressclip"
@@ -95,6 +96,7 @@ class Package:
         for name in PROGRAMS:
             self._tree.copy(stripped(program(name), self._work, "--strip-all"), f"usr/bin/{name}", PROGRAM)
             self._manual(written_page(name, self._source), name)
+        self._tree.copy(stripped(program(KEEPER), self._work, "--strip-all"), f"{HOME}/{KEEPER}", PROGRAM)
 
     def _services(self) -> None:
         """The services, in the same folders as in the checkout, and a name for each on the path."""
@@ -163,7 +165,7 @@ class Package:
         """What dpkg reads of the package."""
         files = self._tree.files()
         size = sum((self._tree.root / name).stat().st_size + 1_023 >> 10 for name in files)
-        glibc = max(glibc_of(path) for path in (*map(program, PROGRAMS), shared_library()))
+        glibc = max(glibc_of(path) for path in (*map(program, ALL_PROGRAMS), shared_library()))
         values = {"VERSION": self._source.version, "MAINTAINER": maintainer(), "SIZE": str(size),
                   "GLIBC": ".".join(map(str, glibc))}
         control = (HERE / "control.in").read_text()

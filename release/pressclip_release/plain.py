@@ -8,7 +8,7 @@ from hashlib import sha256
 from pathlib import Path
 
 from .files import PROGRAM, Entry, packed, tar_of
-from .source import STATIC_PROGRAMS, TOP, Source, static_program
+from .source import ALL_PROGRAMS, TOP, Source, static_program
 
 _READ_ME = """pressclip {version}
 
@@ -35,7 +35,7 @@ def requests() -> str:
 
 def static_programs(work: Path) -> list[Entry]:
     """The static programs."""
-    return [Entry(name, static_program(name, work).read_bytes(), PROGRAM) for name in STATIC_PROGRAMS]
+    return [Entry(name, static_program(name, work).read_bytes(), PROGRAM) for name in ALL_PROGRAMS]
 
 
 def tarball(source: Source, programs: list[Entry], into: Path) -> Path:

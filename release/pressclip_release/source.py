@@ -10,9 +10,11 @@ from functools import cache
 from pathlib import Path
 
 TOP = Path(__file__).resolve().parents[2]
+# Those that the package has on the path, and all. Its name pressclip-keep is that of service/keep, which starts the
+# program from beside the services.
 PROGRAMS = {"pressclip": "pressclip", "pressclip-explain": "pressclip_explain"}
-# Those that run with nothing beside them. The package's pressclip-keep is service/keep.
-STATIC_PROGRAMS = {**PROGRAMS, "pressclip-keep": "pressclip_keep"}
+KEEPER = "pressclip-keep"
+ALL_PROGRAMS = {**PROGRAMS, KEEPER: "pressclip_keep"}
 BUILT_BY = "./build (after rt ci: ./build --over-gate)"
 LIBRARY = TOP / "bindings" / "c"
 MACHINE = "amd64"
@@ -75,7 +77,7 @@ def built(path: Path, by: str) -> Path:
 
 def program(name: str) -> Path:
     """A program as ./build leaves it."""
-    return built(TOP / "crates" / PROGRAMS[name] / "out" / name, BUILT_BY)
+    return built(TOP / "crates" / ALL_PROGRAMS[name] / "out" / name, BUILT_BY)
 
 
 def shared_library() -> Path:
@@ -97,7 +99,7 @@ def kit() -> Path:
 
 def static_program(name: str, into: Path) -> Path:
     """A program with all of the C library that it calls in it, linked of the same proved object file."""
-    crate = STATIC_PROGRAMS[name]
+    crate = ALL_PROGRAMS[name]
     objects = built(TOP / "crates" / crate / "out" / f"{crate}.o", BUILT_BY)
     path = into / name
     output_of("gcc", "-static", "-s", "-Wl,--build-id=none", "-Wl,-z,noexecstack", "-o", path, objects,

@@ -9,9 +9,10 @@ from typing import Any, AsyncIterator, Coroutine, Sequence
 
 from aiohttp import web
 
+from pressclip_press.sources import as_written
 from pressclip_service.engine import command_of
-from pressclip_service.journal import FILE
 from pressclip_service.lines import MOST_LINE_BYTES
+from pressclip_service.taking_over import has_journal
 
 from . import alerts, articles, deliveries, explain, health, lines, openapi, page, percolator, queries
 from .broadcasting import Broadcaster
@@ -26,7 +27,7 @@ from .log import Log
 from .metrics import Metrics
 from .pipe import Ended
 from .ring import Ring
-from .settings import CLASSIC, Settings
+from .settings import CLASSIC, PRESS, Settings
 from .tokens import Token
 from .trial import Trial
 
@@ -49,13 +50,14 @@ async def dumped(command: Sequence[str]) -> AsyncIterator[bytes]:
 def door_of(settings: Settings, command: Sequence[str], dump: Sequence[str] | None) -> Door:
     """A door that is not started, over an engine's command; the queries that are there already are those that a
     command dumps."""
-    log, metrics, catalog, limits = Log(), Metrics(), Catalog(), settings.limits
+    log, metrics, limits = Log(), Metrics(), settings.limits
+    catalog = Catalog(as_written) if settings.dialect == PRESS else Catalog()
     ring = Ring(secrets.token_hex(4), limits.alerts_kept, limits.alert_bytes_kept)
     explainer = Explainer(explainer_command())
     following = Following(catalog, ring, metrics, log, limits.articles_kept, settings.dialect == CLASSIC)
 
     def load() -> Coroutine[Any, Any, None] | None:
-        is_there = dump and (settings.journal is None or (settings.journal / FILE).exists())
+        is_there = settings.journal is None or has_journal(settings.journal)
         return catalog.load(dumped(dump)) if dump and is_there else None
 
     engine = Engine(command, Room(limits.lines_in_flight), following, load)

@@ -3,8 +3,8 @@
 from __future__ import annotations
 
 from bisect import bisect_left
+from collections.abc import AsyncIterator, Callable, Iterator
 from dataclasses import dataclass
-from typing import AsyncIterator, Iterator
 
 from pressclip_service.live import value_of
 
@@ -24,9 +24,10 @@ class Listing:
 
 
 class Catalog:
-    """Queries by id. Memory: some 300 bytes a query."""
+    """Queries by id, each as its text is shown. Memory: some 300 bytes a query."""
 
-    def __init__(self) -> None:
+    def __init__(self, shown: Callable[[str], str] = str) -> None:
+        self._shown = shown
         self._by_id: dict[str, Listing] = {}
         # All ids in their order, also some that are gone, but for those that came since.
         self._ordered: list[str] = []
@@ -45,7 +46,7 @@ class Catalog:
         operation = change["op"]
         if operation == "register":
             for one in change["queries"]:
-                self._register(Listing(one["id"], one["query"], one.get("listener")))
+                self._register(Listing(one["id"], self._shown(one["query"]), one.get("listener")))
         elif operation == "delete":
             for name in change["ids"]:
                 self._by_id.pop(name, None)

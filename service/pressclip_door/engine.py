@@ -33,6 +33,9 @@ class Follower(Protocol):
     def told(self, text: str) -> None:
         """Takes a line that the engine told on standard error."""
 
+    def began(self, seconds: float) -> None:
+        """Hears that the engine answers, and how long after its start."""
+
     def ended(self, status: int) -> None:
         """Hears that the engine ended when it should not have."""
 
@@ -125,7 +128,7 @@ class Engine:
 
     async def _begin(self) -> None:
         """Begins a life, and waits for a first reply, which comes once all is replayed."""
-        beside = self._beside()
+        beside, start = self._beside(), time.perf_counter()
         besides = [] if beside is None else [asyncio.create_task(beside)]
         pipe = Pipe(self._hear, self._follower.told, lambda status: self._end(pipe, status))
         await pipe.start(self._command)
@@ -141,6 +144,7 @@ class Engine:
         self.shows_hits = reply.startswith(_SHOWS_HITS)
         self.is_ready = True
         self._pause = FIRST_PAUSE_SECONDS
+        self._follower.began(time.perf_counter() - start)
 
     async def stop(self) -> None:
         """Ends it with its input: what it owes is answered first. Kills it where that takes too long."""

@@ -8,8 +8,8 @@ import time
 from collections import deque
 from typing import Awaitable
 
-from pressclip_service.place import command_name
-from pressclip_service.replies import CHANGES, Kind, kind_of
+from pressclip_service.keeper import PROGRAM
+from pressclip_service.replies import CHANGES, Kind, asks_change, kind_of
 
 from .catalog import Catalog
 from .courier import Courier
@@ -27,9 +27,7 @@ _ALERTED = b'"queries":["'
 _OPERATIONS = {Kind.REGISTERED: "register", Kind.DELETED: "delete", Kind.CLEARED: "clear", Kind.COUNTED: "count",
                Kind.REFUSED: "refused"}
 _REFUSED = re.compile(rb'"refused":"([a-z]+)"')
-_KEPT = re.compile(rf"{command_name('keep')}: (\d+) changes are kept")
-_REPLAYED = re.compile(r"replayed \d+ lines of the journal in (\d+\.\d+) s")
-_RESTARTED = "; it is started again"
+_KEPT = re.compile(rf"{PROGRAM}: (\d+) changes are kept")
 
 
 class Following:
@@ -78,10 +76,10 @@ class Following:
     def _take_other(self, line: bytes, reply: bytes) -> None:
         """Takes what is no match."""
         kind = kind_of(reply)
+        if self.changes is not None and asks_change(reply):
+            self.changes += 1
         if kind in CHANGES:
             self._catalog.take(line)
-            if self.changes is not None:
-                self.changes += 1
         elif kind is Kind.REFUSED:
             found = _REFUSED.search(reply)
             self._metrics.refused.labels(found[1].decode() if found else "unknown").inc()
@@ -101,10 +99,10 @@ class Following:
         self._log.event("engine told", says=text)
         if found := _KEPT.fullmatch(text):
             self.changes = int(found[1])
-        if found := _REPLAYED.search(text):
-            self._metrics.replay_seconds.set(float(found[1]))
-        if text.endswith(_RESTARTED):
-            self._metrics.restarts.inc()
+
+    def began(self, seconds: float) -> None:
+        """Hears that the engine answers, and how long after its start."""
+        self._metrics.replay_seconds.set(seconds)
 
     def ended(self, status: int) -> None:
         """Hears that the engine ended when it should not have."""

@@ -8,7 +8,7 @@ from pathlib import Path
 from aiohttp import web
 from prometheus_client import CONTENT_TYPE_LATEST, generate_latest
 
-from pressclip_service.journal import FILE
+from pressclip_service.taking_over import OWN
 
 from .bodies import of_json
 from .dialects import dialects_of
@@ -48,7 +48,7 @@ class Health:
         metrics.queries.set(len(door.catalog))
         metrics.in_flight.set(door.engine.in_flight)
         if door.settings.journal is not None:
-            metrics.journal_bytes.set(size_of(door.settings.journal / FILE))
+            metrics.journal_bytes.set(size_of(door.settings.journal / OWN))
         if door.courier is not None:
             counts = await door.courier.counts()
             for carriage in door.courier.carriages:

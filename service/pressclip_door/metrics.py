@@ -26,7 +26,7 @@ class Metrics:
         self.in_flight = Gauge("pressclip_lines_in_flight", "Lines that a reply is owed to", registry=self.registry)
         self.queries = Gauge("pressclip_queries", "Registered queries", registry=self.registry)
         self.journal_bytes = Gauge("pressclip_journal_bytes", "Size of the journal", registry=self.registry)
-        self.replay_seconds = Gauge("pressclip_replay_seconds", "Seconds of the last replay of the journal",
+        self.replay_seconds = Gauge("pressclip_replay_seconds", "Seconds of the last start, with the replay of the journal",
                                     registry=self.registry)
         self.listeners = Gauge("pressclip_listeners", "Open streams of alerts", registry=self.registry)
 

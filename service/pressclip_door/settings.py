@@ -184,13 +184,14 @@ def secret_of(path: Path) -> bytes:
 def commands_of(settings: Settings, service: Path, usual: Sequence[str]) -> tuple[list[str], list[str] | None]:
     """The command of the engine, and the one that dumps the queries that are there."""
     engine = list(settings.engine) or list(usual)
+    journal = [] if settings.journal is None else ["--journal", str(settings.journal)]
     if settings.dialect == PRESS:
         profile = [] if settings.profile is None else ["--profile", str(settings.profile)]
-        engine = [str(service / "press"), "run", "--quiet", *profile, "--", *engine]
+        engine = [str(service / "press"), "run", "--quiet", *journal, *profile, "--", *engine]
     if settings.grid is not None:
         grid = [str(service / "grid"), *settings.grid]
         return [*grid, "submit", "--", *engine], [*grid, "dump"]
-    if settings.journal is None:
+    if not journal:
         return engine, None
-    keep = [str(service / "keep"), "--journal", str(settings.journal)]
-    return [*keep, "--", *engine], [*keep, "--dump"]
+    keep = [str(service / "keep"), *journal]
+    return engine if settings.dialect == PRESS else [*keep, "--", *engine], [*keep, "--dump"]

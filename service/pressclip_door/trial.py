@@ -22,6 +22,9 @@ class _Nobody:
     def told(self, text: str) -> None:
         """Passes it over."""
 
+    def began(self, seconds: float) -> None:
+        """Nothing is heard."""
+
     def ended(self, status: int) -> None:
         """Passes it over."""
 

@@ -14,7 +14,7 @@ from pressclip_service.live import text_of
 from .backwards import backwards
 from .filtering import BACKWARDS, Filter
 from .preparing import Prepared, Preparer
-from .sources import Source, with_source
+from .sources import Source, as_written, with_source
 from .translating import Translated, translate
 from .tree import Refused
 
@@ -39,6 +39,11 @@ class Listed:
     def filter(self) -> Filter | None:
         """What decides beside the engine."""
         return self.translated.filter if self.translated else None
+
+    @property
+    def query(self) -> str:
+        """The engine's query, or what it refuses as one."""
+        return with_source(self.translated.query, self.source) if self.translated else _NO_QUERY
 
 
 @dataclass(frozen=True)
@@ -117,15 +122,16 @@ class Rewriter:
         return Passed(line, operation if isinstance(operation, str) else "")
 
     def _register(self, listings: Sequence[dict[str, str]]) -> Register | NotAsked:
-        queries = [self._listed(listing) for listing in listings]
-        written = [{**listing, "query": _query_of(listed)} for listing, listed in zip(listings, queries)]
+        queries = [self.listed(listing) for listing in listings]
+        written = [{**listing, "query": listed.query} for listing, listed in zip(listings, queries)]
         line = text_of({"op": "register", "queries": written})
         if len(line) > MOST_LINE_BYTES:
             return NotAsked("long", "its queries, translated, are longer than a line may be")
         return Register(line, queries)
 
-    def _listed(self, listing: dict[str, str]) -> Listed:
-        source = Source(listing["query"], "listener" in listing)
+    def listed(self, listing: dict[str, str]) -> Listed:
+        """A query as a register line lists it. One of the engine's, as of a dump, is what the desk wrote in it."""
+        source = Source(as_written(listing["query"]), "listener" in listing)
         source.query.encode()
         try:
             return Listed(listing["id"], source, translate(source.query, self._preparer), None)
@@ -179,11 +185,6 @@ def fields_of(article: Prepared, names: Collection[str] | None) -> dict[str, str
 
 def _backwards_name(name: str) -> str:
     return BACKWARDS if name == "text" else f"{name}_{BACKWARDS}"
-
-
-def _query_of(listed: Listed) -> str:
-    """The engine's query of a listing, or what it refuses as one."""
-    return with_source(listed.translated.query, listed.source) if listed.translated else _NO_QUERY
 
 
 def _are_texts(value: object) -> bool:

@@ -5,14 +5,14 @@ from __future__ import annotations
 import json
 import select
 from collections import deque
-from collections.abc import Collection, Mapping, Sequence
+from collections.abc import Callable, Collection, Iterable, Mapping, Sequence
 from dataclasses import dataclass, field
 from typing import Any
 
 from pressclip_service.engine import Engine
 from pressclip_service.errors import EngineDied, EngineFailed, tell, write_all
-from pressclip_service.keep import Input
-from pressclip_service.live import text_of
+from pressclip_service.input import Input
+from pressclip_service.live import register_lines, text_of
 from pressclip_service.patience import Patience
 from pressclip_service.place import command_name
 from pressclip_service.replies import Kind, kind_of, number_of, renumbered
@@ -23,7 +23,7 @@ from .filtering import Pages
 from .lines import Delete, Match, Passed, Register, Rewriter, NotAsked
 from .preparing import Preparer
 from .registry import Registry
-from .sources import source_in
+from .sources import as_written, source_in
 from .tree import Level
 
 NAME = command_name("press")
@@ -64,16 +64,40 @@ class Runner:
         self._asked_for: set[str] = set()
         self._unread: set[str] = set()
 
-    def begin(self) -> None:
-        """Asks the engine how many queries it has from before."""
-        for reply in self.engine.exchange([_COUNT]):
-            self._answered = number_of(reply)
-            if kind_of(reply) is not Kind.COUNTED:
-                raise EngineFailed(f"the engine answered what is no reply: {reply[:80]!r}")
-            count = json.loads(reply)["count"]
-            if count:
-                self.registry.has_others()
-                tell(NAME, f"the engine has {count} queries of before; articles are sent with all that these may ask for")
+    def begin(self, queries: Callable[[], Sequence[dict[str, str]]] = list) -> None:
+        """Asks the engine how many queries it has from before, and learns them where `queries` gives them all."""
+        [reply] = self._exchanged([_COUNT])
+        if kind_of(reply) is not Kind.COUNTED:
+            raise EngineFailed(f"the engine answered what is no reply: {reply[:80]!r}")
+        count = json.loads(reply)["count"]
+        listings = queries() if count else []
+        if len(listings) == count and all(source_in(listing["query"]) for listing in listings):
+            self._learn(listings)
+            return
+        self.registry.has_others()
+        tell(NAME, f"the engine has {count} queries of before; articles are sent with all that these may ask for")
+
+    def _exchanged(self, lines: Iterable[bytes]) -> list[bytes]:
+        """The replies to lines of our own."""
+        replies = list(self.engine.exchange(lines))
+        self._answered += len(replies)
+        return replies
+
+    def _learn(self, listings: Sequence[dict[str, str]]) -> None:
+        """Learns queries that the engine has, and registers those anew that are translated in another way now."""
+        queries = [self._rewriter.listed(listing) for listing in listings]
+        for listed in queries:
+            if listed.refused:
+                raise EngineFailed(f"query {listed.id!r} was registered by another profile: {listed.refused.says}")
+        self.registry.expect(queries)
+        self.registry.register(queries)
+        others = [text_of({**listing, "query": listed.query}) for listing, listed in zip(listings, queries)
+                  if listing["query"] != listed.query]
+        for reply in self._exchanged(register_lines(others)):
+            if kind_of(reply) is not Kind.REGISTERED:
+                raise EngineFailed(f"queries were registered by another profile: {reply[:200]!r}")
+        if others:
+            tell(NAME, f"{len(others)} queries are translated in another way than before, and registered anew")
 
     def run(self) -> None:
         """Serves the input to its end, or until an end is asked for."""
@@ -101,7 +125,7 @@ class Runner:
             self._take_replies()
             self.patience.begin()
         if INPUT in ready and self._has_room() and not self.termination.is_asked:
-            self._waiting += [(owed.number, owed.line) for owed in self.input.take()]
+            self._waiting += self.input.take()
         self._ask_waiting()
         self._answer()
         while self._waiting and not self._owed:
@@ -265,8 +289,7 @@ class Runner:
     def _shown(number: int, reply: bytes) -> bytes:
         """A reply to a show, with the query as it was written."""
         text = json.loads(reply)["query"]
-        source = source_in(text) if text is not None else None
-        return text_of({"line": number, "query": source.query if source else text})
+        return text_of({"line": number, "query": None if text is None else as_written(text)})
 
     def _matched(self, number: int, made: Match, replies: Sequence[bytes]) -> bytes:
         """A reply to a match, of the queries that hold by the dialect."""

@@ -41,3 +41,9 @@ def source_in(query: str) -> Source | None:
         return Source(spelled.decode(), word[0] == _WITH_LISTENER)
     except UnicodeDecodeError:
         return None
+
+
+def as_written(query: str) -> str:
+    """The desk's query in one of the engine's, or the query where it has none."""
+    source = source_in(query)
+    return source.query if source else query

@@ -13,7 +13,7 @@ from typing import Callable, Iterable, Iterator, Sequence
 
 from .errors import EngineDied, EngineFailed
 from .lines import BLOCK_BYTES, LineCutter
-from .place import IS_CHECKOUT, program_of
+from .place import IS_CHECKOUT, TOP, program_of
 from .signals import held_back_from_children
 
 PROGRAM = "pressclip"
@@ -46,8 +46,8 @@ def need_program(command: Sequence[str]) -> None:
     """`EngineFailed` where the command's program is not there, or may not be run."""
     if shutil.which(command[0]):
         return
-    if command[0] == _USUAL and IS_CHECKOUT:
-        raise EngineFailed(f"there is no engine at {_USUAL}: run ./build, or have PRESSCLIP name the program")
+    if IS_CHECKOUT and command[0].startswith(f"{TOP}/"):
+        raise EngineFailed(f"there is no program at {command[0]}: run ./build")
     raise EngineFailed(f"the engine {command[0]} can't be started: there is no such program")
 
 

@@ -1,17 +1,18 @@
-"""Folders and files of a journal: made for their owner alone, and synced."""
+"""Folders and their locks: made for their owner alone, and synced."""
 
 from __future__ import annotations
 
+import fcntl
 import os
+import time
 from contextlib import contextmanager
-from itertools import count
 from pathlib import Path
 from typing import Iterator
 
 from .errors import StorageFailed
 
 FILE_MODE, FOLDER_MODE = 0o600, 0o700
-_COPIED_AT_ONCE = 1 << 20
+_TURN_SECONDS = 0.05
 
 
 @contextmanager
@@ -21,13 +22,6 @@ def storage(doing: str) -> Iterator[None]:
         yield
     except OSError as error:
         raise StorageFailed(f"can't {doing}: {error.strerror}") from error
-
-
-def write_whole(descriptor: int, text: bytes | bytearray) -> None:
-    """Writes the whole text to a file."""
-    left = memoryview(text)
-    while left:
-        left = left[os.write(descriptor, left):]
 
 
 def sync_folder(folder: Path) -> None:
@@ -51,38 +45,20 @@ def make_folder(folder: Path) -> None:
         sync_folder(new.parent)
 
 
-def put_text(path: Path, text: str) -> None:
-    """Has a file say just this text, by a rename and synced, where it does not yet; `OSError`."""
-    if path.exists() and path.read_bytes() == text.encode():
-        return
-    new = path.with_name(f"{path.name}.new")
-    new.unlink(missing_ok=True)
-    descriptor = os.open(new, os.O_WRONLY | os.O_CREAT | os.O_EXCL, FILE_MODE)
-    try:
-        write_whole(descriptor, text.encode())
-        os.fsync(descriptor)
-    finally:
-        os.close(descriptor)
-    os.rename(new, path)
-    sync_folder(path.parent)
-
-
-def set_aside(source: Path, start: int) -> Path:
-    """Copies a file's bytes from a place on into a new file beside it, synced, and gives its path: the file's own with
-    `.torn.` and the first number behind it that no file has."""
-    names = (source.with_name(f"{source.name}.torn.{number}") for number in count(1))
-    path = next(name for name in names if not name.exists())
-    copy = os.open(path, os.O_WRONLY | os.O_CREAT | os.O_EXCL, FILE_MODE)
-    try:
-        with open(source, "rb") as file:
-            file.seek(start)
-            while block := file.read(_COPIED_AT_ONCE):
-                write_whole(copy, block)
-        os.fsync(copy)
-    except OSError:
-        path.unlink()
-        raise
-    finally:
-        os.close(copy)
-    sync_folder(path.parent)
-    return path
+def take_lock(path: Path, seconds: float) -> int | None:
+    """A descriptor that holds the lock of a file, which is made where there is none, after a wait of some seconds for
+    whoever ends still; None where another process has it."""
+    held = os.open(path, os.O_RDWR | os.O_CREAT | os.O_CLOEXEC, FILE_MODE)
+    deadline = time.monotonic() + seconds
+    while True:
+        try:
+            fcntl.flock(held, fcntl.LOCK_EX | fcntl.LOCK_NB)
+            return held
+        except OSError as error:
+            if not isinstance(error, BlockingIOError):
+                os.close(held)
+                raise
+        if time.monotonic() > deadline:
+            os.close(held)
+            return None
+        time.sleep(_TURN_SECONDS)

@@ -1,11 +1,11 @@
-"""Frames: how a journal lies in its file.
+"""Frames: how a journal of before lies in its file.
 
 A frame is a magic that no text has (its first byte is none of UTF-8's), a kind, the length of its payload, a number, a
 link, a checksum over all of that and the payload, and the payload. The link is a digest over the link of the record
 before and over what this one says, so a record that is missing, doubled or swapped is seen. The checksum says whether a
 frame is whole by itself: what is synced at once is one frame, so a crash tears the last frame and no other.
 
-Frames of form 1 have no link. They are read, and no longer written.
+Frames of form 1 have no link.
 """
 
 from __future__ import annotations
@@ -23,6 +23,7 @@ FIRST_LINK = bytes(LINK_BYTES)
 MAGIC_FRONT = b"\xffPJ"
 _SAID = struct.Struct("<BIQ")
 _SUM = struct.Struct("<I")
+_HEAD = struct.Struct(f"<QQ{LINK_BYTES}s")
 
 # The first frame: its number is how many changes were accepted before this file, its payload a `Head`.
 HEAD = 0
@@ -76,15 +77,6 @@ class Form:
         self._front = struct.Struct(f"<4sBIQ{link_bytes}s")
         self._before_payload = self._front.size + _SUM.size
 
-    def size_with(self, payload_bytes: int) -> int:
-        """The bytes of a frame whose payload has so many."""
-        return self._before_payload + payload_bytes
-
-    def frame_bytes(self, kind: int, number: int, link: bytes, payload: bytes) -> bytes:
-        """A frame as it lies in a file."""
-        front = self._front.pack(self.magic, kind, len(payload), number, link)
-        return front + _SUM.pack(zlib.crc32(payload, zlib.crc32(front))) + payload
-
     def frame_at(self, data: Data, start: int) -> Frame | None:
         """The frame that begins there, if a whole one with the right checksum does."""
         if len(data) - start < self._before_payload:
@@ -137,11 +129,6 @@ class Head:
     end: int
     link: bytes
 
-    def frame_bytes(self) -> bytes:
-        """The head's frame as it lies in a file."""
-        payload = _HEAD.pack(self.records, self.end, self.link)
-        return FORM.frame_bytes(HEAD, self.changes, link_after(FIRST_LINK, HEAD, self.changes, payload), payload)
-
     @staticmethod
     def of(frame: Frame) -> Head | None:
         """What a head's frame says, where it is one."""
@@ -149,8 +136,3 @@ class Head:
         if not is_one or frame.link != link_after(FIRST_LINK, HEAD, frame.number, frame.payload):
             return None
         return Head(frame.number, *_HEAD.unpack(frame.payload))
-
-
-_HEAD = struct.Struct(f"<QQ{LINK_BYTES}s")
-HEAD_BYTES = FORM.size_with(_HEAD.size)
-EMPTY = Head(0, 0, HEAD_BYTES, FIRST_LINK)

@@ -1,4 +1,4 @@
-"""A journal as it is read, and what it leaves live."""
+"""A journal of before as it is read, and what it leaves live."""
 
 from __future__ import annotations
 
@@ -9,25 +9,25 @@ from typing import Iterator
 
 from .errors import BrokenJournal
 from .folders import storage
-from .frames import (CHANGES, EMPTY, FIRST_LINK, FORM, HEAD, LIVE, MAGIC_FRONT, BadFrame, Form, Frame, Head, form_of,
+from .frames import (CHANGES, FIRST_LINK, FORM, HEAD, LIVE, MAGIC_FRONT, BadFrame, Form, Frame, Head, form_of,
                      link_after)
 from .live import LiveQueries
 from .place import command_name
 
 
 class Reading:
-    """A journal as it is read: its records in order, and then where the last whole one ends, and its link."""
+    """A journal as it is read: its records in order, and then where the last whole one ends."""
 
-    def __init__(self, path: Path, up_to: int | None = None) -> None:
+    def __init__(self, path: Path) -> None:
         self.path = path
         self.form = FORM
-        self.head = EMPTY
+        # Until it is read: a head was synced before its file took its place, so none is torn.
+        self.head = Head(0, 0, 1, FIRST_LINK)
         self.changes = 0
         self.records = 0
         self.end = 0
         self.size = 0
         self.link = FIRST_LINK
-        self._up_to = up_to
         self._last = HEAD
 
     @property
@@ -39,12 +39,9 @@ class Reading:
         """The records behind the head; `BrokenJournal` where the file is not what was written. What is torn at the end
         is left out: `torn` is not 0 then."""
         with storage(f"read {self.path}"), open(self.path, "rb") as file:
-            there = os.fstat(file.fileno()).st_size
-            self.size = there if self._up_to is None else self._up_to
-            if there == 0:
+            self.size = os.fstat(file.fileno()).st_size
+            if self.size == 0:
                 raise BrokenJournal(f"{self.path} is empty: it has no head")
-            if there < self.size:
-                raise self._broken(there, f"it ends there, and was written up to byte {self.size}")
             with mmap.mmap(file.fileno(), self.size, access=mmap.ACCESS_READ) as data:
                 yield from self._judged(data)
 

@@ -26,6 +26,7 @@ class Kind(Enum):
 
 
 CHANGES = frozenset({Kind.REGISTERED, Kind.DELETED, Kind.CLEARED})
+_REFUSED_CHANGES = (b',"refused":"query"', b',"refused":"listener"', b',"refused":"full"')
 
 
 def place_of_number(reply: bytes) -> tuple[int, int]:
@@ -67,6 +68,11 @@ def kind_of(reply: bytes) -> Kind:
     if after.startswith(b',"registered":'):
         return Kind.REGISTERED
     return Kind.REFUSED if after.startswith(b',"refused":') else Kind.OTHER
+
+
+def asks_change(reply: bytes) -> bool:
+    """Whether the line that is answered so asks for a change, as a journal keeps it also where it is refused."""
+    return kind_of(reply) in CHANGES or reply[place_of_number(reply)[1]:].startswith(_REFUSED_CHANGES)
 
 
 def count_in(reply: bytes) -> int:

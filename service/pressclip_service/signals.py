@@ -9,10 +9,6 @@ from types import FrameType
 from typing import Iterator
 
 
-class Terminated(Exception):
-    """An end was asked for, and nothing is owed."""
-
-
 class Termination:
     """Whether an end was asked for. From `listen` on SIGTERM asks for it, and SIGHUP is passed over."""
 

@@ -17,6 +17,7 @@ from pathlib import Path
 from typing import BinaryIO
 
 from .errors import BrokenFile, FileInUse
+from .folders import take_lock
 from .place import command_name
 
 FOLDER, MANIFEST, LOCK = "appendonlydir", "appendonly.aof.manifest", "service-redis.lock"
@@ -91,16 +92,9 @@ def last_part(folder: Path) -> Path | None:
 def lock_folder(folder: Path) -> None:
     """Has a folder to itself, as long as this process or what it becomes lives; waits a little for whoever ends still.
     `FileInUse` where another process has it."""
-    held = os.open(folder / LOCK, os.O_RDWR | os.O_CREAT | os.O_CLOEXEC, 0o600)
-    deadline = time.monotonic() + PATIENCE_SECONDS
-    while True:
-        try:
-            fcntl.flock(held, fcntl.LOCK_EX | fcntl.LOCK_NB)
-            break
-        except BlockingIOError:
-            if time.monotonic() > deadline:
-                raise FileInUse(f"another {command_name('redis')} has the folder {folder}; two would break its file") from None
-        time.sleep(0.05)
+    held = take_lock(folder / LOCK, PATIENCE_SECONDS)
+    if held is None:
+        raise FileInUse(f"another {command_name('redis')} has the folder {folder}; two would break its file")
     os.set_inheritable(held, True)
 
 

@@ -9,6 +9,7 @@ import socket
 import subprocess
 import threading
 import time
+from functools import partial
 from pathlib import Path
 from random import Random
 from typing import Callable
@@ -17,11 +18,9 @@ from .door_runs import LINES, Answer, Door, Events, Stream, by_aiohttp, shared, 
 from .inputs import Source, joined, with_long_lines
 from .judge import Due, folder, need, replies_of_engine, same
 from .keep_runs import changes_in
-from .processes import ENDED, PATIENCE_SECONDS, engine_of
+from .processes import ENDED, PATIENCE_SECONDS, children_of
 
-ENGINE_KILLS = 12
-KEEP_KILLS = 3
-DOOR_KILLS = 3
+ENDS_OF_EACH = 4
 
 
 def posted(door: Door, text: bytes) -> bytes:
@@ -63,20 +62,15 @@ class Client:
         self.at = 0
 
     def run(self, door: Door, stop: int | None, kill: Callable[[], None] | None) -> None:
-        """Sends lines from where things stand up to a place, where something is ended; or to the end of the input, with
-        engines ended on the way."""
+        """Sends lines from where things stand up to a place, where something is ended; or to the end of the input."""
         stream = Stream(door)
         need(stream.changes == sum(self.due.changes[:self.at]), f"{stream.changes} changes are told at line {self.at}")
         start = sent = self.at
         stop = len(self.due.lines) if stop is None else stop
         replies: list[bytes] = []
-        kills = set() if kill else set(self.dice.sample(range(start, stop - 1), ENGINE_KILLS))
         for line in self.due.lines[start:stop]:
             stream.send(line)
             sent += 1
-            if sent in kills:
-                replies += stream.blocks()
-                end_engine(door)
         if kill is not None:
             replies += stream.blocks() if self.dice.random() < 0.7 else []
             kill()
@@ -85,7 +79,7 @@ class Client:
             replies += block
         stream.close()
         answered = self._judge(replies, start, sent)
-        self.at = answered if kill is None else self._kept(answered, sent)
+        self.at = answered if kill is None else self.due.kept_up_to(changes_in(self.journal), answered, sent)
 
     def _judge(self, replies: list[bytes], start: int, sent: int) -> int:
         """The place behind the last line that is answered, where each reply that came is the one that is due."""
@@ -101,23 +95,13 @@ class Client:
             place += 1
         return place
 
-    def _kept(self, answered: int, sent: int) -> int:
-        """Where to go on: behind the last change that is kept, which was sent and maybe not answered."""
-        kept = changes_in(self.journal)
-        least, most = sum(self.due.changes[:answered]), sum(self.due.changes[:sent])
-        need(least <= kept <= most, f"{kept} changes are kept, and {least} were answered and {most} sent")
-        place = answered
-        while sum(self.due.changes[:place]) < kept:
-            place += 1
-        return place
-
 
 def lines_go_on_after_any_end() -> None:
-    """While engines, `keep` and the door are ended by SIGKILL, each reply that comes is the one that is due, and each
-    answered change is kept."""
+    """While `keep`, its program and the door are ended by SIGKILL, each reply that comes is the one that is due, and
+    each answered change is kept."""
     source = Source(22)
     due = Due.of(source.lines(1_500))
-    places = sorted(source.dice.sample(range(100, 1_400), KEEP_KILLS + DOOR_KILLS))
+    places = sorted(source.dice.sample(range(100, 1_400), 3 * ENDS_OF_EACH))
     with folder() as name:
         journal = Path(name) / "j"
         client = Client(due, journal, source.dice)
@@ -126,7 +110,7 @@ def lines_go_on_after_any_end() -> None:
         try:
             for number, place in enumerate(places):
                 place = max(place, client.at + 1)
-                if number % 2:
+                if number % 3 == 0:
                     client.run(door, place, door.process.kill)
                     ENDED.append("door")
                     door.process.wait()
@@ -134,22 +118,16 @@ def lines_go_on_after_any_end() -> None:
                     door = Door("--journal", str(journal), engine=without_hits())
                     door.__enter__()
                 else:
-                    client.run(door, place, lambda: os.kill(door.child("service/keep"), signal.SIGKILL))
-                    ENDED.append("keep of a door")
+                    keep = door.child("service/keep")
+                    [program] = children_of(keep)
+                    client.run(door, place, partial(os.kill, (keep, program)[number % 3 - 1], signal.SIGKILL))
+                    ENDED.append(("keep", "program of keep")[number % 3 - 1] + " of a door")
                     wait_until_ready(door)
             client.run(door, None, None)
             need(client.at == len(due.lines), f"only {client.at} lines are answered")
-            need(changes_in(journal) == sum(due.changes), "not each accepted change is kept once")
+            need(changes_in(journal) == sum(due.changes), "not each change is kept once")
         finally:
             door.close()
-
-
-def end_engine(door: Door) -> None:
-    """Ends the engine below the door's `keep`, if there is one just now."""
-    engine = engine_of(door.child("service/keep"))
-    if engine is not None:
-        os.kill(engine, signal.SIGKILL)
-        ENDED.append("engine of a door")
 
 
 def wait_until_ready(door: Door) -> None:

@@ -152,7 +152,7 @@ def figures_are_those_of_what_was_done() -> None:
                    'pressclip_lines_total{op="show"}': 1, 'pressclip_refused_total{word="query"}': 1,
                    "pressclip_alerts_total": 6, "pressclip_queries": 2, "pressclip_reply_seconds_count": 8,
                    "pressclip_lines_in_flight": 0, "pressclip_engine_restarts_total": 0,
-                   "pressclip_journal_bytes": (journal / "journal").stat().st_size}
+                   "pressclip_journal_bytes": (journal / "changes").stat().st_size}
             need({name: figures.get(name) for name in due} == due, f"{figures}")
 
 

@@ -15,6 +15,8 @@ from pressclip_service.engine import command_of, program
 from .inputs import joined
 
 CHANGES = ("registered", "deleted", "cleared")
+# A line that is refused so asks for a change all the same.
+REFUSED_CHANGES = ("query", "listener", "full")
 
 
 class Failed(AssertionError):
@@ -36,7 +38,7 @@ def replies_of_engine(text: bytes, words: Sequence[str] = ()) -> bytes:
 
 @dataclass(frozen=True)
 class Due:
-    """Lines, the reply that is due to each (None to a blank one), and which are accepted changes."""
+    """Lines, the reply that is due to each (None to a blank one), and which ask for a change, and so are kept."""
 
     lines: list[bytes]
     replies: list[bytes | None]
@@ -50,12 +52,23 @@ class Due:
         for reply in replies_of_engine(joined(lines)).splitlines():
             value = json.loads(reply)
             replies[value["line"] - 1] = reply
-            changes[value["line"] - 1] = any(word in value for word in CHANGES)
+            changes[value["line"] - 1] = (any(word in value for word in CHANGES)
+                                          or value.get("refused") in REFUSED_CHANGES)
         return Due(lines, replies, changes)
 
     def text(self) -> bytes:
         """All replies, as they are written."""
         return b"".join(reply + b"\n" for reply in self.replies if reply is not None)
+
+    def kept_up_to(self, kept: int, answered: int, sent: int) -> int:
+        """The place behind the last line that was kept, where so many changes are: as far as was sent, and as was
+        answered at least."""
+        least, most = sum(self.changes[:answered]), sum(self.changes[:sent])
+        need(least <= kept <= most, f"{kept} changes are kept, and {least} were answered and {most} sent")
+        place = answered
+        while sum(self.changes[:place]) < kept:
+            place += 1
+        return place
 
     def numbered_from(self, start: int, index: int) -> bytes | None:
         """The reply to the line at the index, in an input that begins with the line at `start`."""

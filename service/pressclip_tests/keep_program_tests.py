@@ -3,38 +3,30 @@
 from __future__ import annotations
 
 import json
-import os
 import re
 import subprocess
 from pathlib import Path
 from random import Random
-from typing import Callable, Sequence
+from typing import Callable
+
+from pressclip_service.keeper import keeper
 
 from .inputs import Source, joined, with_long_lines
-from .judge import SERVICE, Due, folder, need, replies_of_engine, same
-from .keep_runs import dump_of as dump_of_service
-from .keep_runs import run_keep
+from .judge import Due, folder, need, replies_of_engine, same
+from .keep_runs import Client
+from .old_journals import of_form_1
 from .processes import ENDED, PATIENCE_SECONDS, Spoken
 from .streams_tests import closing
 
-BUILT = SERVICE.parent / "crates" / "pressclip_keep" / "out" / "pressclip-keep"
 KILLS = 40
-# A line that is refused so was kept all the same: it asks for a change.
-KEPT_REFUSALS = ("query", "listener", "full")
-CHANGES = ("registered", "deleted", "cleared")
 # The bytes of an entry beside what it says, and those of a journal that keeps nothing.
 ENTRY_BYTES, EMPTY_BYTES = 80, 96
-
-
-def keeper() -> str:
-    """The program: what the variable PRESSCLIP_KEEP names, or what this checkout built."""
-    return os.environ.get("PRESSCLIP_KEEP") or str(BUILT)
 
 
 def run(journal: Path, text: bytes, *words: str,
         before: Callable[[], None] | None = None) -> tuple[int, bytes, str]:
     """Status, what was printed and what was told, of a run over a whole input."""
-    done = subprocess.run([keeper(), str(journal), *words], input=text, stdout=subprocess.PIPE, stderr=subprocess.PIPE,
+    done = subprocess.run(keeper(journal, *words), input=text, stdout=subprocess.PIPE, stderr=subprocess.PIPE,
                           preexec_fn=before, timeout=PATIENCE_SECONDS, check=False)
     return done.returncode, done.stdout, done.stderr.decode()
 
@@ -48,12 +40,6 @@ def changes_in(journal: Path) -> int:
     if status or not found:
         raise AssertionError(f"status {status}, {told!r}, {why}")
     return int(found[1])
-
-
-def asks_change(reply: bytes | None) -> bool:
-    """Whether the line that was answered so is kept."""
-    value = json.loads(reply) if reply else {}
-    return any(word in value for word in CHANGES) or value.get("refused") in KEPT_REFUSALS
 
 
 def entries(text: bytes) -> list[tuple[int, int]]:
@@ -89,74 +75,7 @@ def goes_on_after_its_end() -> None:
             wanted = [due.numbered_from(start, place) for place in range(start, end)]
             same(replies, b"".join(reply + b"\n" for reply in wanted if reply is not None), f"lines {start} to {end}")
             start = end
-        need(changes_in(Path(name)) == sum(map(asks_change, due.replies)), "not each change is kept once")
-
-
-class Client:
-    """Sends the lines of an input to one run after another, each ended at some place, and judges each reply."""
-
-    def __init__(self, due: Due, journal: Path, dice: Random) -> None:
-        self.due = due
-        self.journal = journal
-        self.dice = dice
-        self.asks = [asks_change(reply) for reply in due.replies]
-        self.at = 0
-
-    def run(self, kills: int) -> None:
-        """Goes through the whole input, with so many ends on the way."""
-        for place in sorted(self.dice.sample(range(1, len(self.due.lines)), kills)):
-            self._run_to(max(place, self.at + 1))
-        self._run_to(len(self.due.lines))
-
-    def _run_to(self, stop: int) -> None:
-        """Serves from where things stand, and ends the run once lines up to a place are on their way."""
-        keep = Spoken([keeper(), str(self.journal), self.dice.choice(["0", "2"])])
-        start = at = answered = self.at
-        window = self.dice.choice([1, 1, 4, 60])
-        is_last = stop == len(self.due.lines)
-        while answered < stop:
-            while at < stop and at - answered < window:
-                keep.send(self.due.lines[at])
-                at += 1
-            answered = self._judged([], start, answered, at)
-            if at == stop and not is_last:
-                break
-            if at > answered:
-                replies = keep.wait_for_replies()
-                need(bool(replies), f"it ended: {keep.told()}")
-                answered = self._judged(replies, start, answered, at)
-        if is_last:
-            keep.close()
-            need(keep.status == 0, keep.last_words)
-            return
-        for _ in range(self.dice.randint(0, 3)):
-            keep.turn(self.dice.choice([0, 0.001, 0.01]))
-        keep.kill()
-        ENDED.append("pressclip-keep")
-        self._go_on(self._judged(keep.replies(), start, answered, at), at)
-
-    def _judged(self, replies: Sequence[bytes], start: int, answered: int, sent: int) -> int:
-        """The place behind the last answered line, where each reply that came is the one that is due."""
-        for reply in replies:
-            answered = self._behind_blanks(answered, sent)
-            due = self.due.numbered_from(start, answered)
-            need(answered < sent and reply == due, f"line {answered + 1}: got {reply[:300]!r}, due {due!r:.300}")
-            answered += 1
-        return self._behind_blanks(answered, sent)
-
-    def _behind_blanks(self, answered: int, sent: int) -> int:
-        while answered < sent and self.due.replies[answered] is None:
-            answered += 1
-        return answered
-
-    def _go_on(self, answered: int, sent: int) -> None:
-        """The next run goes on behind the last change that is kept, which was sent and maybe not answered."""
-        kept = changes_in(self.journal)
-        least, most = sum(self.asks[:answered]), sum(self.asks[:sent])
-        need(least <= kept <= most, f"{kept} changes are kept, and {least} were answered and {most} sent")
-        self.at = answered
-        while sum(self.asks[:self.at]) < kept:
-            self.at += 1
+        need(changes_in(Path(name)) == sum(due.changes), "not each change is kept once")
 
 
 def ended_at_random_places() -> None:
@@ -164,9 +83,11 @@ def ended_at_random_places() -> None:
     source = Source(4)
     due = Due.of(source.lines(2_000))
     with folder() as name:
-        client = Client(due, Path(name) / "j", source.dice)
+        journal = Path(name) / "j"
+        client = Client(due, journal, source.dice, lambda: Spoken(keeper(journal, source.dice.choice(["0", "2"]))),
+                        "pressclip-keep")
         client.run(KILLS)
-        need(changes_in(Path(name) / "j") == sum(client.asks), "not each change is kept once")
+        need(changes_in(journal) == sum(due.changes), "not each change is kept once")
 
 
 def a_journal(name: str) -> tuple[Path, bytes]:
@@ -228,22 +149,16 @@ def asking(source: Source) -> bytes:
     return joined([b'{"op":"count"}', *shows, *(source.match() for _ in range(60))])
 
 
-def a_journal_of_the_service_is_refused() -> None:
-    """It is named, nothing is changed, and what it dumps is taken over."""
-    source = Source(9)
+def a_journal_of_before_is_refused() -> None:
+    """It is named, and nothing is changed."""
     with folder() as name:
-        old, new = Path(name) / "old", Path(name) / "new"
-        status, _, told = run_keep(old, joined(source.lines(400)))
-        need(status == 0, told)
+        old = Path(name)
+        (old / "journal").write_bytes(of_form_1(Source(9).lines(5), 0))
         before = files_of(old)
         for words in ((), ("--check",), ("--dump",)):
             status, replies, told = run(old, b'{"op":"count"}\n', *words)
-            need((status, replies) == (3, b"") and "service/keep --journal OLD --dump" in told, f"{status} {told}")
+            need((status, replies) == (3, b"") and "service/keep --journal" in told, f"{status} {told}")
         need(files_of(old) == before, "the folder was changed")
-        status, _, told = run(new, dump_of_service(old))
-        need(status == 0, told)
-        text = asking(source)
-        same(run(new, text)[1], run_keep(old, text)[1], "what is registered")
 
 
 def a_dump_registers_the_same_queries() -> None:
@@ -296,7 +211,7 @@ def a_long_journal_is_written_anew() -> None:
 def a_second_one_is_refused() -> None:
     """The lock of a journal is free again once its holder is ended, however that was."""
     with folder() as name:
-        first = Spoken([keeper(), name])
+        first = Spoken(keeper(Path(name)))
         first.send(b'{"op":"register","queries":[{"id":"q1","query":"tea"}]}')
         need(bool(first.wait_for_replies()), "no reply")
         status, replies, told = run(Path(name), b'{"op":"count"}\n')
@@ -316,7 +231,7 @@ def other_words_are_refused() -> None:
             [], [""], ["--help"], [journal, "65"], [journal, "hits", "4"], [journal, "run"],
             [journal, "--dump", "--check"], [journal, "4", "--dump"], [journal, "--version"]]
         for words in others:
-            done = subprocess.run([keeper(), *words], input=b"", capture_output=True, check=False)
+            done = subprocess.run([keeper(Path())[0], *words], input=b"", capture_output=True, check=False)
             need(done.returncode == 2 and done.stderr.startswith(b"usage: pressclip-keep "), f"{words}: {done}")
             need(not done.stdout and not Path(journal).exists(), f"{words}: something was made")
 
@@ -333,22 +248,14 @@ def what_can_not_be_used_is_told() -> None:
             status, _, told = run(journal, line, before=closing(*closed))
             need(status in due, f"{closed}: {status} {told}")
         with open("/dev/full", "wb") as full:
-            done = subprocess.run([keeper(), str(journal)], input=line, stdout=full, stderr=subprocess.PIPE,
+            done = subprocess.run(keeper(Path(journal)), input=line, stdout=full, stderr=subprocess.PIPE,
                                   check=False)
         need(done.returncode == 6 and b"nobody reads the replies" in done.stderr, f"{done}")
         need((journal / "lock").read_bytes() == b"", "replies in the lock")
         need(run(journal, b'{"op":"count"}\n')[:2] == (0, b'{"count":1,"line":1}\n'), "what was kept is not there")
 
 
-ALL: tuple[Callable[[], None], ...] = (
+TESTS: tuple[Callable[[], None], ...] = (
     answers_as_the_engine, goes_on_after_its_end, ended_at_random_places, a_torn_end_is_left_out,
-    a_broken_middle_ends_it, a_journal_of_the_service_is_refused, a_dump_registers_the_same_queries,
+    a_broken_middle_ends_it, a_journal_of_before_is_refused, a_dump_registers_the_same_queries,
     a_long_journal_is_written_anew, a_second_one_is_refused, other_words_are_refused, what_can_not_be_used_is_told)
-
-
-def tests() -> tuple[Callable[[], None], ...]:
-    """All of them where the program is there, and else none, which is said."""
-    if os.access(keeper(), os.X_OK):
-        return ALL
-    print(f"left out: the tests of pressclip-keep, since there is no program at {keeper()}", flush=True)
-    return ()

@@ -1,32 +1,22 @@
-"""`keep` under test: one process of it, and a client that goes on where one was ended."""
+"""Keepers under test: `service/keep`, and a client of any that goes on where one was ended."""
 
 from __future__ import annotations
 
-import os
-import signal
 import subprocess
-import sys
 from pathlib import Path
 from random import Random
 from typing import Callable, Sequence
 
 from pressclip_service.engine import command_of
+from pressclip_service.taking_over import has_journal
 
 from .judge import KEEP, Due, need
 from .processes import ENDED, PATIENCE_SECONDS, Spoken
-
-STAND_IN = Path(__file__).resolve().parent / "stand_in.py"
-MOST_OWED = 40
 
 
 def command(journal: Path, *options: str, engine: Sequence[str] = ()) -> list[str]:
     """The command of `keep`, with an engine without threads where no other one is named."""
     return [str(KEEP), "--journal", str(journal), *options, "--", *(engine or command_of([], workers=0))]
-
-
-def stand_in(seconds: float, word: str) -> list[str]:
-    """The command of a stand-in for an engine, which takes so long for a line and ends at one with the word."""
-    return [sys.executable, str(STAND_IN), str(seconds), word]
 
 
 def run_keep(journal: Path, text: bytes, *options: str, engine: Sequence[str] = (),
@@ -44,7 +34,7 @@ def dump_of(journal: Path, word: str = "--dump") -> bytes:
 
 def changes_in(journal: Path) -> int:
     """How many changes a journal has."""
-    return int(dump_of(journal, "--changes")) if (journal / "journal").exists() else 0
+    return int(dump_of(journal, "--changes")) if has_journal(journal) else 0
 
 
 class Keep(Spoken):
@@ -56,13 +46,14 @@ class Keep(Spoken):
 
 
 class Client:
-    """Sends the lines of an input to one `keep` after another, each ended at some place, and judges each reply."""
+    """Sends the lines of an input to one keeper after another, each ended at some place, and judges each reply."""
 
-    def __init__(self, due: Due, journal: Path, dice: Random, options: Sequence[str]) -> None:
+    def __init__(self, due: Due, journal: Path, dice: Random, keeper: Callable[[], Spoken], name: str) -> None:
         self.due = due
         self.journal = journal
         self.dice = dice
-        self.options = options
+        self.keeper = keeper
+        self.name = name
         self.at = 0
         self.kills = 0
 
@@ -74,8 +65,8 @@ class Client:
         self._run_to(None)
 
     def _run_to(self, place: int | None) -> None:
-        """Serves from where things stand; ends `keep` once lines up to a place, if any, are on their way."""
-        keep = Keep(self.journal, *self.options)
+        """Serves from where things stand; ends the keeper once lines up to a place, if any, are on their way."""
+        keep = self.keeper()
         start = at = self.at
         window = self.dice.choice([1, 1, 4, 60])
         stop = len(self.due.lines) if place is None else min(place, len(self.due.lines))
@@ -89,19 +80,20 @@ class Client:
                 break
             if at > answered:
                 replies = keep.wait_for_replies()
-                need(bool(replies), f"keep ended: {keep.told()}")
+                need(bool(replies), f"it ended: {keep.told()}")
                 answered = self._judge(replies, start, answered, at)
         if place is None:
             keep.close()
+            need(keep.status == 0, keep.last_words)
             self.at = answered
             return
         for _ in range(self.dice.randint(0, 3)):
             keep.turn(self.dice.choice([0, 0.001, 0.01]))
         keep.kill()
         self.kills += 1
-        ENDED.append("keep")
+        ENDED.append(self.name)
         answered = self._judge(keep.replies(), start, answered, at)
-        self.at = self._kept(answered, at)
+        self.at = self.due.kept_up_to(changes_in(self.journal), answered, at)
 
     def _judge(self, replies: list[bytes], start: int, answered: int, sent: int) -> int:
         """The place behind the last answered line, where each reply that came is the one that is due."""
@@ -114,39 +106,3 @@ class Client:
         while answered < sent and self.due.replies[answered] is None:
             answered += 1
         return answered
-
-    def _kept(self, answered: int, sent: int) -> int:
-        """Where the next client goes on: behind the last change that is kept, which was sent and maybe not answered."""
-        kept = changes_in(self.journal)
-        least = sum(self.due.changes[:answered])
-        most = sum(self.due.changes[:sent])
-        need(least <= kept <= most, f"{kept} changes are kept, and {least} were answered and {most} sent")
-        place = answered
-        while sum(self.due.changes[:place]) < kept:
-            place += 1
-        return place
-
-
-def kill_engines(keep: Keep, dice: Random, due: Due, kills: int) -> bytes:
-    """The replies of one `keep` to a whole input, whose engine is ended so many times on the way: at random places, or
-    as soon after them as there is an engine again."""
-    places = set(dice.sample(range(1, len(due.lines)), kills))
-    out: list[bytes] = []
-    owed = done = wanted = 0
-    for number, line in enumerate(due.lines):
-        keep.send(line)
-        owed += due.replies[number] is not None
-        wanted += number in places
-        if wanted > done:
-            keep.turn(dice.choice([0, 0.002]))
-            engine = keep.engine()
-            if engine is not None:
-                os.kill(engine, signal.SIGKILL)
-                done += 1
-                ENDED.append("engine of keep")
-        while owed - len(out) > MOST_OWED or (number + 1 == len(due.lines) and len(out) < owed):
-            replies = keep.wait_for_replies()
-            need(bool(replies), f"keep ended: {keep.told()}")
-            out += replies
-    need(done > kills * 3 // 4, f"only {done} engines were ended")
-    return b"".join(reply + b"\n" for reply in out)

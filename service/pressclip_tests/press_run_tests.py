@@ -198,14 +198,17 @@ def ended_at_random(command: Sequence[str], lines: Sequence[bytes], dice: Random
 
 
 def over_keep_and_below_it() -> None:
-    """Ended at random places, over a journal and below one, each reply is that of a run to its end."""
-    for seed, is_below in enumerate((False, True)):
+    """Ended at random places, with a journal of its own, over one and below one, each reply is that of a run to its
+    end."""
+    for seed, is_below in enumerate((None, False, True)):
         dice = Random(f"press {seed}")
         lines = mixed(dice, 140)
         due = [unnumbered(reply) for reply in run_press(lines, "--quiet")[0]]
         with folder() as place:
             engine = command_of([], workers=0)
-            if is_below:
+            if is_below is None:
+                command = run_command("--quiet", "--journal", place, engine=engine)
+            elif is_below:
                 command = [str(KEEP), "--journal", place, "--", *run_command("--quiet", engine=engine)]
             else:
                 command = run_command("--quiet", engine=[str(KEEP), "--journal", place, "--", *engine])

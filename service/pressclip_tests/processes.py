@@ -61,6 +61,16 @@ class Spoken:
                 return self.replies()
         return found
 
+    def so_many_replies(self, count: int) -> list[bytes]:
+        """The next so many replies."""
+        found: list[bytes] = []
+        while len(found) < count:
+            replies = self.wait_for_replies()
+            if not replies:
+                raise AssertionError(f"{len(found)} of {count} replies: {self.told()}")
+            found += replies
+        return found
+
     def replies(self) -> list[bytes]:
         """The whole replies that came, taken out."""
         whole = self.got.rfind(b"\n") + 1
@@ -72,10 +82,6 @@ class Spoken:
         """What was told on standard error so far."""
         size = os.fstat(self._told.fileno()).st_size
         return os.pread(self._told.fileno(), size, 0).decode()
-
-    def engine(self) -> int | None:
-        """The number of the engine that is its child."""
-        return engine_of(self.process.pid)
 
     def kill(self) -> bytes:
         """Ends it at once, and gives what it had written still."""

@@ -1,4 +1,4 @@
-"""Tests of standard streams that are closed, can't be read or don't block, of signals, and of what a wait is for."""
+"""Tests of standard streams that are closed, can't be read or don't block, and of signals."""
 
 from __future__ import annotations
 
@@ -13,12 +13,12 @@ from typing import Callable, Sequence
 from unittest import mock
 
 from pressclip_service.errors import JournalLocked, StorageFailed
-from pressclip_service.journal import Journal
+from pressclip_service.taking_over import prepare
 
 from .grid_runs import Grid
-from .inputs import Source, joined
+from .inputs import joined
 from .judge import KEEP, REDIS, Due, folder, need, same
-from .keep_runs import Keep, changes_in, command, dump_of, run_keep, stand_in
+from .keep_runs import Keep, changes_in, command, dump_of, run_keep
 from .processes import PATIENCE_SECONDS, children_of
 
 REGISTER = b'{"op":"register","queries":[{"id":"q1","query":"tea"}]}'
@@ -64,8 +64,9 @@ def a_closed_standard_error_is_silent() -> None:
         journal = Path(name) / "j"
         status, replies, _ = run_keep(journal, DUMPED, before=closing(2))
         need((status, replies) == (0, REGISTERED), f"{status} {replies!r}")
-        with open(journal / "journal", "ab") as file:
-            file.write(b"torn")
+        with open(journal / "changes", "r+b") as file:
+            file.seek(0, os.SEEK_END)
+            file.write((journal / "changes").read_bytes()[:30])
         status, dumped, _ = run_closed([str(KEEP), "--journal", str(journal), "--dump"], 2)
         need((status, dumped) == (0, DUMPED), f"{status} {dumped!r}")
         status, replies, _ = run_keep(journal, DUMPED, before=closing(2))
@@ -115,17 +116,21 @@ def an_unreadable_input_is_told() -> None:
 def a_lock_that_fails_is_told() -> None:
     """A file system without locks is no other process: status 4, with a message; and the lock's file is let go."""
     with folder() as name, mock.patch.object(fcntl, "flock", side_effect=OSError(errno.ENOLCK, "No locks available")):
+        held = os.listdir("/proc/self/fd")
         try:
-            Journal(Path(name))
+            prepare("keep", Path(name), lambda fresh: [])
         except StorageFailed as error:
-            need(error.status == 4 and "can't lock" in str(error) and "No locks available" in str(error), str(error))
+            need(error.status == 4 and "can't open" in str(error) and "No locks available" in str(error), str(error))
         else:
             need(False, "a journal without its lock")
+        need(os.listdir("/proc/self/fd") == held, "the lock's file is held")
     with folder() as name, mock.patch.object(fcntl, "flock", side_effect=BlockingIOError(errno.EAGAIN, "")):
         try:
-            Journal(Path(name))
+            prepare("keep", Path(name), lambda fresh: [])
         except JournalLocked as error:
             need(error.status == 5, str(error))
+        else:
+            need(False, "a journal that another process has")
 
 
 def an_output_that_does_not_block_is_waited_for() -> None:
@@ -146,54 +151,71 @@ def an_output_that_does_not_block_is_waited_for() -> None:
         need(process.wait(PATIENCE_SECONDS) == 0, told.read().decode())
 
 
-def an_end_that_is_asked_for_is_drained() -> None:
-    """SIGTERM to `keep` and to its engine, as a service manager sends it: what was read is answered and kept, what
-    comes later is not read, and the status is 0."""
-    lines = [b'{"op":"register","queries":[{"id":"q%d","query":"tea"}]}' % number for number in range(6)]
+def a_reader_that_is_gone_is_told() -> None:
+    """Status 6, and what was kept is there."""
     with folder() as name:
-        kept = Keep(Path(name), engine=stand_in(0.2, "poison"))
-        for line in lines:
+        reading, writing = os.pipe()
+        os.close(reading)
+        done = subprocess.run(command(Path(name) / "j"), input=DUMPED, stdout=writing, stderr=subprocess.PIPE,
+                              check=False)
+        os.close(writing)
+        need(done.returncode == 6 and b"nobody reads the replies" in done.stderr, f"{done}")
+        need(changes_in(Path(name) / "j") == 1, "the change is not kept")
+
+
+def an_end_that_is_asked_for_is_drained() -> None:
+    """SIGTERM to `keep` and to its program, as a service manager sends it: each line that was read whole is answered and
+    kept, what comes later is not read, of a line that was read in part nothing is, and the status is 0."""
+    line = b'{"op":"register","queries":[%b]}' % b",".join(
+        b'{"id":"q%d","query":"tea w%d pric*"}' % (number, number) for number in range(1_000))
+    with folder() as name:
+        kept = Keep(Path(name))
+        for _ in range(40):
             kept.send(line)
-        got = kept.wait_for_replies()
-        need(0 < len(got) < 6, f"{len(got)} replies before the signal")
+        kept.unsent += b'{"op":"clear"'
+        while kept.unsent:
+            kept.turn(1)
+        time.sleep(UNREAD)
         for process in (*children_of(kept.process.pid), kept.process.pid):
             os.kill(process, signal.SIGTERM)
         time.sleep(UNREAD)
-        kept.send(lines[0])
+        kept.unsent += b"}\n"
+        got: list[bytes] = []
         while replies := kept.wait_for_replies():
             got += replies
         need(kept.process.wait(PATIENCE_SECONDS) == 0, f"status {kept.process.returncode}: {kept.told()}")
-        same(joined(got), b"".join(b'{"line":%d,"registered":1}\n' % number for number in range(1, 7)), "replies")
-        need(changes_in(Path(name)) == 6, f"{changes_in(Path(name))} changes are kept")
-        need("started again" not in kept.told(), kept.told())
+        same(joined(got), b"".join(b'{"line":%d,"registered":1000}\n' % number for number in range(1, len(got) + 1)),
+             "replies")
+        need(0 < changes_in(Path(name)) == len(got), f"{changes_in(Path(name))} kept, and {len(got)} answered")
         kept.close()
 
 
 def an_end_is_asked_for_while_nothing_is_owed() -> None:
     """SIGTERM where all is answered, and in the middle of a replay: status 0 at once."""
+    line = b'{"op":"register","queries":[%b]}' % b",".join(
+        b'{"id":"q%d","query":"tea w%d pric*"}' % (number, number) for number in range(1_000))
     with folder() as name:
         kept = Keep(Path(name))
-        for number in range(20):
-            kept.send(b'{"op":"register","queries":[{"id":"q%d","query":"tea"}]}' % number)
-        left = 20
-        while left:
-            left -= len(kept.wait_for_replies())
+        for _ in range(200):
+            kept.send(line)
+        kept.so_many_replies(200)
         kept.process.terminate()
         need(kept.process.wait(PATIENCE_SECONDS) == 0, kept.told())
         kept.close()
-        start = time.monotonic()
-        again = Keep(Path(name), engine=stand_in(1.0, "poison"))
-        while "20 changes are kept" not in again.told():
+        again = Keep(Path(name))
+        while "200 changes are kept" not in again.told():
+            need(again.process.poll() is None, again.told())
             time.sleep(0.01)
-        time.sleep(UNREAD)
+        start = time.monotonic()
         again.process.terminate()
         status = again.process.wait(PATIENCE_SECONDS)
-        need(status == 0 and time.monotonic() - start < 5.0, f"{status} after {time.monotonic() - start} s")
+        need(status == 0 and time.monotonic() - start < 1.0, f"{status} after {time.monotonic() - start} s")
         again.close()
+        need(changes_in(Path(name)) == 200, "another count of changes")
 
 
 def a_hang_up_is_no_end() -> None:
-    """SIGHUP to `keep` and to its engine changes nothing."""
+    """SIGHUP to `keep` and to its program changes nothing."""
     with folder() as name:
         kept = Keep(Path(name))
         kept.send(REGISTER)
@@ -205,32 +227,10 @@ def a_hang_up_is_no_end() -> None:
         got += kept.wait_for_replies()
         kept.close()
         need((kept.status, joined(got)) == (0, REGISTERED + b'{"count":1,"line":2}\n'), f"{kept.status} {got}")
-        need("started again" not in kept.last_words, kept.last_words)
-
-
-def a_wait_is_told() -> None:
-    """An engine that hangs: after five seconds `keep` says what it waits for, and goes on once the engine does."""
-    with folder() as name:
-        kept = Keep(Path(name))
-        kept.send(b"")
-        kept.send(REGISTER)
-        need(len(kept.wait_for_replies()) == 1, "no reply")
-        engine = kept.engine()
-        assert engine
-        os.kill(engine, signal.SIGSTOP)
-        kept.send(b'{"op":"count"}')
-        kept.turn(0)
-        start = time.monotonic()
-        while "waits for the engine's reply to line 3, since 5 s" not in kept.told():
-            need(time.monotonic() - start < 10.0, kept.told())
-            time.sleep(0.1)
-        os.kill(engine, signal.SIGCONT)
-        need(kept.wait_for_replies() == [b'{"count":1,"line":3}'], "another reply")
-        kept.close()
-        need(kept.status == 0, kept.last_words)
 
 
 TESTS = (a_closed_output_is_no_reader, a_closed_standard_error_is_silent, a_closed_input_cannot_be_read,
          a_grid_without_its_streams, an_unreadable_input_is_told, a_lock_that_fails_is_told,
-         an_output_that_does_not_block_is_waited_for, an_end_that_is_asked_for_is_drained,
-         an_end_is_asked_for_while_nothing_is_owed, a_hang_up_is_no_end, a_wait_is_told)
+         an_output_that_does_not_block_is_waited_for, a_reader_that_is_gone_is_told,
+         an_end_that_is_asked_for_is_drained,
+         an_end_is_asked_for_while_nothing_is_owed, a_hang_up_is_no_end)
