@@ -9,9 +9,9 @@ ghost use Rattle.clip_keeping.specs.Statuses.{outcome_of};
 use crate::fault::{Fault, fault_of_run};
 use crate::opening::{changes_in, open_short};
 use crate::shortening::Shortening;
-use clip_journal::Store;
 use clip_ahead::KeptParts;
-use clip_kept::{KeptFault, Keeping, KeptRun, run_kept};
+use clip_journal::Store;
+use clip_kept::{Keeping, KeptFault, KeptRun, run_kept};
 use clip_listen::Audience;
 use clip_run::{Ended, OpenGate, Settings};
 use clip_stream::{MOST_WORKERS, Sink, Source};
@@ -60,13 +60,7 @@ pub fn serve_store<
     W: Sink,
     A: Audience,
     B: Audience,
->(
-    rt: &H,
-    reader: R,
-    writer: &mut W,
-    audience: &mut A,
-    serving: Serving<'_, S, B>,
-) -> Served<R, S>
+>(rt: &H, reader: R, writer: &mut W, audience: &mut A, serving: Serving<'_, S, B>) -> Served<R, S>
     requires fresh { AreFresh (devices_at R.Source W.Sink reader writer.old) }
     requires workers { serving.settings.workers ≤ MOST_WORKERS }
     ensures given { OnOk result.outcome (GivesAllOver (S.seen serving.entry.store) (A.hearers audience.old)
