@@ -9,6 +9,7 @@ use clip_match::OpenGate;
 use clip_run::{Form, Settings};
 use clip_stream::{Failed, Sink, Source};
 use clip_words::NoMemory;
+use std::alloc::Global;
 use std::sync::Wait;
 use std::test::Fail;
 use std::thread::Threads;
