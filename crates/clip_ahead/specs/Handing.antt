@@ -43,8 +43,8 @@ pub record IsAhead {S : Type 0} (calls : store.Ghosts S) (begun : Begun) (left :
   pub faults : begun.faults ≤ calls.faults keeper.journal.store
   pub cause : failed ≡ Some (fault.Store stored.Failed) → begun.faults < calls.faults keeper.journal.store
 
--- All that was handed out is in the journal: what a stop leaves from now on comes of what was kept and of a front of the
--- changes of these lines, with all that were handed out.
+-- All that was handed out is in the journal: what a stop leaves from now on comes of what was kept and of a front of
+-- the changes of these lines, with all that were handed out.
 pub record WasAhead {S : Type 0} (StandFor : List (List ℕ) → List (List ℕ) → Type 0) (calls : store.Ghosts S)
     (begun : Begun) (left : Option (List ℕ)) (held : List ℕ) (met_end : Bool) (failed : Option JournalFault)
     (journal : Journal S) : Type 0 where

@@ -174,9 +174,9 @@ impl<S: Store> Keeper<S> {
         }
     }
 
-    /// Writes the journal anew where it is long, but for one that could not be: the lines that may stand for all that it
-    /// keeps in the place of that. What was asked is told of what is begun, and of what could not be done: the journal
-    /// goes on as it was then, but where its store failed.
+    /// Writes the journal anew where it is long, with lines that may stand for all that it keeps. The shortener is told
+    /// when that is begun, and when it can't be done: the journal goes on as it was then, and this is not tried again.
+    /// An error where the store failed.
     pub(crate) fn shorten<N: RunName, L: Shortener>(
         &mut self,
         shortener: &L,

@@ -9,8 +9,8 @@ pub struct Failed;
 /// What keeps the bytes, as a file does. No clause says what it does: that it does as it answers, and keeps what it
 /// synced, is trusted.
 pub trait Backing {
-    /// Adds bytes behind those that are there, to be written by the next sync or before. After `Failed` any front of them
-    /// may be there.
+    /// Adds bytes behind those that are there, to be written by the next sync or before. After `Failed` any front of
+    /// them may be there.
     fn append(&mut self, bytes: &[u8]) -> Result<(), Failed>;
 
     /// From then on a stop leaves all that is there.

@@ -55,8 +55,8 @@ impl Found {
         said
     }
 
-    /// Whether it is long: it has over 1,000 commands since it was written anew, and more than twice as many as there were
-    /// queries then. Constant time.
+    /// Whether it is long: it has over 1,000 commands since it was written anew, and more than twice as many as there
+    /// were queries then. Constant time.
     pub fn is_long(&self) -> bool
         ensures { result ≡ is_long (kept_of self.now) }
     {

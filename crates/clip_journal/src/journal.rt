@@ -1,5 +1,6 @@
 //! A journal that takes commands.
-ghost use Rattle.std.specs.Prelude.{◌≡◌, ◌≢◌, ◌⊎◌, ◌<◌, ◌≤◌, ◌+◌, ◌-◌, ◌^◌, ℕ, length, true, false, IfOk, IfErr, OnOk, IsErrOf};
+ghost use Rattle.std.specs.Prelude.{◌≡◌, ◌≢◌, ◌⊎◌, ◌<◌, ◌≤◌, ◌+◌, ◌-◌, ◌^◌, ℕ, length, true, false};
+ghost use Rattle.std.specs.Prelude.{IfOk, IfErr, OnOk, IsErrOf};
 ghost use Rattle.clip_journal.specs.Entries.{link_behind, first_link};
 ghost use Rattle.clip_journal.specs.Kept.{Kept, bytes_of, said_by, says, compacted};
 
@@ -171,8 +172,8 @@ impl<S: Store> Journal<S> {
     /// # Errors
     ///
     /// `Ended` where the store failed before, `Full` where 2^63 - 1 commands were accepted, `NoMemory` where an
-    /// allocation failed: nothing is done then. `Store` where the store failed; unless it says `Failed`, the journal goes
-    /// on as it was.
+    /// allocation failed: nothing is done then. `Store` where the store failed; unless it says `Failed`, the journal
+    /// goes on as it was.
     pub fn compact(&mut self, alloc: Global, live: &[Vec<u8>]) -> Result<(), JournalFault>
         ensures compacted { OnOk result (Stands S.seen S.may_leave self.new
             (compacted self.old.accepted (says live.now)) 0) }
@@ -213,8 +214,8 @@ impl<S: Store> Journal<S> {
         Ok(())
     }
 
-    /// Whether it is long where so many queries more are live now than as it was written anew: it has over 1,000 commands
-    /// since, and more than twice as many as there are queries. Constant time.
+    /// Whether it is long where so many queries more are live now than as it was written anew: it has over 1,000
+    /// commands since, and more than twice as many as there are queries. Constant time.
     pub fn is_long_with(&self, more: u64) -> bool
         ensures { (kept : Kept) (safe : ℕ) → Stands S.seen S.may_leave self.now kept safe
             → result ≡ are_long (length kept.live + more) (length kept.since) }
@@ -232,8 +233,8 @@ impl<S: Store> Journal<S> {
     ///
     /// # Errors
     ///
-    /// `Store` where the store can't be read now; `Read` with `Broken` where what it gives is another journal or none, or
-    /// with `NoMemory`.
+    /// `Store` where the store can't be read now; `Read` with `Broken` where what it gives is another journal or none,
+    /// or with `NoMemory`.
     pub fn lines_again(&self, alloc: Global) -> Result<Vec<Vec<u8>>, OpenFault>
         ensures { IfOk result (λ lines. (kept : Kept) (safe : ℕ) → Stands S.seen S.may_leave self.now kept safe
             → AreReadAgain kept (says lines.items)) }

@@ -9,9 +9,9 @@ use crate::looking::print_looked;
 use crate::streams::keep;
 use crate::words::{Asked, Task, read_words};
 use clip_command_line::{feed, mail, named, words_of};
-use clip_listen::Listeners;
+use clip_listen::{Audience, Listeners};
 use clip_run::Settings;
-use std::alloc::Global;
+use clip_stream::MOST_WORKERS;
 use std::fs::File;
 use std::io::ErrorKind;
 use std::process::ExitCode;
@@ -19,14 +19,21 @@ use std::rt::{Env, Files};
 use std::sync::Wait;
 use std::thread::Threads;
 
-/// The listeners `mail` and `feed`.
-fn both_listeners(alloc: Global) -> Result<Listeners, Fault> {
+/// Does what `keep` does, with others of the names `mail` and `feed` as namesakes. The faults and the cost are its own,
+/// and `NoMemory` where these listeners get none.
+fn keep_beside<
+    R: Input + Print + Eprint + Files<File = File> + Threads + Wait + Sync + AllocGlobal,
+    A: Audience,
+>(rt: &R, audience: &mut A, folder: &str, settings: Settings) -> Result<(), Fault>
+    requires { settings.workers ≤ MOST_WORKERS }
+{
+    let alloc = rt.alloc();
     let mail = Box::new(alloc, mail(alloc)?)?;
     let feed = Box::new(alloc, feed(alloc)?)?;
-    let Ok(listeners) = Listeners::new(named(alloc, mail, feed)?) else {
+    let Ok(namesakes) = Listeners::new(named(alloc, mail, feed)?) else {
         unreachable!()
     };
-    Ok(listeners)
+    keep(rt, audience, &namesakes, folder, settings)
 }
 
 /// Does what is asked for of the journal in a folder, with the listeners `mail` and `feed`. The faults and the cost are
@@ -39,7 +46,11 @@ fn perform<R: Input + Print + Eprint + Files<File = File> + Threads + Wait + Syn
     requires { HasFewWorkers task }
 {
     let alloc = rt.alloc();
-    let mut listeners = both_listeners(alloc)?;
+    let mail = Box::new(alloc, mail(alloc)?)?;
+    let feed = Box::new(alloc, feed(alloc)?)?;
+    let Ok(mut listeners) = Listeners::new(named(alloc, mail, feed)?) else {
+        unreachable!()
+    };
     match task {
         Task::Run(workers, form) => {
             let settings = Settings {
@@ -47,8 +58,7 @@ fn perform<R: Input + Print + Eprint + Files<File = File> + Threads + Wait + Syn
                 keeps_rows: false,
                 workers,
             };
-            let namesakes = both_listeners(alloc)?;
-            keep(rt, &mut listeners, &namesakes, folder, settings)
+            keep_beside(rt, &mut listeners, folder, settings)
         }
         Task::Look(how) => print_looked(rt, &listeners, folder, how),
     }

@@ -24,8 +24,8 @@ pub struct Serving<'b, S: Store, B: Audience> {
     pub store: S,
     /// How it runs.
     pub settings: Settings,
-    /// Listeners of the names that the run's have, which hear nothing: by them is told what is live where the journal is
-    /// written anew.
+    /// Listeners of the names that the run's have, which hear nothing: by them is told what is live where the journal
+    /// is written anew.
     pub namesakes: &'b B,
 }
 
@@ -48,8 +48,8 @@ fn outcome_of(answer: Result<Ended, KeptFault>) -> Result<(), Fault>
     }
 }
 
-/// Runs over the journal that a store has, by `run_kept`. Standard error is told how many changes are kept, and where the
-/// journal is written anew while the run goes on.
+/// Runs over the journal that a store has, by `run_kept`. Standard error is told how many changes are kept, and where
+/// the journal is written anew while the run goes on.
 ///
 /// The faults are those of `open_short` and of `run_kept`; the cost is theirs, and that of `live_lines` each time that
 /// the journal is written anew.
@@ -66,8 +66,9 @@ pub fn serve_store<
     ensures given { OnOk result.outcome (GivesAllOver (S.seen serving.entry.store) (A.hearers audience.old)
         (A.hearers audience.new) serving.entry.settings (R.left reader) (W.taken writer.old) (W.taken writer.new)) }
 
-    // However it ended, what `run_kept` promises of its journal and its answer is so: it went on from what the store had,
-    // and what a stop leaves is read back as that and a front of the changes that were read, with all that were answered.
+    // However it ended, what `run_kept` promises of its journal and its answer is so: it went on from what the store
+    // had, and what a stop leaves is read back as that and a front of the changes that were read, with all that the
+    // run was handed.
     ensures kept { IfSome result.parts (λ parts. IsKept R.Source S.Store
         (λ old new. OfKept (names_in (B.hearers serving.entry.namesakes.now)) old (λ begins. AreLive begins new))
         (names_in (A.hearers audience.old)) reader (S.seen serving.entry.store) result.outcome parts

@@ -7,6 +7,7 @@ use std::alloc::Global;
 
 /// Who makes the lines of a journal few: the queries that they leave live where these listeners are here, each as the
 /// line that registers it. Standard error is told of it.
+#[derive(Drop)]
 pub struct Shortening<'r, H: Eprint, B: Audience> {
     /// Who tells.
     pub rt: &'r H,

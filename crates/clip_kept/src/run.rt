@@ -123,9 +123,10 @@ fn run_named<
 /// keeps, put in place at once; where that can't be done, it goes on as it was.
 ///
 /// Cost: that of `run_again`, and for each line the reading of its JSON value once more; for each change the digest of
-/// its line, and one sync for all changes of up to 64 KiB that are read at once. Memory: one line and 64 KiB more. Where
-/// the journal is written anew also the time and memory of reading it back and of the shortener: as the journal has
-/// more than twice as many changes since as it had queries, that is a fixed part for each change.
+/// its line, and one sync for all changes of up to 64 KiB that are read at once. Memory: one line and 64 KiB more, and
+/// for each id that changes registered since the journal was written anew its hash. Where it is written anew also the
+/// time and memory of reading it back and of the shortener: as there are more than twice as many changes since as
+/// there are queries, that is a fixed part for each change.
 pub fn run_kept<
     H: Threads + Wait + Sync,
     R: Source,

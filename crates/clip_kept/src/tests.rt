@@ -9,6 +9,7 @@ use clip_match::OpenGate;
 use clip_run::{Form, Settings};
 use clip_stream::{Failed, Sink, Source};
 use clip_words::NoMemory;
+use std::alloc::Global;
 use std::sync::Wait;
 use std::test::Fail;
 use std::thread::Threads;
@@ -370,7 +371,8 @@ fn a_journal_that_is_long_is_written_anew_while_it_is_taken(rt: HostRuntime) -> 
     let played = play(&rt, Vec::new(alloc), &input, 5000, 100_000, 0)?;
     assert_eq!(rt; played.answer, Ok(OFTEN as u64));
     let kept = read_back(alloc, &played.synced)?;
-    assert_eq!(rt; kept.changes() as usize + kept.since().len(), OFTEN);
+    let changes = kept.changes().wrapping_add(kept.since().len() as u64);
+    assert_eq!(rt; changes, OFTEN as u64);
     assert_eq!(rt; kept.live().len(), 1);
     assert!(rt; kept.since().len() < 300);
     let again = play(&rt, played.synced, b"{\"op\":\"count\"}\n", 1000, 100, 0)?;
