@@ -185,14 +185,23 @@ def without_line(reply: bytes) -> dict[str, object]:
     return {name: value for name, value in json.loads(reply).items() if name != "line"}
 
 
+def long_input(source: Source) -> bytes:
+    """Lines that ask for over 1,000 changes, and leave few queries."""
+    return joined([source.register() for _ in range(1_100)] + [source.delete() for _ in range(200)])
+
+
 def a_long_journal_is_written_anew() -> None:
-    """At the start, where it has over 1,000 changes and more than twice the queries of its last writing."""
+    """At the start, where it has over 1,000 changes and more than twice the queries of its last writing: here since it
+    could not be written anew before, which was told once."""
     source = Source(11)
-    lines = [source.register() for _ in range(1_100)] + [source.delete() for _ in range(200)]
-    asked = asking(source)
+    text, asked = long_input(source), asking(source)
     with folder() as name:
         journal = Path(name)
-        need(run(journal, joined(lines))[0] == 0, "no journal")
+        (journal / "changes.new").mkdir()
+        status, replies, told = run(journal, text)
+        need(status == 0 and told.count("could not be written anew") == 1, told)
+        same(replies, replies_of_engine(text), "replies")
+        (journal / "changes.new").rmdir()
         before = json.loads(run(journal, b"", "--stats")[1])
         dump = run(journal, b"", "--dump")[1]
         status, replies, told = run(journal, asked)
@@ -203,9 +212,24 @@ def a_long_journal_is_written_anew() -> None:
                        "changes": before["changes"], "live": dump.count(b"\n"), "since": 0, "torn": 0}, f"{stats}")
         need(before["since"] == before["changes"] > 1_000 and stats["bytes"] < before["bytes"], f"{before}")
         same(run(journal, b"", "--dump")[1], dump, "the dump")
-        due = replies_of_engine(joined(lines) + asked).splitlines()[-len(asked.splitlines()):]
+        due = replies_of_engine(text + asked).splitlines()[-len(asked.splitlines()):]
         need([without_line(reply) for reply in replies.splitlines()] == [without_line(reply) for reply in due],
              "other queries")
+
+
+def a_long_journal_is_written_anew_while_it_runs() -> None:
+    """Its replies are those of the engine, and its queries those of a journal that was not written anew."""
+    text = long_input(Source(11))
+    with folder() as name, folder() as other:
+        (Path(other) / "changes.new").mkdir()
+        need(run(Path(other), text)[0] == 0, "no journal")
+        status, replies, told = run(Path(name), text)
+        need(status == 0 and "is being written anew" in told and "could not" not in told, told)
+        same(replies, replies_of_engine(text), "replies")
+        stats, whole = (json.loads(run(Path(one), b"", "--stats")[1]) for one in (name, other))
+        need(stats["changes"] == whole["changes"] and stats["since"] < whole["since"], f"{stats} {whole}")
+        need(stats["bytes"] < whole["bytes"], f"{stats} {whole}")
+        same(run(Path(name), b"", "--dump")[1], run(Path(other), b"", "--dump")[1], "the dump")
 
 
 def a_second_one_is_refused() -> None:
@@ -258,4 +282,5 @@ def what_can_not_be_used_is_told() -> None:
 TESTS: tuple[Callable[[], None], ...] = (
     answers_as_the_engine, goes_on_after_its_end, ended_at_random_places, a_torn_end_is_left_out,
     a_broken_middle_ends_it, a_journal_of_before_is_refused, a_dump_registers_the_same_queries,
-    a_long_journal_is_written_anew, a_second_one_is_refused, other_words_are_refused, what_can_not_be_used_is_told)
+    a_long_journal_is_written_anew, a_long_journal_is_written_anew_while_it_runs, a_second_one_is_refused,
+    other_words_are_refused, what_can_not_be_used_is_told)

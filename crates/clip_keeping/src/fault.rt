@@ -19,9 +19,9 @@ pub enum Fault {
     /// The journal's file is no journal. Up to this byte whole entries stand.
     #[error("the journal is broken at byte {0}; nothing was changed")]
     Broken(usize),
-    /// The folder has a journal of `service/keep`.
-    #[error("it has a journal of service/keep, which has another form; nothing was changed. Take it over into a new \
-         folder: service/keep --journal OLD --dump | pressclip-keep NEW")]
+    /// The folder has a journal of another form, which `service/keep` had.
+    #[error("it has a journal of another form, which service/keep had; nothing was changed. Start \
+         service/keep --journal FOLDER once, which takes it over")]
     Other,
     /// The journal's folder or its file can't be made, read or synced.
     #[error("the journal can't be opened")]

@@ -9,7 +9,7 @@ use std::rt::Files;
 /// The file in which `clip_file_store` has a journal.
 const OWN_FILE: &str = "changes";
 
-/// The file in which `service/keep` has its journal.
+/// The file in which `service/keep` had its journal.
 const OTHER_FILE: &str = "journal";
 
 /// The path of the journal's file in a folder.
@@ -17,7 +17,7 @@ pub(crate) fn file_of(alloc: Global, folder: &str) -> Result<String, Fault> {
     Ok(format!(in alloc; "{folder}/{OWN_FILE}")?)
 }
 
-/// Refuses a folder that has a journal of `service/keep`. `Unopened` where that can't be seen.
+/// Refuses a folder that has a journal that `service/keep` had. `Unopened` where that can't be seen.
 pub(crate) fn refuse_other<R: Files<File = File>>(
     files: &R,
     alloc: Global,
