@@ -18,7 +18,7 @@ from .old_journals import of_form_1
 from .processes import ENDED, PATIENCE_SECONDS, Spoken
 from .streams_tests import closing
 
-KILLS = 40
+KILLS = 100
 # The bytes of an entry beside what it says, and those of a journal that keeps nothing.
 ENTRY_BYTES, EMPTY_BYTES = 80, 96
 

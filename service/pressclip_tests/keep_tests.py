@@ -20,7 +20,7 @@ from .judge import KEEP, SERVICE, Due, folder, need, replies_of_engine, same
 from .keep_runs import Client, Keep, changes_in, dump_of, run_keep
 from .processes import PATIENCE_SECONDS, children_of
 
-KEEP_KILLS = 60
+KEEP_KILLS = 100
 VERSION = (SERVICE.parent / "VERSION").read_text().strip()
 COUNT = b'{"op":"count"}\n'
 
@@ -170,6 +170,21 @@ def judge_full_disk(journal: Path, due: Due, before: Callable[[], None] | None) 
     need(changes_in(journal) >= least > 0, f"{changes_in(journal)} kept, {least} answered")
 
 
+def a_failing_sync_ends_it() -> None:
+    """Where a sync fails: as with a full disk, and nothing is answered after it."""
+    with folder() as made:
+        library = Path(made) / "fail_sync.so"
+        subprocess.run(["cc", "-shared", "-fPIC", "-o", library, SERVICE.parent / "stress" / "fail_sync.c"], check=True)
+        for number in ("12", "23", "40"):
+            source = Source(10)
+
+            def failing(which: str = number) -> None:
+                os.environ.update(LD_PRELOAD=str(library), FAIL_SYNC=which)
+
+            with folder() as name:
+                judge_full_disk(Path(name), Due.of(source.lines(1_000)), failing)
+
+
 def a_journal_that_cannot_be_written() -> None:
     """A folder that can't be made, and a journal that is a folder."""
     status, replies, told = run_keep(Path("/dev/null/j"), COUNT)
@@ -270,5 +285,5 @@ def lines_come_to_the_program_whole() -> None:
 
 TESTS = (answers_as_the_engine, goes_on_after_its_end, ended_at_random_places, its_program_ended,
          a_second_one_is_refused, words_are_those_of_the_program, another_engine_is_told, a_full_disk_ends_it,
-         a_journal_that_cannot_be_written, a_program_that_is_not_there, files_are_for_their_owner_alone,
+         a_failing_sync_ends_it, a_journal_that_cannot_be_written, a_program_that_is_not_there, files_are_for_their_owner_alone,
          each_new_folder_is_synced_in_its_parent, versions_are_told, lines_come_to_the_program_whole)
