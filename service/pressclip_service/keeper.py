@@ -6,15 +6,16 @@ import os
 import select
 import signal
 import subprocess
+import threading
 from pathlib import Path
 from typing import Sequence
 
 from .engine import environment, widen
-from .errors import EngineFailed, read_block
+from .errors import EngineFailed, NoReader, read_block
 from .lines import BLOCK_BYTES, LineCutter
 from .place import IS_CHECKOUT, TOP
 from .signals import Termination, held_back_from_children
-from .streams import INPUT, write_waiting
+from .streams import INPUT, OUTPUT, write_waiting
 
 PROGRAM = "pressclip-keep"
 _FOLDER = TOP / "crates" / "pressclip_keep" / "out" if IS_CHECKOUT else TOP
@@ -52,18 +53,48 @@ def hand_on(into: int, termination: Termination) -> bool:
             return has_any
 
 
+class Outlet(threading.Thread):
+    """Where the program's replies go while standard output does not block: a pipe, whose bytes are written there as it
+    takes them. The program waits for nothing that does not block."""
+
+    def __init__(self) -> None:
+        super().__init__(daemon=True)
+        self.source, self.into = os.pipe()
+        self.is_unread = False
+
+    def run(self) -> None:
+        """Hands on what comes, until the program has ended or nobody reads it."""
+        try:
+            while block := os.read(self.source, BLOCK_BYTES):
+                write_waiting(OUTPUT, block)
+        except OSError:
+            self.is_unread = True
+        os.close(self.source)
+
+    def end(self) -> None:
+        """Waits until all is handed on. `NoReader` where it could not be."""
+        self.join()
+        if self.is_unread:
+            raise NoReader("nobody reads the replies")
+
+
 def run(command: Sequence[str], termination: Termination) -> int:
     """Serves standard input by the program, and gives its status. Where an end is asked for before it was given
     anything it is ended at once, also while it reads its journal. `EngineFailed` where a signal ended it, `InputFailed`
     once it has answered what could be read.
 
-    SIGPIPE and SIGXFSZ stay ignored, as Python has them, so that a write fails and the status says why."""
+    SIGPIPE and SIGXFSZ stay ignored, as Python has them, so that a write fails and the status says why. `NoReader`
+    where standard output does not block, and nobody reads it."""
+    outlet = None if os.get_blocking(OUTPUT) else Outlet()
     try:
         with held_back_from_children():
-            process = subprocess.Popen(command, stdin=subprocess.PIPE, bufsize=0, env=environment(),
-                                       restore_signals=False)
+            process = subprocess.Popen(command, stdin=subprocess.PIPE, stdout=outlet.into if outlet else None,
+                                       bufsize=0, env=environment(), restore_signals=False)
     except OSError as error:
         raise EngineFailed(f"{command[0]} can't be started: {error.strerror}") from error
+    if outlet:
+        os.close(outlet.into)
+        outlet.start()
     assert process.stdin
     widen(process.stdin.fileno())
     is_dropped = False
@@ -74,6 +105,8 @@ def run(command: Sequence[str], termination: Termination) -> int:
     finally:
         process.stdin.close()
         status = process.wait()
+    if outlet:
+        outlet.end()
     if is_dropped and status == -signal.SIGKILL:
         return 0
     if status < 0:

@@ -190,6 +190,12 @@ def long_input(source: Source) -> bytes:
     return joined([source.register() for _ in range(1_100)] + [source.delete() for _ in range(200)])
 
 
+def begin_where_none_is_written_anew(journal: Path) -> None:
+    """A journal whose file can't be written anew: another thing has the name of the file beside it."""
+    need(run(journal, b"")[0] == 0, "no journal")
+    (journal / "changes.new").mkdir()
+
+
 def a_long_journal_is_written_anew() -> None:
     """At the start, where it has over 1,000 changes and more than twice the queries of its last writing: here since it
     could not be written anew before, which was told once."""
@@ -197,7 +203,7 @@ def a_long_journal_is_written_anew() -> None:
     text, asked = long_input(source), asking(source)
     with folder() as name:
         journal = Path(name)
-        (journal / "changes.new").mkdir()
+        begin_where_none_is_written_anew(journal)
         status, replies, told = run(journal, text)
         need(status == 0 and told.count("could not be written anew") == 1, told)
         same(replies, replies_of_engine(text), "replies")
@@ -221,8 +227,8 @@ def a_long_journal_is_written_anew_while_it_runs() -> None:
     """Its replies are those of the engine, and its queries those of a journal that was not written anew."""
     text = long_input(Source(11))
     with folder() as name, folder() as other:
-        (Path(other) / "changes.new").mkdir()
-        need(run(Path(other), text)[0] == 0, "no journal")
+        begin_where_none_is_written_anew(Path(other))
+        need(run(Path(other), text)[0] == 0, "the run ended")
         status, replies, told = run(Path(name), text)
         need(status == 0 and "is being written anew" in told and "could not" not in told, told)
         same(replies, replies_of_engine(text), "replies")
