@@ -21,7 +21,7 @@ from selenium.webdriver.support.select import Select
 from .judge import need
 
 CHROMIUM, DRIVER = "/usr/bin/chromium", "/usr/bin/chromedriver"
-SECONDS = 15.0
+SECONDS = 30.0
 _OPTIONS = ("--headless=new", "--no-sandbox", "--disable-gpu", "--hide-scrollbars", "--lang=en-GB",
             "--force-device-scale-factor=1", "--disable-background-networking", "--no-first-run")
 # Named apart from their signs, so that acts need nothing of selenium.
