@@ -84,13 +84,13 @@ fn query_at(alloc: Global, queries: &[Query], place: usize) -> Result<Query, NoM
 
 /// What the steps of other plans name, and the new numbers of terms.
 #[derive(Drop)]
-struct Source<'a> {
+struct Renaming<'a> {
     runs: &'a PackedLists<u32>,
     queries: &'a [Query],
     numbers: &'a [Option<u32>],
 }
 
-impl<'a> Source<'a> {
+impl<'a> Renaming<'a> {
     /// Adds a step with its new numbers.
     fn add_step(
         &self,
@@ -191,7 +191,7 @@ impl Plans {
             ≡ map (decoded terms) self.old ++ decoded terms
             (renamed numbers.now (unwrap_or (slice_get other.now place) [])) ∷ []) }
     {
-        let source = Source {
+        let source = Renaming {
             runs: &other.runs,
             queries: &other.queries,
             numbers,

@@ -1,7 +1,7 @@
 use Rattle.std.proofs.Common.{map, ◌∙◌}
 use Rattle.clip_grammar.specs.Tree.{tree_of}
 use Rattle.clip_plan.proofs.Renumbering.{term_renamed, open_renamed, close_renamed, run_renamed, query_renamed}
-use Rattle.clip_plan.proofs.renaming.Source.add_step.Goals as goal
+use Rattle.clip_plan.proofs.renaming.Renaming.add_step.Goals as goal
 
 pub returns-in_ok-push-in-Term-clause-added : goal.returns-in_ok-push-in-Term-clause-added
 returns-in_ok-push-in-Term-clause-added c = λ terms.
