@@ -26,8 +26,8 @@ unfolding group_with group_extract
 group_start ks cs = refl
 
 -- a clause that does not count
-pub skipped : (found : FoundInGroup) (occur : Occur) (ks : List KeyValue) (e : Extracted) (cs : List (Occur × Extracted))
-    → counts found occur ≡ false → group_from found ks ((occur, e) ∷ cs) ≡ group_from found ks cs
+pub skipped : (found : FoundInGroup) (occur : Occur) (ks : List KeyValue) (e : Extracted)
+    (cs : List (Occur × Extracted)) → counts found occur ≡ false → group_from found ks ((occur, e) ∷ cs) ≡ group_from found ks cs
 unfolding group_with
 skipped found Must ks e cs not_so = absurd (false≢true (sym not_so))
 skipped Nothing Should ks e cs not_so = absurd (false≢true (sym not_so))
@@ -95,8 +95,8 @@ heavier_alike a b x e = heavier_weight a x ∙ ap (λ w. cond (ltb w x.weight) x
     heavier_weight : (a x : Extracted) → (heavier a x).weight ≡ cond (ltb a.weight x.weight) x.weight a.weight
     heavier_weight a x = picked (ltb a.weight x.weight) a x
 
-pub alike : (found : FoundInGroup) (ks ls : List KeyValue) (cs : List (Occur × Extracted)) → (group_from found ks cs).weight
-    ≡ (group_from found ls cs).weight
+pub alike : (found : FoundInGroup) (ks ls : List KeyValue) (cs : List (Occur × Extracted))
+    → (group_from found ks cs).weight ≡ (group_from found ls cs).weight
 unfolding group_with
 alike Nothing ks ls cs = refl
 alike (Required w) ks ls cs =
@@ -171,7 +171,8 @@ pub nothing_found : (ks : List KeyValue) → group_from Nothing ks [] ≡ unnarr
 unfolding group_with
 nothing_found ks = refl
 
-pub keys_found : (found : FoundInGroup) (ks : List KeyValue) → (found ≡ Nothing → ⊥) → (group_from found ks []).keys ≡ ks
+pub keys_found : (found : FoundInGroup) (ks : List KeyValue) → (found ≡ Nothing → ⊥)
+    → (group_from found ks []).keys ≡ ks
 unfolding group_with
 keys_found Nothing ks some = absurd (some refl)
 keys_found (Optional w) ks some = refl

@@ -14,7 +14,7 @@ ghost use Rattle.clip_extract.specs.Steps.Leaves.{Adds, IsNoGroup, word_found, l
 
 use crate::front::key_front;
 use crate::key::Key;
-use crate::sorting::sorted;
+use crate::sorting::sort_keys;
 use clip_grammar::query::{Occur, Query};
 use clip_words::NoMemory;
 use std::alloc::Global;
@@ -295,5 +295,5 @@ pub fn keys(alloc: Global, query: &Query) -> Result<Vec<Key>, NoMemory>
 {
     let mut found = Vec::new(alloc);
     add_keys(alloc, query, &mut found)?;
-    sorted(found)
+    sort_keys(found)
 }

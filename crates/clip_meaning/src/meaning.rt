@@ -63,7 +63,7 @@ struct GroupSoFar {
 
 /// The tally with one more clause, whose child holds or does not; `None` where the group does not hold.
 #[tactic(auto, using(crate::proofs::Groups::must_true, crate::proofs::Groups::must_false, crate::proofs::Groups::must_not_true, crate::proofs::Groups::must_not_false, crate::proofs::Groups::should))]
-fn counted(tally: GroupSoFar, occur: Occur, held: bool) -> Option<GroupSoFar>
+fn count_clause(tally: GroupSoFar, occur: Occur, held: bool) -> Option<GroupSoFar>
     ensures { (others : List (Occur × Bool)) → MatchOption result
         (group_with tally.has_must tally.has_should ((occur, held) ∷ others) ≡ false)
         (λ next. group_with tally.has_must tally.has_should ((occur, held) ∷ others)
@@ -115,7 +115,7 @@ pub fn holds(query: &Query, article: &Article) -> bool
                 has_should: false,
             };
             for (occur, child) in clauses {
-                match counted(tally, *occur, holds(child, article)) {
+                match count_clause(tally, *occur, holds(child, article)) {
                     Some(next) => tally = next,
                     None => return false,
                 }
