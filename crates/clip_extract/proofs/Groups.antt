@@ -27,7 +27,8 @@ group_start ks cs = refl
 
 -- a clause that does not count
 pub skipped : (found : FoundInGroup) (occur : Occur) (ks : List KeyValue) (e : Extracted)
-    (cs : List (Occur × Extracted)) → counts found occur ≡ false → group_from found ks ((occur, e) ∷ cs) ≡ group_from found ks cs
+    (cs : List (Occur × Extracted)) → counts found occur ≡ false
+    → group_from found ks ((occur, e) ∷ cs) ≡ group_from found ks cs
 unfolding group_with
 skipped found Must ks e cs not_so = absurd (false≢true (sym not_so))
 skipped Nothing Should ks e cs not_so = absurd (false≢true (sym not_so))

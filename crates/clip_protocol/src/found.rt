@@ -13,12 +13,12 @@ ghost use Rattle.clip_protocol.specs.Steps.Flowing.{closing, opening};
 ghost use Rattle.clip_protocol.specs.Steps.Printing.{data_tokens};
 ghost use Rattle.clip_protocol.specs.Steps.Views.{alerts_by_id};
 
-use crate::form::Form;
 use crate::printing::{alerts_text, write_notes, write_number};
 use crate::reply::{begin_reply, line_of};
 use crate::shown::Shown;
 use clip_listen::Note;
 use clip_standing::{Alert, Alerts};
+use clip_stream::Form;
 use clip_words::NoMemory;
 use json::Writer;
 use std::alloc::Global;

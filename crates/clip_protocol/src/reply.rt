@@ -10,10 +10,10 @@ ghost use Rattle.clip_protocol.specs.Request.{object_of};
 ghost use Rattle.clip_protocol.specs.Steps.Printing.{data_tokens};
 ghost use Rattle.clip_protocol.specs.Steps.Views.{alerts_by_id, applied_view, reply_view};
 
-use crate::form::Form;
 use crate::printing::{write_alerts_of_all, write_number, write_text, write_text_or_null};
 use crate::refusal::Refusal;
 use clip_standing::{Alerts, Applied};
+use clip_stream::Form;
 use clip_words::NoMemory;
 use json::Writer;
 use std::alloc::Global;
